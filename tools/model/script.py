@@ -23,9 +23,10 @@ class NoEnd(Exception):
 
 
 def number(word):
-    if not word.isascii() or not word.isdigit() or int(word) >= 1 << 64:
+    digits = word.lstrip(b'0')
+    if not word.isascii() or not word.isdigit() or len(digits) > 20 or int(digits or b'0') >= 1 << 64:
         raise BadLine()
-    return int(word)
+    return int(digits or b'0')
 
 
 def data(word):
@@ -33,8 +34,19 @@ def data(word):
     if not all(33 <= byte <= 126 for byte in word):
         raise BadLine()
     if len(word) >= 3 and word[1:2] == b'*' and word[2:].isdigit():
-        return word[:1] * min(int(word[2:]), LONGEST_DATA + 1)
+        return word[:1] * min(number(word[2:]), LONGEST_DATA + 1)
     return word
+
+
+def path_of(word):
+    """A word of any text without NUL and carriage return."""
+    try:
+        word.decode('utf-8')
+    except UnicodeDecodeError:
+        raise BadLine() from None
+    if b'\0' in word or b'\r' in word:
+        raise BadLine()
+    return bytes(word)
 
 
 def shown(client, answer):
@@ -146,7 +158,7 @@ class Simulator:
         kinds = ARGUMENTS.get(name)
         if kinds is None or len(kinds) != len(words) - 1:
             raise BadLine()
-        readers = {'p': bytes, 'n': number, 'd': data}
+        readers = {'p': path_of, 'n': number, 'd': data}
         return (name, *[readers[kind](word) for kind, word in zip(kinds, words[1:])])
 
     def call(self, client, words):
@@ -157,7 +169,7 @@ class Simulator:
 
     def chunk(self, path, index):
         """A file's chunk, as (file, index, handle)."""
-        file = self.cell.file(path)
+        file = self.cell.file(path_of(path))
         handle = None if file is None else self.cell.chunk(file, number(index))
         if handle is None:
             raise BadLine()

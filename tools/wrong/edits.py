@@ -27,6 +27,10 @@ class Edit:
         self.crate = '/'.join(folders)
         self.name = file.removesuffix('.edit')
 
+    def names(self):
+        """By what it can be asked for."""
+        return {self.name, self.crate, f'{self.crate}/{self.name}'}
+
     def lines(self):
         """Its lines, each as a word and a text."""
         with open(self.path, encoding='utf8') as file:
@@ -91,7 +95,7 @@ class Edit:
 def edits_by(kind, names=()):
     """The edits that are found so; with names those alone that have one of them, or stand below a crate of that name."""
     found = [Edit(path) for path in sorted(glob.glob(os.path.join(HERE, kind, '**', '*.edit'), recursive=True))]
-    return [it for it in found if not names or {it.name, it.crate, f'{it.crate}/{it.name}'}.intersection(names)]
+    return [it for it in found if not names or it.names().intersection(names)]
 
 
 def copy_edited(edit, folder):

@@ -20,7 +20,7 @@ use Rattle.protocol.proofs.seen.Seen.TheSendSync as seen
 use Rattle.master_state.proofs.kept.KeptCall.TheSendSync as kept
 use Rattle.master_state.proofs.kept.CopyRow.TheSendSync as copy
 use Rattle.master_state.specs.contracts.state.State as State
-use Rattle.master_plan.proofs.change.LogChange.TheSendSync as change
+use Rattle.master_plan.proofs.change.PlannedChange.TheSendSync as change
 use Rattle.master_plan.proofs.waiting.VersionAttempt.TheSendSync as attempt
 use Rattle.master_plan.proofs.waiting.Pending.TheSendSync as pending
 use Rattle.master_plan.specs.contracts.plan.Plan as Plan

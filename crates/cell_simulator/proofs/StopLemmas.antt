@@ -106,7 +106,7 @@ stopped_left (Some xs) (Some ys) texts Next h so =
 
 -- a line that was not run to its end
 stops_on : {C : Type 0} (m : Meaning C) (a b : Simulated C) (x y z from to last : Option (List ℕ)) (number : ℕ) (text : List ℕ) (f : ScriptFault) → RunsLines m a b x y from to number → ReadsLine to last text true → StopsOn m b y z number text f → StopsWith m a from x z f
-stops_on m a b x y z from to last number text (fault.CellLine n) p r s = record {
+stops_on m a b x y z from to last number text (fault.Line n) p r s = record {
   texts = p.texts;
   number_is = s.0 ∙ p.number_is;
   are_lines = p.are_lines;
@@ -165,7 +165,7 @@ bad_next m number w known [] is = (keeps_all known, is)
 bad_next m number w known (text ∷ later) is = (keeps_all known, inr is)
 
 -- no number is left
-pub stops_last : {C : Type 0} (m : Meaning C) (a b : Simulated C) (x y from to : Option (List ℕ)) (number : ℕ) → number ≡ last_number → RunsLines m a b x y from to number → StopsWith m a from x y (fault.CellLine last_number)
+pub stops_last : {C : Type 0} (m : Meaning C) (a b : Simulated C) (x y from to : Option (List ℕ)) (number : ℕ) → number ≡ last_number → RunsLines m a b x y from to number → StopsWith m a from x y (fault.Line last_number)
 stops_last m a b x y from to number is p = record {
   texts = p.texts;
   number_is = sym is ∙ p.number_is;

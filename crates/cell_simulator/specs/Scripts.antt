@@ -108,7 +108,7 @@ pub record StopsAt {C : Type 0} (m : Meaning C) (first : Simulated C) (script be
 
 -- What is known of a script that stopped at this fault: what a writer holds that failed, or where memory was refused, isn't.
 abbrev pub StopsWith : {C : Type 0} → Meaning C → Simulated C → Option (List ℕ) → Option (List ℕ) → Option (List ℕ) → ScriptFault → Type 0
-StopsWith m first script before after (fault.CellLine number) = StopsAt m first script before number (IsBadNext m number after)
+StopsWith m first script before after (fault.Line number) = StopsAt m first script before number (IsBadNext m number after)
 StopsWith m first script before after (fault.NoEnd number) = StopsAt m first script before number (IsEndlessNext m after)
 StopsWith m first script before after fault.Read = (number : ℕ) × StopsAt m first script before number (λ w middle later. Keeps middle after)
 StopsWith m first script before after fault.Start = ⊥
@@ -117,7 +117,7 @@ StopsWith m first script before after fault.Write = ⊤
 
 -- a line of this number that was not run to its end
 abbrev pub StopsOn : {C : Type 0} → Meaning C → Simulated C → Option (List ℕ) → Option (List ℕ) → ℕ → List ℕ → ScriptFault → Type 0
-StopsOn m old before after number text (fault.CellLine n) = (n ≡ number) × Keeps before after × IsBad m old.cell (line_of text)
+StopsOn m old before after number text (fault.Line n) = (n ≡ number) × Keeps before after × IsBad m old.cell (line_of text)
 StopsOn m old before after number text (fault.NoEnd n) = (n ≡ number) × IsEndlessOn m old before after (line_of text)
 StopsOn m old before after number text fault.Start = ⊥
 StopsOn m old before after number text fault.Read = ⊥

@@ -1,5 +1,5 @@
 pub mod Gone
-pub mod FoundReplicas
+pub mod SlotsFound
 pub mod Kept
 pub mod Fronts
 pub mod Moments

@@ -13,7 +13,7 @@ use crate::copy::{FileCopy, copies_of};
 use gfs_types::ids::Handle;
 use gfs_types::no_memory::NoMemory;
 use log_records::record::Record;
-use master_plan::change::LogChange;
+use master_plan::change::PlannedChange;
 use master_state::state::State;
 use ordered_map::number_map::NumberMap;
 use std::alloc::{Allocator, Global};
@@ -47,7 +47,7 @@ impl FilesBefore {
         &self,
         alloc: Global,
         state: &State<A>,
-        changes: &[LogChange],
+        changes: &[PlannedChange],
     ) -> Result<Vec<FileCopy>, NoMemory>
         ensures copies { IfOk result (λ copies. copies.items ≡ copies_of state.now.table (files_after self.now.next_file self.now.copies state.now.next_file (changes_of changes.now))) }
         ensures sound { IsSound (table_of state.now) }
@@ -103,7 +103,7 @@ fn numbers(alloc: Global, first: u64, end: u64) -> Result<Vec<u64>, NoMemory>
 fn add_changed(
     files: &mut Vec<u64>,
     copies: &NumberMap<u64>,
-    changes: &[LogChange],
+    changes: &[PlannedChange],
 ) -> Result<(), NoMemory>
     ensures { OnOk result (files.new.items ≡ files.old.items ++ files_changed copies.now (changes_of changes.now)) }
 {
@@ -115,12 +115,12 @@ fn add_changed(
     Ok(())
 }
 
-fn file_changed_by(copies: &NumberMap<u64>, change: &LogChange) -> Option<u64>
+fn file_changed_by(copies: &NumberMap<u64>, change: &PlannedChange) -> Option<u64>
     ensures { result ≡ file_changed_by copies.now (change_of change.now) }
 {
     match change {
-        LogChange::Append(entry) => file_changed(copies, entry),
-        LogChange::Checkpoint(_) => None,
+        PlannedChange::Append(entry) => file_changed(copies, entry),
+        PlannedChange::Checkpoint(_) => None,
     }
 }
 

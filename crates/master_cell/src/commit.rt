@@ -8,12 +8,15 @@ ghost use Rattle.master_plan.specs.Changes.{change_of, changes_of};
 ghost use Rattle.master_cell.specs.Commits.{IsStopped};
 
 use log_records::record::Record;
-use master_plan::change::LogChange;
+use master_plan::change::PlannedChange;
 use operation_log::fault::OperationLogFault;
 use operation_log::log::OperationLog;
 
 /// Makes changes of the log in order. Where one fails, those before it are made, and it may be under way.
-pub fn commit<L: OperationLog>(log: &mut L, changes: &[LogChange]) -> Result<(), OperationLogFault>
+pub fn commit<L: OperationLog>(
+    log: &mut L,
+    changes: &[PlannedChange],
+) -> Result<(), OperationLogFault>
     requires decided { L.under_way log.old ≡ [] }
     ensures ok { OnOk result (L.disk log.new ≡ log_changed_by_all (L.disk log.old) (changes_of changes.now)) }
     ensures done { OnOk result (L.under_way log.new ≡ []) }
@@ -27,7 +30,7 @@ pub fn commit<L: OperationLog>(log: &mut L, changes: &[LogChange]) -> Result<(),
     Ok(())
 }
 
-fn make<L: OperationLog>(log: &mut L, change: &LogChange) -> Result<(), OperationLogFault>
+fn make<L: OperationLog>(log: &mut L, change: &PlannedChange) -> Result<(), OperationLogFault>
     requires decided { L.under_way log.old ≡ [] }
     ensures ok { OnOk result (L.disk log.new ≡ log_changed (L.disk log.old) (change_of change.now)) }
     ensures done { OnOk result (L.under_way log.new ≡ []) }
@@ -35,8 +38,8 @@ fn make<L: OperationLog>(log: &mut L, change: &LogChange) -> Result<(), Operatio
     ensures begun { OnErr result (MayBeUnderWay (change_of change.now) (L.under_way log.new)) }
 {
     match change {
-        LogChange::Append(entry) => log.append(entry),
-        LogChange::Checkpoint(items) => write_checkpoint(log, items.as_slice()),
+        PlannedChange::Append(entry) => log.append(entry),
+        PlannedChange::Checkpoint(items) => write_checkpoint(log, items.as_slice()),
     }
 }
 

@@ -14,7 +14,7 @@ use crate::copy::FileCopy;
 use crate::planned::plan_step;
 use crate::shown::ShownFiles;
 use gfs_types::ids::Moment;
-use master_plan::change::LogChangeList;
+use master_plan::change::PlannedChangeList;
 use master_plan::fault::PlanFault;
 use master_plan::plan::Plan;
 use messages::message::Message;
@@ -24,7 +24,7 @@ use std::alloc::Allocator;
 /// The changes of the log that a step makes, and the lists of the files that it changes.
 #[derive(Drop)]
 pub(crate) struct Draft {
-    pub(crate) changes: LogChangeList,
+    pub(crate) changes: PlannedChangeList,
     pub(crate) copies: Vec<FileCopy>,
 }
 

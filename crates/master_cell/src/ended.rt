@@ -9,7 +9,7 @@ ghost use Rattle.master_cell.specs.Ends.{AreMade, step_out};
 
 use crate::commit::commit;
 use gfs_types::ids::{Handle, MAX_COUNTER};
-use master_plan::change::LogChangeList;
+use master_plan::change::PlannedChangeList;
 use master_plan::plan::Plan;
 use messages::event::StepOut;
 use operation_log::log::OperationLog;
@@ -31,7 +31,7 @@ pub(crate) fn makes<L: OperationLog, A: Allocator + Clone>(log: &mut L, plan: &m
 pub(crate) fn makes_all<L: OperationLog, A: Allocator + Clone>(
     log: &mut L,
     plan: &Plan<A>,
-    changes: &LogChangeList,
+    changes: &PlannedChangeList,
 ) -> bool
     requires decided { L.under_way log.old ≡ [] }
     ensures { AreMade (L.disk log.old) (record plan.now { changes = changes_of changes.now }) result (L.disk log.new) (L.under_way log.new) }

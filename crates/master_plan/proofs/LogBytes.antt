@@ -8,7 +8,7 @@ use Rattle.std.proofs.lemmas.List.Sums.{sum_by_push, sum_by_more, sum_by_more_le
 use Rattle.log_records.specs.declared.record.Record.{Record}
 use Rattle.protocol.specs.LogSizes.{payload_size, checkpoint_size, used_size, area_size, checkpoint_fits}
 use Rattle.protocol.specs.Logged.{LogDisk, LogChange, AppendRecord, WriteCheckpoint, log_changed, log_changed_by_all}
-use Rattle.master_plan.specs.declared.change.LogChange.{LogChange}
+use Rattle.master_plan.specs.declared.change.PlannedChange.{PlannedChange}
 use Rattle.master_plan.specs.Changes.{change_of, changes_of}
 use Rattle.master_plan.specs.Sizes.{size_after}
 use Rattle.master_plan.proofs.Logs.{changed_last}
@@ -28,11 +28,11 @@ size_after_change d (AppendRecord entry) = omega (arith, sum_by_push record_room
 size_after_change d (WriteCheckpoint items) = refl
 
 -- after one change more
-pub used_more : (disk : LogDisk) (changes : List LogChange) (i used after : ℕ) (c : LogChange) → i < length changes
+pub used_more : (disk : LogDisk) (changes : List PlannedChange) (i used after : ℕ) (c : PlannedChange) → i < length changes
     → used ≡ disk_size (log_changed_by_all disk (changes_of (take i changes))) → after ≡ size_after used (change_of (get_or changes i c))
     → after ≡ disk_size (log_changed_by_all disk (changes_of (take (i + 1) changes)))
 used_more disk changes i used after c within so_far is =
-    let one : LogChange = get_or changes i c in
+    let one : PlannedChange = get_or changes i c in
     is
     ∙ ap (λ n. size_after n (change_of one)) so_far
     ∙ sym (size_after_change (log_changed_by_all disk (changes_of (take i changes))) (change_of one))

@@ -8,7 +8,7 @@ ghost use Rattle.protocol.specs.MasterSnapshots.{live_snapshots};
 ghost use Rattle.master_plan.specs.Changes.{changes_of};
 ghost use Rattle.master_plan.specs.Plans.{begun, started};
 
-use crate::change::LogChangeList;
+use crate::change::PlannedChangeList;
 use crate::fault::PlanFault;
 use crate::plan::Plan;
 use crate::waiting::Pending;
@@ -90,7 +90,7 @@ impl<A: Allocator + Clone> Plan<A> {
     }
 
     /// Takes out the changes of the log that the step makes.
-    pub fn take_changes(&mut self) -> LogChangeList
+    pub fn take_changes(&mut self) -> PlannedChangeList
         ensures changes { changes_of result ≡ self.old.changes }
         ensures rest { self.new ≡ record self.old { changes = [] } }
     {

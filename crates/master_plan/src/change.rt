@@ -8,7 +8,7 @@ pub type RecordList = Sequence<Record>;
 
 /// One change of the log.
 #[derive(Debug, Drop)]
-pub enum LogChange {
+pub enum PlannedChange {
     /// A record is added.
     Append(Record),
     /// A checkpoint of these items takes the place of the log's items and records.
@@ -16,4 +16,4 @@ pub enum LogChange {
 }
 
 /// Changes of the log, in the order in which they are made.
-pub type LogChangeList = Sequence<LogChange>;
+pub type PlannedChangeList = Sequence<PlannedChange>;

@@ -7,7 +7,7 @@ ghost use Rattle.protocol.specs.Master.{fits, is_of_copy};
 ghost use Rattle.master_plan.specs.Plans.{doing, appended, with_checkpoint};
 ghost use Rattle.master_plan.specs.Logging.{was_logged, tried};
 
-use crate::change::{LogChange, RecordList};
+use crate::change::{PlannedChange, RecordList};
 use crate::fault::PlanFault;
 use crate::plan::Plan;
 use crate::sizes::{bytes_used, checkpoint_bytes};
@@ -88,7 +88,7 @@ impl<A: Allocator + Clone> Plan<A> {
             &entry,
             stays,
         );
-        self.changes.push(LogChange::Append(entry))?;
+        self.changes.push(PlannedChange::Append(entry))?;
         self.knows_concerned = known;
         self.whole_until = until;
         Ok(())
@@ -98,7 +98,7 @@ impl<A: Allocator + Clone> Plan<A> {
     fn write_checkpoint(&mut self, items: RecordList) -> Result<(), PlanFault>
         ensures { OnOk result (self.new ≡ with_checkpoint self.old items) }
     {
-        self.changes.push(LogChange::Checkpoint(items))?;
+        self.changes.push(PlannedChange::Checkpoint(items))?;
         let handles = self.state.copied_handles()?;
         self.give_up_copies(&handles)
     }

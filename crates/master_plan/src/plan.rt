@@ -7,7 +7,7 @@ ghost use Rattle.protocol.specs.Tables.{moment_limit};
 ghost use Rattle.protocol.specs.Master.{has_lease};
 ghost use Rattle.master_plan.specs.Plans.{known, told};
 
-use crate::change::LogChangeList;
+use crate::change::PlannedChangeList;
 use crate::fault::PlanFault;
 use crate::waiting::{Pending, VersionAttempt};
 use chunk_table::chunk::Chunk;
@@ -44,7 +44,7 @@ pub struct Plan<A: Allocator> {
     pub(crate) concerned_chunks: OrderedMap<()>,
     pub(crate) doubted: Doubted,
     pub(crate) sent: MessageList,
-    pub(crate) changes: LogChangeList,
+    pub(crate) changes: PlannedChangeList,
     pub(crate) seen: SeenList,
 }
 

@@ -6,7 +6,7 @@ ghost use Rattle.protocol.specs.Logged.{log_changed_by_all};
 ghost use Rattle.master_plan.specs.Changes.{changes_of, change_of};
 ghost use Rattle.master_plan.specs.Sizes.{size_after};
 
-use crate::change::LogChange;
+use crate::change::PlannedChange;
 use crate::fault::PlanFault;
 use log_records::record::Record;
 use operation_log::log::OperationLog;
@@ -42,12 +42,12 @@ pub fn checkpoint_bytes(log_bytes: u64, items: &[Record]) -> Option<u64>
     }
 }
 
-fn bytes_after(log_bytes: u64, used: u64, change: &LogChange) -> Option<u64>
+fn bytes_after(log_bytes: u64, used: u64, change: &PlannedChange) -> Option<u64>
     ensures { IfSome result (λ n. n ≡ size_after used (change_of change.now)) }
 {
     match change {
-        LogChange::Append(entry) => used_with(log_bytes, used, AROUND_RECORD, entry),
-        LogChange::Checkpoint(items) => checkpoint_bytes(log_bytes, items.as_slice()),
+        PlannedChange::Append(entry) => used_with(log_bytes, used, AROUND_RECORD, entry),
+        PlannedChange::Checkpoint(items) => checkpoint_bytes(log_bytes, items.as_slice()),
     }
 }
 
@@ -56,7 +56,7 @@ fn bytes_after(log_bytes: u64, used: u64, change: &LogChange) -> Option<u64>
 pub fn bytes_used<L: OperationLog>(
     log: &L,
     log_bytes: u64,
-    changes: &[LogChange],
+    changes: &[PlannedChange],
 ) -> Result<u64, PlanFault>
     ensures { let disk = log_changed_by_all (L.disk log.now) (changes_of changes.now) in IfOk result (λ n. n ≡ used_size disk.items disk.records) }
 {

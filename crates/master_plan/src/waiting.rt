@@ -17,10 +17,10 @@ pub struct VersionAttempt {
 }
 
 impl Model for VersionAttempt {
-    ghost use Rattle.protocol.specs.Master.{VersionAttempt};
+    ghost use Rattle.protocol.specs.Master.{VersionAttempt as AttemptValue};
     ghost use Rattle.master_plan.specs.Coding.{coded_attempt};
 
-    ghost Value = { VersionAttempt };
+    ghost Value = { AttemptValue };
 
     ghost coded = { coded_attempt };
 

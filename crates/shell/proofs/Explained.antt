@@ -148,7 +148,7 @@ module _ {C : Type 0} (m : Meaning C) (held : C → HeldCell) (so : IsOfHeld m h
       (last.0, last.1)
 
   pub explained_until : (first : C) → IsNew o (held first) → (script before after : Option (List ℕ)) (f : ScriptFault) (stops : StopsWith m (at_0 first) script before after f) → AreExplainedUntil m held (world_of o) (at_0 first) script before after f stops
-  explained_until first new script before after (fault.CellLine number) stops =
+  explained_until first new script before after (fault.Line number) stops =
       let ran = all_explained first new _ _ _ _ stops.runs in
       (ran.0, ran.1)
   explained_until first new script before after (fault.NoEnd number) stops =

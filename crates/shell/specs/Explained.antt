@@ -67,7 +67,7 @@ IsEndlessExplained {C} m held w old before after = (l : CellLine) (new : Simulat
 
 -- The lines that ran before a script stopped, where something is known of them, and the one that had no end.
 abbrev pub AreExplainedUntil : {C : Type 0} (m : Meaning C) (held : C → HeldCell) (w : WorldState) (first : Simulated C) (script before after : Option (List ℕ)) (f : ScriptFault) → StopsWith m first script before after f → Type 0
-AreExplainedUntil m held w first script before after (fault.CellLine number) stops = (v : WorldState) × AreExplained held w stops.runs v
+AreExplainedUntil m held w first script before after (fault.Line number) stops = (v : WorldState) × AreExplained held w stops.runs v
 AreExplainedUntil m held w first script before after (fault.NoEnd number) stops = (v : WorldState) × AreExplained held w stops.runs v × IsEndlessExplained m held v stops.world stops.middle after
 AreExplainedUntil m held w first script before after fault.Read stops = (v : WorldState) × AreExplained held w stops.1.runs v
 AreExplainedUntil m held w first script before after other stops = ⊤

@@ -12,8 +12,8 @@ use Rattle.oplog.proofs.NewestArea.{current_is, only_area}
 use Rattle.oplog.proofs.Whole.{front_formatted, opened_log}
 use Rattle.operation_log.specs.Logs.{IsDecided}
 use Rattle.protocol.specs.Logged.{LogDisk}
-use Rattle.stored_log.specs.declared.standing.DiskLogState.{DiskLogState}
-use Rattle.stored_log.specs.declared.standing.DiskLogState.TheVariants.{Open, Unread, Appending, Checkpointing}
+use Rattle.stored_log.specs.declared.standing.LogStanding.{LogStanding}
+use Rattle.stored_log.specs.declared.standing.LogStanding.TheVariants.{Open, Unread, Appending, Checkpointing}
 use Rattle.stored_log.specs.Kept.{changes_of, closed, HasKept, IsAmong, IsReopened, Leaves}
 
 abbrev pub log_of : List Record → List Record → LogDisk
@@ -31,18 +31,18 @@ logs_unique items records other_items other_records d large log other =
     let here : AreaSays other_area (area_of (length d) log.which d) = only_area (length d) d large refl log.which other.which other_area other.says newest in
     ap (λ (a : AreaState). log_of a.items a.records) (area_unique other_area area (area_of (length d) log.which d) here log.says.says)
 
-kept_formatted : (items records : List Record) (standing : DiskLogState) (d : List ℕ) → HasKept items records standing d → is_formatted d ≡ true
+kept_formatted : (items records : List Record) (standing : LogStanding) (d : List ℕ) → HasKept items records standing d → is_formatted d ≡ true
 kept_formatted items records Open d log = log_formatted items records d log
 kept_formatted items records Unread d log = log_formatted items records d log
 kept_formatted items records (Appending entry) d log = ⊎_elim (log_formatted items records d) (log_formatted items (records ++ entry ∷ []) d) log
 kept_formatted items records (Checkpointing written) d log = ⊎_elim (log_formatted items records d) (log_formatted written [] d) log
 
-reopened : (items records : List Record) (standing : DiskLogState) (d c : List ℕ) → HasKept items records standing d → IsReopened d c → HasKept items records standing c
+reopened : (items records : List Record) (standing : LogStanding) (d c : List ℕ) → HasKept items records standing d → IsReopened d c → HasKept items records standing c
 reopened items records standing d c kept (inl same) = subst (HasKept items records standing) (sym same) kept
 reopened items records standing d c kept (inr new) = let both : true ≡ false = sym (kept_formatted items records standing d kept) ∙ new.0 in absurd cc
 
 -- a log that is begun anew has what it had
-pub reopened_leaves : {D : Type 0} (may_leave : D → List ℕ → Type 0) (old new : D) (items records : List Record) (standing : DiskLogState) → Follows IsReopened (may_leave old) (may_leave new)
+pub reopened_leaves : {D : Type 0} (may_leave : D → List ℕ → Type 0) (old new : D) (items records : List Record) (standing : LogStanding) → Follows IsReopened (may_leave old) (may_leave new)
     → Leaves may_leave old items records standing → Leaves may_leave new items records standing
 reopened_leaves may_leave old new items records standing follows kept c left =
     let from = follows c left in
@@ -53,7 +53,7 @@ log_found : (items records found_items found_records : List Record) (d : List �
 log_found items records found_items found_records d large found log =
     logs_unique items records found_items found_records d large log (opened_log found_items found_records d (log_formatted items records d log) found)
 
-decided : (items records found_items found_records : List Record) (standing : DiskLogState) (d : List ℕ) → 4096 ≤ length d → IsLogOf found_items found_records d → HasKept items records (closed standing) d
+decided : (items records found_items found_records : List Record) (standing : LogStanding) (d : List ℕ) → 4096 ≤ length d → IsLogOf found_items found_records d → HasKept items records (closed standing) d
     → IsDecided (log_of items records) (changes_of standing) (log_of found_items found_records)
 decided items records found_items found_records Open d large found log = ([], log_found items records found_items found_records d large found log)
 decided items records found_items found_records Unread d large found log = ([], log_found items records found_items found_records d large found log)
@@ -62,7 +62,7 @@ decided items records found_items found_records (Appending entry) d large found 
 decided items records found_items found_records (Checkpointing written) d large found (inl log) = ([], log_found items records found_items found_records d large found log)
 decided items records found_items found_records (Checkpointing written) d large found (inr log) = (true ∷ [], log_found written [] found_items found_records d large found log)
 
-pub found_decided : {D : Type 0} (may_leave : D → List ℕ → Type 0) (old : D) (size : ℕ) (items records found_items found_records : List Record) (standing : DiskLogState) → 4096 ≤ size
+pub found_decided : {D : Type 0} (may_leave : D → List ℕ → Type 0) (old : D) (size : ℕ) (items records found_items found_records : List Record) (standing : LogStanding) → 4096 ≤ size
     → IsAmong (may_leave old) size found_items found_records → Leaves may_leave old items records (closed standing) → IsDecided (log_of items records) (changes_of standing) (log_of found_items found_records)
 found_decided may_leave old size items records found_items found_records standing large found kept =
     decided items records found_items found_records standing found.disk (omega (arith, large, found.sized)) found.log (kept found.disk found.left)

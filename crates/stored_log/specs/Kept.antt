@@ -9,8 +9,8 @@ use Rattle.protocol.specs.LogSizes.{used_size}
 use Rattle.oplog.specs.Logs.{IsOpen}
 use Rattle.oplog.specs.declared.log.Log.{Log}
 use Rattle.oplog.specs.NewLogs.{IsLogOf}
-use Rattle.stored_log.specs.declared.standing.DiskLogState.{DiskLogState}
-use Rattle.stored_log.specs.declared.standing.DiskLogState.TheVariants.{Open, Unread, Appending, Checkpointing}
+use Rattle.stored_log.specs.declared.standing.LogStanding.{LogStanding}
+use Rattle.stored_log.specs.declared.standing.LogStanding.TheVariants.{Open, Unread, Appending, Checkpointing}
 
 -- the log, the change that isn't decided, the items of the checkpoint that is being written, and the bytes of the disk
 pub record DiskLogState : Type 0 where
@@ -19,32 +19,32 @@ pub record DiskLogState : Type 0 where
   pub writing : List Record
   pub log_bytes : ℕ
 
-abbrev pub changes_of : DiskLogState → List LogChange
+abbrev pub changes_of : LogStanding → List LogChange
 changes_of Open = []
 changes_of Unread = []
 changes_of (Appending entry) = AppendRecord entry ∷ []
 changes_of (Checkpointing items) = WriteCheckpoint items ∷ []
 
 -- of an open log the disk has to be read anew; what is under way stays so
-abbrev pub closed : DiskLogState → DiskLogState
+abbrev pub closed : LogStanding → LogStanding
 closed Open = Unread
 closed Unread = Unread
 closed (Appending entry) = Appending entry
 closed (Checkpointing items) = Checkpointing items
 
 -- the disk has the log from before the change that is under way, or the one after it
-abbrev pub HasKept : List Record → List Record → DiskLogState → List ℕ → Type 0
+abbrev pub HasKept : List Record → List Record → LogStanding → List ℕ → Type 0
 HasKept items records Open disk = HasLog items records disk
 HasKept items records Unread disk = HasLog items records disk
 HasKept items records (Appending entry) disk = HasLog items records disk ⊎ HasLog items (records ++ entry ∷ []) disk
 HasKept items records (Checkpointing written) disk = HasLog items records disk ⊎ HasLog written [] disk
 
 -- A stop leaves the log from before the change that is under way, or the one after it.
-abbrev pub Leaves : {D : Type 0} (may_leave : D → List ℕ → Type 0) → D → List Record → List Record → DiskLogState → Type 0
+abbrev pub Leaves : {D : Type 0} (may_leave : D → List ℕ → Type 0) → D → List Record → List Record → LogStanding → Type 0
 Leaves may_leave disk items records standing = (c : List ℕ) → may_leave disk c → HasKept items records standing c
 
 -- A log that is open says on its disk what is kept, for good. Of another one a stop leaves what is kept, with the change under way or without it.
-abbrev pub IsKept : {D : Type 0} (seen : D → List ℕ) (may_leave : D → List ℕ → Type 0) → Log D → List Record → List Record → DiskLogState → Type 0
+abbrev pub IsKept : {D : Type 0} (seen : D → List ℕ) (may_leave : D → List ℕ → Type 0) → Log D → List Record → List Record → LogStanding → Type 0
 IsKept seen may_leave log items records Open = (number : ℕ) × IsOpen seen may_leave log (record { number = number; items = items; records = records })
 IsKept seen may_leave log items records Unread = Leaves may_leave log.disk items records Unread
 IsKept seen may_leave log items records (Appending entry) = Leaves may_leave log.disk items records (Appending entry)

@@ -16,7 +16,7 @@ ghost use Rattle.operation_log.specs.declared.fault.OperationLogFault.TheVariant
 ghost use Rattle.stored_log.specs.Kept.{closed, IsAmong, IsDiskSize, IsReopened, Takes};
 
 use crate::entries::{entry_at, fault_of};
-use crate::standing::DiskLogState;
+use crate::standing::LogStanding;
 use disk::{DiskFault, StoppableDisk};
 use gfs_types::torn::Torn;
 use log_codec::{is_item, is_writable};
@@ -57,7 +57,7 @@ pub struct DiskLog<D: StoppableDisk> {
     used: u64,
     // the bytes of the other area that the checkpoint that is being written takes
     written: u64,
-    standing: DiskLogState,
+    standing: LogStanding,
 }
 
 impl<D: StoppableDisk> Model for DiskLog<D> {
@@ -89,11 +89,11 @@ fn fault_of_disk(fault: DiskFault) -> OperationLogFault {
 }
 
 // An open log has to be read anew; what is under way stays so.
-fn closed(standing: DiskLogState) -> DiskLogState
+fn closed(standing: LogStanding) -> LogStanding
     ensures { result ≡ closed standing }
 {
     match standing {
-        DiskLogState::Open => DiskLogState::Unread,
+        LogStanding::Open => LogStanding::Unread,
         other => other,
     }
 }
@@ -188,7 +188,7 @@ impl<D: StoppableDisk> DiskLog<D> {
             writing: Vec::new(alloc),
             used,
             written: HEAD,
-            standing: DiskLogState::Open,
+            standing: LogStanding::Open,
         }
     }
 
@@ -249,7 +249,7 @@ impl<D: StoppableDisk> OperationLog for DiskLog<D> {
         if is_item(entry) {
             return Err(OperationLogFault::Damaged);
         }
-        let DiskLogState::Open = self.standing else {
+        let LogStanding::Open = self.standing else {
             return Err(OperationLogFault::Device);
         };
         let record = entry.copy(self.alloc)?;
@@ -266,7 +266,7 @@ impl<D: StoppableDisk> OperationLog for DiskLog<D> {
                 Err(OperationLogFault::NoMemory)
             }
             Err(_) => {
-                self.standing = DiskLogState::Appending(record);
+                self.standing = LogStanding::Appending(record);
                 Err(OperationLogFault::Device)
             }
         }
@@ -296,7 +296,7 @@ impl<D: StoppableDisk> OperationLog for DiskLog<D> {
         if !is_checkpoint(&self.writing) {
             return Err(OperationLogFault::Damaged);
         }
-        let DiskLogState::Open = self.standing else {
+        let LogStanding::Open = self.standing else {
             return Err(OperationLogFault::Device);
         };
         let writing = mem::replace(&mut self.writing, Vec::new(self.alloc));
@@ -314,7 +314,7 @@ impl<D: StoppableDisk> OperationLog for DiskLog<D> {
             Err(oplog::LogFault::NoMemory) => Err(OperationLogFault::NoMemory),
             Err(oplog::LogFault::Full) => Err(OperationLogFault::Full),
             Err(_) => {
-                self.standing = DiskLogState::Checkpointing(items);
+                self.standing = LogStanding::Checkpointing(items);
                 Err(OperationLogFault::Device)
             }
         }
@@ -322,7 +322,7 @@ impl<D: StoppableDisk> OperationLog for DiskLog<D> {
 
     // The disk begins again and is read. It says what it said before the change that was under way, or after it.
     fn reopen(&mut self) -> Result<(), OperationLogFault> {
-        self.standing = closed(mem::replace(&mut self.standing, DiskLogState::Unread));
+        self.standing = closed(mem::replace(&mut self.standing, LogStanding::Unread));
         self.walk = None;
         let found = find(&mut self.log.disk, self.alloc, self.log_bytes)?;
         place(&mut self.log, &found);
@@ -330,7 +330,7 @@ impl<D: StoppableDisk> OperationLog for DiskLog<D> {
         self.items = found.items;
         self.records = found.records;
         self.walk = found.walk;
-        self.standing = DiskLogState::Open;
+        self.standing = LogStanding::Open;
         Ok(())
     }
 
@@ -344,7 +344,7 @@ impl<D: StoppableDisk> OperationLog for DiskLog<D> {
         if place >= count {
             return Ok(None);
         }
-        let DiskLogState::Open = self.standing else {
+        let LogStanding::Open = self.standing else {
             return Err(OperationLogFault::Device);
         };
         let walk = self.walk.take();

@@ -5,7 +5,7 @@ use oplog::CountedRecords;
 
 /// What the log in memory knows of its disk.
 #[derive(Drop)]
-pub enum DiskLogState {
+pub enum LogStanding {
     /// The log is open on its disk, which says what was counted.
     Open,
     /// The disk has to be read anew. No change is under way.

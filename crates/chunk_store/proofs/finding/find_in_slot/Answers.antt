@@ -1,7 +1,7 @@
 use Rattle.std.proofs.Common.{◌≡◌, ◌+◌, sym, ◌∙◌, subst}
 use Rattle.store_disk.specs.Index.{IndexState}
 use Rattle.chunk_store.specs.Finding.{KnowsFirst}
-use Rattle.chunk_store.proofs.FoundReplicas.{one_found, one_skipped, unused_from}
+use Rattle.chunk_store.proofs.SlotsFound.{one_found, one_skipped, unused_from}
 use Rattle.chunk_store.proofs.finding.find_in_slot.Goals as goal
 
 pub returns-in_default-clause-found : goal.returns-in_default-clause-found

@@ -3,7 +3,7 @@ use Rattle.disk_redo.proofs.Moments.{reads_both, reads_nothing}
 use Rattle.store_disk.specs.Index.{IndexState}
 use Rattle.store_disk.specs.Stored.{IsDiskOf}
 use Rattle.chunk_store.specs.Finding.{KnowsFirst}
-use Rattle.chunk_store.proofs.FoundReplicas.{all_known, none_yet}
+use Rattle.chunk_store.proofs.SlotsFound.{all_known, none_yet}
 use Rattle.chunk_store.proofs.finding.find_replicas.Goals as goal
 
 pub loop-slot-init : goal.loop-slot-init

@@ -1,0 +1,224 @@
+"""The words of a command line, as the program takes them (`crates/command_line`): what they ask for, and the help and the version that it prints.
+
+Names of options, and what the help says of them, are read in the program's own source. `command_line/Asking.asked` says what words ask for."""
+import difflib
+import os
+import re
+from collections import namedtuple
+
+TOP = os.path.dirname(os.path.dirname(os.path.dirname(os.path.abspath(__file__))))
+SOURCE = os.path.join(TOP, 'crates', 'command_line', 'src', 'command.rt')
+LONGEST_NUMBER = 20
+LARGEST_BLOCK = 65536
+# settings of 32 bits: what is greater becomes the greatest value, which is out of each range too
+NARROW = ('chunk', 'block', 'goal', 'attempts', 'cache_entries', 'push_entries', 'slots', 'journal')
+COUNTS = {'servers': 3, 'clients': 1}
+MOST_NODES = 64
+
+# the subcommand, its file, and each option that is given, by its name
+Asked = namedtuple('Asked', 'way file given')
+Texts = namedtuple('Texts', 'version about sim live options region')
+
+
+class Bad(Exception):
+    """The words are no command line; with the cause, which the program doesn't tell."""
+
+
+class Shown(Exception):
+    """The words ask for this text."""
+
+
+def text_of(path):
+    with open(path, encoding='utf-8') as file:
+        return file.read()
+
+
+def texts():
+    """What the program's source says of itself and of its options."""
+    source = text_of(SOURCE)
+    tables = [re.search(rf'const {name}: [^=]*= \[(.*?)\n?\];', source, re.S)[1] for name in ('OPTIONS', 'REGION')]
+    options, region = [re.findall(r'\(\s*"([^"]+)",\s*"([^"]+)",?\s*\)', table) for table in tables]
+    abouts = dict(re.findall(r'runner\(alloc, "(\w+)", "([^"]+)"\)', source))
+    return Texts(re.search(r'\.version\("([^"]+)"\)', source)[1], re.search(r'\.about\("([^"]+)"\)', source)[1], abouts['sim'], abouts['live'], options, region)
+
+
+# ---- the help
+
+def aligned(rows):
+    """Rows of two columns."""
+    width = max(len(first) for first, _ in rows)
+    return ''.join(f'  {first:<{width}}  {second}\n' for first, second in rows)
+
+
+def program_help():
+    said = texts()
+    flags = [('-h, --help', 'Print help'), ('-V, --version', 'Print version')]
+    return (f'{said.about}\n\nUsage: gfscell <COMMAND>\n\nCommands:\n{aligned([("sim", said.sim), ("live", said.live)])}'
+            f'\nOptions:\n{aligned(flags)}')
+
+
+def options_of(way):
+    """The options of a subcommand, and what the help says of each."""
+    return texts().options + (texts().region if way == 'sim' else [])
+
+
+def subcommand_help(way):
+    flags = [(f'    --{name} <N>', said) for name, said in options_of(way)] + [('-h, --help', 'Print help')]
+    about = texts().sim if way == 'sim' else texts().live
+    return (f'{about}\n\nUsage: gfscell {way} [OPTIONS] <FILE>\n\nArguments:\n{aligned([("<FILE>", "The script, or - for standard input")])}'
+            f'\nOptions:\n{aligned(flags)}')
+
+
+def version():
+    return f'gfscell {texts().version}\n'
+
+
+# ---- the words
+
+def number(text):
+    """A decimal number below 2^64 without sign, or None."""
+    digits = text.lstrip('0')
+    if not text.isascii() or not text.isdigit() or len(digits) > LONGEST_NUMBER or int(digits or '0') >= 1 << 64:
+        return None
+    return int(digits or '0')
+
+
+def near(word, names):
+    """The name that is meant, where one is near."""
+    found = [name for name in names if name.lower() == word.lower()] or difflib.get_close_matches(word, names, 1, 0.7)
+    return f'; did you mean {found[0]}?' if found else ''
+
+
+class Words:
+    """The walk over a subcommand's words. A value waits until the next word, as one that is given twice is only found then."""
+
+    def __init__(self, way):
+        self.way = way
+        self.names = [name for name, _ in options_of(way)]
+        self.given = {}
+        self.pending = None
+
+    def settle(self):
+        if self.pending is None:
+            return
+        name, value = self.pending
+        self.pending = None
+        if value is None:
+            raise Bad(f'--{name}: a number is missing')
+        if name in self.given:
+            raise Bad(f'--{name} stands twice')
+        self.given[name] = value
+
+    def show_help(self):
+        self.settle()
+        raise Shown(subcommand_help(self.way))
+
+    def long(self, name, value):
+        if name == 'help':
+            if value is not None:
+                raise Bad('--help takes no value')
+            self.show_help()
+        if name not in self.names:
+            raise Bad(f'no option --{name}{near("--" + name, ["--" + it for it in self.names])}')
+        self.settle()
+        self.pending = (name, value)
+        if value is not None:
+            self.settle()
+
+    def positional(self, word):
+        if 'FILE' in self.given or (self.pending and self.pending[0] == 'FILE'):
+            raise Bad(f'{word}: FILE stands already')
+        self.settle()
+        self.pending = ('FILE', word)
+
+    def take(self, word):
+        if word.startswith('--') and word != '--':
+            name, equals, value = word[2:].partition('=')
+            self.long(name, value if equals else None)
+        elif word.startswith('-') and word != '-':
+            if word[1] != 'h':
+                raise Bad(f'no option {word[:2]}')
+            self.show_help()
+        elif self.pending and self.pending[1] is None:
+            self.pending = (self.pending[0], word)
+        else:
+            self.positional(word)
+
+    def taken(self, words):
+        """What all words give."""
+        end = words.index('--') if '--' in words else len(words)
+        for word in words[:end]:
+            self.take(word)
+        for word in words[end + 1:]:
+            self.positional(word)
+        self.settle()
+        if 'FILE' not in self.given:
+            raise Bad('FILE is missing')
+        return self.given
+
+
+def subcommand(words):
+    """The subcommand, which is the first word where the words ask for a run."""
+    first = words[0] if words else ''
+    if first in ('sim', 'live'):
+        return first
+    if first == '--help' or re.match('-h', first):
+        raise Shown(program_help())
+    if first == '--version' or re.match('-V', first):
+        raise Shown(version())
+    raise Bad('sim or live is missing')
+
+
+def parse(words):
+    """What the words ask for; Shown, or Bad."""
+    try:
+        ''.join(words).encode()
+    except UnicodeEncodeError:
+        raise Bad('a word is no text') from None
+    way = subcommand(words)
+    given = Words(way).taken(words[1:])
+    file = given.pop('FILE')
+    for name, value in given.items():
+        if number(value) is None:
+            raise Bad(f'--{name}: {value} is no decimal number below 2^64')
+    return Asked(way, file, {name.replace('-', '_'): number(value) for name, value in given.items()})
+
+
+def options_in(script):
+    """The options that stand in a script's first comments, as `# --clients 2 --chunk 64`, with the line of each comment."""
+    given = {}
+    for place, line in enumerate(script.split(b'\n'), 1):
+        if line and not line.startswith(b'#'):
+            break
+        if re.match(rb'# --[a-z]', line):
+            try:
+                given.update(parse(['sim', '-', *line[2:].decode('utf-8', 'surrogateescape').split()]).given)
+            except (Bad, Shown) as fault:
+                raise Bad(f'the options in line {place}: {fault}') from None
+    return given
+
+
+# ---- settings
+
+def settings_of(given):
+    """The counts of servers and clients, and each setting that is given, with the block's default."""
+    counts = [given.get(name, default) for name, default in COUNTS.items()]
+    settings = {name: min(value, 2 ** 32 - 1) if name in NARROW else value for name, value in given.items() if name not in (*COUNTS, 'names_heap')}
+    if 'block' not in settings and 'chunk' in settings:
+        settings['block'] = min(settings['chunk'] & -settings['chunk'], LARGEST_BLOCK)
+    return (*counts, settings)
+
+
+def out_of_range(given):
+    """The first option that no cell can have, in words, or None."""
+    from cell import SETTINGS, check_settings
+    servers, clients, settings = settings_of(given)
+    for name, count in (('servers', servers), ('clients', clients)):
+        if not 1 <= count <= MOST_NODES:
+            return f'--{name}: 1 to {MOST_NODES}'
+    wrong = check_settings({name: settings.get(name, default) for name, _, _, default in SETTINGS})
+    if wrong is None:
+        return None
+    least, greatest = next((least, greatest) for name, least, greatest, _ in SETTINGS if name == wrong)
+    more = {'chunk': ', a multiple of 16', 'block': ', which divides the chunk', 'skew_ms': ', below the lease'}
+    return f'--{wrong.replace("_", "-")}: {least} to {greatest}{more.get(wrong, "")}'

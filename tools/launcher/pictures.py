@@ -1,0 +1,64 @@
+"""Pictures of chunks: the order of a chunk's mutations, its replicas and its regions, one below the other."""
+import state
+
+WIDTH = 96
+MARGIN = 26
+
+
+def shown(byte):
+    return chr(byte) if 33 <= byte < 127 else '0' if byte == 0 else '?'
+
+
+def bar(places, scale):
+    """Bytes by their places, so many places to a column."""
+    columns = {}
+    for place in sorted(places, reverse=True):
+        columns[place // scale] = places[place]
+    return ''.join(columns.get(at, ' ') for at in range(max(columns, default=-1) + 1))
+
+
+def entry_row(entry, scale):
+    label = f'{"settled" if entry.is_settled else "unsettled":<9} r{entry.round} c{entry.client} call {entry.call}'
+    name = '' if entry.kind != 'Pad' else ' pad'
+    return f'  {label + name:<{MARGIN}}|{bar({entry.offset + at: shown(byte) for at, byte in enumerate(entry.content)}, scale)}'
+
+
+def replica_row(name, replica, scale):
+    places = {at: shown(byte) for at, byte in enumerate(replica.bytes)}
+    places.update({at: '!' for at in replica.changed})
+    return f'  {f"{name} version {replica.version}":<{MARGIN}}|{bar(places, scale)}'
+
+
+def regions_row(regions, scale):
+    places = {at: 'd' if is_determined else 'u' for first, end, is_determined in regions for at in range(first, end)}
+    return f'  {"regions":<{MARGIN}}|{bar(places, scale)}'
+
+
+def picture(cell, title, file, index, handle):
+    """The lines of one chunk's picture."""
+    order = state.orders(cell.world).get(handle)
+    entries = state.entries(order, cell.settings['chunk']) if order else []
+    stored = [(f's{number + 1}', state.replicas(server).get(handle)) for number, server in enumerate(state.servers(cell.world)) if state.is_up(server)]
+    stored = [(name, replica) for name, replica in stored if replica is not None]
+    regions = cell.regions(file, index)
+    ends = [entry.offset + len(entry.content) for entry in entries] + [len(replica.bytes) for _, replica in stored] + [end for _, end, _ in regions]
+    scale = -(-max(ends, default=1) // WIDTH) or 1
+    notes = ', a column is %d bytes' % scale if scale > 1 else ''
+    yield f'  {title}, handle {handle}: its order, its replicas, and what is (d)etermined or (u)ndetermined{notes}'
+    yield from (entry_row(entry, scale) for entry in entries)
+    yield from (replica_row(name, replica, scale) for name, replica in stored)
+    yield regions_row(regions, scale)
+
+
+def name_of(cell, file):
+    """A name of a file, in what the master's log says."""
+    names = state.names(state.logged(state.master(cell.world)))
+    found = [bytes(path).decode('utf-8', 'replace') for path, node in names.items() if node[0] == 'File' and state.number(node[1]) == file]
+    return min(found, default=f'file {file}, which has no name')
+
+
+def all_pictures(cell):
+    """The pictures of all chunks."""
+    for file, handles in sorted(state.files_seen(cell.world).items()):
+        for index, handle in enumerate(handles):
+            yield from picture(cell, f'{name_of(cell, file)}, chunk {index}', file, index, handle)

@@ -1,0 +1,130 @@
+"""Tests: what words of a command line ask for, and what is answered at once."""
+import os
+import re
+import subprocess
+import tempfile
+
+import command_line
+from building import TOP
+
+TESTS = os.path.join(TOP, 'crates', 'tests_values', 'src', 'words.rt')
+BAD = (2, b'', b'gfscell: bad command line\n')
+# command lines beyond those of the tests
+MORE_BAD = [
+    '--', '-- sim a', 'sim --', 'sim a --servers --help', 'sim a --servers 3 --servers 3 --help', 'sim a --help=x', '-x', 'sim a -x', 'sim a --=3', '-', 'live',
+    'sim a --servers -- 3', 'sim a --chunk 99999999999999999999999', 'sim a -- b', 'sim --names-heap 1 --names-heap 1 a', 'simm a',
+    'sim a --servers\t3', '--version=1', '--help=']
+MORE_SHOWN = {'sim --servers x --help': 'sim', 'sim a b --help': None, 'live -h': 'live', 'live a.live -hx': 'live', '-hV': '', 'sim --servers=9 -h': 'sim'}
+
+
+def settings(text):
+    """The settings that a test names, as ("lease-ms", 5_000)."""
+    found = re.findall(r'\("([a-z-]+)", ([\d_]+)\)', text.replace('u64::MAX', str((1 << 64) - 1)))
+    return {name.replace('-', '_'): int(value.replace('_', '')) for name, value in found}
+
+
+def expected_in(table):
+    """Each command line of a table of those tests, with what is asked for there."""
+    source = command_line.text_of(TESTS)
+    body = re.search(rf'const {table}: [^=]*= \[(.*?)\n\];', source, re.S)[1] + '\n'
+    return re.findall(r'"(gfscell[^"]*)",\s*Command::(\w+)(?:\((.*?)\)),?\s*\)?,?\n|"(gfscell[^"]*)",\s*Command::(Nothing)', body, re.S)
+
+
+def asked_by(line):
+    """What the launcher makes of a command line, in the words of those tables."""
+    try:
+        asked = command_line.parse(line.split(' ')[1:])
+    except command_line.Bad:
+        return ('Nothing',)
+    except command_line.Shown as shown:
+        return ('Shows', str(shown))
+    given = dict(asked.given)
+    heap = given.pop('names_heap', None)
+    servers, clients, others = command_line.settings_of(given)
+    found = {'servers': servers, 'clients': clients, **others}
+    return (asked.way.capitalize(), asked.file, heap, {name: value for name, value in found.items() if name in given or name == 'block'})
+
+
+def is_wanted(found, kind, text):
+    if kind == 'Nothing' or found[0] != kind:
+        return found[0] == kind
+    if kind == 'Shows':
+        return re.match(r'"(.*)"', text)[1] in found[1]
+    file = re.match(r'"(.*?)"', text)[1]
+    heap = re.search(r'Some\(([\d_]+)\)', text)
+    wanted = settings(text)
+    if 'chunk' in wanted and 'block' not in wanted:
+        # the tests leave out what is the default
+        wanted['block'] = 65536
+    return found[1] == file and found[2] == (int(heap[1].replace('_', '')) if heap else None) and found[3] == wanted
+
+
+def tables():
+    """How many command lines there are in the tables, and those that are taken otherwise."""
+    count, faults = 0, []
+    for table, least in (('LINES', 12), ('REFUSED', 26), ('SHOWN', 6)):
+        rows = [(row[0] or row[3], row[1] or row[4], row[2]) for row in expected_in(table)]
+        if len(rows) != least:
+            faults.append(f'{table} of {TESTS}: {len(rows)} command lines are read')
+        for line, kind, text in rows:
+            count += 1
+            if not is_wanted(asked_by(line), kind, text):
+                faults.append(f'{line}: taken as {asked_by(line)[:3]}, and {kind} {text} is wanted')
+    return count, faults
+
+
+def shown_kinds():
+    count, faults = 0, []
+    for line, way in MORE_SHOWN.items():
+        count += 1
+        wanted = ('Nothing',) if way is None else ('Shows', command_line.subcommand_help(way) if way else command_line.program_help())
+        if asked_by('gfscell ' + line) != wanted:
+            faults.append(f'{line}: something else is asked for')
+    for line in MORE_BAD:
+        count += 1
+        if asked_by('gfscell ' + line) != ('Nothing',):
+            faults.append(f'{line}: not refused')
+    return count, faults
+
+
+def answer(program, words, folder):
+    ran = subprocess.run([program, *words], cwd=folder, stdin=subprocess.DEVNULL, capture_output=True, check=False)
+    return ran.returncode, ran.stdout, ran.stderr
+
+
+def expected_text(name):
+    with open(os.path.join(TOP, 'tools', 'launcher', 'expected', name), 'rb') as file:
+        return file.read()
+
+
+def at_once():
+    """Words that need no program, with the status and the bytes that they get."""
+    cannot = {name: (1, b'', f'gfscell: cannot {name}\n'.encode()) for name in ('read', 'start')}
+    return [
+        ([], BAD), (['help'], BAD), (['sim'], BAD), (['sim', 'a.gfs', '--servers', '3', '--servers', '3'], BAD), (['sim', 'a.gfs', '--chunk', 'x'], BAD),
+        (['sim', b'\xff'], BAD), (['sim', 'a.gfs', '--servers', ''], BAD), (['live', 'a.live', '--names-heap', '1'], BAD),
+        (['--help'], (0, expected_text('help'), b'')), (['-h'], (0, expected_text('help'), b'')), (['sim', '--help'], (0, expected_text('help_sim'), b'')),
+        (['live', 'none', '-h'], (0, expected_text('help_live'), b'')), (['--version'], (0, b'gfscell 0.1.0\n', b'')), (['-V'], (0, b'gfscell 0.1.0\n', b'')),
+        (['sim', 'none'], cannot['read']), (['live', 'none', '--chunk', '63'], cannot['read']), (['sim', ''], cannot['read']), (['sim', '.'], cannot['read']),
+        (['live', '.', '--chunk', '63'], cannot['read']), (['sim', '-', '--chunk', '63'], cannot['start']), (['sim', '--servers=0', '--', '-f'], cannot['start']),
+        (['sim', '-f'], BAD), (['sim', '-', '--clients', '65'], cannot['start']), (['sim', '-', '--skew-ms', '5', '--lease-ms', '5'], cannot['start']),
+        (['sim', '-', '--goal', '4294967298'], cannot['start']), (['sim', '-', '--block', '48'], cannot['start'])]
+
+
+def other_words(program):
+    """The words that a program, or the launcher, answers otherwise."""
+    faults = []
+    with tempfile.TemporaryDirectory() as folder:
+        with open(os.path.join(folder, '-f'), 'wb') as file:
+            file.write(b'c1 list /\n')
+        for words, wanted in at_once():
+            found = answer(os.path.abspath(program), words, folder)
+            if found != wanted:
+                faults.append(f'{words}: {found}, and {wanted} is wanted')
+    return faults
+
+
+def faults():
+    """How many things were tested, and what is wrong."""
+    first, second = tables(), shown_kinds()
+    return first[0] + second[0] + len(at_once()), first[1] + second[1] + other_words(os.path.join(TOP, 'gfscell'))
