@@ -1,3 +1,3 @@
 pub mod SameSteps
 pub mod CutWorlds
-pub mod Journals
+pub mod CutJournals

@@ -1,4 +1,4 @@
-use Rattle.laws_rebase.proofs.Journals.{journals_with_bases_are_lawful as proved}
+use Rattle.laws_rebase.proofs.CutJournals.{journals_with_bases_are_lawful as proved}
 use Rattle.laws_rebase.proofs.journals.journals_with_bases_are_lawful.Goals as goal
 
 pub returns : goal.returns

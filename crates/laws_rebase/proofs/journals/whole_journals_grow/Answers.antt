@@ -1,4 +1,4 @@
-use Rattle.laws_rebase.proofs.Journals.{whole_journals_grow as proved}
+use Rattle.laws_rebase.proofs.CutJournals.{whole_journals_grow as proved}
 use Rattle.laws_rebase.proofs.journals.whole_journals_grow.Goals as goal
 
 pub returns : goal.returns

@@ -91,14 +91,14 @@ each_append sent (x ∷ xs) ys h later = (h.0, each_append (with_messages sent x
 
 -- nodes
 
+-- of one entry more, by whether it is the node's
+with_first : (x : Entry) (l m r : List Entry) (b : Bool) → l ≡ m ++ r → cond b (x ∷ l) l ≡ cond b (x ∷ m) m ++ r
+with_first x l m r true h = ap (λ (rest : List Entry). x ∷ rest) h
+with_first x l m r false h = h
+
 own_append : (n : Node) (xs ys : List Entry) → own n (xs ++ ys) ≡ own n xs ++ own n ys
 own_append n [] ys = refl
-own_append n (x ∷ xs) ys = by_test (is_node x.node n) (own_append n xs ys)
-  where
-    by_test : (b : Bool) → own n (xs ++ ys) ≡ own n xs ++ own n ys
-        → cond b (x ∷ own n (xs ++ ys)) (own n (xs ++ ys)) ≡ cond b (x ∷ own n xs) (own n xs) ++ own n ys
-    by_test true h = ap (λ (l : List Entry). x ∷ l) h
-    by_test false h = h
+own_append n (x ∷ xs) ys = with_first x (own n (xs ++ ys)) (own n xs) (own n ys) (is_node x.node n) (own_append n xs ys)
 
 own_raised : (k : ℕ) (n : Node) (es : List Entry) → own n (raised_all k es) ≡ raised_all k (own n es)
 own_raised k n [] = refl
