@@ -13,6 +13,8 @@ pub mod UniqueOrders
 pub mod OneEntry
 pub mod GrantsFollow
 pub mod ShownAlone
+pub mod AskedCopies
+pub mod RowedSteps
 pub mod CopiesBegun
 pub mod RoundsPassed
 pub mod SentGrants
