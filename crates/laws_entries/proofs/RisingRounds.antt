@@ -38,7 +38,7 @@ use Rattle.laws_base.proofs.LeasesTold.{leases_are_told}
 use Rattle.laws_base.proofs.LeasesTimely.{IsOfTimes, times_kept}
 use Rattle.laws_base.proofs.ScenesReached.{scene_of, scene_reached}
 use Rattle.laws_base.proofs.SentReached.{server_quiet, server_restarts_quiet, sent_reached}
-use Rattle.laws_base.proofs.ClientMoves.{quiet_orders, client_quiet, call_quiet}
+use Rattle.laws_base.proofs.ClientMoves.{HasNoOrder, quiet_orders, client_quiet, call_quiet}
 use Rattle.laws_steps.proofs.Events.{with_call, HoldsAfter, holds_after}
 use Rattle.laws_steps.specs.Versions.{IsLeaseOver}
 use Rattle.laws_steps.proofs.EndedLeases.{past_is_over, over_leases_number_nothing}
