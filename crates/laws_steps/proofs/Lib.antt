@@ -15,6 +15,8 @@ pub mod WaitsKept
 pub mod EndedLeases
 pub mod ScenesGoOn
 pub mod LeasesStayOver
+pub mod MasterPremises
+pub mod MasterWalk
 pub mod NewCopies
 pub mod Unleased
 pub mod Histories
