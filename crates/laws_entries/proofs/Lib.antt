@@ -13,6 +13,7 @@ pub mod UniqueOrders
 pub mod OneEntry
 pub mod GrantsFollow
 pub mod ShownAlone
+pub mod CopyWalk
 pub mod CopiesBegun
 pub mod RoundsPassed
 pub mod SentGrants
