@@ -1,58 +1,53 @@
 -- A step of the master begins one copy at most: under a handle that it has not used, and of numbers above each that it has passed at the source.
-use Rattle.std.proofs.Common.{◌≡◌, ◌⊎◌, ℕ, suc, ◌+◌, ◌≤◌, ◌<◌, Bool, true, false, List, [], ◌∷◌, ◌++◌, Some, refl, sym, ap, subst, ◌∙◌, inl, inr, arith}
-use Rattle.std.specs.Prelude.{nat_lt, max, IsTrue}
+use Rattle.std.proofs.Common.{◌≡◌, ◌⊎◌, ℕ, suc, ◌+◌, ◌≤◌, ◌<◌, Bool, true, List, [], ◌∷◌, ◌++◌, Option, Some, None, refl, sym, ap, subst, ◌∙◌, inl, inr, arith}
+use Rattle.std.specs.Prelude.{IsTrue}
 use Rattle.std.specs.FinMap as table
 use Rattle.std.proofs.Math.Nat.{le-max_left}
 use Rattle.gfs_types.specs.declared.ids.FileId.{FileId}
+use Rattle.gfs_types.specs.declared.ids.Node.TheVariants as node
+use Rattle.gfs_types.specs.declared.ids.OrderNo.{OrderNo}
 use Rattle.messages.specs.declared.event.NodeInput.{NodeInput}
-use Rattle.messages.specs.declared.event.NodeInput.TheVariants as input
-use Rattle.messages.specs.declared.message.Body.{Body}
 use Rattle.messages.specs.declared.message.Body.TheVariants as body
 use Rattle.messages.specs.declared.message.Message.{Message}
 use Rattle.log_records.specs.declared.record.Record.{Record}
 use Rattle.log_records.specs.declared.record.Record.TheVariants as log
 use Rattle.chunk_table.specs.ChunkTable.{ChunkRow, new_row, chunk_of}
-use Rattle.protocol.specs.Sending.{file_id, handle_of, version_of}
+use Rattle.protocol.specs.Sending.{message, file_id, handle_of, version_of}
 use Rattle.protocol.specs.Choice.{Choice, Ending, Goes, Lost, Stops}
 use Rattle.protocol.specs.Seen.{Taken, no_step}
 use Rattle.protocol.specs.declared.seen.Seen.{Seen}
 use Rattle.protocol.specs.declared.seen.Seen.TheVariants.{CopyStarted}
 use Rattle.protocol.specs.Logged.{Logged, LogDisk, LogChange, log_changed, after_record}
-use Rattle.protocol.specs.Master.{MasterState, MasterDoing, VersionAttempt, master_begins, tells, orders, appends, writes_checkpoint, gives_up_copy}
-use Rattle.protocol.specs.MasterSnapshots.{revokes, live_snapshots}
-use Rattle.protocol.specs.MasterVersions.{Asker, VersionTarget, new_attempt}
+use Rattle.protocol.specs.Master.{MasterState, MasterDoing, VersionAttempt, master_begins, orders, appends, writes_checkpoint, with_attempt, gives_up_copy}
+use Rattle.protocol.specs.MasterVersions.{Asker, VersionTarget, new_attempt, copy_order, sends_copies, sends_copy_started}
 use Rattle.protocol.specs.MasterAsks.{takes_ask}
-use Rattle.protocol.specs.MasterStep.{master_ticks, master_takes, master_at, finishes, master_goes, may_end, master_bounded, master_ends, master_step}
+use Rattle.protocol.specs.MasterStep.{master_at, finishes, master_goes, may_end, master_bounded, master_ends, master_step}
 use Rattle.laws_base.proofs.Steps.{on_cond, same_some, put_cases, put_there}
 use Rattle.laws_base.proofs.Entries.{AllOf}
 use Rattle.laws_base.proofs.MembersRecorded.{all_in_order}
 use Rattle.laws_base.proofs.ChunkRows.{rows_of}
-use Rattle.laws_base.proofs.LeasesEnded.{later_ready}
-use Rattle.laws_base.proofs.Namespace.{IsNamespace, filtered_namespace}
-use Rattle.laws_base.proofs.MasterMoves.{Core, core_of, NoneEnded}
+use Rattle.laws_base.proofs.MasterMoves.{core_of, NoneEnded}
 use Rattle.laws_base.proofs.OrderNumbers.{state_of, state-appended, AllStops, AllFound, found_same}
-use Rattle.laws_base.proofs.NamesReached.{IsUpToLog, IsLogged}
+use Rattle.laws_base.proofs.NamesReached.{IsLogged}
 use Rattle.laws_base.proofs.RowsLogged.{IsFoundRows, IsRowedLog}
 use Rattle.laws_base.proofs.RowsKept.{rows_kept}
 use Rattle.laws_steps.proofs.Awaited.{Attempts}
-use Rattle.laws_steps.proofs.AwaitedRecords.{waiting_filtered, among_filtered}
-use Rattle.laws_steps.proofs.MasterActs.{IsRowing, rowing_keeps, Waits, Acts, Here}
-use Rattle.laws_steps.proofs.WaitsKept.{WaitsHere, any_input}
+use Rattle.laws_steps.proofs.MasterActs.{IsRowing, rowing_keeps}
+use Rattle.laws_steps.proofs.WaitsKept.{WaitsHere}
 use Rattle.laws_steps.proofs.ActsOfNames.{ready_acts}
-use Rattle.laws_steps.proofs.ActsOfChunks.{ask_acts}
-use Rattle.laws_steps.proofs.ActsOfSteps.{goes_acts}
 use Rattle.laws_steps.proofs.IssuedNumbers.{IsPassed, IsLogPassed, passed_less, passed_copy}
 use Rattle.laws_entries.proofs.GrantsFollow.{GrantsAbove, IsTriedAbove, HasPassed, IsBeyond, sends, Beyond, beyond_acts}
-use Rattle.laws_entries.proofs.ShownAlone.{ready, ticked, took}
-use Rattle.laws_entries.proofs.CopyWalk.{is_of_copies, copy_begins, CopyKeeps, ask_begins}
+use Rattle.laws_entries.proofs.ShownAlone.{ready}
+use Rattle.laws_entries.proofs.AskedCopies.{KeepsBeginning, step_begins}
+use Rattle.laws_entries.proofs.RowedSteps.{IsRowedHere, rowed_asked, rowed_gone}
 
-abbrev pub AnyLog : LogDisk → Type 0
+abbrev AnyLog : LogDisk → Type 0
 AnyLog d = Unit {0}
 
 any_log : (handle version : ℕ) (d : LogDisk) → IsLogPassed handle version d → AnyLog d
 any_log handle version d h = tt
 
-pub any_stops : (d : LogDisk) (xs : List LogChange) → AllStops AnyLog d xs
+any_stops : (d : LogDisk) (xs : List LogChange) → AllStops AnyLog d xs
 any_stops d [] = tt
 any_stops d (x ∷ xs) = (tt, any_stops (log_changed d x) xs)
 
@@ -76,31 +71,6 @@ passed_added handle version l file h =
 new_above : (handle version : ℕ) (l : Logged) (attempts : Attempts) (a : VersionAttempt) → version < a.version → IsTriedAbove handle version l (table.insert attempts handle a)
 new_above handle version l attempts a low row there b is =
     subst (λ (x : VersionAttempt). version < x.version) (same_some a b (sym (put_there attempts handle a handle refl) ∙ is)) low
-
--- what is kept of everything
-
-abbrev pub Anything : Core → Attempts → Waits → Type 0
-Anything c attempts ss = Unit {0}
-
-pub any_acts : (start : LogDisk) → Acts start NoneEnded (IsRowing start) Anything
-any_acts start =
-    record {
-      tells = λ c attempts ss receiver b quiet h. h;
-      orders = λ c attempts ss server b is plain none h. h;
-      gives = λ c attempts ss server handle a b at has plain given h. h;
-      revokes = λ c attempts ss handle row is h. h;
-      appends = λ c attempts ss r due plain beside n after h. h;
-      checkpoint = λ c attempts ss tree n after h. h;
-      less = λ c attempts ss handles copied n h. h;
-      fewer = λ c attempts left ss from h. h;
-      waits = λ c attempts ss more h. h;
-      issues = λ c attempts ss handle row a is next alone n before h. h;
-      copies = λ c attempts ss file index source copy a next n before h. h;
-      records = λ c attempts ss handle a b at same servers h. h;
-      grants = λ c attempts ss handle a until primary members at all due n after h. h;
-      ends = λ c attempts ss handle row is word n h. h;
-      extends = λ c attempts ss handle until row is lasts n h. h;
-    }
 
 module _ (m : MasterState) where
   -- a step so far that sent and showed nothing: what was passed as it began is passed
@@ -140,8 +110,7 @@ module _ (m : MasterState) where
 
   -- a copy
 
-  begun_sends : (d : MasterDoing) (x : Message) (count : ℕ) → ((handle version : ℕ) → GrantsAbove handle version x.body) → HasBegun d
-      → HasBegun (record d { sent = d.sent ++ x ∷ []; master = record d.master { order_count = count } })
+  begun_sends : (d : MasterDoing) (x : Message) (count : ℕ) → ((handle version : ℕ) → GrantsAbove handle version x.body) → HasBegun d → HasBegun (record d { sent = d.sent ++ x ∷ []; master = record d.master { order_count = count } })
   begun_sends d x count none h =
       record {
         source = h.source;
@@ -151,15 +120,25 @@ module _ (m : MasterState) where
         follows = λ version below. sends h.copy version AnyLog (any_log h.copy version) m.disk (core_of d) d.master.attempts x count (none h.copy version) (h.follows version below);
       }
 
-  no_grant : (b : Body) → is_of_copies b ≡ true → (handle version : ℕ) → GrantsAbove handle version b
-  no_grant (body.Grant order q v end_moment members) is handle version = absurd (let both : false ≡ true = is in cc)
-  no_grant other is handle version = tt
+  no_grant : (handle copy version : ℕ) (base : Option ℕ) (o : OrderNo) (q v : ℕ) → GrantsAbove q v (copy_order handle copy version base o)
+  no_grant handle copy version None o q v = tt
+  no_grant handle copy version (Some held) o q v = tt
 
-  copy_begun : (e : MasterDoing) (a : Asker) (handle : ℕ) (row : ChunkRow) (copy : ℕ) (targets : List VersionTarget) → IsPlain e → m.logged.next_handle ≤ copy
-      → ((version : ℕ) → IsBelow handle version → version ≤ row.issued) → HasBegun (copy_begins e a handle row copy targets)
+  copies_sent : (d : MasterDoing) (handle copy version : ℕ) (targets : List VersionTarget) → HasBegun d → HasBegun (sends_copies d handle copy version targets)
+  copies_sent d handle copy version [] h = h
+  copies_sent d handle copy version (t ∷ rest) h =
+      copies_sent (orders d t.server (copy_order handle copy version t.base)) handle copy version rest
+      (begun_sends d _ (suc d.master.order_count) (no_grant handle copy version t.base (record { epoch = d.master.logged.epoch; count = suc d.master.order_count })) h)
+
+  copy_begun : (e : MasterDoing) (a : Asker) (handle : ℕ) (row : ChunkRow) (copy : ℕ) (targets : List VersionTarget) → IsPlain e → m.logged.next_handle ≤ copy → ((version : ℕ) → IsBelow handle version → version ≤ row.issued)
+      → (let r : Record = log.CopyStart (file_id a.file) a.index (handle_of handle) (handle_of copy) (version_of (suc row.issued)) in HasBegun (sends_copy_started (appends e r) a handle copy (suc row.issued) targets))
   copy_begun e a handle row copy targets plain new low =
       let r : Record = log.CopyStart (file_id a.file) a.index (handle_of handle) (handle_of copy) (version_of (suc row.issued)) in
-      let attempt : VersionAttempt = new_attempt (appends e r).master (suc row.issued) targets in
+      let d : MasterDoing = appends e r in
+      let shown : MasterDoing = record d { seen = d.seen ++ CopyStarted (handle_of handle) (handle_of copy) ∷ [] } in
+      let attempt : VersionAttempt = new_attempt d.master (suc row.issued) targets in
+      let tried : MasterDoing = with_attempt shown copy attempt in
+      let first : HasBegun tried =
       record {
         source = handle;
         copy = copy;
@@ -168,16 +147,17 @@ module _ (m : MasterState) where
         follows = λ version below.
             let less = low version below in
             let after : (l : Logged) → IsPassed copy version (after_record l r) =
-            λ l. passed_lower copy version (suc row.issued) (after_record l r) (omega (arith, less))
-            (passed_copy copy (suc row.issued) l (file_id a.file) a.index (handle_of handle) copy (suc row.issued) refl refl) in
+            λ l. passed_lower copy version (suc row.issued) (after_record l r) (omega (arith, less)) (passed_copy copy (suc row.issued) l (file_id a.file) a.index (handle_of handle) copy (suc row.issued) refl refl) in
             record {
               state = after e.master.logged;
               above = new_above copy version (after_record e.master.logged r) e.master.attempts attempt (omega (arith, less));
               sent = subst (λ (ms : List Message). AllOf (λ x. GrantsAbove copy version x.body) ms) (sym plain.sent) tt;
               disk = subst (λ (l : Logged). IsPassed copy version l) (sym (state-appended e.master.disk r)) (after (state_of e.master.disk));
-              stops = any_stops m.disk (copy_begins e a handle row copy targets).changes;
+              stops = any_stops m.disk tried.changes;
             };
-      }
+      } in
+      let all : HasBegun (sends_copies tried handle copy (suc row.issued) targets) = copies_sent tried handle copy (suc row.issued) targets first in
+      begun_sends (sends_copies tried handle copy (suc row.issued) targets) (message node.Master a.client (body.Wait a.number)) _ (λ q v. tt) all
 
   below_issued : (d : MasterDoing) (handle : ℕ) (row : ChunkRow) → IsPlain d → chunk_of d.master.logged.table handle ≡ Some row → (version : ℕ) → IsBelow handle version → version ≤ row.issued
   below_issued d handle row h at version below =
@@ -186,23 +166,19 @@ module _ (m : MasterState) where
         | inr p ↦ (h.passed handle version p).1 row at
       ]
 
-  keeps : CopyKeeps IsPlain HasBegun
-  keeps =
+  begins : KeepsBeginning IsPlain HasBegun
+  begins =
       record {
         silent = λ d h. h.seen;
-        added = λ d file h. added_plain d (file_id file) h;
         checkpointed = less_plain;
-        less = given_up_plain;
-        begins = λ d e a handle row targets h at plain same. copy_begun e a handle row d.master.logged.next_handle targets plain h.grows (below_issued d handle row h at);
-        says = λ d x count is h. begun_sends d x count (no_grant x.body is) h;
+        added = added_plain;
+        given_up = given_up_plain;
+        begun = λ d e a handle row targets at h plain same. copy_begun e a handle row d.master.logged.next_handle targets plain h.grows (below_issued d handle row h at);
       }
 
   -- the step
 
-  abbrev pub Now : MasterDoing → Type 0
-  Now d = Here m.disk NoneEnded (IsRowing m.disk) (rowing_keeps m.disk) (λ c n. n) Anything (any_acts m.disk) d
-
-  finished : (d : MasterDoing) → Now d → HasBegun d → HasBegun (finishes d)
+  finished : (d : MasterDoing) → IsRowedHere m d → HasBegun d → HasBegun (finishes d)
   finished d now h =
       record {
         source = h.source;
@@ -214,44 +190,10 @@ module _ (m : MasterState) where
             (now.0, now.1, h.follows version below)).2;
       }
 
-  module _ (moment : ℕ) (refused : List Bool) (logged : IsLogged IsFoundRows IsRowedLog rows_kept m) (wait : WaitsHere m) (up : m.up ≡ true) where
-    abbrev First : MasterDoing
-    First = master_begins (master_at m moment) refused
-
-    pub now_first : Now (master_begins (master_at m moment) refused)
-    now_first =
-        let u : IsUpToLog IsFoundRows IsRowedLog rows_kept m = logged.up up in
-        let later : ℕ = max m.now moment in
-        let live : IsNamespace m.logged.names (live_snapshots later m.snapshots) = filtered_namespace m.logged.names (λ s. nat_lt later s.deadline) m.snapshots u.names in (
-          (
-            record { none = u.idle; disk = refl; same = u.same; tied = u.tied; stops = logged.found [] },
-            λ handle a is. record { servers = λ n there. inr (λ q v. tt); recorded = λ n there. tt },
-            λ asks. live,
-            λ asks. later_ready m.now later m.attempts m.logged (le-max_left m.now moment) u.ready,
-          ),
-          waiting_filtered m.logged m.attempts m.snapshots (live_snapshots later m.snapshots) (λ s among. among_filtered (λ t. nat_lt later t.deadline) m.snapshots s among) wait,
-          tt,
-        )
-
-    took_fine : (x : Message) (b : Body) → Fine (finishes (master_takes (master_begins (master_at m moment) refused) x b))
-    took_fine x (body.Ask number file w deadline lost) =
-        let d : MasterDoing = takes_ask First x.sender number file.0 w deadline.0 lost in
-        let now : Now d = ask_acts m.disk NoneEnded (IsRowing m.disk) (rowing_keeps m.disk) (λ c n. n) Anything (any_acts m.disk) First x.sender number file.0 w deadline.0 lost now_first in
-        elim (ask_begins IsPlain HasBegun keeps First x.sender number file.0 w deadline.0 lost (record { seen = refl; sent = refl; grows = omega arith; passed = λ handle version p. p })) [
-          | inl none ↦ inl (ready [] d none)
-          | inr begun ↦ inr (finished d now begun)
-        ]
-    took_fine x other = inl (ready [] (master_takes First x other) (took [] First x other tt refl))
-
-    goes_fine : (i : NodeInput) → Fine (master_goes m moment i refused)
-    goes_fine (input.Deliver x) = took_fine x x.body
-    goes_fine input.Tick = inl (ready [] (master_ticks First) (ticked [] First refl))
-
-    pub goes_rowing : (i : NodeInput) → IsRowing m.disk (core_of (master_goes m moment i refused))
-    goes_rowing i =
-        let u : IsUpToLog IsFoundRows IsRowedLog rows_kept m = logged.up up in
-        (goes_acts NoneEnded (IsRowing m.disk) Anything m moment i refused (rowing_keeps m.disk) (λ c n. n) (any_acts m.disk) (any_input i) logged up wait
-        (record { none = u.idle; disk = refl; same = u.same; tied = u.tied; stops = logged.found [] }) tt).0
+  goes_fine : (moment : ℕ) (refused : List Bool) → IsLogged IsFoundRows IsRowedLog rows_kept m → WaitsHere m → m.up ≡ true → (i : NodeInput) → Fine (master_goes m moment i refused)
+  goes_fine moment refused logged wait up =
+      step_begins IsPlain HasBegun begins m moment refused (record { seen = refl; sent = refl; grows = omega arith; passed = λ handle version p. p })
+      (λ client number file w deadline lost begun. finished (takes_ask (master_begins (master_at m moment) refused) client number file w deadline lost) (rowed_asked m moment refused logged wait up client number file w deadline lost) begun)
 
 -- A step of the master that shows that it began a copy, of this chunk and under this handle.
 pub record ShowsCopy (m : MasterState) (t : Taken MasterState) : Type 0 where
@@ -294,6 +236,6 @@ step_shows m moment i choice logged waits =
     let d : MasterDoing = master_goes m moment i choice.refused in
     on_cond (ShowsLittle m) m.up (master_bounded m d choice) (no_step m)
     (λ up. on_cond (ShowsLittle m) (may_end d choice.ending) (master_ends m d choice choice.ending) (no_step m)
-    (λ _. ends_shown m d choice choice.ending up (goes_rowing m moment choice.refused logged waits up i) (goes_fine m moment choice.refused logged waits up i))
+    (λ _. ends_shown m d choice choice.ending up (rowed_gone m moment choice.refused logged waits up i) (goes_fine m moment choice.refused logged waits up i))
     (λ _. inl refl))
     (λ _. inl refl)

@@ -37,9 +37,8 @@ use Rattle.laws_base.proofs.MessagesSent.{IsSent, sent_before, sent_cases}
 use Rattle.laws_base.proofs.LeasesTold.{IsStaleAt, stale_later, new_not_stale, replica_later, CameTo, came_in, IsToldServer, AreTold, told_kept, granting}
 use Rattle.laws_base.proofs.ServerSettings.{AreSet, settings_kept}
 use Rattle.laws_base.proofs.GrantsOnce.{versions_are_granted_once}
-use Rattle.laws_base.proofs.ScenesReached.{Scene, scene_of, IsNow, IsSentTo, rotten_server, scene_reached}
+use Rattle.laws_base.proofs.ScenesReached.{Scene, scene_of, IsNow, IsSentTo, rotten_server, scene_reached, IsKeptOn, goes_on, kept_on}
 use Rattle.laws_steps.specs.Versions.{IsRefusedBy, IsLeaseOver, LeasesStayOver}
-use Rattle.laws_steps.proofs.ScenesGoOn.{IsKeptOn, goes_on, kept_on}
 
 -- counts of messages
 

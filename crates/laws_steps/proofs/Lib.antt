@@ -13,7 +13,6 @@ pub mod ActsOfChunks
 pub mod ActsOfSteps
 pub mod WaitsKept
 pub mod EndedLeases
-pub mod ScenesGoOn
 pub mod LeasesStayOver
 pub mod MasterPremises
 pub mod MasterWalk

@@ -17,8 +17,7 @@ use Rattle.protocol.specs.World.{WorldState, after_events}
 use Rattle.laws_base.proofs.Steps.{none_some, same_some}
 use Rattle.laws_base.proofs.MembersRecorded.{all_at}
 use Rattle.laws_base.proofs.RevokedLeases.{IsOfRevoked, revoked_kept}
-use Rattle.laws_base.proofs.ScenesReached.{scene_of, scene_reached}
-use Rattle.laws_steps.proofs.ScenesGoOn.{goes_on}
+use Rattle.laws_base.proofs.ScenesReached.{scene_of, scene_reached, goes_on}
 use Rattle.laws_steps.proofs.MasterPremises.{IsReplicaTaken, IsAnswer, IsOrder, AnyDoing, any_kept, MasterSays}
 use Rattle.laws_steps.proofs.MasterWalk.{step_says}
 use Rattle.laws_versions.specs.OutdatedVersions.{version_dropped, IsUselessReplica, DropsAreOfUselessReplicas, IsNeverCurrent, OutdatedVersionsStayOutdated}
