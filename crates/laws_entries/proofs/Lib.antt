@@ -46,7 +46,6 @@ pub mod SettledEntries
 pub mod KeptAttempts
 pub mod FullPlaces
 pub mod ToldFull
-pub mod Replies
 pub mod AnsweredAppends
 pub mod Sendings
 pub mod AppendedBytes

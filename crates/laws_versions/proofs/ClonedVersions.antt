@@ -33,9 +33,8 @@ use Rattle.laws_base.proofs.ChunkRows.{rows_of}
 use Rattle.laws_base.proofs.OrderNumbers.{AllFound}
 use Rattle.laws_base.proofs.LeaseEnds.{IsEndTold, IsPast, HasEnd}
 use Rattle.laws_base.proofs.LeasesTimely.{IsOfTimes, times_kept}
-use Rattle.laws_base.proofs.ScenesReached.{scene_of, scene_reached}
+use Rattle.laws_base.proofs.ScenesReached.{scene_of, scene_reached, goes_on}
 use Rattle.laws_steps.specs.Versions.{IsLeaseOver}
-use Rattle.laws_steps.proofs.ScenesGoOn.{goes_on}
 use Rattle.laws_steps.proofs.EndedLeases.{past_is_over}
 use Rattle.laws_steps.proofs.LeasesStayOver.{reached_later, over_later}
 use Rattle.laws_steps.proofs.IssuedNumbers.{IsPassed, IsLogPassed}

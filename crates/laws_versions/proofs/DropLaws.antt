@@ -21,8 +21,7 @@ use Rattle.laws_base.proofs.Entries.{AllOf}
 use Rattle.laws_base.proofs.Words.{true_false}
 use Rattle.laws_base.proofs.MembersRecorded.{all_at}
 use Rattle.laws_base.proofs.RevokedLeases.{IsOfRevoked, revoked_kept}
-use Rattle.laws_base.proofs.ScenesReached.{scene_of, scene_reached}
-use Rattle.laws_steps.proofs.ScenesGoOn.{goes_on}
+use Rattle.laws_base.proofs.ScenesReached.{scene_of, scene_reached, goes_on}
 use Rattle.laws_versions.specs.OutdatedVersions.{version_dropped, IsUselessReplica, DropsAreOfUselessReplicas, IsNeverCurrent, OutdatedVersionsStayOutdated}
 use Rattle.laws_versions.proofs.DropWords.{is_drop, AreDropsSaid, AreBodyDropsSaid, AreInputDropsSaid, step_drops}
 use Rattle.laws_versions.proofs.OutdatedVersions.{IsOutdated, AreGoing, StaysOutdated, stays_outdated, outdated_now}

@@ -30,8 +30,7 @@ use Rattle.laws_base.proofs.SentReached.{without_order, server_quiet, server_res
 use Rattle.laws_base.proofs.GrantedIssued.{granted_is_at_most_issued}
 use Rattle.laws_base.proofs.RevokesNumbered.{Agrees}
 use Rattle.laws_base.proofs.RevokedLeases.{IsOfRevoked, revoked_kept}
-use Rattle.laws_base.proofs.ScenesReached.{scene_of, scene_reached}
-use Rattle.laws_steps.proofs.ScenesGoOn.{goes_on}
+use Rattle.laws_base.proofs.ScenesReached.{scene_of, scene_reached, goes_on}
 use Rattle.laws_steps.proofs.LeasesStayOver.{reached_later}
 use Rattle.laws_steps.specs.Given.{version_given}
 use Rattle.laws_steps.proofs.WaitsKept.{IsOfWaits, waits_kept}

@@ -30,10 +30,9 @@ use Rattle.laws_base.proofs.OrderNumbers.{state_of, AllFound}
 use Rattle.laws_base.proofs.GrantedIssued.{granted_is_at_most_issued}
 use Rattle.laws_base.proofs.LeaseEnds.{IsEndTold, IsPast, HasEnd}
 use Rattle.laws_base.proofs.LeasesTimely.{IsOfTimes, times_kept}
-use Rattle.laws_base.proofs.ScenesReached.{scene_of, scene_reached}
+use Rattle.laws_base.proofs.ScenesReached.{scene_of, scene_reached, goes_on}
 use Rattle.laws_base.proofs.SentReached.{sent_reached}
 use Rattle.laws_steps.specs.Versions.{IsLeaseOver}
-use Rattle.laws_steps.proofs.ScenesGoOn.{goes_on}
 use Rattle.laws_steps.proofs.EndedLeases.{past_is_over}
 use Rattle.laws_steps.proofs.LeasesStayOver.{leases_stay_over}
 use Rattle.laws_steps.specs.Given.{version_given}
