@@ -19,6 +19,7 @@ pub mod MasterWalk
 pub mod NewCopies
 pub mod Unleased
 pub mod Histories
+pub mod ServerSays
 pub mod ServerTalks
 pub mod MasterTalks
 pub mod Locations

@@ -25,13 +25,15 @@ use Rattle.protocol.specs.World.{WorldState, new_world, stamped, IsReached}
 use Rattle.laws_base.proofs.Entries.{AllOf}
 use Rattle.laws_base.proofs.MembersRecorded.{all_at}
 use Rattle.laws_base.proofs.MessagesSent.{IsSent, sent_cases, none_sent, numbered_sent}
-use Rattle.laws_base.proofs.RisingOrders.{element_numbered, set_cases}
-use Rattle.laws_base.proofs.LeasesTold.{numbered_from}
+use Rattle.laws_base.proofs.RisingOrders.{element_numbered}
+use Rattle.laws_base.proofs.LeasesTold.{AreTold as AreToldServers, told_kept}
+use Rattle.laws_base.proofs.ScenesReached.{scene_reached}
 use Rattle.laws_steps.proofs.Events.{IsGiven, HoldsAfter}
 use Rattle.laws_steps.proofs.ClientNumbers.{IsSaid, IsStepOf, of_step, of_call}
 use Rattle.laws_steps.proofs.RequestsOnce.{numbered_reached}
 use Rattle.laws_steps.proofs.MasterTalks.{is_masters, MasterTalks, master_said, restart_said}
-use Rattle.laws_versions.proofs.HeldVersions.{servers_are_true, given_here}
+use Rattle.laws_versions.proofs.HeldVersions.{servers_are_true}
+use Rattle.laws_versions.proofs.TakenOrders.{given_here}
 use Rattle.laws_versions.specs.ToldVersions.{IsReported, SaysVersion, WasOrdered, SaidVersionsWereOrdered, HoldersWereOrdered}
 use Rattle.laws_versions.proofs.TrueWords.{AreLinesOrdered, IsOthersWord, IsTrueFrom, IsTrueMessage, recorded_true, cloned_true, report_true, ordered_more, true_more}
 use Rattle.laws_versions.proofs.ServerWords.{step_says, restart_says}
@@ -122,7 +124,6 @@ client_true sent s d step (Some m) is =
 pub record AreTold (w : WorldState) : Type 0 where
   pub words : AreWordsTrue w.sent
   pub held : IsTrue w.master.up → AreHeld w.sent w.master.holders
-  pub ids : (index : ℕ) (s : ServerState) → element_at w.servers index ≡ Some s → s.id ≡ suc index
 
 input_true : (w : WorldState) (e : Event) (moment : ℕ) (i : NodeInput) → IsGiven w e node.Master moment i → AreWordsTrue w.sent → IsTrueInput w.sent i
 input_true w (event.Deliver number now) moment (input.Deliver m) is words = words m (number - 1, element_numbered w.sent number m is.0)
@@ -132,14 +133,6 @@ input_true w (event.Call client c now) moment (input.Deliver m) is words = absur
 input_true w (event.Restart to now) moment (input.Deliver m) is words = absurd is
 input_true w (event.Rot to handle place byte) moment (input.Deliver m) is words = absurd is
 input_true w (event.Fuse to count torn) moment (input.Deliver m) is words = absurd is
-
-set_ids : (servers : List ServerState) (at : ℕ) (t : ServerState) → t.id ≡ suc at → ((index : ℕ) (s : ServerState) → element_at servers index ≡ Some s → s.id ≡ suc index)
-    → (index : ℕ) (s : ServerState) → element_at (with_at servers at t) index ≡ Some s → s.id ≡ suc index
-set_ids servers at t new h index s is =
-    elim (set_cases servers at t index s is) [
-      | inl both ↦ ap (λ (u : ServerState). u.id) both.1 ∙ new ∙ ap (λ (k : ℕ). suc k) (sym both.0)
-      | inr there ↦ h index s there
-    ]
 
 told_after : (config : Config) (servers clients : ℕ) (w : WorldState) → IsReached config servers clients w → AreTold w → HoldsAfter w (λ e h. AreTold h.world)
 told_after config servers clients w r h =
@@ -152,7 +145,6 @@ told_after config servers clients w r h =
           record {
             words = words_more w.sent k ms h.words (master_said (IsTrueMessage w.sent) (master_true w.sent) w.master moment i choice);
             held = λ on. held_more w.sent (stamped k ms) (master_step w.master moment i choice).state.holders (known on);
-            ids = h.ids;
           };
       opens = λ e moment choice.
           let ms : List Message = (master_restart w.master moment choice).out.sent in
@@ -160,23 +152,21 @@ told_after config servers clients w r h =
           record {
             words = words_more w.sent k ms h.words (restart_said (IsTrueMessage w.sent) (master_true w.sent) w.master moment choice);
             held = λ on. held_more w.sent (stamped k ms) (master_restart w.master moment choice).state.holders (known on);
-            ids = h.ids;
           };
       serves = λ e index moment s i choice at is up.
           let ms : List Message = (server_step s moment i choice).out.sent in
-          let good = step_says w.sent (suc index) h.words s moment i choice (given_here w e index moment i is) (servers_are_true config servers clients w r index s at) (h.ids index s at) in
+          let good = step_says w.sent (suc index) h.words s moment i choice (given_here w e index moment i is) (servers_are_true config servers clients w r index s at)
+          (scene_reached AreToldServers told_kept config servers clients w r index s at).id in
           record {
-            words = words_more w.sent k ms h.words good.1;
+            words = words_more w.sent k ms h.words good;
             held = λ on. held_more w.sent (stamped k ms) w.master.holders (h.held on);
-            ids = set_ids w.servers index (server_step s moment i choice).state good.0 h.ids;
           };
       restarts = λ e index moment s choice at.
           let ms : List Message = (server_restart s moment choice).out.sent in
           let said = restart_says s moment choice choice.ending in
           record {
-            words = words_more w.sent k ms h.words (subst (λ (xs : List Message). AllOf (IsTrueMessage w.sent) xs) (sym said.1) tt);
+            words = words_more w.sent k ms h.words (subst (λ (xs : List Message). AllOf (IsTrueMessage w.sent) xs) (sym said) tt);
             held = λ on. held_more w.sent (stamped k ms) w.master.holders (h.held on);
-            ids = set_ids w.servers index (server_restart s moment choice).state (said.0 ∙ h.ids index s at) h.ids;
           };
       steps = λ e index moment s i choice at is up.
           let ms : List Message = (client_step s moment i choice).out.sent in
@@ -185,7 +175,6 @@ told_after config servers clients w r h =
                 (of_step (λ t xs. AllOf (IsTrueMessage w.sent) xs) s moment i choice ((numbered_reached config servers clients w r).each index s at).named
                 (λ d step. client_true w.sent (client_at s moment) d step d.sent refl) tt tt);
             held = λ on. held_more w.sent (stamped k ms) w.master.holders (h.held on);
-            ids = h.ids;
           };
       calls = λ e index moment s c choice at may.
           let ms : List Message = (client_call s moment c choice).out.sent in
@@ -194,9 +183,8 @@ told_after config servers clients w r h =
                 (of_call (λ t xs. AllOf (IsTrueMessage w.sent) xs) s moment c choice ((numbered_reached config servers clients w r).each index s at).named
                 (λ d step. client_true w.sent (client_at s moment) d step d.sent refl) tt);
             held = λ on. held_more w.sent (stamped k ms) w.master.holders (h.held on);
-            ids = h.ids;
           };
-      rots = λ e index handle s x place byte is_kept at there up. record { words = h.words; held = h.held; ids = set_ids w.servers index _ (h.ids index s at) h.ids };
+      rots = λ e index handle s x place byte is_kept at there up. record { words = h.words; held = h.held };
     }
 
 new_told : (config : Config) (servers clients : ℕ) → AreTold (new_world config servers clients)
@@ -204,7 +192,6 @@ new_told config servers clients =
     record {
       words = λ m is. none_sent m is;
       held = λ up. none_known (WasOrdered []);
-      ids = λ index s is. ap (λ (t : ServerState). t.id) (numbered_from (λ n. started_server config n (new_server_disk config.block) 0) servers index s is);
     }
 
 pub told_reached : (config : Config) (servers clients : ℕ) (w : WorldState) → IsReached config servers clients w → AreTold w
