@@ -1,5 +1,5 @@
 -- What servers say of versions was ordered, and so is what the master keeps of it.
-use Rattle.std.proofs.Common.{◌≡◌, ℕ, suc, ◌-◌, true, false, List, [], ◌++◌, length, Option, Some, None, refl, sym, ap, subst, ◌∙◌, inl, inr}
+use Rattle.std.proofs.Common.{◌≡◌, ℕ, suc, ◌-◌, true, false, List, [], ◌++◌, length, Option, Some, None, refl, sym, subst, inl, inr}
 use Rattle.std.specs.Prelude.{IsTrue}
 use Rattle.std.specs.Option.{option_to_list}
 use Rattle.gfs_types.specs.declared.config.Config.{Config}
@@ -13,14 +13,12 @@ use Rattle.messages.specs.declared.message.Body.{Body}
 use Rattle.messages.specs.declared.message.Body.TheVariants as body
 use Rattle.messages.specs.declared.message.Message.{Message}
 use Rattle.messages.specs.declared.message.ReplicaLine.{ReplicaLine}
-use Rattle.protocol.specs.Tables.{Table, element_at, with_at}
+use Rattle.protocol.specs.Tables.{Table}
 use Rattle.protocol.specs.Sending.{the_server, server_number}
-use Rattle.protocol.specs.Server.{ServerState, started_server}
 use Rattle.protocol.specs.ServerStep.{server_step, server_restart}
 use Rattle.protocol.specs.Client.{ClientState, ClientDoing}
 use Rattle.protocol.specs.ClientStep.{client_at, client_step, client_call}
 use Rattle.protocol.specs.MasterStep.{master_step, master_restart}
-use Rattle.replica_store.specs.Replicas.{new_server_disk}
 use Rattle.protocol.specs.World.{WorldState, new_world, stamped, IsReached}
 use Rattle.laws_base.proofs.Entries.{AllOf}
 use Rattle.laws_base.proofs.MembersRecorded.{all_at}
