@@ -1,5 +1,5 @@
 -- In each reached world no version attempt and no copy is under way for what a snapshot waits for.
-use Rattle.std.proofs.Common.{◌≡◌, ℕ, suc, Bool, List, [], Some, refl, sym, subst, ◌∙◌}
+use Rattle.std.proofs.Common.{◌≡◌, ℕ, suc, List, [], Some, refl, sym, subst, ◌∙◌}
 use Rattle.std.specs.Prelude.{◌&&◌}
 use Rattle.std.specs.Ordering.{nat_cmp}
 use Rattle.std.specs.FinMap as table

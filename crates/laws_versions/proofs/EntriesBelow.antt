@@ -30,7 +30,8 @@ use Rattle.protocol.specs.Sending.{handle_of, order_number}
 use Rattle.laws_steps.specs.Given.{version_given}
 use Rattle.laws_base.proofs.GrantedIssued.{granted_is_at_most_issued}
 use Rattle.laws_versions.proofs.GivenVersions.{given_reached}
-use Rattle.laws_versions.proofs.MasterCauses.{IsAsk, step_caused}
+use Rattle.laws_steps.proofs.MasterPremises.{IsAsk}
+use Rattle.laws_versions.proofs.MasterCauses.{step_caused}
 use Rattle.laws_versions.proofs.GivenOnce.{IsNext, IsGivenNext, next_causes}
 use Rattle.laws_entries.proofs.SentGrants.{counted_one}
 use Rattle.laws_entries.proofs.RisingRounds.{RoundPremises, round_of}

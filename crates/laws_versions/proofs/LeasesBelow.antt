@@ -42,7 +42,8 @@ use Rattle.laws_versions.proofs.GivenVersions.{given_reached}
 use Rattle.laws_versions.proofs.ClosedVersions.{StaysShut, stays_shut, clocks_before}
 use Rattle.laws_entries.proofs.SentGrants.{counted_one}
 use Rattle.laws_entries.proofs.RisingRounds.{leased_granted}
-use Rattle.laws_versions.proofs.MasterCauses.{is_caused, is_told, Attempts, IsAsk, Causes, step_caused}
+use Rattle.laws_steps.proofs.MasterPremises.{is_told, IsAsk}
+use Rattle.laws_versions.proofs.MasterCauses.{is_caused, Attempts, Causes, step_caused}
 use Rattle.laws_versions.proofs.AttemptsAbove.{step_above}
 use Rattle.laws_versions.proofs.OrderSteps.{IsOrderedNow, WasOrderedIn, was_ordered_in}
 use Rattle.laws_versions.proofs.GivenOnce.{IsNext, now_given, given_number}
