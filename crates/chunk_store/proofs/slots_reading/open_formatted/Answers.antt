@@ -56,3 +56,9 @@ returns-clause-same g c =
     let layout = c.args.layout in
     ap (stands_for (area_of layout.chunk layout.block)) c.read_found.ensures.reads.seen_same
     ∙ subst (λ (a : RedoArea). stands_for a (disk.seen c.open.new.disk) ≡ stands_for a (disk.seen c.args.disk.now)) c.redo_area_of-area.ensures c.open.ensures.same
+
+pub returns-in_err-open-clause-same : goal.returns-in_err-open-clause-same
+returns-in_err-open-clause-same g c =
+    let disk = g.D.Disk in
+    let layout = c.args.layout in
+    subst (λ (a : RedoArea). stands_for a (disk.seen c.open.new.disk) ≡ stands_for a (disk.seen c.args.disk.now)) c.redo_area_of-area.ensures c.open.ensures.same
