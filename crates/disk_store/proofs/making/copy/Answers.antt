@@ -14,3 +14,6 @@ returns-clause-any_moment g c =
 
 pub returns-clause-no_room : goal.returns-clause-no_room
 returns-clause-no_room g c d is e = ((c.copy_local.ensures.no_room d is).0 e).4
+
+pub returns-clause-ok : goal.returns-clause-ok
+returns-clause-ok g c d is noticed = c.copy_local.ensures.ok d is
