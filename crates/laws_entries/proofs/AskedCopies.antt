@@ -163,14 +163,14 @@ module _ (Plain Begun : MasterDoing → Type 0) (k : KeepsBeginning Plain Begun)
     module _ (plain : Plain (master_begins (master_at m moment) refused))
         (finished : (client : Node) (number file : ℕ) (w : Wanted) (deadline : ℕ) (lost : Bool) → Begun (takes_ask First client number file w deadline lost) → Begun (finishes (takes_ask First client number file w deadline lost)))
       where
-      taken : (x : Message) (b : Body) → Fine (finishes (master_takes First x b))
-      taken x (body.Ask number file w deadline lost) =
-          elim (asked First x.sender number file.0 w deadline.0 lost plain) [
-            | inl none ↦ inl (ready [] (takes_ask First x.sender number file.0 w deadline.0 lost) none)
-            | inr begun ↦ inr (finished x.sender number file.0 w deadline.0 lost begun)
-          ]
-      taken x other = inl (ready [] (master_takes First x other) (took [] First x other tt (k.silent First plain)))
+        taken : (x : Message) (b : Body) → Fine (finishes (master_takes First x b))
+        taken x (body.Ask number file w deadline lost) =
+            elim (asked First x.sender number file.0 w deadline.0 lost plain) [
+              | inl none ↦ inl (ready [] (takes_ask First x.sender number file.0 w deadline.0 lost) none)
+              | inr begun ↦ inr (finished x.sender number file.0 w deadline.0 lost begun)
+            ]
+        taken x other = inl (ready [] (master_takes First x other) (took [] First x other tt (k.silent First plain)))
 
-      pub step_begins : (i : NodeInput) → Fine (master_goes m moment i refused)
-      step_begins (input.Deliver x) = taken x x.body
-      step_begins input.Tick = inl (ready [] (master_ticks First) (ticked [] First (k.silent First plain)))
+        pub step_begins : (i : NodeInput) → Fine (master_goes m moment i refused)
+        step_begins (input.Deliver x) = taken x x.body
+        step_begins input.Tick = inl (ready [] (master_ticks First) (ticked [] First (k.silent First plain)))
