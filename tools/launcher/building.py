@@ -5,6 +5,7 @@ built it. A source that is newer makes it stale: for the proved program each fil
 import contextlib
 import fcntl
 import os
+import re
 import shutil
 import signal
 import subprocess
@@ -123,18 +124,25 @@ def marked(mark):
 
 
 class Work:
-    """A command that goes on, whose last line is kept. However this run ends, the command ends too."""
+    """A command that goes on, whose last line is kept, and whose lines a log has. However this run ends, the command ends too."""
 
-    def __init__(self, words, folder=TOP, log=None):
-        self.log = log or os.path.join(OUT, 'unproved', 'log')
+    def __init__(self, words, log=None, read=None):
+        self.log, self.read = log or os.path.join(OUT, 'unproved', 'log'), read
         self.last, self.begun = '', time.monotonic()
-        with open(self.log, 'w', encoding='utf-8') as errors:
-            self.ran = subprocess.Popen(words, cwd=folder, stdin=subprocess.DEVNULL, stdout=subprocess.PIPE, stderr=errors, text=True, start_new_session=True)
-        threading.Thread(target=self.read, daemon=True).start()
+        with open(self.log, 'w', encoding='utf-8'):
+            pass
+        with open(self.log, 'a', encoding='utf-8') as errors:
+            self.ran = subprocess.Popen(words, cwd=TOP, stdin=subprocess.DEVNULL, stdout=subprocess.PIPE, stderr=errors, text=True, errors='replace', start_new_session=True)
+        self.reader = threading.Thread(target=self.read_all, daemon=True)
+        self.reader.start()
 
-    def read(self):
-        for line in self.ran.stdout:
-            self.last = line.strip() or self.last
+    def read_all(self):
+        with open(self.log, 'a', encoding='utf-8') as log:
+            for line in self.ran.stdout:
+                self.last = line.strip() or self.last
+                print(line, end='', file=log, flush=True)
+                if self.read:
+                    self.read(line)
 
     def seconds(self):
         return time.monotonic() - self.begun
@@ -144,7 +152,9 @@ class Work:
         try:
             while True:
                 try:
-                    return self.ran.wait(SECONDS_BETWEEN_LINES)
+                    status = self.ran.wait(SECONDS_BETWEEN_LINES)
+                    self.reader.join(SECONDS_BETWEEN_LINES)
+                    return status
                 except subprocess.TimeoutExpired:
                     told(self)
         finally:
@@ -165,11 +175,11 @@ def need_kit():
 
 
 def take_kept():
-    """The proved program, where it was built from just this text in another checkout of this machine."""
+    """The proved program, where `rt ci` built it from just this text in any checkout of this machine."""
     with marked(PROVED_MARK):
         words = [sys.executable, '-B', os.path.join(WORKSHOP, 'kept'), '--program', 'gfscell']
         if subprocess.run(words, stdin=subprocess.DEVNULL, stdout=subprocess.DEVNULL, stderr=subprocess.DEVNULL, check=False).returncode:
-            raise CannotBuild('no other checkout has proved this text')
+            raise CannotBuild('no checkout has proved this text')
 
 
 def is_kept():
@@ -215,31 +225,53 @@ def program():
 
 # ---- proving
 
-def libraries_of(name):
-    """The libraries of this repository that a crate names in crates.txt."""
+# what `rt ci` says of a crate, also of one that it proved here before
+IS_PROVED = re.compile(r'rt: (\w+) (?:proved$|is kept:)')
+
+
+def with_below(name):
+    """A crate with the crates of this repository that it stands on."""
     with open(os.path.join(TOP, 'crates.txt'), encoding='utf-8') as lines:
         rows = dict(line.rstrip('\n').split(':') for line in lines if ':' in line and not line.startswith('#'))
-    return [it for it in rows[name].split() if it in rows]
+    found, left = set(), [name]
+    while left:
+        it = left.pop()
+        if it in rows and it not in found:
+            found.add(it)
+            left += rows[it].split()
+    return found
 
 
 class Told:
     """Says how many crates are proved, when that has changed, and each minute."""
 
-    def __init__(self):
-        self.count, self.moment = '', 0
+    def __init__(self, crates):
+        self.crates, self.proved = crates, set()
+        self.count, self.moment = None, 0
+
+    def read(self, line):
+        found = IS_PROVED.match(line)
+        if found and found[1] in self.crates:
+            self.proved.add(found[1])
 
     def __call__(self, work):
-        words = work.last.split(', ')
-        count = words[1] if len(words) > 2 else self.count or 'none yet'
+        count = len(self.proved)
         if count != self.count or work.seconds() > self.moment + 60:
             self.count, self.moment = count, work.seconds()
-            say(f'crates proved: {count}, {duration(work.seconds())} so far')
+            left = '; wrong bodies are tried, and the program is run' if count == len(self.crates) else ''
+            say(f'crates proved: {count} of {len(self.crates)}{left}, {duration(work.seconds())} so far')
 
 
-def ended_well(words, folder, log, told):
-    work = Work(words, folder, log)
+def prove_and_keep():
+    """The kit's gate over the program and all that it stands on: what passes is kept on this machine, for `.ci/run` too."""
+    log, told = os.path.join(OUT, 'prove.log'), Told(with_below('gfscell'))
+    where = os.path.relpath(log, TOP)
+    work = Work(['rt', 'ci', 'gfscell'], log, told.read)
     if work.ended(told):
-        raise CannotBuild(f'cannot prove: {os.path.relpath(log, TOP)} says why\n{work.errors()}'.rstrip())
+        raise CannotBuild(f'cannot prove: {where} says why\n{work.errors()}'.rstrip())
+    told(work)
+    if not is_kept():
+        raise CannotBuild(f'what was proved is not kept: a source has changed meanwhile, or the disk has no room ({where})')
 
 
 def prove():
@@ -251,11 +283,6 @@ def prove():
     with locked('proving'):
         begun = time.monotonic()
         if not is_kept():
-            say('proving the crates that the program stands on, which takes an hour or more')
-            with marked(PROVED_MARK):
-                log = os.path.join(OUT, 'prove.log')
-                libraries = [sys.executable, '-B', os.path.join(WORKSHOP, 'libraries'), '--only', *libraries_of('gfscell')]
-                ended_well(libraries, TOP, log, Told())
-                ended_well(['rt', 'run', '--', '--version'], os.path.join(CRATES, 'gfscell'), log,
-                           lambda work: say(f'all libraries are proved; proving and building the program, {duration(work.seconds())} so far'))
+            say('proving the crates that the program stands on, which takes an hour or more; what is proved is kept, also if this ends early')
+            prove_and_keep()
     say(f'the program is proved and built, in {duration(time.monotonic() - begun)}')

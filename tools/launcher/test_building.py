@@ -21,19 +21,23 @@ if os.path.exists(os.path.join(top, 'fails')):
 shutil = __import__('shutil')
 shutil.copy(os.path.join(top, 'program'), made)
 '''
-KEPT = '''import os, shutil, sys
+SUM = 'cat crates.txt crates/*/src/* crates/*/specs/* | cksum'
+KEPT = f'''import os, shutil, subprocess, sys
 top = os.path.dirname(os.path.dirname(os.path.dirname(os.path.abspath(__file__))))
-if not os.path.exists(os.path.join(top, 'kept')):
+if subprocess.run('{SUM} | cmp -s - kept', shell=True, cwd=top).returncode:
     sys.exit(1)
 shutil.copy(os.path.join(top, 'program'), os.path.join(top, 'crates', 'gfscell', 'out', 'gfscell'))
 '''
-LIBRARIES = '''import sys, time
-assert sys.argv[1:] == ['--only', 'low', 'high'], sys.argv
-for place, name in enumerate(('low', 'high'), 1):
-    print(f'{name}: built, {place} of 2, 5 processor seconds', flush=True)
-    time.sleep(0.5)
+# of the gate, on the text as it stands at its beginning
+RT = f'''#!/bin/sh
+[ "$*" = "ci gfscell" ] || exit 3
+[ ! -e fails ] || {{ echo "rt: FAILED: low"; exit 1; }}
+sum=$({SUM})
+echo "rt: low is kept: an earlier run"; echo "fn low::f: proved"; sleep 0.5
+echo "rt: high proved"; echo "rt: high: trying its must-fail edits (2)"; sleep 0.5
+echo "rt: gfscell proved"; sleep 0.5
+[ -e full ] || echo "$sum" >kept
 '''
-RT = '#!/bin/sh\n[ ! -e ../../fails ] || exit 1\nmkdir -p out; cp ../../program out/gfscell\n'
 BUILT, LATER = 'the program is built, unproved', 'until its code changes later runs begin at once'
 
 
@@ -55,7 +59,7 @@ class Workshop:
         os.makedirs(os.path.join(top, 'crates'))
         shutil.copytree(os.path.join(TOP, 'crates', 'command_line'), self.at('crates', 'command_line'), ignore=shutil.ignore_patterns('out'))
         shutil.copy(os.path.join(TOP, 'gfscell'), self.at('gfscell'))
-        for name, text in (('kept', KEPT), ('unproved_program', BUILDS), ('libraries', LIBRARIES)):
+        for name, text in (('kept', KEPT), ('unproved_program', BUILDS)):
             put(self.at('tools', 'workshop', name), text)
         for name in ('crates/gfscell/src/main.rt', 'crates/low/src/lib.rt', 'crates/low/specs/Lib.antt', 'crates/high/src/lib.rt', 'script.gfs'):
             put(self.at(name), '')
@@ -86,7 +90,11 @@ class Workshop:
 
     def touch(self, name):
         time.sleep(0.02)
-        put(self.at(name), 'changed\n')
+        put(self.at(name), f'changed at {time.monotonic_ns()}\n')
+
+    def keep(self):
+        """Another checkout has proved this text."""
+        subprocess.run(f'{SUM} >kept', shell=True, cwd=self.top, check=True)
 
 
 class Tests:
@@ -156,7 +164,7 @@ def proved(shop, tests):
     """The proved program is taken once it stands, and nothing more is said."""
     status, out, errors = shop.run('prove')
     tests.same('a proof', (status, out), (0, ''))
-    tests.has('a proof', errors, 'crates proved: 1 of 2', 'crates proved: 2 of 2', 'the program is proved and built')
+    tests.has('a proof', errors, 'crates proved: 1 of 3', 'crates proved: 2 of 3', 'crates proved: 3 of 3; wrong bodies are tried', 'the program is proved and built')
     tests.same('the proved program', shop.run('sim', 'script.gfs'), (*PROVED, []))
     tests.same('a second proof', shop.run('prove')[2], ['gfscell: the program stands, proved from this text'])
     shop.touch('crates/low/specs/Lib.antt')
@@ -166,14 +174,22 @@ def proved(shop, tests):
         pass
     shop.touch('crates/low/src/lib.rt')
     tests.same('a run beside a proof', shop.run('sim', 'script.gfs')[:2], UNPROVED)
-    other.communicate()
-    tests.same('a proof of a text that has changed meanwhile', shop.run('sim', 'script.gfs'), (*UNPROVED, NOTE))
+    said = other.communicate()[1]
+    tests.has('a proof of a text that has changed meanwhile', said.splitlines(), 'a source has changed meanwhile')
+    tests.same('behind it', (other.returncode, shop.run('sim', 'script.gfs')), (70, (*UNPROVED, NOTE)))
+    put(shop.at('full'), '')
+    status, _, errors = shop.run('prove')
+    tests.has('a full disk', errors, 'the disk has no room (crates/gfscell/out/prove.log)')
+    tests.same('a full disk', status, 70)
+    os.remove(shop.at('full'))
     put(shop.at('fails'), '')
-    tests.same('a proof that fails', shop.run('prove')[0], 70)
+    status, _, errors = shop.run('prove')
+    tests.has('a proof that fails', errors, 'cannot prove: crates/gfscell/out/prove.log says why', 'rt: FAILED: low')
+    tests.same('a proof that fails', status, 70)
     tests.same('behind a proof that fails', shop.run('sim', 'script.gfs'), (*UNPROVED, NOTE))
     os.remove(shop.at('fails'))
     shop.touch('crates/low/src/lib.rt')
-    put(shop.at('kept'), '')
+    shop.keep()
     before = shop.builds()
     tests.same('a program of another checkout', (shop.run('sim', 'script.gfs'), shop.builds()), ((*PROVED, []), before))
     tests.same('words beyond', shop.run('prove', 'all')[0], 2)
@@ -184,6 +200,7 @@ def explained(shop, tests):
     put(shop.at('program'), '#!/bin/sh\necho printed\necho "gfscell: line 2: bad line" >&2\nexit 1\n', 0o755)
     put(shop.at('script.gfs'), 'c1 create /f\nc2 list /\n')
     shop.touch('crates/low/src/lib.rt')
+    shop.keep()
     bad = ['gfscell: line 2: bad line']
     tests.same('a bad line', shop.run('sim', 'script.gfs'), (1, 'printed\n', bad))
     tests.same('its cause', shop.run('sim', '--explain', 'script.gfs'), (1, 'printed\n', bad + ['gfscell:   c2: the cell has 1 client (--clients)']))
