@@ -54,7 +54,7 @@ class Soak:
     def lists(self, folder):
         seed = self.seed
         while self.goes_on():
-            minutes = max(0.05, min(1, (self.end - time.monotonic()) / 60))
+            minutes = max(0.05, min(0.25, (self.end - time.monotonic()) / 60))
             words = ['--faults', '--seeds', str(seed), str(seed + 1_000_000), '--events', str(EVENTS), '--minutes', f'{minutes:.2f}']
             text = self.ran('explore', words, os.path.join(folder, 'lists'))
             for count, name in re.findall(r'(\d+) ([a-z]+)', (text or '').split(';')[0].partition(': ')[2]):
