@@ -18,6 +18,7 @@ USAGE = """
   example [NAME]      runs an example, and compares what it prints
   prove               proves the program, and builds it
   soak [--minutes M]  random scripts and lists of events
+  take CRATE.. FOLDER copies crates with all that they stand on into another repository
   --explain           with sim and live: below a fault stands its cause"""
 
 
@@ -101,6 +102,9 @@ def run_own(way, words):
     if way == 'example':
         from example import example
         return example(words, run_program)
+    if way == 'take':
+        from take import take
+        return take(words)
     from soak import soak
     return soak(words)
 
@@ -111,7 +115,7 @@ def main(words):
             # what this run began ends with it
             signal.signal(end, lambda number, _: sys.exit(128 + number))
     try:
-        if words and words[0] in ('prove', 'show', 'example', 'soak'):
+        if words and words[0] in ('prove', 'show', 'example', 'soak', 'take'):
             return run_own(words[0], words[1:])
         return run_program(words)
     except building.CannotBuild as cause:

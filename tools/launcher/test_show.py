@@ -9,7 +9,7 @@ import command_line
 from building import TOP
 from causes import UNKNOWN, Causes
 from chart import svg_of
-from show import Show, Wanted, shown_text
+from show import Show, Wanted, asked_by, shown_text, wanted_by
 from test_words import answer, expected_text
 from worked_rows import WORKED, parts_of, rows_of
 
@@ -17,6 +17,7 @@ EXPECTED = os.path.join(TOP, 'tools', 'launcher', 'expected')
 LAUNCHER = os.path.join(TOP, 'gfscell')
 PLAIN = Wanted(False, False, False, None, [])
 BEFORE = b'c1 create /f\nc1 open /f\nc1 append 1 a\n'
+COMMAND = re.compile(r'^    ((?:\./gfscell|\.ci/|tools/|bench/)[^\n]*)', re.M)
 SHOWN = re.compile(r'^    \./gfscell show examples/(\w+)\.gfs([^\n]*)\n\nprints\n\n```text\n(.*?)```', re.S | re.M)
 CAUSES = {
     b'c1 fly /x': 'no call fly', b'c1 creat /x': 'no call creat; did you mean create?', b'c1 mkdir /a\r': 'it ends in a carriage return',
@@ -138,6 +139,29 @@ def pages(program):
     return count, faults if count else ['no page has a block of show']
 
 
+def wrong_command(line):
+    """What is wrong with a line of a page that runs something: what runs, words that it doesn't take, or a file that isn't there; else None."""
+    command, *words = re.split(' {2,}', line)[0].split()
+    if not os.path.exists(os.path.join(TOP, command)):
+        return f'{command} is not there'
+    if command != './gfscell' or words[0] in ('prove', 'soak', 'take'):
+        return None
+    try:
+        asked = asked_by(wanted_by(words[1:]).rest) if words[0] == 'show' else command_line.parse(words)
+        file = asked.file
+    except command_line.Bad as cause:
+        return str(cause)
+    return None if os.path.exists(os.path.join(TOP, file)) else f'{file} is not there'
+
+
+def commands(_program):
+    """What pages tell a reader to run can be run."""
+    pages = [os.path.join(TOP, name) for name in ('README.md', os.path.join('bench', 'README.md'))] + glob.glob(os.path.join(TOP, 'docs', '*.md'))
+    lines = [(page, line) for page in pages for line in COMMAND.findall(command_line.text_of(page))]
+    wrong = [(page, line, wrong_command(line)) for page, line in lines]
+    return len(lines), [f'{page}: {line}: {cause}' for page, line, cause in wrong if cause] if len(lines) > 9 else ['pages have hardly a command']
+
+
 EXPECTED_TEXTS = {
     'help': lambda program: command_line.program_help(), 'help_sim': lambda program: command_line.subcommand_help('sim'),
     'help_live': lambda program: command_line.subcommand_help('live'), 'lost_forward': lambda program: drawn('lost_forward', program),
@@ -164,7 +188,7 @@ def faults():
     """How many things were tested, and what is wrong."""
     from translate import Program
     program = Program()
-    parts = [part(program) for part in (rows, examples, side_by_side, as_a_user, causes, charts, svg, pages)]
+    parts = [part(program) for part in (rows, examples, side_by_side, as_a_user, causes, charts, svg, pages, commands)]
     return sum(count for count, _ in parts), [fault for _, part in parts for fault in part]
 
 

@@ -9,7 +9,7 @@ CLOSE = ['closed gate', 'sync of the closed gate']
 # by which a restart reads the log
 READING = ['sync', 'head', 'first number', 'second number', 'area']
 # by which a restart of a server reads its disk's head and gate; and by which blocks of a replica are read
-OPENING = ['gate of the head', 'sync', 'head', 'sync', 'gate']
+OPENING = ['sync', 'head', 'sync', 'gate']
 BLOCKS = ['blocks', 'digests']
 
 

@@ -13,7 +13,9 @@ WORKED = os.path.join(ROOT, 'crates', 'worked_scripts', 'data')
 
 
 def row_named(name):
-    return os.path.join(WORKED, name + '.row')
+    """The file of the row, or of the rows, of this name."""
+    rows = os.path.join(WORKED, name + '.rows')
+    return rows if os.path.exists(rows) else os.path.join(WORKED, name + '.row')
 
 
 def rows_of(path):

@@ -13,7 +13,7 @@ use Rattle.cell_journal.specs.Clocks.{are_clocks_kept}
 use Rattle.cell_journal.specs.declared.view.View.{View}
 use Rattle.cell_journal.specs.Rules.{IsJournalOf}
 use Rattle.cell_seats.specs.Seen.{Asked, Answered, visible_of, IsFurther, HasSeen}
-use Rattle.cell_seats.specs.Seats.{SeatState, seat_state, is_some, is_the_cells, IsSeat, IsAnswered, IsLost, Fails, AnswersSo, Loses, refusal_in, IsRefusal}
+use Rattle.cell_seats.specs.Seats.{SeatState, seat_state, is_some, is_the_cells, IsSeat, IsAnswered, IsLost, Fails, AnswersSo, Loses, is_value_of, refusal_in, IsRefusal}
 
 items_of : (n : Node) (w : View) (now : Listed Entry) (after : ℕ) → HasSeen n w now after → now.items ≡ w.seen
 items_of n w now after has = ap (λ (l : Listed Entry). l.items) has.seen.0
@@ -90,12 +90,12 @@ pub answers : {X : Type 0} (r : Result Answer Refusal) (found : Result X Refusal
 answers r (Ok x) old new call reply h is = subst (λ (a : Result Answer Refusal). IfOk a (λ b. IsAnswered old new call b)) is h
 answers r (Err e) old new call reply h is = tt
 
-fails_with : (r : Result Answer Refusal) (refusal : Refusal) (old new : SeatState) (call : Call) → IfOk r (λ a. IsAnswered old new call a) → IfErr r (λ own_one. IsLost old new own_one) → IsRefusal r refusal
-    → Fails old new call refusal
-fails_with (Ok a) refusal old new call answered_so lost is = AnswersSo a answered_so is
-fails_with (Err e) refusal old new call answered_so lost is = Loses (subst (IsLost old new) is lost)
+fails_with : (is_value : Answer → Bool) (r : Result Answer Refusal) (refusal : Refusal) (old new : SeatState) (asked : Call) → is_value_of asked ≡ is_value → IfOk r (λ a. IsAnswered old new asked a)
+    → IfErr r (λ own_one. IsLost old new own_one) → IsRefusal is_value r refusal → Fails old new asked refusal
+fails_with is_value (Ok a) refusal old new asked kind answered_so lost is = AnswersSo a answered_so (ap (λ (f : Answer → Bool). f a) kind ∙ is.0) is.1
+fails_with is_value (Err e) refusal old new asked kind answered_so lost is = Loses (subst (IsLost old new) is lost)
 
-pub fails : {X : Type 0} (r : Result Answer Refusal) (found : Result X Refusal) (old new : SeatState) (call : Call) → IfOk r (λ a. IsAnswered old new call a) → IfErr r (λ own_one. IsLost old new own_one)
-    → IfErr found (λ refusal. IsRefusal r refusal) → IfErr found (λ refusal. Fails old new call refusal)
-fails r (Ok x) old new call answered_so lost is = tt
-fails r (Err refusal) old new call answered_so lost is = fails_with r refusal old new call answered_so lost is
+pub fails : {X : Type 0} (is_value : Answer → Bool) (r : Result Answer Refusal) (found : Result X Refusal) (old new : SeatState) (asked : Call) → is_value_of asked ≡ is_value
+    → IfOk r (λ a. IsAnswered old new asked a) → IfErr r (λ own_one. IsLost old new own_one) → IfErr found (λ refusal. IsRefusal is_value r refusal) → IfErr found (λ refusal. Fails old new asked refusal)
+fails is_value r (Ok x) old new asked kind answered_so lost is = tt
+fails is_value r (Err refusal) old new asked kind answered_so lost is = fails_with is_value r refusal old new asked kind answered_so lost is

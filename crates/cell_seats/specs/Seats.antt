@@ -4,6 +4,7 @@ use mathlib.Core.List.{IsPrefix}
 use Rattle.gfs_types.specs.declared.answer.Answer.{Answer}
 use Rattle.gfs_types.specs.declared.answer.Answer.TheVariants as answer
 use Rattle.gfs_types.specs.declared.call.Call.{Call}
+use Rattle.gfs_types.specs.declared.call.Call.TheVariants as calls
 use Rattle.gfs_types.specs.declared.ids.Node.{Node}
 use Rattle.gfs_types.specs.declared.refusal.Refusal.{Refusal}
 use Rattle.gfs_types.specs.declared.refusal.Refusal.TheVariants.{Unknown, ClockBroken, JournalFull, Closed}
@@ -73,12 +74,46 @@ abbrev pub refusal_in : Answer → Refusal
 refusal_in (answer.Refused refusal) = refusal
 refusal_in other = Unknown
 
--- a call came back with a refusal: that of its answer, or the cell's own
-pub data Fails (old new : SeatState) (call : Call) (refusal : Refusal) : Type 0 where
-  AnswersSo : (reply : Answer) → IsAnswered old new call reply → refusal_in reply ≡ refusal → Fails old new call refusal
-  Loses : IsLost old new refusal → Fails old new call refusal
+-- what is answered where a call was done, by kinds of calls
+abbrev pub is_done : Answer → Bool
+is_done answer.Done = true
+is_done other = false
 
--- the refusal with which a call came back
-abbrev pub IsRefusal : Result Answer Refusal → Refusal → Type 0
-IsRefusal (Ok reply) refusal = refusal_in reply ≡ refusal
-IsRefusal (Err own_one) refusal = own_one ≡ refusal
+abbrev pub is_descriptor : Answer → Bool
+is_descriptor (answer.Fd fd) = true
+is_descriptor other = false
+
+abbrev pub is_names : Answer → Bool
+is_names (answer.Names names) = true
+is_names other = false
+
+abbrev pub is_length : Answer → Bool
+is_length (answer.Length count) = true
+is_length other = false
+
+abbrev pub is_offset : Answer → Bool
+is_offset (answer.At offset) = true
+is_offset other = false
+
+abbrev pub is_bytes : Answer → Bool
+is_bytes (answer.Bytes bytes rounds) = true
+is_bytes other = false
+
+-- whether an answer says that this call was done
+abbrev pub is_value_of : Call → Answer → Bool
+is_value_of (calls.Open path) = is_descriptor
+is_value_of (calls.List path) = is_names
+is_value_of (calls.Length fd) = is_length
+is_value_of (calls.Append fd bytes) = is_offset
+is_value_of (calls.Read fd offset count) = is_bytes
+is_value_of other = is_done
+
+-- A call came back with a refusal: that of its answer, or the cell's own. Where the journal has an answer of a third kind, it is Unknown.
+pub data Fails (old new : SeatState) (asked : Call) (refusal : Refusal) : Type 0 where
+  AnswersSo : (reply : Answer) → IsAnswered old new asked reply → is_value_of asked reply ≡ false → refusal_in reply ≡ refusal → Fails old new asked refusal
+  Loses : IsLost old new refusal → Fails old new asked refusal
+
+-- the refusal with which a call came back that was not done
+abbrev pub IsRefusal : (Answer → Bool) → Result Answer Refusal → Refusal → Type 0
+IsRefusal is_value (Ok reply) refusal = (is_value reply ≡ false) × (refusal_in reply ≡ refusal)
+IsRefusal is_value (Err own_one) refusal = own_one ≡ refusal

@@ -3,7 +3,7 @@
 ghost use Rattle.std.specs.Prelude.{◌≡◌, Ok, IfOk, IfErr};
 ghost use Rattle.gfs_types.specs.declared.answer.Answer.TheVariants as answer;
 ghost use Rattle.gfs_types.specs.declared.call.Call.TheVariants as call;
-ghost use Rattle.cell_seats.specs.Seats.{IsAnswered, Fails, IsRefusal, refusal_in};
+ghost use Rattle.cell_seats.specs.Seats.{IsAnswered, Fails, IsRefusal, refusal_in, is_done, is_descriptor, is_names, is_length, is_offset, is_bytes};
 
 use crate::seat::Seat;
 use crate::stepper::Stepper;
@@ -126,7 +126,7 @@ impl<N: Stepper + Drop> Seat<N> {
 // Nothing, if the answer is that it was done.
 fn done_in(reply: Result<Answer, Refusal>) -> Result<(), Refusal>
     ensures ok { IfOk result (λ _. reply ≡ Ok answer.Done) }
-    ensures err { IfErr result (λ refusal. IsRefusal reply refusal) }
+    ensures err { IfErr result (λ refusal. IsRefusal is_done reply refusal) }
 {
     match reply? {
         Answer::Done => Ok(()),
@@ -137,7 +137,7 @@ fn done_in(reply: Result<Answer, Refusal>) -> Result<(), Refusal>
 // The descriptor that was answered.
 fn descriptor_in(reply: Result<Answer, Refusal>) -> Result<Fd, Refusal>
     ensures ok { IfOk result (λ r. reply ≡ Ok (answer.Fd r)) }
-    ensures err { IfErr result (λ refusal. IsRefusal reply refusal) }
+    ensures err { IfErr result (λ refusal. IsRefusal is_descriptor reply refusal) }
 {
     match reply? {
         Answer::Fd(fd) => Ok(fd),
@@ -148,7 +148,7 @@ fn descriptor_in(reply: Result<Answer, Refusal>) -> Result<Fd, Refusal>
 // The names that were answered.
 fn names_in(reply: Result<Answer, Refusal>) -> Result<NameList, Refusal>
     ensures ok { IfOk result (λ r. reply ≡ Ok (answer.Names r)) }
-    ensures err { IfErr result (λ refusal. IsRefusal reply refusal) }
+    ensures err { IfErr result (λ refusal. IsRefusal is_names reply refusal) }
 {
     match reply? {
         Answer::Names(names) => Ok(names),
@@ -159,7 +159,7 @@ fn names_in(reply: Result<Answer, Refusal>) -> Result<NameList, Refusal>
 // The length that was answered.
 fn length_in(reply: Result<Answer, Refusal>) -> Result<u64, Refusal>
     ensures ok { IfOk result (λ r. reply ≡ Ok (answer.Length r)) }
-    ensures err { IfErr result (λ refusal. IsRefusal reply refusal) }
+    ensures err { IfErr result (λ refusal. IsRefusal is_length reply refusal) }
 {
     match reply? {
         Answer::Length(count) => Ok(count),
@@ -170,7 +170,7 @@ fn length_in(reply: Result<Answer, Refusal>) -> Result<u64, Refusal>
 // The offset that was answered.
 fn offset_in(reply: Result<Answer, Refusal>) -> Result<u64, Refusal>
     ensures ok { IfOk result (λ r. reply ≡ Ok (answer.At r)) }
-    ensures err { IfErr result (λ refusal. IsRefusal reply refusal) }
+    ensures err { IfErr result (λ refusal. IsRefusal is_offset reply refusal) }
 {
     match reply? {
         Answer::At(offset) => Ok(offset),
@@ -181,7 +181,7 @@ fn offset_in(reply: Result<Answer, Refusal>) -> Result<u64, Refusal>
 // The bytes that were answered, with their rounds.
 fn bytes_in(reply: Result<Answer, Refusal>) -> Result<(Bytes, RoundList), Refusal>
     ensures ok { IfOk result (λ r. reply ≡ Ok (answer.Bytes r.0 r.1)) }
-    ensures err { IfErr result (λ refusal. IsRefusal reply refusal) }
+    ensures err { IfErr result (λ refusal. IsRefusal is_bytes reply refusal) }
 {
     match reply? {
         Answer::Bytes { bytes, rounds } => Ok((bytes, rounds)),

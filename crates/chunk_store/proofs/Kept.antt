@@ -18,8 +18,9 @@ use Rattle.store_disk.specs.Places.{disk_size, redo_size}
 use Rattle.chunk_store.specs.Opening.{IsFound}
 use Rattle.chunk_store.specs.declared.found.FoundReplicas.{FoundReplicas}
 use Rattle.store_disk.specs.Stored.{IsDiskOf, IsStored, is_used}
-use Rattle.store_disk.proofs.Blank.{blank_is_empty}
+use Rattle.store_disk.proofs.Blank.{formatted_is_empty}
 use Rattle.store_disk.proofs.Free.{filter_same}
+use Rattle.store_disk.proofs.OpenHeads.{head_kept}
 use Rattle.store_disk.proofs.Slots.{KeepsSlot, holds_same, range_same, used_same}
 
 module _ (chunk block slots : ℕ) where
@@ -32,6 +33,7 @@ module _ (chunk block slots : ℕ) where
       let kept : (slot : ℕ) → KeepsSlot chunk block (is_outside 48 n) slot = λ slot place le lt. is_after 48 n place (omega (arith, le)) in
       record {
         block_is = is.block_is;
+        head = head_kept chunk block slots (is_outside 48 n) disk new keeps (λ place lt. is_before 48 n place (omega (arith, lt))) is.head;
         order_is = ap order_in (range_same (is_outside 48 n) disk new 32 16 keeps room (λ place le lt. is_before 48 n place lt)) ∙ is.order_is;
         held = λ handle r there.
             let h = is.held handle r there in
@@ -75,8 +77,8 @@ module _ (chunk block slots : ℕ) where
     found_at_rest found d is = record { says = stands_at_rest found.index d is.says; order = is.order }
 
   -- a disk that was formatted holds no replicas
-  pub formatted_holds : (c : List ℕ) → disk_size chunk block slots ≤ length c → IsFormatted chunk block slots c → IsStored chunk block slots (stands_for (area_of chunk block) c) (new_server_disk block)
-  formatted_holds c fits formed =
+  pub formatted_holds : (c : List ℕ) → IsFormatted chunk block slots c → IsStored chunk block slots (stands_for (area_of chunk block) c) (new_server_disk block)
+  formatted_holds c formed =
       let closed : is_open (area_of chunk block) c ≡ false = ap (λ (n : ℕ). n == 1) (formed.blank.order 48 (omega arith) (omega arith)) in
       let index : IndexState = record { held = map.empty; free = range_with_len 0 slots } in
-      (index, stands_at_rest c fits closed index (new_server_disk block) (blank_is_empty chunk block slots c fits formed.blank))
+      (index, stands_at_rest c formed.head.large closed index (new_server_disk block) (formatted_is_empty chunk block slots c formed))

@@ -2,7 +2,9 @@ pub mod Gone
 pub mod SlotsFound
 pub mod Kept
 pub mod Fronts
+pub mod OpenHeads
 pub mod Moments
 pub mod Applied
 pub mod Copied
 pub mod StillOpen
+pub mod Stopped

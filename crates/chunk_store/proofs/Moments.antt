@@ -1,5 +1,5 @@
 -- What a stop leaves while a disk is opened.
-use Rattle.std.proofs.Common.{◌≡◌, ◌⊎◌, inl, inr, ℕ, ◌≤◌, Bool, true, false, List, length, sym, ap, ◌∙◌, subst}
+use Rattle.std.proofs.Common.{◌≡◌, ◌⊎◌, inl, inr, ℕ, Bool, true, false, List, sym, ap, ◌∙◌, subst}
 use Rattle.std.specs.Prelude.{Err, Ok, OnOk, Result}
 use Rattle.disk.specs.Device.{Only}
 use Rattle.disk_redo.specs.GateMoments.{LeavesOnly, OnlyReads}
@@ -9,7 +9,6 @@ use Rattle.disk_redo.specs.Opening.{IsOpening as IsRedoing}
 use Rattle.replica_store.specs.Replicas.{ServerDisk, new_server_disk}
 use Rattle.store_changes.specs.Areas.{area_of}
 use Rattle.store_disk.specs.Formats.{IsFormatted, IsFormatting, is_head_open}
-use Rattle.store_disk.specs.Places.{disk_size}
 use Rattle.chunk_store.specs.Opening.{HoldsReplicas, IsOpening}
 use Rattle.chunk_store.proofs.Kept.{formatted_holds}
 use Rattle.store_disk.specs.Stored.{IsStored}
@@ -59,16 +58,16 @@ module _ {D : Type 0} (seen : D → List ℕ) (may_leave : D → List ℕ → Ty
   forms old new closed run = weaker moment left_since old new (IsFormatting chunk block slots) (Opening old) run (λ c p. inr (inl (closed, p)))
 
   -- and opened
-  pub forms_then : (old mid new : D) → is_head_open (seen old) ≡ false → Only (seen mid) (may_leave mid) → IsFormatted chunk block slots (seen mid) → disk_size chunk block slots ≤ length (seen mid)
+  pub forms_then : (old mid new : D) → is_head_open (seen old) ≡ false → Only (seen mid) (may_leave mid) → IsFormatted chunk block slots (seen mid)
       → LeavesOnly moment left_since old mid (IsFormatting chunk block slots) → LeavesOnly moment left_since mid new (Redoing mid) → LeavesOnly moment left_since old new (Opening old)
-  forms_then old mid new closed only formed fits first second =
+  forms_then old mid new closed only formed first second =
       joined moment left_since old mid new (IsFormatting chunk block slots) (Redoing mid) (Opening old) first second (λ c p. inr (inl (closed, p))) by
     where
       by : (c : List ℕ) → Redoing mid c → Opening old c
       by c (inl left) = inr (inl (closed, inr (subst (λ (l : List ℕ). IsFormatted chunk block slots l) (sym (only c left)) formed)))
       by c (inr same) = inr (inr (λ d holds.
           subst (λ (e : ServerDisk). IsStored chunk block slots (stands_for (area_of chunk block) c) e) (sym (closed_holds chunk block slots (seen old) d closed holds))
-          (subst (λ (l : List ℕ). IsStored chunk block slots l (new_server_disk block)) (sym same) (formatted_holds chunk block slots (seen mid) fits formed))))
+          (subst (λ (l : List ℕ). IsStored chunk block slots l (new_server_disk block)) (sym same) (formatted_holds chunk block slots (seen mid) formed))))
 
   -- the head is read, and the change that was under way is made
   pub redoes : (old mid new : D) → is_head_open (seen old) ≡ true → OnlyReads seen may_leave moment left_since old mid → LeavesOnly moment left_since mid new (Redoing mid) → LeavesOnly moment left_since old new (Opening old)

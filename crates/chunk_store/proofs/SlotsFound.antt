@@ -185,6 +185,7 @@ module _ (chunk block slots : ℕ) (all : IndexState) (disk : List ℕ) (d : Ser
   pub all_known : (some : IndexState) → KnowsFirst chunk block slots disk all slots some → IsDiskOf chunk block slots some disk d
   all_known some so_far = record {
     block_is = is.block_is;
+    head = is.head;
     order_is = is.order_is;
     held = λ q r e. let k = is.held q r e in (k.0, so_far.each q k.0 k.1 k.2.there, k.2);
     no_other = λ q e. by q (map.get some.held q) refl (is.no_other q e);

@@ -1,16 +1,11 @@
 -- Opening a chunkserver's disk, for chunks of so many bytes in blocks of so many, in so many slots.
-use Rattle.std.specs.Prelude.{◌≡◌, ◌⊎◌, ℕ, Bool, true, false, List, take}
+use Rattle.std.specs.Prelude.{◌≡◌, ◌⊎◌, ℕ, true, false, List}
 use Rattle.disk_redo.specs.Redo.{stands_for}
 use Rattle.replica_store.specs.Replicas.{ServerDisk, new_server_disk}
 use Rattle.store_changes.specs.Areas.{area_of}
 use Rattle.store_disk.specs.Formats.{IsFormatting, is_head_open}
-use Rattle.store_disk.specs.Fields.{head_bytes}
 use Rattle.chunk_store.specs.declared.found.FoundReplicas.{FoundReplicas}
 use Rattle.store_disk.specs.Stored.{IsDiskOf, IsStored}
-
--- the head is this layout's
-abbrev pub IsHeadOf : ℕ → ℕ → ℕ → List ℕ → Type 0
-IsHeadOf chunk block slots bytes = take 31 bytes ≡ head_bytes chunk block slots
 
 -- What a disk holds: no replicas where its head is closed, and else what its bytes stand for.
 abbrev pub HoldsReplicas : ℕ → ℕ → ℕ → List ℕ → ServerDisk → Type 0

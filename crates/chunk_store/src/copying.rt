@@ -32,7 +32,8 @@ impl<D: Disk> Store<D> {
         ensures version { (d : ServerDisk) → IsOpen D.seen D.may_leave self.old d
             → (IsErrOf result faults.Version ↔ (row : Row) × (row_at d handle.0 ≡ Some row) × ((row.version ≢ version) ⊎ ((held : Row) × (row_at d copy.0 ≡ Some held)))) }
         ensures corrupt { (d : ServerDisk) → IsOpen D.seen D.may_leave self.old d → IsErrOf result faults.Corrupt → image_at d handle.0 ≡ None }
-        ensures no_room { (d : ServerDisk) → IsOpen D.seen D.may_leave self.old d → IsErrOf result faults.NoRoom → is_disk_full self.old.layout.slots d ≡ true }
+        ensures no_room { (d : ServerDisk) → IsOpen D.seen D.may_leave self.old d
+            → (IsErrOf result faults.NoRoom ↔ (row : Row) × (row_at d handle.0 ≡ Some row) × (row.version ≡ version) × (row_at d copy.0 ≡ None) × (is_disk_full self.old.layout.slots d ≡ true)) }
         ensures no_serial { IsErrOf result faults.OldSerial → ⊥ }
         ensures refused { (d : ServerDisk) → IsOpen D.seen D.may_leave self.old d → IsRefused result → IsOpen D.seen D.may_leave self.new d }
         ensures any_moment { LeavesChange D.seen D.moment D.left_since self.old self.new (Copy handle copy copy_version) }
@@ -45,6 +46,9 @@ impl<D: Disk> Store<D> {
         }
         if self.index.get(copy).is_some() {
             return Err(StoreFault::Version);
+        }
+        if self.index.is_full() {
+            return Err(StoreFault::NoRoom);
         }
         match self.image(alloc, handle, version) {
             Ok(bytes) => self.install(alloc, copy, copy_version, Serial(0), &bytes),

@@ -6,15 +6,19 @@ ghost use Rattle.chunk_store.specs.declared.fault.OpenFault.TheVariants.{NoMemor
 
 use disk::DiskFault;
 use std::alloc::AllocError;
+use thiserror::Error;
 
 /// Why a disk couldn't be opened.
-#[derive(Clone, Copy, Debug, PartialEq, Eq)]
+#[derive(Clone, Copy, Debug, PartialEq, Eq, Error)]
 pub enum OpenFault {
     /// The disk is another layout's: it is too small, or its head says so.
+    #[error("another layout's disk")]
     Damaged,
     /// The disk failed.
+    #[error("disk failed")]
     Device,
     /// Memory was refused.
+    #[error("no memory")]
     NoMemory,
 }
 

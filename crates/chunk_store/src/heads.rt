@@ -4,7 +4,7 @@ ghost use Rattle.std.specs.Prelude.{◌≡◌, ◌≤◌, ◌↔◌, ◌==◌, l
 ghost use Rattle.disk.specs.Bytes.{range_at};
 ghost use Rattle.disk.specs.Device.{HasCause, Only};
 ghost use Rattle.disk_redo.specs.GateMoments.{OnlyReads};
-ghost use Rattle.chunk_store.specs.Opening.{IsHeadOf};
+ghost use Rattle.store_disk.specs.Formats.{IsHeadOf};
 
 use disk::{Disk, DiskFault};
 use disk_redo::step::{begin, read, sync};

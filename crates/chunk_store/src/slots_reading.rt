@@ -29,6 +29,7 @@ fn redo_area_of(layout: Layout) -> RedoArea
     RedoArea {
         place: 48,
         size: layout.redo_size(),
+        first: 32,
     }
 }
 
@@ -72,6 +73,7 @@ pub fn open_formatted<D: Disk>(
     ensures rest { OnOk result (IsAtRest D.seen D.may_leave (area_of layout.chunk layout.block) disk.new) }
     ensures found { IfOk result (λ found. (d : ServerDisk) → IsStored layout.chunk layout.block layout.slots (stands_for (area_of layout.chunk layout.block) (D.seen disk.old)) d
         → IsFound layout.chunk layout.block layout.slots found (stands_for (area_of layout.chunk layout.block) (D.seen disk.new)) d) }
+    ensures same { stands_for (area_of layout.chunk layout.block) (D.seen disk.new) ≡ stands_for (area_of layout.chunk layout.block) (D.seen disk.old) }
     ensures any_moment { LeavesOnly D.moment D.left_since disk.old disk.new (IsRedoing (area_of layout.chunk layout.block) (D.seen disk.old) (D.may_leave disk.old)) }
     ensures size { length (D.seen disk.new) ≡ length (D.seen disk.old) }
     ensures cause { HasCause (D.failed disk.old) (D.failed disk.new) result }

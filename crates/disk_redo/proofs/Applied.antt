@@ -23,6 +23,7 @@ first_of false b h = absurd cc
 pub record Lies (area : RedoArea) (n : ℕ) (r : RedoRange) : Type 0 where
   pub within : r.place + length r.bytes ≤ n
   pub apart : (r.place + length r.bytes ≤ area.place) ⊎ (area.place + area.size ≤ r.place)
+  pub from : area.first ≤ r.place
 
 pub lies : (area : RedoArea) (n : ℕ) (r : RedoRange) → lies_outside area n r ≡ true → Lies area n r
 lies area n r h = record {
@@ -36,6 +37,10 @@ lies area n r h = record {
       | inr le ↦ inr le
       | inl less ↦ absurd (grind (arith, nat_tests, h, lt, less))
     ]
+  ];
+  from = elim (cases_lt r.place area.first) [
+    | inl lt ↦ absurd (grind (arith, nat_tests, h, lt))
+    | inr le ↦ le
   ];
 }
 

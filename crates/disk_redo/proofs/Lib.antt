@@ -8,3 +8,4 @@ pub mod Stands
 pub mod Whole
 pub mod Loop
 pub mod Shutting
+pub mod Fronts

@@ -15,11 +15,12 @@ abbrev pub is_free : List RedoRange → ℕ → Bool
 is_free [] place = true
 is_free (r ∷ rs) place = is_outside r.place (length r.bytes) place && is_free rs place
 
--- the range lies on a disk of n bytes, outside of the area
+-- the range lies on a disk of n bytes, outside of the area, and not before the first place of a change
 abbrev pub lies_outside : RedoArea → ℕ → RedoRange → Bool
 lies_outside area n r =
     nat_le (r.place + length r.bytes) n
     && (nat_le (r.place + length r.bytes) area.place || nat_le (area.place + area.size) r.place)
+    && nat_le area.first r.place
 
 abbrev pub all_outside : RedoArea → ℕ → List RedoRange → Bool
 all_outside area n [] = true

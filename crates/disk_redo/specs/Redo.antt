@@ -37,7 +37,7 @@ ranges_in (suc n) bytes =
     then option_map (λ ranges. range_in bytes ∷ ranges) (ranges_in n (drop (12 + length_in bytes) bytes))
     else None
 
--- ranges that lie on the disk, outside of the area
+-- ranges that lie on the disk, where a change may write
 abbrev pub placed : RedoArea → ℕ → Option (List RedoRange) → Option (List RedoRange)
 placed area n None = None
 placed area n (Some ranges) = if all_outside area n ranges then Some ranges else None
@@ -69,7 +69,7 @@ pub record IsAreaOf (area : RedoArea) (n : ℕ) : Type 0 where
   pub most : area.place + area.size < 2 ^ 32
   pub within : area.place + area.size ≤ n
 
--- the change lies on a disk of n bytes, outside of the area, and has room in it
+-- the change lies on a disk of n bytes, where one may write, and has room in the area
 pub record FitsArea (area : RedoArea) (n : ℕ) (ranges : List RedoRange) : Type 0 where
   pub count : length ranges < 2 ^ 16
   pub room : 1 + length (redo_bytes ranges) ≤ area.size

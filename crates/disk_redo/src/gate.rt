@@ -16,6 +16,7 @@ fn write_durably<D: Disk>(disk: &mut D, at: usize, bytes: &[u8]) -> Result<(), D
     ensures written { OnOk result (D.seen disk.new ≡ put_at (D.seen disk.old) at bytes.now) }
     ensures durable { OnOk result (Only (D.seen disk.new) (D.may_leave disk.new)) }
     ensures refused { IsErrOf result NoMemory → (D.seen disk.new ≡ D.seen disk.old) × Only (D.seen disk.new) (D.may_leave disk.new) }
+    ensures read { ChangesOnly at (length bytes.now) (D.seen disk.old) (D.seen disk.new) }
     ensures any_moment { LeavesOnly D.moment D.left_since disk.old disk.new (ChangesOnly at (length bytes.now) (D.seen disk.old)) }
     ensures cause { HasCause (D.failed disk.old) (D.failed disk.new) result }
 {
@@ -49,7 +50,8 @@ pub fn commit<D: Disk>(disk: &mut D, at: usize, bytes: &[u8], gate: usize) -> Re
     ensures committed { OnOk result (D.seen disk.new ≡ committed (D.seen disk.old) at bytes.now gate) }
     ensures durable { OnOk result (Only (D.seen disk.new) (D.may_leave disk.new)) }
     ensures refused { IsErrOf result NoMemory → IsUncommitted (D.seen disk.old) at bytes.now (D.seen disk.new) × Only (D.seen disk.new) (D.may_leave disk.new) }
-    // A stop at any moment of the call leaves the gate as it was, or the bytes whole.
+    // What is read, and what a stop at any moment of the call leaves, has the gate as it was, or the bytes whole.
+    ensures read { IsCommitting (D.seen disk.old) at bytes.now gate (D.seen disk.new) }
     ensures any_moment { LeavesOnly D.moment D.left_since disk.old disk.new (IsCommitting (D.seen disk.old) at bytes.now gate) }
     ensures cause { HasCause (D.failed disk.old) (D.failed disk.new) result }
 {

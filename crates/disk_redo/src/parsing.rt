@@ -74,7 +74,9 @@ fn is_placed(area: RedoArea, size: usize, range: &RedoRange) -> bool
     let Some(end) = range.place.checked_add(range.bytes.len()) else {
         return false;
     };
-    end <= size && (end <= area.place || area.place + area.size <= range.place)
+    end <= size
+        && (end <= area.place || area.place + area.size <= range.place)
+        && area.first <= range.place
 }
 
 fn are_placed(area: RedoArea, size: usize, ranges: &[RedoRange]) -> bool
@@ -89,7 +91,7 @@ fn are_placed(area: RedoArea, size: usize, ranges: &[RedoRange]) -> bool
     true
 }
 
-// The ranges, where they lie on a disk of so many bytes, outside of the area.
+// The ranges, where they lie on a disk of so many bytes, outside of the area and not before the first place of a change.
 pub fn keep_placed(
     area: RedoArea,
     size: usize,

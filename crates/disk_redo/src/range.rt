@@ -9,9 +9,10 @@ pub struct RedoRange {
     pub bytes: Bytes,
 }
 
-/// Where on the disk the redo area begins, and how many bytes it has.
+/// Where on the disk the redo area begins, how many bytes it has, and from which place on changes may write: what lies before it stays as it is.
 #[derive(Clone, Copy, Debug, PartialEq, Eq)]
 pub struct RedoArea {
     pub place: usize,
     pub size: usize,
+    pub first: usize,
 }

@@ -55,5 +55,5 @@ module _ {D : Type 0} (seen : D → List ℕ) (may_leave : D → List ℕ → Ty
 
 module _ {D : Type 0} (may_leave : D → List ℕ → Type 0) (moment : D → ℕ) (left_since : D → ℕ → List ℕ → Type 0) (seen : D → List ℕ) (counts_now : (disk : D) (t : ℕ) (c : List ℕ) → t ≤ moment disk → may_leave disk c → left_since disk t c) where
   -- what is left at the end is left at some moment of the call
-  pub left_at_end : (chunk block : ℕ) (old new : D) (P : List ℕ → Type 0) → StandsOnly seen moment left_since (record { place = 48; size = (area_of chunk block).size }) old new P → (c : List ℕ) → may_leave new c → P (stands_for (area_of chunk block) c)
+  pub left_at_end : (chunk block : ℕ) (old new : D) (P : List ℕ → Type 0) → StandsOnly seen moment left_since (area_of chunk block) old new P → (c : List ℕ) → may_leave new c → P (stands_for (area_of chunk block) c)
   left_at_end chunk block old new P stands c left = stands.stop.each c (counts_now new (moment old) c stands.stop.later left)

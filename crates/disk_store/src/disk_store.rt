@@ -14,7 +14,7 @@ use crate::rotting::rot;
 use crate::said::SaidDisk;
 use crate::standing::{DiskStoreState, closed};
 use bytes::Bytes;
-use chunk_store::{Store, open};
+use chunk_store::Store;
 use disk::{Disk, StoppableDisk};
 use gfs_types::ids::{Handle, OrderNo};
 use gfs_types::no_memory::NoMemory;
@@ -82,7 +82,7 @@ impl<D: StoppableDisk + Drop> DiskStore<D> {
         if has_open_head(&mut disk)? {
             return Err(ReplicaStoreFault::DiskFailed);
         }
-        match open(disk, alloc, layout) {
+        match Store::open(disk, alloc, layout) {
             Ok(store) => Ok(DiskStore {
                 alloc,
                 store,

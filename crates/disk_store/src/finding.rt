@@ -36,7 +36,7 @@ pub fn has_open_head<D: Disk>(disk: &mut D) -> Result<bool, ReplicaStoreFault>
     Ok(gate[0] == 1)
 }
 
-/// The disk begins again, and is opened. One whose head is closed holds no replicas, and isn't formatted anew.
+/// The disk begins again, and is opened. A disk that says something has an open head, so none of its replicas is lost.
 pub(crate) fn find<D: StoppableDisk>(
     alloc: Global,
     disk: &mut D,
@@ -51,12 +51,6 @@ pub(crate) fn find<D: StoppableDisk>(
     match disk.restart() {
         Ok(()) => {}
         Err(fault) => return Err(fault_of_disk(fault)),
-    }
-    if disk.size() < layout.disk_size() {
-        return Err(ReplicaStoreFault::DiskFailed);
-    }
-    if !has_open_head(disk)? {
-        return Err(ReplicaStoreFault::DiskFailed);
     }
     match open_disk(alloc, disk, layout) {
         Ok(found) => Ok(found),

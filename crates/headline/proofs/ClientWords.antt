@@ -15,7 +15,6 @@ use Rattle.messages.specs.declared.message.Body.{Body}
 use Rattle.messages.specs.declared.message.Body.TheVariants as body
 use Rattle.messages.specs.declared.message.Message.{Message}
 use Rattle.client_state.specs.declared.call.CurrentCall.{CurrentCall}
-use Rattle.chunk_table.specs.ChunkTable.{file_of}
 use Rattle.protocol.specs.Tables.{element_at}
 use Rattle.protocol.specs.Sending.{data_id, the_server, the_client}
 use Rattle.protocol.specs.Choice.{Choice, Ending, Goes, Lost, Stops}
@@ -42,7 +41,7 @@ use Rattle.laws_entries.proofs.AnsweredAttempts.{IsSpentUp, answers_known}
 use Rattle.laws_calls.specs.RefusedAsks.{HasAsk}
 use Rattle.laws_calls.proofs.Answerers.{came_to}
 use Rattle.headline.specs.ClientWords.{IsNoTelling, ClientsTellNothing, IsOfUsed, AnswersCarryUsedNumbers}
-use Rattle.headline.proofs.AskAnswers.{is_no_answer, master_refuses_asks}
+use Rattle.laws_calls.proofs.MasterRefusals.{is_no_answer, master_refuses_asks}
 
 -- what clients say
 
@@ -180,14 +179,14 @@ plain_answers sent sender receiver other is = tt
 
 mastered : (w : WorldState) (moment : ℕ) (i : NodeInput) (choice : Choice) → ((m : Message) → i ≡ input.Deliver m → IsAmong w.sent m) → AllOf (Answers w.sent) (master_step w.master moment i choice).out.sent
 mastered w moment i choice came =
-    master_refuses_asks i w.master.holders (λ file. file_of w.master.logged.table file) (Answers w.sent)
+    master_refuses_asks w.master moment i choice (Answers w.sent)
     (record {
       plain = λ receiver b is. plain_answers w.sent node.Master receiver b is;
       refuses = λ receiver number refusal taken why. inr (refl, record { ask = taken.ask; file = taken.file; what = taken.what; deadline = taken.deadline; lost = taken.lost; sent_is = came taken.ask taken.came; sender_is = taken.sender_is; body_is = taken.body_is });
       none = λ receiver number taken. record { ask = taken.ask; file = taken.file; what = taken.what; deadline = taken.deadline; lost = taken.lost; sent_is = came taken.ask taken.came; sender_is = taken.sender_is; body_is = taken.body_is };
       tells = λ receiver number l taken known.
           record { ask = taken.taken.ask; file = taken.taken.file; what = taken.taken.what; deadline = taken.taken.deadline; lost = taken.taken.lost; sent_is = came taken.taken.ask taken.taken.came; sender_is = taken.taken.sender_is; body_is = taken.taken.body_is };
-    }) w.master moment choice refl (λ file. refl)
+    })
 
 -- worlds
 

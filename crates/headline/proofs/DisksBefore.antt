@@ -8,7 +8,7 @@ use Rattle.replica_store.specs.Replicas.{rotten_replica}
 use Rattle.protocol.specs.Choice.{Choice}
 use Rattle.protocol.specs.Observer.{Observer, observed_answer}
 use Rattle.protocol.specs.World.{WorldState, hides_change, happens}
-use Rattle.laws_replicas.proofs.ExactEvents.{HoldsExactly, holds_exactly}
+use Rattle.laws_steps.proofs.Events.{HoldsExactly, holds_exactly}
 
 before_answer : (o : Observer) (client : ℕ) (a : Option Answer) → IsTrue (observed_answer o client a).are_disks_kept → IsTrue o.are_disks_kept
 before_answer o client None h = h

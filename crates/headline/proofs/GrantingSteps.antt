@@ -26,7 +26,8 @@ use Rattle.laws_base.proofs.ClientMoves.{HasNoOrder, quiet_orders, client_quiet,
 use Rattle.laws_base.proofs.SentReached.{count-sent, server_quiet, server_restarts_quiet}
 use Rattle.laws_steps.proofs.Events.{HoldsAfter, holds_after}
 use Rattle.laws_names.specs.NameTrails.{log_read}
-use Rattle.laws_versions.proofs.UnaskedSteps.{IsOfCalls, IsNoAsk, KeepsThese, KeepsNames, KeepsReports, taken_kept, ticked_kept}
+use Rattle.laws_steps.proofs.MasterPremises.{IsOfCalls}
+use Rattle.laws_versions.proofs.UnaskedSteps.{IsNoAsk, KeepsThese, KeepsNames, KeepsReports, taken_kept, ticked_kept}
 use Rattle.laws_versions.proofs.AskedSteps.{IsNoGrant, names_grant_nothing}
 use Rattle.laws_versions.proofs.CopiedSources.{asked_or_not, asked_step, free_reached}
 use Rattle.laws_versions.proofs.ExtendLaws.{restart_silent}

@@ -2,7 +2,6 @@ pub mod AddedChunks
 pub mod AllAnswers
 pub mod AllOffers
 pub mod Arrivals
-pub mod AskAnswers
 pub mod AskSenders
 pub mod AskedAdds
 pub mod AskedChunks

@@ -62,7 +62,7 @@ use Rattle.laws_machine.specs.FileClients.{id_of, IsDoneSoFar, IsFileCall, IsCal
 use Rattle.laws_machine.specs.SentRequests.{IsPartTo, IsAttemptOf, IsRequestOf, AreRequestsOf, IsRefusedCall}
 use Rattle.laws_machine.specs.WholeWorlds.{IsBeside}
 use Rattle.laws_machine.proofs.CountedCalls.{calls_are_counted}
-use Rattle.laws_machine.proofs.Parts.{none_below, none_beyond, first_there, none_of_nothing}
+use Rattle.laws_calls.proofs.Parts.{none_below, none_beyond, first_there, none_of_nothing}
 use Rattle.headline.proofs.AskedOnce.{Sends, each_sends, asked_once}
 use Rattle.headline.proofs.CountsBefore.{HasCount, counts_are_before}
 use Rattle.headline.proofs.LiveAttempts.{LivesWereTold, lives_were_told}

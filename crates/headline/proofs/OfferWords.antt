@@ -50,7 +50,7 @@ use Rattle.protocol_invariant.specs.ClientParts.{index_asked}
 use Rattle.laws_machine.specs.ChunksAlike.{ChunkSides}
 use Rattle.laws_calls.specs.ToldIndexes.{IsAskFor}
 use Rattle.laws_calls.proofs.AskedIndexes.{asks_are_for_the_part_in_hand}
-use Rattle.headline.proofs.AskAnswers.{IsTakenAsk}
+use Rattle.laws_steps.proofs.MasterPremises.{IsTakenAsk}
 use Rattle.laws_machine.specs.ChunksBeside.{AreChunksBeside}
 use Rattle.laws_machine.specs.FileAnswers.{IsLastRound}
 use Rattle.laws_machine.specs.FileClients.{IsFileCall, IsCallAlike, IsSaidAt}

@@ -43,7 +43,8 @@ use Rattle.laws_entries.proofs.RisingRounds.{restart_silent}
 use Rattle.laws_calls.proofs.Answerers.{came_to}
 use Rattle.laws_calls.proofs.LaterCalls.{put_at, calls_joined, calls_passed, calls_answered}
 use Rattle.laws_calls.proofs.UsedIndexes.{no_call}
-use Rattle.headline.proofs.AskAnswers.{is_no_answer, IsTakenAsk, IsRefusedWhere, master_refuses_asks}
+use Rattle.laws_steps.proofs.MasterPremises.{IsTakenAsk, IsRefusedFor}
+use Rattle.laws_calls.proofs.MasterRefusals.{is_no_answer, master_refuses_asks}
 use Rattle.headline.proofs.SentNow.{step_left, call_left}
 use Rattle.headline.proofs.StepStages.{IsNewStage, IsNewCall, next_step, next_call}
 
@@ -167,7 +168,7 @@ plain_word w receiver (body.Refused number refusal) is = absurd (true≢false (s
 plain_word w receiver other is = tt
 
 refused_word : (w : WorldState) → IsTrue w.master.up → (i : NodeInput) → ((m : Message) → i ≡ input.Deliver m → IsAmong w.sent m) → (receiver : Node) (number : ℕ) (refusal : Refusal) (taken : IsTakenAsk i receiver number)
-    → IsRefusedWhere (λ file. file_of w.master.logged.table file) taken.file.0 taken.what refusal → IsLongWord w receiver (body.Refused number refusal)
+    → IsRefusedFor w.master.logged taken.file.0 taken.what refusal → IsLongWord w receiver (body.Refused number refusal)
 refused_word w up i came receiver number TooLong taken why = (
   up,
   record {
@@ -188,13 +189,13 @@ refused_word w up i came receiver number other taken why = tt
 
 mastered : (w : WorldState) → IsTrue w.master.up → (moment : ℕ) (i : NodeInput) (choice : Choice) → ((m : Message) → i ≡ input.Deliver m → IsAmong w.sent m) → AllOf (λ m. IsLongWord w m.receiver m.body) (master_step w.master moment i choice).out.sent
 mastered w up moment i choice came =
-    master_refuses_asks i w.master.holders (λ file. file_of w.master.logged.table file) (λ m. IsLongWord w m.receiver m.body)
+    master_refuses_asks w.master moment i choice (λ m. IsLongWord w m.receiver m.body)
     (record {
       plain = λ receiver b is. plain_word w receiver b is;
       refuses = λ receiver number refusal taken why. refused_word w up i came receiver number refusal taken why;
       none = λ receiver number taken. tt;
       tells = λ receiver number l taken known. tt;
-    }) w.master moment choice refl (λ file. refl)
+    })
 
 -- no other node is the master
 

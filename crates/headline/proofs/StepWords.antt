@@ -31,10 +31,11 @@ use Rattle.laws_base.proofs.RowsKept.{rows_kept}
 use Rattle.laws_base.proofs.RowsLogged.{IsFoundRows, IsRowedLog}
 use Rattle.laws_base.proofs.SentReached.{sent_reached}
 use Rattle.laws_steps.proofs.WaitsKept.{IsOfWaits, waits_kept}
-use Rattle.laws_versions.proofs.CopiedSources.{IsAsk, asked_or_not}
+use Rattle.laws_versions.proofs.CopiedSources.{asked_or_not}
 use Rattle.laws_versions.proofs.ExtendLaws.{new_one, none_before}
 use Rattle.laws_versions.proofs.UnaskedSteps.{IsUnasked, IsNoAsk}
-use Rattle.headline.proofs.AskAnswers.{is_no_answer, IsTakenAsk, master_refuses_asks}
+use Rattle.laws_steps.proofs.MasterPremises.{IsTakenAsk, IsAsk}
+use Rattle.laws_calls.proofs.MasterRefusals.{is_no_answer, master_refuses_asks}
 use Rattle.laws_machine.specs.Rounds.{IsMastersInput}
 use Rattle.headline.proofs.AskedWords.{IsToldIn, IsRefusedIn, IsAnsweredBy, Fine, asked, ready}
 
@@ -51,8 +52,8 @@ plain_for i receiver other is = is
 
 for_asks : (s : MasterState) (moment : ℕ) (i : NodeInput) (choice : Choice) → AllOf (λ m. IsForAsk i m.receiver m.body) (master_step s moment i choice).out.sent
 for_asks s moment i choice =
-    master_refuses_asks i s.holders (λ file. file_of s.logged.table file) (λ m. IsForAsk i m.receiver m.body)
-    (record { plain = plain_for i; refuses = λ receiver number refusal taken why. taken; none = λ receiver number taken. taken; tells = λ receiver number l taken known. taken.taken }) s moment choice refl (λ file. refl)
+    master_refuses_asks s moment i choice (λ m. IsForAsk i m.receiver m.body)
+    (record { plain = plain_for i; refuses = λ receiver number refusal taken why. taken; none = λ receiver number taken. taken; tells = λ receiver number l taken known. taken.taken })
 
 -- what a word says of the logs, as a step begins and as it ends
 abbrev pub IsWord : NodeInput → Logged → Logged → Node → Body → Type 0

@@ -40,7 +40,8 @@ use Rattle.laws_steps.proofs.LeasesStayOver.{reached_later}
 use Rattle.laws_steps.proofs.RequestsOnce.{AreNumbered, numbered_reached, requests_are_numbered_once}
 use Rattle.laws_entries.proofs.Deadlines.{same_counted}
 use Rattle.laws_versions.proofs.AskedSteps.{StandsAt}
-use Rattle.laws_versions.proofs.CopiedSources.{IsAsk, IsSilent, asked_or_not, unasked_step, free_reached}
+use Rattle.laws_steps.proofs.MasterPremises.{IsAsk}
+use Rattle.laws_versions.proofs.CopiedSources.{IsSilent, asked_or_not, unasked_step, free_reached}
 use Rattle.laws_versions.proofs.ExtendLaws.{restart_silent, new_one, none_before, came_in}
 use Rattle.laws_versions.proofs.ToldAnswers.{TellsNone, server_tells, restart_tells, client_tells, none_new}
 use Rattle.headline.specs.HoldersGoOn.{ToldChunksStandAfter}

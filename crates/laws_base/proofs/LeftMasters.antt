@@ -1,7 +1,6 @@
 -- A master as its code has it after a stop restarts as the master of the definitions does.
 use Rattle.std.proofs.Common.{◌≡◌, ◌⊎◌, ℕ, Bool, false, List, [], ◌∷◌, refl, sym, ap, subst, ◌∙◌, inl, inr}
 use Rattle.protocol.specs.Choice.{Choice, Ending, Goes, Lost, Stops, decided_changes}
-use Rattle.protocol.specs.Seen.{Taken}
 use Rattle.protocol.specs.Logged.{LogDisk, LogChange, log_changed_by_all}
 use Rattle.protocol.specs.Master.{MasterState}
 use Rattle.protocol.specs.MasterStep.{master_restart, started_master, opening, opens_as, found_log}

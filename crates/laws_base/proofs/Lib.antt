@@ -13,6 +13,7 @@ pub mod MasterMoves
 pub mod MasterNamesMoves
 pub mod MasterChunksMoves
 pub mod MasterSteps
+pub mod ServerWalk
 pub mod ServerMoves
 pub mod RisingOrders
 pub mod ClientMoves

@@ -147,13 +147,13 @@ agrees_after ms l k r due new h =
     record { used = λ m s. used_more k.next_handle (after_record k r).next_handle m (next_grows l k r due) (h.used m s); rows = fit_after (Fits ms) l k r due new h.rows }
 
 -- the row of a chunk that was just granted says so
-abbrev IsGrantedTo : Logged → ℕ → ℕ → ℕ → Type 0
+abbrev pub IsGrantedTo : Logged → ℕ → ℕ → ℕ → Type 0
 IsGrantedTo k handle version primary = (row : ChunkRow) → table.get (rows_of k) handle ≡ Some row → (row.granted ≡ version) × (row.primary ≡ primary)
 
-granted_to_from : (k n : Logged) (handle version primary : ℕ) → From (rows_of k) (rows_of n) → IsGrantedTo k handle version primary → IsGrantedTo n handle version primary
+pub granted_to_from : (k n : Logged) (handle version primary : ℕ) → From (rows_of k) (rows_of n) → IsGrantedTo k handle version primary → IsGrantedTo n handle version primary
 granted_to_from k n handle version primary f h row is = let was = f handle row is in let old = h was.old was.at in (sym was.granted ∙ old.0, sym was.primary ∙ old.1)
 
-granted_to_after : (k : Logged) (handle version primary : ℕ) (members : List ℕ) → IsGrantedTo (after_record k (grant_record handle version primary members)) handle version primary
+pub granted_to_after : (k : Logged) (handle version primary : ℕ) (members : List ℕ) → IsGrantedTo (after_record k (grant_record handle version primary members)) handle version primary
 granted_to_after k handle version primary members =
     let one : Logged = granted_logged k handle version primary members in
     granted_to_from one (swapped_in one handle (table.get k.copies handle)) handle version primary (swapped_from one handle (table.get k.copies handle))

@@ -77,6 +77,19 @@ after_master_step x k t = record (more_sent x k t.out.sent) { master = t.state }
 abbrev pub rotten_server : ServerState → ℕ → Replica → ServerState
 rotten_server s handle r = record s { disk = with_replica s.disk handle r }
 
+-- What is kept by each moment that passes and each step of a node, from some world on.
+pub record IsKeptOn (Q : Scene → Type 0) : Type 0 where
+  pub passes : (x : Scene) (moment : ℕ) → Q x → Q (passed x moment)
+  -- clients say nothing of leases
+  pub says : (x : Scene) (k : ℕ) (ms : List Message) → AreQuiet ms → Q x → Q (more_sent x k ms)
+  pub masters : (x : Scene) (k moment : ℕ) (i : NodeInput) (choice : Choice) → IsNow x moment → IsSentTo x.sent node.Master i → IsTrue x.master.up → Q x → Q (after_master_step x k (master_step x.master moment i choice))
+  pub opens : (x : Scene) (k moment : ℕ) (choice : Choice) → IsNow x moment → Q x → Q (after_master_step x k (master_restart x.master moment choice))
+  pub serves : (x : Scene) (k index moment : ℕ) (s : ServerState) (i : NodeInput) (choice : Choice) → IsNow x moment → element_at x.servers index ≡ Some s → IsSentTo x.sent (the_server (suc index)) i → IsTrue s.up → Q x
+      → Q (after_server_step x k index (server_step s moment i choice))
+  pub restarts : (x : Scene) (k index moment : ℕ) (s : ServerState) (choice : Choice) → IsNow x moment → element_at x.servers index ≡ Some s → Q x → Q (after_server_step x k index (server_restart s moment choice))
+  pub rots : (x : Scene) (index handle : ℕ) (s : ServerState) (r : Replica) → element_at x.servers index ≡ Some s → IsTrue s.up → Q x → Q (record x { servers = with_at x.servers index (rotten_server s handle r) })
+
+-- What is kept so, and holds of a new world.
 pub record IsKeptByScenes (Q : Scene → Type 0) : Type 0 where
   pub new : (config : Config) (servers clients : ℕ) → Q (scene_of (new_world config servers clients))
   pub passes : (x : Scene) (moment : ℕ) → Q x → Q (passed x moment)
@@ -89,7 +102,11 @@ pub record IsKeptByScenes (Q : Scene → Type 0) : Type 0 where
   pub restarts : (x : Scene) (k index moment : ℕ) (s : ServerState) (choice : Choice) → IsNow x moment → element_at x.servers index ≡ Some s → Q x → Q (after_server_step x k index (server_restart s moment choice))
   pub rots : (x : Scene) (index handle : ℕ) (s : ServerState) (r : Replica) → element_at x.servers index ≡ Some s → IsTrue s.up → Q x → Q (record x { servers = with_at x.servers index (rotten_server s handle r) })
 
-module _ (Q : Scene → Type 0) (k : IsKeptByScenes Q) where
+-- what is kept from a new world on is kept from any world on
+pub kept_on : (Q : Scene → Type 0) → IsKeptByScenes Q → IsKeptOn Q
+kept_on Q k = record { passes = k.passes; says = k.says; masters = k.masters; opens = k.opens; serves = k.serves; restarts = k.restarts; rots = k.rots }
+
+module _ (Q : Scene → Type 0) (k : IsKeptOn Q) where
   abbrev Here : Happened → Type 0
   Here h = Q (scene_of h.world)
 
@@ -174,12 +191,12 @@ module _ (Q : Scene → Type 0) (k : IsKeptByScenes Q) where
   happens_here w (event.Rot server handle place byte) choice h = rots_here w server.0 handle.0 place byte (numbered_from_1 w.servers server.0) refl h
   happens_here w (event.Fuse n count torn) choice h = h
 
-  events_here : (w : WorldState) (steps : List (Event × Choice)) → Q (scene_of w) → Q (scene_of (after_events w steps))
-  events_here w [] h = h
-  events_here w (step ∷ rest) h = events_here (happens w step.0 step.1).world rest (happens_here w step.0 step.1 h)
+  pub goes_on : (w : WorldState) (steps : List (Event × Choice)) → Q (scene_of w) → Q (scene_of (after_events w steps))
+  goes_on w [] h = h
+  goes_on w (step ∷ rest) h = goes_on (happens w step.0 step.1).world rest (happens_here w step.0 step.1 h)
 
-  pub scene_reached : (config : Config) (servers clients : ℕ) (w : WorldState) → IsReached config servers clients w → Q (scene_of w)
-  scene_reached config servers clients w r = subst (λ (v : WorldState). Q (scene_of v)) r.1 (events_here (new_world config servers clients) r.0 (k.new config servers clients))
+pub scene_reached : (Q : Scene → Type 0) → IsKeptByScenes Q → (config : Config) (servers clients : ℕ) (w : WorldState) → IsReached config servers clients w → Q (scene_of w)
+scene_reached Q k config servers clients w r = subst (λ (v : WorldState). Q (scene_of v)) r.1 (goes_on Q (kept_on Q k) (new_world config servers clients) r.0 (k.new config servers clients))
 
 -- what holds of the messages and the master holds of scenes
 

@@ -7,8 +7,6 @@ use Rattle.gfs_types.specs.declared.config.Config.{Config}
 use Rattle.gfs_types.specs.declared.ids.Node.{Node}
 use Rattle.gfs_types.specs.declared.ids.Node.TheVariants as node
 use Rattle.gfs_types.specs.declared.ids.DataId.{DataId}
-use Rattle.gfs_types.specs.declared.ids.FileId.{FileId}
-use Rattle.gfs_types.specs.declared.ids.Moment.{Moment}
 use Rattle.messages.specs.declared.event.Event.{Event}
 use Rattle.messages.specs.declared.event.Event.TheVariants as event
 use Rattle.messages.specs.declared.event.NodeInput.{NodeInput}
@@ -16,7 +14,6 @@ use Rattle.messages.specs.declared.event.NodeInput.TheVariants as input
 use Rattle.messages.specs.declared.message.Body.{Body}
 use Rattle.messages.specs.declared.message.Body.TheVariants as body
 use Rattle.messages.specs.declared.message.Message.{Message}
-use Rattle.messages.specs.declared.message.Wanted.{Wanted}
 use Rattle.protocol.specs.Tables.{element_at}
 use Rattle.protocol.specs.Sending.{the_server, the_client}
 use Rattle.protocol.specs.Choice.{Choice, Ending, Goes, Lost, Stops}
@@ -41,7 +38,7 @@ use Rattle.laws_entries.proofs.RisingRounds.{restart_silent}
 use Rattle.laws_calls.specs.CallSteps.{IsAnswerUnder, AttemptsAreAnsweredByServers}
 use Rattle.messages.specs.declared.message.Location.{Location}
 use Rattle.laws_steps.proofs.Locations.{locations_name_current_holders}
-use Rattle.laws_calls.proofs.MasterRefusals.{is_no_answer, IsTakenAsk, master_refuses_asks}
+use Rattle.laws_calls.proofs.MasterRefusals.{is_no_answer, master_refuses_asks}
 use Rattle.laws_calls.specs.ToldIndexes.{IsIndexOf, LocationsAnswerTheirAsk}
 use Rattle.laws_calls.specs.RefusedAsks.{HasAsk, RefusalsOfTheMasterAnswerAnAsk}
 
@@ -113,12 +110,13 @@ client_sends sent s d (Some m) step is = (client_answers sent m.sender m.receive
 
 mastered : (w : WorldState) (moment : ℕ) (i : NodeInput) (choice : Choice) → ((m : Message) → i ≡ input.Deliver m → IsAmong w.sent m) → AllOf (Answers w.sent) (master_step w.master moment i choice).out.sent
 mastered w moment i choice came =
-    master_refuses_asks i w.master.holders (Answers w.sent)
+    master_refuses_asks w.master moment i choice (Answers w.sent)
     (record {
       plain = λ receiver b is. plain_answers w.sent node.Master receiver b is;
-      refuses = λ receiver number refusal taken. inr (record { ask = taken.ask; file = taken.file; what = taken.what; deadline = taken.deadline; lost = taken.lost; sent_is = came taken.ask taken.came; sender_is = taken.sender_is; body_is = taken.body_is });
+      refuses = λ receiver number refusal taken why. inr (record { ask = taken.ask; file = taken.file; what = taken.what; deadline = taken.deadline; lost = taken.lost; sent_is = came taken.ask taken.came; sender_is = taken.sender_is; body_is = taken.body_is });
+      none = λ receiver number taken. tt;
       tells = λ receiver number l taken known. inr (record { asked = record { ask = taken.taken.ask; file = taken.taken.file; what = taken.taken.what; deadline = taken.taken.deadline; lost = taken.taken.lost; sent_is = came taken.taken.ask taken.taken.came; sender_is = taken.taken.sender_is; body_is = taken.taken.body_is }; index_is = taken.index_is });
-    }) w.master moment choice refl
+    })
 
 -- what comes in was sent
 pub came_to : (w : WorldState) (e : Event) (n : Node) (moment : ℕ) (i : NodeInput) → IsGiven w e n moment i → (m : Message) → i ≡ input.Deliver m → IsAmong w.sent m

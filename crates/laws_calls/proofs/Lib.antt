@@ -19,3 +19,4 @@ pub mod FullBefore
 pub mod ToldHolders
 pub mod ToldPlaces
 pub mod ToldOnce
+pub mod Parts

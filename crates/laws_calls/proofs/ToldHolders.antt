@@ -1,5 +1,5 @@
 -- In each world that is reached, each holder that a location names was ordered to have that version: the master knew it of the holder's server as it told it.
-use Rattle.std.proofs.Common.{◌≡◌, ℕ, suc, ◌≤◌, true, true≢false, List, ◌∷◌, ◌++◌, length, Some, refl, sym, ap, subst, ◌∙◌, arith, inl, inr}
+use Rattle.std.proofs.Common.{◌≡◌, ℕ, suc, ◌≤◌, true, true≢false, List, ◌∷◌, ◌++◌, length, Some, None, refl, sym, ap, subst, ◌∙◌, arith, inl, inr}
 use Rattle.gfs_types.specs.declared.config.Config.{Config}
 use Rattle.messages.specs.declared.message.Body.TheVariants as body
 use Rattle.messages.specs.declared.message.Message.{Message}
@@ -51,14 +51,15 @@ each_held config servers clients u r =
           let ms : List Message = (master_step u.master moment i choice).out.sent in
           let new = new_one u.sent ms k place m from at in
           let all : AllOf (Holds u.sent) ms =
-          master_refuses_asks i u.master.holders (Holds u.sent)
+          master_refuses_asks u.master moment i choice (Holds u.sent)
           (record {
             plain = λ receiver b none at_number told same. absurd (true≢false (sym none ∙ ap is_no_answer same));
-            refuses = λ receiver asked refusal taken at_number told same. absurd (let both : body.Refused asked refusal ≡ body.Told at_number (Some told) = same in cc);
+            refuses = λ receiver asked refusal taken why at_number told same. absurd (let both : body.Refused asked refusal ≡ body.Told at_number (Some told) = same in cc);
+            none = λ receiver asked taken at_number told same. absurd (let both : body.Told asked None ≡ body.Told at_number (Some told) = same in cc);
             tells = λ receiver asked told taken known at_number other same.
                 subst (λ (y : Location). AreOrdered u.sent y) (same_location asked at_number told other same)
                 (λ n x there. holders_were_ordered config servers clients u r up x.server.0 told.handle.0 x.version.0 (known n x there));
-          }) u.master moment choice refl in
+          }) in
           all_at (Holds u.sent) ms (new.1).0 new.0 all (new.1).1 number l ((new.2).2 ∙ is);
       opens = λ e moment choice place m from at number l is. none_new u.sent (master_restart u.master moment choice).out.sent k place m (subst (λ (ms : List Message). AllOf (λ x. TellsNone x.body) ms) (sym (restart_silent u.master moment choice)) tt) from at number l is;
       serves = λ e index moment s i choice there given up place m from at number l is. none_new u.sent (server_step s moment i choice).out.sent k place m (server_tells s moment i choice) from at number l is;

@@ -1,10 +1,9 @@
 -- Of a write a client was told that each part before the one in hand is placed; once it is answered Done, that each part is. A step of the client keeps this.
-use Rattle.std.proofs.Common.{◌≡◌, ◌⊎◌, ℕ, zero, suc, ◌+◌, ◌-◌, ◌*◌, ◌/◌, ◌≤◌, ◌<◌, Bool, true, false, true≢false, List, ◌++◌, length, Option, Some, None, refl, sym, ap, subst, ◌∙◌, inr, arith}
-use Rattle.std.specs.Prelude.{nat_lt, min, cond, unwrap_or}
+use Rattle.std.proofs.Common.{◌≡◌, ◌⊎◌, ℕ, suc, ◌+◌, ◌-◌, ◌/◌, ◌≤◌, ◌<◌, Bool, true, false, true≢false, List, ◌++◌, length, Option, Some, None, refl, sym, ap, subst, ◌∙◌, inr, arith}
+use Rattle.std.specs.Prelude.{nat_lt, cond, unwrap_or}
 use Rattle.std.specs.FinMap as table
 use Rattle.std.specs.List.{list_any}
 use Rattle.std.proofs.lemmas.Bool.{ltb-true, ltb-false}
-use Rattle.std.proofs.Math.Nat.{div-mul-le_self, lt-div-mul-add, mul-le-mul_right, suc-mul, min-le_left, min-le_right, le-min}
 use Rattle.gfs_types.specs.declared.config.Config.{Config}
 use Rattle.gfs_types.specs.declared.ids.DataId.{DataId}
 use Rattle.gfs_types.specs.declared.ids.FileId.{FileId}
@@ -26,7 +25,7 @@ use Rattle.client_state.specs.declared.call.CurrentCall.{CurrentCall}
 use Rattle.client_state.specs.declared.call.ToldChunk.{ToldChunk}
 use Rattle.client_state.specs.declared.call.Stage.TheVariants.{SentData}
 use Rattle.relaxed_file.specs.NameStep.{is_name_call}
-use Rattle.relaxed_file.specs.Parts.{part_start, part_end, has_part}
+use Rattle.relaxed_file.specs.Parts.{has_part}
 use Rattle.protocol.specs.Sending.{data_id, the_client}
 use Rattle.protocol.specs.PushBuffer.{hops_after}
 use Rattle.protocol.specs.Client.{file_chunk, place_in_file, ClientState, ClientDoing, client_begins}
@@ -38,6 +37,7 @@ use Rattle.laws_entries.specs.Entries.{IsAmong, IsPushed}
 use Rattle.laws_base.proofs.ServerMoves.{IsCameIn}
 use Rattle.laws_steps.proofs.ClientReads.{told_later as chunk_told_later}
 use Rattle.laws_steps.proofs.ClientWalk.{heard_at}
+use Rattle.laws_calls.proofs.Parts.{none_below, none_beyond}
 use Rattle.laws_calls.specs.AnsweredWrites.{IsToldChunk}
 use Rattle.laws_calls.proofs.CallWalk.{IsFirst, AnyKept, AnyUsed, all_any, IsReady, KeepsCall, StandsAt, StandsNow, IsCalm, Leaves, does_leave, begun_calm, call_calm}
 use Rattle.laws_calls.proofs.LaterCalls.{among_later, pushed_later}
@@ -168,53 +168,6 @@ module _ (sent : List Message) (client size file : ℕ) (A : Call) where
     where
       by_place : (P : ℕ → Type 0) (part : ℕ) → part < suc index → (part < index → P (h.numbers part)) → (part ≡ index → P number) → P (cond (nat_lt part index) (h.numbers part) number)
       by_place P part last below same = on_cond P (nat_lt part index) (h.numbers part) number (λ is. below (ltb-true part index is)) (λ not_below. same (let high = ltb-false part index not_below in omega (arith, high, last)))
-
--- parts lie side by side
-
-min_cases : (a b n : ℕ) → n < min a b → (n < a) × (n < b)
-min_cases a b n h = let one = min-le_left a b in let two = min-le_right a b in (omega (arith, h, one), omega (arith, h, two))
-
--- no part lies below the first one
-none_below : (size offset count part : ℕ) → has_part size offset count part ≡ true → offset / size ≤ part
-none_below size offset count part has = by_test (nat_lt part (offset / size)) refl
-  where
-    inside : part_start size offset part < part_end size offset count part
-    inside = ltb-true (part_start size offset part) (part_end size offset count part) has
-
-    by_test : (b : Bool) → nat_lt part (offset / size) ≡ b → offset / size ≤ part
-    by_test false is = ltb-false part (offset / size) is
-    by_test true is =
-        let below : suc part ≤ offset / size = ltb-true part (offset / size) is in
-        let one : suc part * size ≤ offset / size * size = mul-le-mul_right size below in
-        let two : offset / size * size ≤ offset = div-mul-le_self offset size in
-        let three = (min_cases ((offset + count) - part * size) size (offset - part * size) inside).1 in
-        let whole : suc part * size ≡ part * size + size = suc-mul part size in
-        absurd (omega (arith, one, two, three, whole))
-
--- nor beyond the first chunk that has none, past the first one
-none_beyond : (size offset count index part : ℕ) → offset / size ≤ index → has_part size offset count (suc index) ≡ false → has_part size offset count part ≡ true → part < suc index
-none_beyond size offset count index part begun none has = by_test (nat_lt part (suc index)) refl
-  where
-    inside : part_start size offset part < part_end size offset count part
-    inside = ltb-true (part_start size offset part) (part_end size offset count part) has
-
-    outside : part_end size offset count (suc index) ≤ part_start size offset (suc index)
-    outside = ltb-false (part_start size offset (suc index)) (part_end size offset count (suc index)) none
-
-    by_test : (b : Bool) → nat_lt part (suc index) ≡ b → part < suc index
-    by_test true is = ltb-true part (suc index) is
-    by_test false is =
-        let above : suc index ≤ part = ltb-false part (suc index) is in
-        let one : suc index * size ≤ part * size = mul-le-mul_right size above in
-        let in_range = min_cases ((offset + count) - part * size) size (offset - part * size) inside in
-        let two = in_range.0 in
-        let three = in_range.1 in
-        let some : zero < size = omega (arith, three) in
-        let first : offset < offset / size * size + size = lt-div-mul-add some in
-        let before : offset / size * size ≤ index * size = mul-le-mul_right size begun in
-        let whole : suc index * size ≡ index * size + size = suc-mul index size in
-        let last : 1 ≤ min ((offset + count) - suc index * size) size = le-min (omega (arith, one, two)) (omega (arith, some)) in
-        absurd (omega (arith, outside, first, before, whole, last))
 
 -- of any call
 write_beyond : (size index : ℕ) (A : Call) (part : ℕ) → first_chunk size A ≤ index → has_next_part size index A ≡ false → has_chunk size A part ≡ true → part < suc index

@@ -36,6 +36,7 @@ use Rattle.laws_steps.proofs.RequestsOnce.{AreNumbered, each_event, numbered_rea
 use Rattle.laws_entries.specs.Entries.{IsAmong, IsPlacedFor}
 use Rattle.laws_entries.proofs.SettledEntries.{successes_have_entries}
 use Rattle.laws_entries.specs.SettledEntries.{HasSettledEntry}
+use Rattle.laws_entries.specs.AnsweredAppends.{AnswersAppend, AnsweredAppendsHaveEntries}
 use Rattle.laws_entries.specs.Bytes.{bytes_in, AnsweredAppendsHaveTheirBytes}
 use Rattle.laws_entries.proofs.Sendings.{appended, IsPushOf, HasPushed, FineReply, FineStage, FineNow, FineAnswer, Good, TellsPlace, TellsInput, does_good, calls_good}
 use Rattle.gfs_types.specs.declared.mutation.Mutation.{Mutation}
@@ -288,7 +289,7 @@ new_on config servers clients =
 all_on : (config : Config) (servers clients : ℕ) (w : WorldState) → IsReached config servers clients w → IsOn config.chunk w
 all_on config servers clients w r = subst (λ (v : WorldState). IsOn config.chunk v) r.1 (holds_on (IsOn config.chunk) (on_event config.chunk) (new_world config servers clients) r.0 (new_on config servers clients))
 
--- the entry's bytes
+-- the entry and its bytes
 
 stems : (config : Config) (servers clients : ℕ) (w : WorldState) → IsReached config servers clients w → (handle place : ℕ) (p : Placed) → element_at (order_of w.observer handle) place ≡ Some p → (from : ℕ) × HasMutate w.sent from p
 stems config servers clients w r =
@@ -321,6 +322,35 @@ one_push config servers clients w r client number m n at there a b pushed also =
     one =
         same_counted (λ x. is_from_client client x.sender && is_request number x.body) w.sent at.0 there.0 m n (requests_are_numbered_once config servers clients w r client number).0 at.1 there.1 (test a m pushed) (test b n also)
 
+module _ (config : Config) (servers clients : ℕ) (w : WorldState) (r : IsReached config servers clients w) (index moment : ℕ) (s : ClientState) (i : NodeInput) (choice : Choice) (offset : ℕ) (a : AnswersAppend w index moment s i choice offset) where
+  on_here : IsOn config.chunk w
+  on_here = all_on config servers clients w r
+
+  place_told : IsPlaceTold w.sent config.chunk (suc index) (appended a.current.asked) offset
+  place_told = answer_told w.sent 0 config.chunk (suc index) s (on_here.numbered.each index s a.is).id (on_here.fine index s a.is) moment i choice offset a.came a.current a.current_is a.append a.answered
+
+  entry_found : (handle : ℕ) × (round : ℕ) × HasSettledEntry w.observer handle round place_told.id place_told.place
+  entry_found = successes_have_entries config servers clients w r (place_told.sent_is).0 place_told.told (place_told.sent_is).1 place_told.id place_told.place place_told.body_is
+
+pub answered_appends_have_entries : AnsweredAppendsHaveEntries
+answered_appends_have_entries config servers clients w r index moment s i choice offset a =
+    record {
+      id = told.id;
+      client_is = told.client_is;
+      index = told.index;
+      place = told.place;
+      offset_is = told.offset_is;
+      handle = found.0;
+      round = found.1;
+      entry = found.2;
+    }
+  where
+    told : IsPlaceTold w.sent config.chunk (suc index) (appended a.current.asked) offset
+    told = place_told config servers clients w r index moment s i choice offset a
+
+    found : (handle : ℕ) × (round : ℕ) × HasSettledEntry w.observer handle round told.id told.place
+    found = entry_found config servers clients w r index moment s i choice offset a
+
 pub answered_appends_have_their_bytes : AnsweredAppendsHaveTheirBytes
 answered_appends_have_their_bytes config servers clients w r index moment s i choice offset a fd bytes asked =
     record {
@@ -336,14 +366,11 @@ answered_appends_have_their_bytes config servers clients w r index moment s i ch
           ∙ ap (λ (x : List ℕ). Some x) (one_push config servers clients w r (suc index) (told.id).seq (mutate.pushed).push told.push (mutate.pushed).sent_is told.push_sent mutate.bytes (appended a.current.asked) own told.push_is ∙ ap appended asked);
     }
   where
-    on : IsOn config.chunk w
-    on = all_on config servers clients w r
-
     told : IsPlaceTold w.sent config.chunk (suc index) (appended a.current.asked) offset
-    told = answer_told w.sent 0 config.chunk (suc index) s (on.numbered.each index s a.is).id (on.fine index s a.is) moment i choice offset a.came a.current a.current_is a.append a.answered
+    told = place_told config servers clients w r index moment s i choice offset a
 
     found : (handle : ℕ) × (round : ℕ) × HasSettledEntry w.observer handle round told.id told.place
-    found = successes_have_entries config servers clients w r (told.sent_is).0 told.told (told.sent_is).1 told.id told.place told.body_is
+    found = entry_found config servers clients w r index moment s i choice offset a
 
     entry : HasSettledEntry w.observer found.0 found.1 told.id told.place
     entry = found.2

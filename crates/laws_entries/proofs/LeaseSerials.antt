@@ -1,64 +1,41 @@
 -- The serial of a lease is counted by what its server numbers under it: it is as high as before the step, and one for each mutation that the step shows.
-use Rattle.std.proofs.Common.{◌≡◌, ℕ, ◌+◌, ◌-◌, Bool, true, false, List, [], ◌∷◌, ◌++◌, length, Option, Some, None, refl, sym, ap, subst, ◌∙◌, inl, inr, arith}
-use Rattle.std.specs.Prelude.{nat_le, nat_lt, ◌==◌, ◌&&◌, count_by}
-use Rattle.std.specs.Option.{option_map}
+use Rattle.std.proofs.Common.{◌≡◌, ℕ, ◌+◌, ◌-◌, Bool, true, false, List, [], ◌∷◌, ◌++◌, Option, Some, None, refl, sym, ap, subst, ◌∙◌, inl, inr, arith}
+use Rattle.std.specs.Prelude.{nat_lt, ◌==◌, ◌&&◌, count_by}
 use Rattle.std.specs.FinMap as table
 use Rattle.std.specs.Ordering.{nat_cmp}
 use Rattle.std.proofs.lemmas.Bool.{eqb-true, and_from}
-use Rattle.gfs_types.specs.declared.ids.Node.{Node}
-use Rattle.gfs_types.specs.declared.ids.ServerId.{ServerId}
 use Rattle.gfs_types.specs.declared.ids.DataId.{DataId}
 use Rattle.gfs_types.specs.declared.ids.Handle.{Handle}
 use Rattle.gfs_types.specs.declared.ids.Version.{Version as VersionId}
 use Rattle.gfs_types.specs.declared.ids.Moment.{Moment}
 use Rattle.gfs_types.specs.declared.ids.OrderNo.{OrderNo}
 use Rattle.gfs_types.specs.declared.refusal.Refusal.{Refusal}
-use Rattle.gfs_types.specs.declared.refusal.Refusal.TheVariants.{Corrupt, Late, NoData, ServerTooLong, ChunkFull}
+use Rattle.gfs_types.specs.declared.refusal.Refusal.TheVariants.{NoData, ServerTooLong, ChunkFull}
 use Rattle.gfs_types.specs.declared.mutation.Mutation.{Mutation}
-use Rattle.gfs_types.specs.declared.mutation.Mutation.TheVariants as mutation
-use Rattle.gfs_types.specs.Mutations.{start_of, end_of}
-use Rattle.messages.specs.declared.message.Body.{Body}
 use Rattle.messages.specs.declared.message.Body.TheVariants as body
 use Rattle.messages.specs.declared.message.Message.{Message}
-use Rattle.messages.specs.declared.message.Target.{Target}
-use Rattle.messages.specs.declared.message.Target.TheVariants as target
-use Rattle.messages.specs.declared.message.Change.{Change}
-use Rattle.messages.specs.declared.message.Change.TheVariants as change
 use Rattle.messages.specs.declared.event.NodeInput.{NodeInput}
 use Rattle.messages.specs.declared.event.NodeInput.TheVariants as input
-use Rattle.record_append.specs.declared.placing.Placing.{Placing}
-use Rattle.record_append.specs.declared.placing.Placing.TheVariants.{At, Pad, Full, TooLong}
-use Rattle.record_append.specs.Placing.{placing}
-use Rattle.data_push.specs.Buffers.{data_of, with_data}
 use Rattle.leases.specs.LeaseHeld.{LeaseHeld, counts_at, extended}
-use Rattle.replica_store.specs.declared.row.Row.{Row}
-use Rattle.replica_store.specs.declared.change.StoreChange.{StoreChange}
-use Rattle.replica_store.specs.declared.change.StoreChange.TheVariants.{SetOrder, Write, Zero}
-use Rattle.replica_store.specs.Replicas.{is_new_order, row_at, read_at, is_copyable_at, is_writable_at}
-use Rattle.primary_order.specs.declared.answer.Attempted.{Attempted}
-use Rattle.primary_order.specs.declared.answer.Attempted.TheVariants.{IsNew, IsRepeat, IsOld}
+use Rattle.replica_store.specs.Replicas.{is_new_order}
 use Rattle.primary_order.specs.declared.answer.Settled.{Settled}
-use Rattle.primary_order.specs.declared.kept.Standing.TheVariants.{IsPending, IsSettled, IsRefused}
 use Rattle.primary_order.specs.declared.waiting.Waiting.{Waiting}
 use Rattle.primary_order.specs.declared.order.SerialOrder.{SerialOrder}
 use Rattle.primary_order.specs.PrimaryOrder.{place_of}
-use Rattle.primary_order.specs.SerialOrder.{new_order, attempted, denied, numbered, settled, acknowledged, refused_by, attempt_of}
-use Rattle.gfs_types.specs.Counters.{counter_limit}
+use Rattle.primary_order.specs.SerialOrder.{new_order, denied, numbered, settled, acknowledged, refused_by}
 use Rattle.protocol.specs.Tables.{Table, without}
 use Rattle.protocol.specs.Sending.{handle_of, version_of, serial_of, server_number}
-use Rattle.protocol.specs.PushBuffer.{next_hop}
 use Rattle.protocol.specs.Choice.{Choice, Ending, Goes, Lost, Stops}
 use Rattle.protocol.specs.Seen.{Taken, no_step}
 use Rattle.protocol.specs.declared.seen.Seen.{Seen}
 use Rattle.protocol.specs.declared.seen.Seen.TheVariants.{Numbered, BecameSettled}
-use Rattle.protocol.specs.Server.{ServerState, ServerDoing, server_begins, chunk_limit, stores, shows, with_primary, takes_data, drops_corrupt, primary_of}
-use Rattle.protocol.specs.ServerReads.{answers_bytes, reads_from, measures, sends_image, copies_out}
-use Rattle.protocol.specs.ServerWrites.{passes_on, refuses_attempt, answers_settled, denies, forwards, settles, acknowledges, change_of, stored_as, primary_applies, places, appends_as, mutates_with, mutates_new, mutates_as, mutates_under, member_stores, member_applies, applies_data, applies_change, forwarded_to, acked_under, refuses_waiting, nacked_under}
-use Rattle.protocol.specs.ServerOrders.{on_order, can_take, takes_create, raises, takes_set_version, holds_version, takes_grant, extends_held, ends_held, takes_revoke, drops_old, takes_drop, takes_clone, takes_image, copies_locally, takes_copy_local}
-use Rattle.protocol.specs.ServerStep.{server_at, asks_no_more, counting_leases, server_ticks, server_takes, server_does, server_goes, server_ends, server_step}
+use Rattle.protocol.specs.Server.{ServerState, ServerDoing, server_begins, stores, shows, with_primary, takes_data, drops_corrupt, primary_of}
+use Rattle.protocol.specs.ServerWrites.{answers_settled, forwards, settles, acknowledges, change_of, stored_as, primary_applies}
+use Rattle.protocol.specs.ServerStep.{server_at, asks_no_more, counting_leases, server_ticks, server_goes, server_ends, server_step}
 use Rattle.laws_base.proofs.Steps.{on_cond, none_some, put_split, kept_cases, tally, count-cons, count-append}
 use Rattle.laws_base.proofs.Entries.{mapped_cases, kept_where_cases, same_number}
 use Rattle.laws_entries.proofs.RoundsPassed.{primary_there}
+use Rattle.laws_base.proofs.ServerWalk.{Granting, Attempting, Numbering, IsNewOrder, Outcomes, number_of, until_later, server_comes_to}
 
 -- a mutation is numbered under this version of the chunk
 abbrev pub is_numbered : ℕ → ℕ → Seen → Bool
@@ -121,36 +98,6 @@ module _ (handle version base : ℕ) where
       let one = count-cons (is_numbered handle version) x [] in
       omega (arith, whole, one)
 
-  -- readings
-
-  bytes_fine : (d : ServerDoing) (receiver : Node) (number q : ℕ) (o : Option (List ℕ)) → Fine d → Fine (answers_bytes d receiver number q o)
-  bytes_fine d receiver number q None h = lost d q h
-  bytes_fine d receiver number q (Some bytes) h = h
-
-  read_fine : (d : ServerDoing) (receiver : Node) (number q v offset count : ℕ) (o : Option Row) → Fine d → Fine (reads_from d receiver number q v offset count o)
-  read_fine d receiver number q v offset count None h = h
-  read_fine d receiver number q v offset count (Some r) h =
-      on_cond Fine (r.version.0 == v) (answers_bytes d receiver number q (read_at d.server.disk q offset count)) _ (λ _. bytes_fine d receiver number q (read_at d.server.disk q offset count) h) (λ _. h)
-
-  length_fine : (d : ServerDoing) (receiver : Node) (number v : ℕ) (o : Option Row) → Fine d → Fine (measures d receiver number v o)
-  length_fine d receiver number v None h = h
-  length_fine d receiver number v (Some r) h = on_cond Fine (r.version.0 == v) _ _ (λ _. h) (λ _. h)
-
-  image_fine : (d : ServerDoing) (receiver : Node) (q : ℕ) (r : Row) (o : Option (List ℕ)) → Fine d → Fine (sends_image d receiver q r o)
-  image_fine d receiver q r None h = lost d q h
-  image_fine d receiver q r (Some bytes) h = h
-
-  copy_fine : (d : ServerDoing) (receiver : Node) (q v : ℕ) (o : Option Row) → Fine d → Fine (copies_out d receiver q v o)
-  copy_fine d receiver q v None h = h
-  copy_fine d receiver q v (Some r) h =
-      on_cond Fine (r.version.0 == v) (sends_image d receiver q r (read_at d.server.disk q 0 r.count)) d (λ _. image_fine d receiver q r (read_at d.server.disk q 0 r.count) h) (λ _. h)
-
-  -- mutations
-
-  passed : (d : ServerDoing) (id : DataId) (bytes rest : List ℕ) (o : Option ServerId) → Fine d → Fine (passes_on d id bytes rest o)
-  passed d id bytes rest None h = h
-  passed d id bytes rest (Some next) h = h
-
   answered : (d : ServerDoing) (id : DataId) (o : Option ℕ) → Fine d → Fine (answers_settled d id o)
   answered d id None h = h
   answered d id (Some place) h = h
@@ -164,9 +111,6 @@ module _ (handle version base : ℕ) where
   acknowledged_fine : (d : ServerDoing) (q : ℕ) (p : SerialOrder) (server serial : ℕ) → IsFit d q p → Fine d → Fine (acknowledges d q p server serial)
   acknowledged_fine d q p server serial fit h =
       settles_fine (with_primary d q (acknowledged p server serial)) q p.held.version serial (settled p server serial) (put d q (acknowledged p server serial) (fit_like d q p (acknowledged p server serial) refl refl fit) h)
-
-  denied_fine : (d : ServerDoing) (q : ℕ) (p : SerialOrder) (id : DataId) (refusal : Refusal) → IsFit d q p → Fine d → Fine (denies d q p id refusal)
-  denied_fine d q p id refusal fit h = put d q (denied p id.client id.seq refusal) (fit_like d q p (denied p id.client id.seq refusal) refl refl fit) h
 
   -- the mutation is shown, and the lease has its serial
   taken_fine : (d : ServerDoing) (q : ℕ) (p : SerialOrder) (id : DataId) (m : Mutation) → IsFit d q p → Fine d
@@ -194,190 +138,109 @@ module _ (handle version base : ℕ) where
       other true is apart = absurd (apart (sym (eqb-true q handle is)))
       other false is apart = ap (λ (b : Bool). b && (p.held.version == version)) is
 
-      fits : q ≡ handle → p.held.version ≡ version → p.serial + 1 ≡ base + numbered_in handle version (d.seen ++ Numbered (handle_of q) (version_of p.held.version) (serial_of (p.serial + 1)) id m ∷ [])
+      fits : q ≡ handle → p.held.version ≡ version
+          → p.serial + 1 ≡ base + numbered_in handle version (d.seen ++ Numbered (handle_of q) (version_of p.held.version) (serial_of (p.serial + 1)) id m ∷ [])
       fits key is =
           let low = fit key is in
           let more = shown_more d.seen (Numbered (handle_of q) (version_of p.held.version) (serial_of (p.serial + 1)) id m) in
           let one = ap tally (and_from (q == handle) (p.held.version == version) (subst (λ (n : ℕ). (q == n) ≡ true) key (same_number q)) (subst (λ (n : ℕ). (p.held.version == n) ≡ true) is (same_number p.held.version))) in
           omega (arith, low, more, one)
 
-  places_fine : (d : ServerDoing) (q : ℕ) (p : SerialOrder) (id : DataId) (m : Mutation) → IsFit d q p → Fine d → Fine (places d q p id m)
-  places_fine d q p id m fit h =
-      let new : SerialOrder = numbered p id.client id.seq (place_of m) in
-      let taken : ServerDoing = shows (takes_data (with_primary d q (numbered p id.client id.seq (place_of m))) id) (Numbered (handle_of q) (version_of p.held.version) (serial_of (p.serial + 1)) id m) in
-      let both = taken_fine d q p id m fit h in
-      on_cond Fine (nat_le counter_limit p.serial) d _ (λ _. h)
-      (λ _. on_cond Fine (is_writable_at d.server.disk q (start_of m) (end_of (chunk_limit d.server q) m)) (primary_applies taken q p id m) (refuses_attempt (drops_corrupt taken q) id Corrupt)
-      (λ _. acknowledged_fine (forwards (stores taken (stored_as (chunk_limit d.server q) q (p.serial + 1) m)) (without p.held.members d.server.id) q p.held.version (p.serial + 1) id (change_of m)) q new d.server.id (p.serial + 1) both.1 both.0)
-      (λ _. lost taken q both.0))
-
-  appends_fine : (d : ServerDoing) (q : ℕ) (p : SerialOrder) (id : DataId) (bytes : List ℕ) (where_ : Placing) → IsFit d q p → Fine d → Fine (appends_as d q p id bytes where_)
-  appends_fine d q p id bytes TooLong fit h = denied_fine d q p id ServerTooLong fit h
-  appends_fine d q p id bytes Full fit h = denied_fine d q p id ChunkFull fit h
-  appends_fine d q p id bytes (Pad offset) fit h = places_fine d q p id (mutation.Pad offset) fit h
-  appends_fine d q p id bytes (At offset) fit h = places_fine d q p id (mutation.Append offset bytes) fit h
-
-  with_fine : (d : ServerDoing) (q : ℕ) (p : SerialOrder) (r : Row) (id : DataId) (t : Target) (bytes : List ℕ) → IsFit d q p → Fine d → Fine (mutates_with d q p r id t bytes)
-  with_fine d q p r id (target.Write offset) bytes fit h =
-      on_cond Fine (nat_lt (chunk_limit d.server q) (offset + length bytes)) d (places d q p id (mutation.Write offset bytes)) (λ _. h) (λ _. places_fine d q p id (mutation.Write offset bytes) fit h)
-  with_fine d q p r id target.Append bytes fit h = appends_fine d q p id bytes (placing r.count (length bytes) (chunk_limit d.server q)) fit h
-
-  new_fine : (d : ServerDoing) (q : ℕ) (p : SerialOrder) (id : DataId) (t : Target) (o : Option Row) (found : Option (List ℕ)) → IsFit d q p → Fine d → Fine (mutates_new d q p id t o found)
-  new_fine d q p id t None found fit h = h
-  new_fine d q p id t (Some r) None fit h = denied_fine d q p id NoData fit h
-  new_fine d q p id t (Some r) (Some bytes) fit h = with_fine d q p r id t bytes fit h
-
-  as_fine : (d : ServerDoing) (q : ℕ) (p : SerialOrder) (id : DataId) (t : Target) (a : Attempted) → IsFit d q p → attempted p id.client id.seq ≡ a → Fine d → Fine (mutates_as d q p id t a)
-  as_fine d q p id t IsOld fit is h = h
-  as_fine d q p id t (IsRepeat IsPending) fit is h = h
-  as_fine d q p id t (IsRepeat (IsSettled place)) fit is h = answered d id place h
-  as_fine d q p id t (IsRepeat (IsRefused refusal)) fit is h = h
-  as_fine d q p id t IsNew fit is h = new_fine d q p id t (row_at d.server.disk q) (data_of d.server.pushed id) fit h
-
-  under_fine : (d : ServerDoing) (q : ℕ) (id : DataId) (t : Target) (deadline : ℕ) (o : Option SerialOrder) → ((p : SerialOrder) → o ≡ Some p → IsFit d q p) → Fine d → Fine (mutates_under d q id t deadline o)
-  under_fine d q id t deadline None fit h = h
-  under_fine d q id t deadline (Some p) fit h =
-      on_cond Fine (nat_le deadline d.server.now) (refuses_attempt d id Late) (mutates_as d q p id t (attempted p id.client id.seq)) (λ _. h) (λ _. as_fine d q p id t (attempted p id.client id.seq) (fit p refl) refl h)
-
-  stored_fine : (b : Bool) (d : ServerDoing) (primary : Node) (q v serial : ℕ) (x : StoreChange) → Fine d → Fine (member_stores b d primary q v serial x)
-  stored_fine true d primary q v serial x h = h
-  stored_fine false d primary q v serial x h = lost d q h
-
-  member_fine : (d : ServerDoing) (primary : Node) (q v serial : ℕ) (id : DataId) (x : StoreChange) (offset end_place : ℕ) → Fine d → Fine (member_applies d primary q v serial id x offset end_place)
-  member_fine d primary q v serial id x offset end_place h =
-      on_cond Fine (nat_lt (chunk_limit d.server q) end_place) d _ (λ _. h) (λ _. stored_fine (is_writable_at d.server.disk q offset end_place) (takes_data d id) primary q v serial x h)
-
-  data_fine : (d : ServerDoing) (primary : Node) (q v serial : ℕ) (id : DataId) (offset : ℕ) (o : Option (List ℕ)) → Fine d → Fine (applies_data d primary q v serial id offset o)
-  data_fine d primary q v serial id offset None h = h
-  data_fine d primary q v serial id offset (Some bytes) h = member_fine d primary q v serial id (Write (handle_of q) (serial_of serial) offset bytes) offset (offset + length bytes) h
-
-  change_fine : (d : ServerDoing) (primary : Node) (q v serial : ℕ) (id : DataId) (c : Change) → Fine d → Fine (applies_change d primary q v serial id c)
-  change_fine d primary q v serial id (change.Write offset) h = data_fine d primary q v serial id offset (data_of d.server.pushed id) h
-  change_fine d primary q v serial id (change.Append offset) h = data_fine d primary q v serial id offset (data_of d.server.pushed id) h
-  change_fine d primary q v serial id (change.Pad offset) h =
-      let count : ℕ = chunk_limit d.server q - offset in
-      member_fine d primary q v serial id (Zero (handle_of q) (serial_of serial) offset count) offset (offset + count) h
-
-  forwarded_fine : (d : ServerDoing) (primary : Node) (q v serial : ℕ) (id : DataId) (c : Change) (o : Option Row) → Fine d → Fine (forwarded_to d primary q v serial id c o)
-  forwarded_fine d primary q v serial id c None h = h
-  forwarded_fine d primary q v serial id c (Some r) h =
-      on_cond Fine (r.version.0 == v) _ _ (λ _. on_cond Fine (nat_lt r.serial.0 serial) (applies_change d primary q v serial id c) _ (λ _. change_fine d primary q v serial id c h) (λ _. h)) (λ _. h)
-
-  acked_fine : (d : ServerDoing) (q server serial : ℕ) (o : Option SerialOrder) → ((p : SerialOrder) → o ≡ Some p → IsFit d q p) → Fine d → Fine (acked_under d q server serial o)
-  acked_fine d q server serial None fit h = h
-  acked_fine d q server serial (Some p) fit h = acknowledged_fine d q p server serial (fit p refl) h
-
-  waiting_fine : (d : ServerDoing) (refusal : Refusal) (o : Option DataId) → Fine d → Fine (refuses_waiting d refusal o)
-  waiting_fine d refusal None h = h
-  waiting_fine d refusal (Some id) h = h
-
-  nacked_fine : (d : ServerDoing) (q serial : ℕ) (refusal : Refusal) (o : Option SerialOrder) → ((p : SerialOrder) → o ≡ Some p → IsFit d q p) → Fine d → Fine (nacked_under d q serial refusal o)
-  nacked_fine d q serial refusal None fit h = h
-  nacked_fine d q serial refusal (Some p) fit h =
-      let less : SerialOrder = refused_by p refusal (table.get p.waiting serial) in
-      let same = refused_same p refusal (table.get p.waiting serial) in
-      waiting_fine (with_primary d q less) refusal (option_map attempt_of (table.get p.waiting serial)) (put d q less (fit_like d q p less same.0 same.1 (fit p refl)) h)
-
-  -- orders
-
-  created : (d : ServerDoing) (q v : ℕ) → Fine d → Fine (takes_create d q v)
-  created d q v h = on_cond Fine (can_take d q) _ d (λ _. h) (λ _. h)
-
-  raised : (d : ServerDoing) (q v from : ℕ) (o : Option Row) → Fine d → Fine (raises d q v from o)
-  raised d q v from None h = h
-  raised d q v from (Some r) h = on_cond Fine (r.version.0 == from) _ d (λ _. gone d.server.leases q (base + numbered_in handle version d.seen) h) (λ _. h)
-
-  extended_fine : (d : ServerDoing) (q v end_moment : ℕ) (o : Option SerialOrder) → table.get d.server.leases q ≡ o → Fine d → Fine (extends_held d q v end_moment o)
-  extended_fine d q v end_moment None at h = h
-  extended_fine d q v end_moment (Some p) at h =
-      let longer : SerialOrder = record p { held = extended d.server.config.skew_ms p.held end_moment d.server.now } in
-      on_cond Fine (p.held.version == v) (with_primary d q longer) d
-      (λ _. put d q longer (fit_like d q p longer (same_version d.server.config.skew_ms p.held end_moment d.server.now) refl (fit_there d q p at h)) h) (λ _. h)
-
-  ended_fine : (d : ServerDoing) (q v : ℕ) (o : Option SerialOrder) → Fine d → Fine (ends_held d q v o)
-  ended_fine d q v None h = h
-  ended_fine d q v (Some p) h = on_cond Fine (p.held.version == v) _ d (λ _. gone d.server.leases q (base + numbered_in handle version d.seen) h) (λ _. h)
-
-  dropped : (d : ServerDoing) (q v : ℕ) (o : Option Row) → Fine d → Fine (drops_old d q v o)
-  dropped d q v None h = h
-  dropped d q v (Some r) h = on_cond Fine (nat_le r.version.0 v) _ d (λ _. gone d.server.leases q (base + numbered_in handle version d.seen) h) (λ _. h)
-
-  imaged : (d : ServerDoing) (q v serial : ℕ) (bytes : List ℕ) → Fine d → Fine (takes_image d q v serial bytes)
-  imaged d q v serial bytes h = on_cond Fine _ _ d (λ _. h) (λ _. h)
-
-  locally : (d : ServerDoing) (q v copy copy_version : ℕ) (o : Option Row) → Fine d → Fine (copies_locally d q v copy copy_version o)
-  locally d q v copy copy_version None h = h
-  locally d q v copy copy_version (Some r) h =
-      on_cond Fine (r.version.0 == v) _ d
-      (λ _. on_cond Fine (is_copyable_at d.server.disk q) _ (drops_corrupt d q) (λ _. on_cond Fine (can_take d copy) _ d (λ _. h) (λ _. h)) (λ _. lost d q h))
-      (λ _. h)
-
   -- A server s that takes an input, which gives a lease of this version anew only where none was numbered under it.
   module _ (s : ServerState) (i : NodeInput)
       (none : (m : Message) (order : OrderNo) (q : Handle) (v : VersionId) (end_moment : Moment) (members : List ℕ) → i ≡ input.Deliver m → m.body ≡ body.Grant order q v end_moment members → is_new_order s.disk order.epoch order.count ≡ true
       → q.0 ≡ handle → v.0 ≡ version → base ≡ 0) where
-    ordered : (order : OrderNo) (f : ServerDoing → ServerDoing) → (is_new_order s.disk order.epoch order.count ≡ true → Fine (stores (server_begins s) (SetOrder order)) → Fine (f (stores (server_begins s) (SetOrder order)))) → Fine (server_begins s)
-        → Fine (on_order (server_begins s) order f)
-    ordered order f go h = on_cond Fine (is_new_order s.disk order.epoch order.count) (f (stores (server_begins s) (SetOrder order))) (server_begins s) (λ new. go new h) (λ _. h)
+    module _ (h : HaveSerial handle version (base + numbered_in handle version []) s.leases) where
+      fit_counting : (q v : ℕ) (p : SerialOrder) → primary_of s q v ≡ Some p → IsFit (server_begins s) q p
+      fit_counting q v p is = fit_primary (server_begins s) q v p is h
 
-    granted : (order : OrderNo) (q v end_moment : ℕ) (members : List ℕ) → (q ≡ handle → v ≡ version → base ≡ 0) → Fine (server_begins s) → Fine (takes_grant (stores (server_begins s) (SetOrder order)) q v end_moment members)
-    granted order q v end_moment members first h =
-        let d : ServerDoing = stores (server_begins s) (SetOrder order) in
-        on_cond Fine (holds_version v (row_at s.disk q)) _ d
-        (λ _. put d q (new_order (record { version = v; until = end_moment; members = members })) (λ same is. let low = first same is in let count : numbered_in handle version [] ≡ 0 = refl in omega (arith, low, count)) h) (λ _. h)
+      denies_fine : (a : Attempting s i) (refusal : Refusal) → Fine (with_primary (server_begins s) a.c.handle.0 (denied a.p a.c.id.client a.c.id.seq refusal))
+      denies_fine a refusal =
+          let new : SerialOrder = denied a.p a.c.id.client a.c.id.seq refusal in
+          put (server_begins s) a.c.handle.0 new (fit_like (server_begins s) a.c.handle.0 a.p new refl refl (fit_counting a.c.handle.0 a.c.version.0 a.p a.primary)) h
 
-    takes_fine : (m : Message) (b : Body) → i ≡ input.Deliver m → m.body ≡ b → Fine (server_begins s) → Fine (server_takes (server_begins s) m b)
-    takes_fine m (body.Push id bytes rest) came is h = passed (record (server_begins s) { server = record s { pushed = with_data s.pushed id bytes } }) id bytes rest (next_hop rest s.id) h
-    takes_fine m (body.Mutate id q v t deadline) came is h = under_fine (server_begins s) q.0 id t deadline.0 (primary_of s q.0 v.0) (λ p at. fit_primary (server_begins s) q.0 v.0 p at h) h
-    takes_fine m (body.Read number q v offset count) came is h = read_fine (server_begins s) m.sender number q.0 v.0 offset count (row_at s.disk q.0) h
-    takes_fine m (body.Len number q v) came is h = length_fine (server_begins s) m.sender number v.0 (row_at s.disk q.0) h
-    takes_fine m (body.Forward q v serial id c) came is h = forwarded_fine (server_begins s) m.sender q.0 v.0 serial.0 id c (row_at s.disk q.0) h
-    takes_fine m (body.Acked q v serial) came is h = acked_fine (server_begins s) q.0 (server_number m.sender) serial.0 (primary_of s q.0 v.0) (λ p at. fit_primary (server_begins s) q.0 v.0 p at h) h
-    takes_fine m (body.Nacked q v serial refusal) came is h = nacked_fine (server_begins s) q.0 serial.0 refusal (primary_of s q.0 v.0) (λ p at. fit_primary (server_begins s) q.0 v.0 p at h) h
-    takes_fine m (body.Create order q v) came is h = ordered order (λ e. takes_create e q.0 v.0) (λ new g. created (stores (server_begins s) (SetOrder order)) q.0 v.0 g) h
-    takes_fine m (body.SetVersion order q v base) came is h =
-        ordered order (λ e. takes_set_version e q.0 v.0 base.0) (λ new g. raised (stores (server_begins s) (SetOrder order)) q.0 v.0 base.0 (row_at s.disk q.0) g) h
-    takes_fine m (body.Grant order q v end_moment members) came is h =
-        ordered order (λ e. takes_grant e q.0 v.0 end_moment.0 members) (λ new g. granted order q.0 v.0 end_moment.0 members (none m order q v end_moment members came is new) g) h
-    takes_fine m (body.Revoke order q v) came is h =
-        ordered order (λ e. takes_revoke e q.0 v.0) (λ new g. ended_fine (stores (server_begins s) (SetOrder order)) q.0 v.0 (table.get s.leases q.0) g) h
-    takes_fine m (body.Drop order q v) came is h = ordered order (λ e. takes_drop e q.0 v.0) (λ new g. dropped (stores (server_begins s) (SetOrder order)) q.0 v.0 (row_at s.disk q.0) g) h
-    takes_fine m (body.Clone order q v source) came is h = ordered order (λ e. takes_clone e q.0 v.0 source.0) (λ new g. g) h
-    takes_fine m (body.CopyLocal order q v copy copy_version) came is h =
-        ordered order (λ e. takes_copy_local e q.0 v.0 copy.0 copy_version.0) (λ new g. locally (stores (server_begins s) (SetOrder order)) q.0 v.0 copy.0 copy_version.0 (row_at s.disk q.0) g) h
-    takes_fine m (body.Extend q v end_moment) came is h = extended_fine (server_begins s) q.0 v.0 end_moment.0 (table.get s.leases q.0) refl h
-    takes_fine m (body.CopyAsk q v) came is h = copy_fine (server_begins s) m.sender q.0 v.0 (row_at s.disk q.0) h
-    takes_fine m (body.Image q v serial bytes) came is h = imaged (server_begins s) q.0 v.0 serial.0 bytes h
-    takes_fine m (body.Name number deadline c) came is h = h
-    takes_fine m (body.Look number c) came is h = h
-    takes_fine m (body.Ask number file wanted deadline lost_lease) came is h = h
-    takes_fine m (body.Named number reply) came is h = h
-    takes_fine m (body.Told number location) came is h = h
-    takes_fine m (body.Wait number) came is h = h
-    takes_fine m (body.Refused number refusal) came is h = h
-    takes_fine m (body.Pushed id) came is h = h
-    takes_fine m (body.Done id place) came is h = h
-    takes_fine m (body.Bytes number bytes) came is h = h
-    takes_fine m (body.LenIs number count) came is h = h
-    takes_fine m (body.Recorded q v) came is h = h
-    takes_fine m (body.Revoked q v) came is h = h
-    takes_fine m (body.Cloned q v) came is h = h
-    takes_fine m (body.Report replicas leases) came is h = h
+      numbers_fine : (n : Numbering s i) → Fine (number_of s i n) × IsFit (number_of s i n) n.a.c.handle.0 (numbered n.a.p n.a.c.id.client n.a.c.id.seq (place_of n.placed))
+      numbers_fine n = taken_fine (server_begins s) n.a.c.handle.0 n.a.p n.a.c.id n.placed (fit_counting n.a.c.handle.0 n.a.c.version.0 n.a.p n.a.primary) h
 
-    ticks_fine : Fine (server_begins s) → Fine (server_ticks (server_begins s))
-    ticks_fine h p at same =
-        let old = mapped_cases asks_no_more (counting_leases s) handle p at in
-        let there = kept_where_cases (λ e. counts_at s.config.skew_ms e.1.held s.now) s.leases handle old.0 old.1 in
-        ap (λ (x : SerialOrder). x.serial) (sym old.2) ∙ h old.0 there (ap (λ (x : SerialOrder). x.held.version) old.2 ∙ same)
+      applied_fine : (n : Numbering s i) → Fine (primary_applies (number_of s i n) n.a.c.handle.0 n.a.p n.a.c.id n.placed)
+      applied_fine n =
+          let q : ℕ = n.a.c.handle.0 in
+          let serial : ℕ = n.a.p.serial + 1 in
+          let both = numbers_fine n in
+          acknowledged_fine (forwards (stores (number_of s i n) (stored_as s.config.chunk q serial n.placed)) (without n.a.p.held.members s.id) q n.a.p.held.version serial n.a.c.id (change_of n.placed)) q
+          (numbered n.a.p n.a.c.id.client n.a.c.id.seq (place_of n.placed)) s.id serial both.1 both.0
 
-    does_fine : (j : NodeInput) → i ≡ j → Fine (server_begins s) → Fine (server_does (server_begins s) j)
-    does_fine (input.Deliver m) came h = takes_fine m m.body came refl h
-    does_fine input.Tick came h = ticks_fine h
+      ticks_fine : Fine (server_ticks (server_begins s))
+      ticks_fine p at same =
+          let old = mapped_cases asks_no_more (counting_leases s) handle p at in
+          let there = kept_where_cases (λ e. counts_at s.config.skew_ms e.1.held s.now) s.leases handle old.0 old.1 in
+          ap (λ (x : SerialOrder). x.serial) (sym old.2) ∙ h old.0 there (ap (λ (x : SerialOrder). x.held.version) old.2 ∙ same)
+
+      granted : (c : Granting i) → IsNewOrder s c.order → Fine (with_primary (server_begins s) c.handle.0 (new_order (record { version = c.version.0; until = c.end_moment.0; members = c.members })))
+      granted c new =
+          put (server_begins s) c.handle.0 (new_order (record { version = c.version.0; until = c.end_moment.0; members = c.members }))
+          (λ same is.
+          let low = none c.m c.order c.handle c.version c.end_moment c.members c.came c.is new same is in
+          let count : numbered_in handle version [] ≡ 0 = refl in
+          omega (arith, low, count)) h
+
+      outcomes : Outcomes s i (λ d. HaveSerial handle version (base + numbered_in handle version d.seen) d.server.leases)
+      outcomes =
+          record {
+            rests = h;
+            ticks = λ came. ticks_fine;
+            ends_push = λ c. h;
+            passes_push = λ c next. h;
+            misses_chunk = λ c. h;
+            misses_version = λ c. h;
+            reads_rot = λ c. lost (server_begins s) c.handle.0 h;
+            reads = λ c r bytes found same is. h;
+            measures = λ c r found same. h;
+            copies_rot = λ c. lost (server_begins s) c.handle.0 h;
+            copies = λ c r bytes found same is. h;
+            lacks_lease = λ c. h;
+            is_late = λ l late. h;
+            is_old = λ l old. h;
+            was_placed = λ l place is. h;
+            was_padded = λ l is. h;
+            was_refused = λ l why is. h;
+            lacks_data = λ a. denies_fine a NoData;
+            is_long = λ a. denies_fine a ServerTooLong;
+            is_full = λ a. denies_fine a ChunkFull;
+            spoils = λ n rotten. lost (number_of s i n) n.a.c.handle.0 (numbers_fine n).0;
+            applies = λ n sound. applied_fine n;
+            lacks_replica = λ c free. h;
+            has_version = λ c r found other. h;
+            has_serial = λ f least. h;
+            lacks_bytes = λ f free. h;
+            stores_rot = λ t rotten. lost (server_begins s) t.f.c.handle.0 h;
+            stored = λ t sound. h;
+            acked = λ c p primary. acknowledged_fine (server_begins s) c.handle.0 p (server_number c.m.sender) c.serial.0 (fit_counting c.handle.0 c.version.0 p primary) h;
+            nacked = λ c p w primary waits.
+                put (server_begins s) c.handle.0 (refused_by p c.refusal (Some w))
+                (fit_like (server_begins s) c.handle.0 p (refused_by p c.refusal (Some w)) refl refl (fit_counting c.handle.0 c.version.0 p primary)) h;
+            nacked_late = λ c p primary. put (server_begins s) c.handle.0 p (fit_counting c.handle.0 c.version.0 p primary) h;
+            orders = λ o new. h;
+            creates = λ c new free. h;
+            raised = λ c r new found same. lost (server_begins s) c.handle.0 h;
+            grants = λ c new holds. granted c new;
+            revokes = λ c e new same. lost (server_begins s) c.handle.0 h;
+            revoked = λ c new apart. h;
+            drops = λ c r new found old. lost (server_begins s) c.handle.0 h;
+            clones = λ c new. h;
+            copied = λ c r new found same sound free. h;
+            copied_rot = λ c new. lost (server_begins s) c.handle.0 h;
+            extends = λ c e same.
+                put (server_begins s) c.handle.0 (until_later s e.p c.end_moment.0)
+                (fit_like (server_begins s) c.handle.0 e.p (until_later s e.p c.end_moment.0) (same_version s.config.skew_ms e.p.held c.end_moment.0 s.now) refl (fit_there (server_begins s) c.handle.0 e.p e.there h)) h;
+            installs = λ c pending fits free. h;
+          }
 
   none_have : (serial : ℕ) → HaveSerial handle version serial table.empty
   none_have serial p is same = none_some p (sym (table.get-empty nat_cmp handle) ∙ is)
 
-  ends_fine : (s : ServerState) (d : ServerDoing) (choice : Choice) (e : Ending) → Fine d → HaveSerial handle version (base + numbered_in handle version (server_ends s d choice e).seen) (server_ends s d choice e).state.leases
+  ends_fine : (s : ServerState) (d : ServerDoing) (choice : Choice) (e : Ending) → Fine d
+      → HaveSerial handle version (base + numbered_in handle version (server_ends s d choice e).seen) (server_ends s d choice e).state.leases
   ends_fine s d choice Goes h = h
   ends_fine s d choice Lost h = none_have (base + 0)
   ends_fine s d choice (Stops made) h = none_have (base + numbered_in handle version (server_ends s d choice (Stops made)).seen)
@@ -389,7 +252,7 @@ module _ (handle version base : ℕ) where
       → HaveSerial handle version base s.leases → HaveSerial handle version (base + numbered_in handle version (server_step s moment i choice).seen) (server_step s moment i choice).state.leases
   step_counts s moment i choice none h =
       on_cond (λ (t : Taken ServerState). HaveSerial handle version (base + numbered_in handle version t.seen) t.state.leases) s.up (server_ends s (server_goes s moment i) choice choice.ending) (no_step s)
-      (λ _. ends_fine s (server_goes s moment i) choice choice.ending (does_fine (server_at s moment) i none i refl h0)) (λ _. h0)
+      (λ _. ends_fine s (server_goes s moment i) choice choice.ending (server_comes_to (λ d. HaveSerial handle version (base + numbered_in handle version d.seen) d.server.leases) s moment i (outcomes (server_at s moment) i none h0))) (λ _. h0)
     where
       h0 : HaveSerial handle version (base + numbered_in handle version []) s.leases
       h0 p at same = let low = h p at same in let count : numbered_in handle version [] ≡ 0 = refl in omega (arith, low, count)

@@ -13,6 +13,8 @@ pub mod UniqueOrders
 pub mod OneEntry
 pub mod GrantsFollow
 pub mod ShownAlone
+pub mod AskedCopies
+pub mod RowedSteps
 pub mod CopiesBegun
 pub mod RoundsPassed
 pub mod SentGrants
@@ -46,8 +48,6 @@ pub mod SettledEntries
 pub mod KeptAttempts
 pub mod FullPlaces
 pub mod ToldFull
-pub mod Replies
-pub mod AnsweredAppends
 pub mod Sendings
 pub mod AppendedBytes
 pub mod LeaseSerials

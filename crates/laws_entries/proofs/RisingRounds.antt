@@ -38,7 +38,7 @@ use Rattle.laws_base.proofs.LeasesTold.{leases_are_told}
 use Rattle.laws_base.proofs.LeasesTimely.{IsOfTimes, times_kept}
 use Rattle.laws_base.proofs.ScenesReached.{scene_of, scene_reached}
 use Rattle.laws_base.proofs.SentReached.{server_quiet, server_restarts_quiet, sent_reached}
-use Rattle.laws_base.proofs.ClientMoves.{quiet_orders, client_quiet, call_quiet}
+use Rattle.laws_base.proofs.ClientMoves.{HasNoOrder, quiet_orders, client_quiet, call_quiet}
 use Rattle.laws_steps.proofs.Events.{with_call, HoldsAfter, holds_after}
 use Rattle.laws_steps.specs.Versions.{IsLeaseOver}
 use Rattle.laws_steps.proofs.EndedLeases.{past_is_over, over_leases_number_nothing}
@@ -52,7 +52,7 @@ use Rattle.laws_entries.proofs.Numbering.{restarted_shown}
 use Rattle.laws_entries.proofs.OnceShown.{NumbersNone, step_once}
 use Rattle.laws_steps.proofs.WaitsKept.{IsOfWaits, waits_kept}
 use Rattle.laws_entries.proofs.GrantsFollow.{GrantsAbove, step_passed}
-use Rattle.laws_entries.proofs.CopiesBegun.{step_shows}
+use Rattle.laws_entries.proofs.CopiesBegun.{ShowsCopy, step_shows}
 use Rattle.laws_entries.proofs.RoundsPassed.{IsOfServers, server_shown, rounds_passed, unused_is_new, primary_there}
 use Rattle.laws_entries.specs.RisingRounds.{LowerLeasesAreOver, EntriesAreOfGrantedRounds, RoundsOfOrdersRise}
 use Rattle.laws_entries.proofs.SentGrants.{counted_one, some_counted, AreAbove, above_more, quiet_above, above_counted, none_granted}
@@ -104,18 +104,8 @@ under_lease config servers clients w r index moment s i choice there came place 
 
 -- rounds are granted, or lie below
 
-abbrev WasGranted : List Message → ℕ → ℕ → Type 0
+abbrev pub WasGranted : List Message → ℕ → ℕ → Type 0
 WasGranted sent handle version = (m : Message) × IsSent sent m × (is_grant handle version m.body ≡ true)
-
-abbrev IsOfRound : List Message → ℕ → Placed → Type 0
-IsOfRound sent handle p = WasGranted sent handle p.entry.round ⊎ AreAbove handle p.entry.round sent
-
-round_later : (k : ℕ) (sent ms : List Message) (handle : ℕ) (p : Placed) → AllOf (λ m. GrantsAbove handle p.entry.round m.body) ms → IsOfRound sent handle p → IsOfRound (sent ++ stamped k ms) handle p
-round_later k sent ms handle p all h =
-    elim (h) [
-      | inl was ↦ inl (was.0, sent_before sent (stamped k ms) was.0 was.1, was.2)
-      | inr above ↦ inr (above_more handle p.entry.round k sent ms all above)
-    ]
 
 -- one chunk's order is put anew
 pub put_all : (T : ℕ → Placed → Type 0) (orders : Table (List Placed)) (k : ℕ) (ps : List Placed) → AreAll T orders → AllOf (Holds T k) ps → AreAll T (table.insert orders k ps)
@@ -124,91 +114,6 @@ put_all T orders k ps h all handle =
       | inl same ↦ subst (λ (o : Option (List Placed)). AllOf (Holds T handle) (unwrap_or o [])) (sym (put_there orders k ps handle same)) (subst (λ (n : ℕ). AllOf (Holds T n) ps) (sym same) all)
       | inr apart ↦ subst (λ (o : Option (List Placed)). AllOf (Holds T handle) (unwrap_or o [])) (sym (put_other orders k ps handle apart)) (h handle)
     ]
-
-module _ (config : Config) (servers clients : ℕ) (w : WorldState) (r : IsReached config servers clients w) where
-  base : IsOfWaits w.sent w.master
-  base = sent_reached IsOfWaits waits_kept config servers clients w r
-
-  -- of each entry with its place
-  placed_on : (T U : ℕ → Placed → Type 0) → ((handle place : ℕ) (p : Placed) → element_at (placed_in w.observer.orders handle) place ≡ Some p → T handle (unsettled p) → U handle (unsettled p)) → AreAll T w.observer.orders → AreAll U w.observer.orders
-  placed_on T U go h handle = all_placed (Holds U handle) (placed_in w.observer.orders handle) (λ place p at. go handle place p at (all_at (Holds T handle) (placed_in w.observer.orders handle) place p (h handle) at))
-
-  module _ (h : AreAll (IsOfRound w.sent) w.observer.orders) where
-    stays : (ms : List Message) → ((handle place : ℕ) (p : Placed) → element_at (placed_in w.observer.orders handle) place ≡ Some p → AllOf (λ m. GrantsAbove handle p.entry.round m.body) ms) → AreAll (IsOfRound (w.sent ++ stamped (suc (length w.sent)) ms)) w.observer.orders
-    stays ms all = placed_on (IsOfRound w.sent) (IsOfRound (w.sent ++ stamped (suc (length w.sent)) ms)) (λ handle place p at was. round_later (suc (length w.sent)) w.sent ms handle (unsettled p) (all handle place p at) was) h
-
-    master_rounds : (trace : List Visible) (moment : ℕ) (i : NodeInput) (choice : Choice) → IsTrue w.master.up
-        → AreAll (IsOfRound (w.sent ++ stamped (suc (length w.sent)) (master_step w.master moment i choice).out.sent)) (orders_after_all trace w.observer.orders (master_step w.master moment i choice).seen)
-    master_rounds trace moment i choice up =
-        elim (step_shows w.master moment i choice base.base.logged base.waits) [
-          | inl none ↦ subst (λ (xs : List Seen). AreAll T (orders_after_all trace w.observer.orders xs)) (sym none) stay
-          | inr shows ↦ subst (λ (xs : List Seen). AreAll T (orders_after_all trace w.observer.orders xs)) (sym shows.seen)
-              (put_all T w.observer.orders shows.copy (placed_in w.observer.orders shows.source) stay
-              (all_placed (Holds T shows.copy) (placed_in w.observer.orders shows.source)
-              (λ place p at. inr (above_more shows.copy p.entry.round (suc (length w.sent)) w.sent ms
-              (shows.follows p.entry.round (inr ((rounds_passed config servers clients w r shows.source place p at).up up).0)).0
-              (none_granted shows.copy p.entry.round w.sent (unused_is_new config servers clients w r up shows.copy shows.new).granted)))))
-        ]
-      where
-        ms : List Message
-        ms = (master_step w.master moment i choice).out.sent
-
-        T : ℕ → Placed → Type 0
-        T = IsOfRound (w.sent ++ stamped (suc (length w.sent)) (master_step w.master moment i choice).out.sent)
-
-        stay : AreAll T w.observer.orders
-        stay = stays ms (λ handle place p at. (step_passed handle p.entry.round w.master moment i choice base.base.logged base.waits (rounds_passed config servers clients w r handle place p at)).0)
-
-    server_rounds : (trace : List Visible) (index moment : ℕ) (s : ServerState) (i : NodeInput) (choice : Choice) → element_at w.servers index ≡ Some s → ((m : Message) → i ≡ input.Deliver m → IsAmong w.sent m)
-        → AreAll (IsOfRound (w.sent ++ stamped (suc (length w.sent)) (server_step s moment i choice).out.sent)) (orders_after_all trace w.observer.orders (server_step s moment i choice).seen)
-    server_rounds trace index moment s i choice there came =
-        all_keep trace V T
-        (record { numbers = λ handle version serial id m now. inl now; copies = λ handle copy now p t. absurd now })
-        w.observer.orders (server_step s moment i choice).seen
-        (all_placed V (server_step s moment i choice).seen (λ place y at. one place y at (all_at IsOfServers (server_step s moment i choice).seen place y (server_shown s moment i choice) at)))
-        (stays (server_step s moment i choice).out.sent (λ handle place p at. quiet_above handle p.entry.round (server_step s moment i choice).out.sent (server_quiet s moment i choice)))
-      where
-        more : List Message
-        more = w.sent ++ stamped (suc (length w.sent)) (server_step s moment i choice).out.sent
-
-        T : ℕ → Placed → Type 0
-        T = IsOfRound (w.sent ++ stamped (suc (length w.sent)) (server_step s moment i choice).out.sent)
-
-        V : Seen → Type 0
-        V (Numbered handle version serial id m) = WasGranted (w.sent ++ stamped (suc (length w.sent)) (server_step s moment i choice).out.sent) handle.0 version.0
-        V (BecameSettled handle version serial) = Unit {0}
-        V (CopyStarted handle copy) = ⊥
-
-        one : (place : ℕ) (y : Seen) → element_at (server_step s moment i choice).seen place ≡ Some y → IsOfServers y → V y
-        one place (Numbered handle version serial id m) at is =
-            let under = under_lease config servers clients w r index moment s i choice there came place handle version serial id m at in
-            let granted = leased_granted config servers clients w r index s there handle.0 under.lease under.there in
-            (granted.0, sent_before w.sent (stamped (suc (length w.sent)) (server_step s moment i choice).out.sent) granted.0 granted.1, ap (λ (n : ℕ). is_grant handle.0 n (granted.0).body) (sym under.number) ∙ granted.2)
-        one place (BecameSettled handle version serial) at is = tt
-        one place (CopyStarted handle copy) at is = absurd is
-
-    each_round : HoldsAfter w (λ e x. AreAll (IsOfRound x.world.sent) x.world.observer.orders)
-    each_round =
-        record {
-          nothing = λ e. h;
-          masters = λ e moment i choice is up. master_rounds (observed_moment w.config.skew_ms w.observer moment).trace moment i choice up;
-          opens = λ e moment choice.
-              subst (λ (xs : List Seen). AreAll (IsOfRound (w.sent ++ stamped (suc (length w.sent)) (master_restart w.master moment choice).out.sent)) (orders_after_all (observed_moment w.config.skew_ms w.observer moment).trace w.observer.orders xs))
-              (sym (restart_shown w.master moment choice))
-              (stays (master_restart w.master moment choice).out.sent (λ handle place p at. restart_silent (λ m. GrantsAbove handle p.entry.round m.body) w.master moment choice));
-          serves = λ e index moment s i choice at is up. server_rounds (observed_moment w.config.skew_ms w.observer moment).trace index moment s i choice at (came_in w e (suc index) moment i is);
-          restarts = λ e index moment s choice at.
-              subst (λ (xs : List Seen). AreAll (IsOfRound (w.sent ++ stamped (suc (length w.sent)) (server_restart s moment choice).out.sent)) (orders_after_all (observed_moment w.config.skew_ms w.observer moment).trace w.observer.orders xs))
-              (sym (restarted_shown s moment choice choice.ending))
-              (stays (server_restart s moment choice).out.sent (λ handle place p at. quiet_above handle p.entry.round (server_restart s moment choice).out.sent (server_restarts_quiet s moment choice choice.ending)));
-          steps = λ e index moment s i choice at is up.
-              subst (λ (orders : Table (List Placed)). AreAll (IsOfRound (w.sent ++ stamped (suc (length w.sent)) (client_step s moment i choice).out.sent)) orders) (sym (same_orders _ (suc index) (client_step s moment i choice).out.answer))
-              (stays (client_step s moment i choice).out.sent (λ handle place p at. quiet_above handle p.entry.round (client_step s moment i choice).out.sent (quiet_orders (client_step s moment i choice).out.sent (client_quiet s moment i choice))));
-          calls = λ e index moment s c choice at may.
-              subst (λ (orders : Table (List Placed)). AreAll (IsOfRound (w.sent ++ stamped (suc (length w.sent)) (client_call s moment c choice).out.sent)) orders) (sym (same_orders _ (suc index) (client_call s moment c choice).out.answer))
-              (stays (client_call s moment c choice).out.sent (λ handle place p at. quiet_above handle p.entry.round (client_call s moment c choice).out.sent (quiet_orders (client_call s moment c choice).out.sent (call_quiet s moment c choice))));
-          rots = λ e index handle s x place byte is_kept at there up. h;
-        }
 
 -- what each event keeps of reached worlds holds in each of them
 module _ (Q : WorldState → Type 0) (each : (config : Config) (servers clients : ℕ) (w : WorldState) → IsReached config servers clients w → Q w → HoldsAfter w (λ e x. Q x.world)) (config : Config) (servers clients : ℕ) where
@@ -226,19 +131,139 @@ module _ (Q : WorldState → Type 0) (each : (config : Config) (servers clients 
   pub held_reached : Q (new_world config servers clients) → (w : WorldState) → IsReached config servers clients w → Q w
   held_reached new w r = subst (λ (u : WorldState). Q u) r.1 (held_after [] r.0 new)
 
-abbrev AreRound : WorldState → Type 0
-AreRound w = AreAll (IsOfRound w.sent) w.observer.orders
+-- What is asked of a predicate on a chunk, a round and a message: it holds of what is sent where an entry of that round is placed, and of all that was sent to a copy that begins.
+pub record RoundPremises (Above : ℕ → ℕ → Message → Type 0) (AreAllAbove : ℕ → ℕ → List Message → Type 0) : Type 0 where
+  pub more : (handle round k : ℕ) (sent ms : List Message) → AllOf (Above handle round) ms → AreAllAbove handle round sent → AreAllAbove handle round (sent ++ stamped k ms)
+  pub quiet : (handle round : ℕ) (ms : List Message) → HasNoOrder ms → AllOf (Above handle round) ms
+  pub masters : (config : Config) (servers clients : ℕ) (w : WorldState) → IsReached config servers clients w → IsTrue w.master.up → (moment : ℕ) (i : NodeInput) (choice : Choice) (handle place : ℕ) (p : Placed)
+      → element_at (placed_in w.observer.orders handle) place ≡ Some p → AllOf (Above handle p.entry.round) (master_step w.master moment i choice).out.sent
+  pub copies : (config : Config) (servers clients : ℕ) (w : WorldState) → IsReached config servers clients w → IsTrue w.master.up → (moment : ℕ) (i : NodeInput) (choice : Choice) (shows : ShowsCopy w.master (master_step w.master moment i choice)) (place : ℕ) (p : Placed)
+      → element_at (placed_in w.observer.orders shows.source) place ≡ Some p → AllOf (Above shows.copy p.entry.round) (master_step w.master moment i choice).out.sent × AreAllAbove shows.copy p.entry.round w.sent
 
-none_placed : (T : ℕ → Placed → Type 0) → AreAll T table.empty
-none_placed T handle = subst (λ (o : Option (List Placed)). AllOf (Holds T handle) (unwrap_or o [])) (sym (table.get-empty nat_cmp handle)) tt
+module _ (Above : ℕ → ℕ → Message → Type 0) (AreAllAbove : ℕ → ℕ → List Message → Type 0) (premises : RoundPremises Above AreAllAbove) where
+  abbrev pub IsOfRound : List Message → ℕ → Placed → Type 0
+  IsOfRound sent handle p = WasGranted sent handle p.entry.round ⊎ AreAllAbove handle p.entry.round sent
 
-round_of : (config : Config) (servers clients : ℕ) (w : WorldState) → IsReached config servers clients w → (handle place : ℕ) (p : Placed) → element_at (placed_in w.observer.orders handle) place ≡ Some p → IsOfRound w.sent handle (unsettled p)
-round_of config servers clients w r handle place p at =
-    all_at (Holds (IsOfRound w.sent) handle) (placed_in w.observer.orders handle) place p (held_reached AreRound each_round config servers clients (none_placed (IsOfRound [])) w r handle) at
+  round_later : (k : ℕ) (sent ms : List Message) (handle : ℕ) (p : Placed) → AllOf (Above handle p.entry.round) ms → IsOfRound sent handle p → IsOfRound (sent ++ stamped k ms) handle p
+  round_later k sent ms handle p all h =
+      elim (h) [
+        | inl was ↦ inl (was.0, sent_before sent (stamped k ms) was.0 was.1, was.2)
+        | inr above ↦ inr (premises.more handle p.entry.round k sent ms all above)
+      ]
+
+  module _ (config : Config) (servers clients : ℕ) (w : WorldState) (r : IsReached config servers clients w) where
+    base : IsOfWaits w.sent w.master
+    base = sent_reached IsOfWaits waits_kept config servers clients w r
+
+    -- of each entry with its place
+    placed_on : (T U : ℕ → Placed → Type 0) → ((handle place : ℕ) (p : Placed) → element_at (placed_in w.observer.orders handle) place ≡ Some p → T handle (unsettled p) → U handle (unsettled p)) → AreAll T w.observer.orders → AreAll U w.observer.orders
+    placed_on T U go h handle = all_placed (Holds U handle) (placed_in w.observer.orders handle) (λ place p at. go handle place p at (all_at (Holds T handle) (placed_in w.observer.orders handle) place p (h handle) at))
+
+    module _ (h : AreAll (IsOfRound w.sent) w.observer.orders) where
+      stays : (ms : List Message) → ((handle place : ℕ) (p : Placed) → element_at (placed_in w.observer.orders handle) place ≡ Some p → AllOf (Above handle p.entry.round) ms) → AreAll (IsOfRound (w.sent ++ stamped (suc (length w.sent)) ms)) w.observer.orders
+      stays ms all = placed_on (IsOfRound w.sent) (IsOfRound (w.sent ++ stamped (suc (length w.sent)) ms)) (λ handle place p at was. round_later (suc (length w.sent)) w.sent ms handle (unsettled p) (all handle place p at) was) h
+
+      master_rounds : (trace : List Visible) (moment : ℕ) (i : NodeInput) (choice : Choice) → IsTrue w.master.up
+          → AreAll (IsOfRound (w.sent ++ stamped (suc (length w.sent)) (master_step w.master moment i choice).out.sent)) (orders_after_all trace w.observer.orders (master_step w.master moment i choice).seen)
+      master_rounds trace moment i choice up =
+          elim (step_shows w.master moment i choice base.base.logged base.waits) [
+            | inl none ↦ subst (λ (xs : List Seen). AreAll T (orders_after_all trace w.observer.orders xs)) (sym none) stay
+            | inr shows ↦ subst (λ (xs : List Seen). AreAll T (orders_after_all trace w.observer.orders xs)) (sym shows.seen)
+                (put_all T w.observer.orders shows.copy (placed_in w.observer.orders shows.source) stay
+                (all_placed (Holds T shows.copy) (placed_in w.observer.orders shows.source)
+                (λ place p at.
+                let both = premises.copies config servers clients w r up moment i choice shows place p at in
+                inr (premises.more shows.copy p.entry.round (suc (length w.sent)) w.sent ms both.0 both.1))))
+          ]
+        where
+          ms : List Message
+          ms = (master_step w.master moment i choice).out.sent
+
+          T : ℕ → Placed → Type 0
+          T = IsOfRound (w.sent ++ stamped (suc (length w.sent)) (master_step w.master moment i choice).out.sent)
+
+          stay : AreAll T w.observer.orders
+          stay = stays ms (λ handle place p at. premises.masters config servers clients w r up moment i choice handle place p at)
+
+      server_rounds : (trace : List Visible) (index moment : ℕ) (s : ServerState) (i : NodeInput) (choice : Choice) → element_at w.servers index ≡ Some s → ((m : Message) → i ≡ input.Deliver m → IsAmong w.sent m)
+          → AreAll (IsOfRound (w.sent ++ stamped (suc (length w.sent)) (server_step s moment i choice).out.sent)) (orders_after_all trace w.observer.orders (server_step s moment i choice).seen)
+      server_rounds trace index moment s i choice there came =
+          all_keep trace V T
+          (record { numbers = λ handle version serial id m now. inl now; copies = λ handle copy now p t. absurd now })
+          w.observer.orders (server_step s moment i choice).seen
+          (all_placed V (server_step s moment i choice).seen (λ place y at. one place y at (all_at IsOfServers (server_step s moment i choice).seen place y (server_shown s moment i choice) at)))
+          (stays (server_step s moment i choice).out.sent (λ handle place p at. premises.quiet handle p.entry.round (server_step s moment i choice).out.sent (server_quiet s moment i choice)))
+        where
+          more : List Message
+          more = w.sent ++ stamped (suc (length w.sent)) (server_step s moment i choice).out.sent
+
+          T : ℕ → Placed → Type 0
+          T = IsOfRound (w.sent ++ stamped (suc (length w.sent)) (server_step s moment i choice).out.sent)
+
+          V : Seen → Type 0
+          V (Numbered handle version serial id m) = WasGranted (w.sent ++ stamped (suc (length w.sent)) (server_step s moment i choice).out.sent) handle.0 version.0
+          V (BecameSettled handle version serial) = Unit {0}
+          V (CopyStarted handle copy) = ⊥
+
+          one : (place : ℕ) (y : Seen) → element_at (server_step s moment i choice).seen place ≡ Some y → IsOfServers y → V y
+          one place (Numbered handle version serial id m) at is =
+              let under = under_lease config servers clients w r index moment s i choice there came place handle version serial id m at in
+              let granted = leased_granted config servers clients w r index s there handle.0 under.lease under.there in
+              (granted.0, sent_before w.sent (stamped (suc (length w.sent)) (server_step s moment i choice).out.sent) granted.0 granted.1, ap (λ (n : ℕ). is_grant handle.0 n (granted.0).body) (sym under.number) ∙ granted.2)
+          one place (BecameSettled handle version serial) at is = tt
+          one place (CopyStarted handle copy) at is = absurd is
+
+      each_round : HoldsAfter w (λ e x. AreAll (IsOfRound x.world.sent) x.world.observer.orders)
+      each_round =
+          record {
+            nothing = λ e. h;
+            masters = λ e moment i choice is up. master_rounds (observed_moment w.config.skew_ms w.observer moment).trace moment i choice up;
+            opens = λ e moment choice.
+                subst (λ (xs : List Seen). AreAll (IsOfRound (w.sent ++ stamped (suc (length w.sent)) (master_restart w.master moment choice).out.sent)) (orders_after_all (observed_moment w.config.skew_ms w.observer moment).trace w.observer.orders xs))
+                (sym (restart_shown w.master moment choice))
+                (stays (master_restart w.master moment choice).out.sent (λ handle place p at. restart_silent (Above handle p.entry.round) w.master moment choice));
+            serves = λ e index moment s i choice at is up. server_rounds (observed_moment w.config.skew_ms w.observer moment).trace index moment s i choice at (came_in w e (suc index) moment i is);
+            restarts = λ e index moment s choice at.
+                subst (λ (xs : List Seen). AreAll (IsOfRound (w.sent ++ stamped (suc (length w.sent)) (server_restart s moment choice).out.sent)) (orders_after_all (observed_moment w.config.skew_ms w.observer moment).trace w.observer.orders xs))
+                (sym (restarted_shown s moment choice choice.ending))
+                (stays (server_restart s moment choice).out.sent (λ handle place p at. premises.quiet handle p.entry.round (server_restart s moment choice).out.sent (server_restarts_quiet s moment choice choice.ending)));
+            steps = λ e index moment s i choice at is up.
+                subst (λ (orders : Table (List Placed)). AreAll (IsOfRound (w.sent ++ stamped (suc (length w.sent)) (client_step s moment i choice).out.sent)) orders) (sym (same_orders _ (suc index) (client_step s moment i choice).out.answer))
+                (stays (client_step s moment i choice).out.sent (λ handle place p at. premises.quiet handle p.entry.round (client_step s moment i choice).out.sent (quiet_orders (client_step s moment i choice).out.sent (client_quiet s moment i choice))));
+            calls = λ e index moment s c choice at may.
+                subst (λ (orders : Table (List Placed)). AreAll (IsOfRound (w.sent ++ stamped (suc (length w.sent)) (client_call s moment c choice).out.sent)) orders) (sym (same_orders _ (suc index) (client_call s moment c choice).out.answer))
+                (stays (client_call s moment c choice).out.sent (λ handle place p at. premises.quiet handle p.entry.round (client_call s moment c choice).out.sent (quiet_orders (client_call s moment c choice).out.sent (call_quiet s moment c choice))));
+            rots = λ e index handle s x place byte is_kept at there up. h;
+          }
+
+  abbrev AreRound : WorldState → Type 0
+  AreRound w = AreAll (IsOfRound w.sent) w.observer.orders
+
+  none_placed : (T : ℕ → Placed → Type 0) → AreAll T table.empty
+  none_placed T handle = subst (λ (o : Option (List Placed)). AllOf (Holds T handle) (unwrap_or o [])) (sym (table.get-empty nat_cmp handle)) tt
+
+  pub round_of : (config : Config) (servers clients : ℕ) (w : WorldState) → IsReached config servers clients w → (handle place : ℕ) (p : Placed) → element_at (placed_in w.observer.orders handle) place ≡ Some p → IsOfRound w.sent handle (unsettled p)
+  round_of config servers clients w r handle place p at =
+      all_at (Holds (IsOfRound w.sent) handle) (placed_in w.observer.orders handle) place p (held_reached AreRound each_round config servers clients (none_placed (IsOfRound [])) w r handle) at
+
+-- a round was granted, or lies below each that was granted to the chunk
+granted_rounds : RoundPremises (λ handle round m. GrantsAbove handle round m.body) AreAbove
+granted_rounds =
+    record {
+      more = above_more;
+      quiet = quiet_above;
+      masters = λ config servers clients w r up moment i choice handle place p at.
+          let base : IsOfWaits w.sent w.master = sent_reached IsOfWaits waits_kept config servers clients w r in
+          (step_passed handle p.entry.round w.master moment i choice base.base.logged base.waits (rounds_passed config servers clients w r handle place p at)).0;
+      copies = λ config servers clients w r up moment i choice shows place p at. (
+        (shows.follows p.entry.round (inr ((rounds_passed config servers clients w r shows.source place p at).up up).0)).0,
+        none_granted shows.copy p.entry.round w.sent (unused_is_new config servers clients w r up shows.copy shows.new).granted,
+      );
+    }
 
 pub entries_are_of_granted_rounds : EntriesAreOfGrantedRounds
 entries_are_of_granted_rounds config servers clients w r handle place p at =
-    elim (round_of config servers clients w r handle place p at) [
+    elim (round_of (λ q round m. GrantsAbove q round m.body) AreAbove granted_rounds config servers clients w r handle place p at) [
       | inl was ↦ inl (counted_one (λ m. is_grant handle p.entry.round m.body) w.sent was.0 (was.1).0 (was.1).1 was.2)
       | inr above ↦ inr (λ version some. above_counted handle p.entry.round version w.sent above some)
     ]

@@ -1,48 +1,32 @@
 -- In a step a server's leases stay right: of each attempt that they know, and of each that is answered, F holds.
-use Rattle.std.proofs.Common.{◌≡◌, ◌⊎◌, ℕ, ◌+◌, ◌-◌, Bool, true, false, List, [], ◌∷◌, length, map, Option, Some, None, refl, sym, subst, ◌∙◌, inl, inr}
+use Rattle.std.proofs.Common.{◌≡◌, ◌⊎◌, ℕ, ◌+◌, ◌-◌, Bool, true, false, List, [], ◌∷◌, map, Option, Some, None, refl, sym, ap, subst, ◌∙◌, inl, inr}
 use Rattle.std.specs.Prelude.{nat_le, nat_lt, ◌==◌, cond}
-use Rattle.std.specs.Option.{option_map}
 use Rattle.std.specs.Ordering.{nat_cmp}
 use Rattle.std.specs.FinMap as table
 use Rattle.std.proofs.lemmas.Bool.{eqb-true}
 use Rattle.gfs_types.specs.declared.ids.Node.{Node}
 use Rattle.gfs_types.specs.declared.ids.Node.TheVariants.{Master}
-use Rattle.gfs_types.specs.declared.ids.ServerId.{ServerId}
 use Rattle.gfs_types.specs.declared.ids.DataId.{DataId}
 use Rattle.gfs_types.specs.declared.ids.ClientId.{ClientId}
 use Rattle.gfs_types.specs.declared.ids.Node.TheVariants as node
-use Rattle.gfs_types.specs.declared.ids.OrderNo.{OrderNo}
 use Rattle.gfs_types.specs.declared.ids.Handle.{Handle}
 use Rattle.gfs_types.specs.declared.ids.Version.{Version as VersionId}
 use Rattle.gfs_types.specs.declared.ids.Moment.{Moment}
 use Rattle.gfs_types.specs.declared.refusal.Refusal.{Refusal}
-use Rattle.gfs_types.specs.declared.refusal.Refusal.TheVariants.{NoChunk, Version, NoLease, NoData, OldSerial, OldRequest, Late, Corrupt, ChunkFull, ServerTooLong}
+use Rattle.gfs_types.specs.declared.refusal.Refusal.TheVariants.{NoChunk, Version, NoLease, NoData, OldRequest, Late, Corrupt, ChunkFull, ServerTooLong}
 use Rattle.gfs_types.specs.declared.mutation.Mutation.{Mutation}
-use Rattle.gfs_types.specs.declared.mutation.Mutation.TheVariants as mutation
-use Rattle.gfs_types.specs.Mutations.{start_of, end_of}
 use Rattle.messages.specs.declared.message.Body.{Body}
 use Rattle.messages.specs.declared.message.Body.TheVariants as body
 use Rattle.messages.specs.declared.message.Message.{Message}
 use Rattle.messages.specs.declared.message.Target.{Target}
-use Rattle.messages.specs.declared.message.Target.TheVariants as target
 use Rattle.messages.specs.declared.message.Change.{Change}
-use Rattle.messages.specs.declared.message.Change.TheVariants as change
 use Rattle.messages.specs.declared.event.NodeInput.{NodeInput}
 use Rattle.messages.specs.declared.event.NodeInput.TheVariants as input
-use Rattle.record_append.specs.declared.placing.Placing.{Placing}
-use Rattle.record_append.specs.declared.placing.Placing.TheVariants.{At, Pad, Full, TooLong}
-use Rattle.record_append.specs.Placing.{placing}
-use Rattle.data_push.specs.Buffers.{data_of, with_data}
-use Rattle.leases.specs.LeaseHeld.{LeaseHeld, counts_at, extended}
-use Rattle.replica_store.specs.declared.row.Row.{Row}
-use Rattle.replica_store.specs.declared.change.StoreChange.{StoreChange}
-use Rattle.replica_store.specs.declared.change.StoreChange.TheVariants.{SetOrder, Put, Write, Zero, Raise, Copy}
-use Rattle.replica_store.specs.Replicas.{is_new_order, row_at, read_at, is_copyable_at, is_writable_at}
-use Rattle.primary_order.specs.declared.answer.Attempted.{Attempted}
+use Rattle.leases.specs.LeaseHeld.{LeaseHeld, counts_at}
 use Rattle.primary_order.specs.declared.answer.Attempted.TheVariants.{IsNew, IsRepeat, IsOld}
 use Rattle.primary_order.specs.declared.kept.Kept.{Kept}
 use Rattle.primary_order.specs.declared.kept.Standing.{Standing}
-use Rattle.primary_order.specs.declared.kept.Standing.TheVariants.{IsPending, IsSettled, IsRefused}
+use Rattle.primary_order.specs.declared.kept.Standing.TheVariants.{IsSettled, IsRefused}
 use Rattle.primary_order.specs.declared.waiting.Waiting.{Waiting}
 use Rattle.primary_order.specs.declared.order.SerialOrder.{SerialOrder}
 use Rattle.primary_order.specs.PrimaryOrder.{place_of, settled_by, success_of}
@@ -50,18 +34,16 @@ use Rattle.primary_order.specs.SerialOrder.{new_order, attempted, attempted_by, 
 use Rattle.gfs_types.specs.Counters.{counter_limit}
 use Rattle.protocol.specs.Tables.{Table, without, map_values}
 use Rattle.protocol.specs.Sending.{message, the_server, the_client, handle_of, version_of, serial_of, data_id, server_number}
-use Rattle.protocol.specs.PushBuffer.{next_hop, hops_after}
 use Rattle.protocol.specs.Choice.{Choice, Ending, Goes, Lost, Stops}
 use Rattle.protocol.specs.Seen.{Taken, no_step}
-use Rattle.protocol.specs.declared.seen.Seen.TheVariants.{Numbered, BecameSettled}
-use Rattle.protocol.specs.Server.{ServerState, ServerDoing, server_begins, chunk_limit, sends, refuses, stores, shows, with_primary, without_lease, takes_data, drops_corrupt, primary_of}
-use Rattle.protocol.specs.ServerReads.{answers_bytes, reads_from, measures, sends_image, copies_out}
-use Rattle.protocol.specs.ServerWrites.{passes_on, refuses_attempt, answers_settled, denies, forward_to, forwards, settles, acknowledges, change_of, stored_as, primary_applies, places, appends_as, mutates_with, mutates_new, mutates_as, mutates_under, nacks, member_stores, member_applies, applies_data, applies_change, forwarded_to, acked_under, refuses_waiting, nacked_under}
-use Rattle.protocol.specs.ServerOrders.{on_order, records, can_take, takes_create, raises, takes_set_version, holds_version, takes_grant, extends_held, ends_held, takes_revoke, drops_old, takes_drop, takes_clone, takes_image, copies_locally, takes_copy_local}
-use Rattle.protocol.specs.ServerStep.{replica_line, lease_line, asks_no_more, counting_leases, server_ticks, server_takes, server_does, server_at, server_goes, server_ends, server_step, server_restarts, server_restart}
+use Rattle.protocol.specs.declared.seen.Seen.TheVariants.{BecameSettled}
+use Rattle.protocol.specs.Server.{ServerState, ServerDoing, server_begins, sends, refuses, stores, shows, with_primary, takes_data, drops_corrupt, primary_of}
+use Rattle.protocol.specs.ServerWrites.{refuses_attempt, answers_settled, denies, forward_to, forwards, settles, acknowledges, change_of, stored_as, primary_applies, places, mutates_under}
+use Rattle.protocol.specs.ServerStep.{replica_line, lease_line, asks_no_more, counting_leases, server_ticks, server_does, server_at, server_goes, server_ends, server_step, server_restarts, server_restart}
 use Rattle.laws_base.proofs.Steps.{on_cond, none_some, put_cases, kept_cases}
 use Rattle.laws_base.proofs.Entries.{AllOf, all_joined, mapped_cases, kept_where_cases}
 use Rattle.laws_base.proofs.MembersRecorded.{all_in_order}
+use Rattle.laws_base.proofs.ServerWalk.{IsAskedUnder, Leased, Attempting, Numbering, Outcomes, is_sound, number_of, until_later, mutates_there, placed_there, does_comes}
 use Rattle.laws_entries.proofs.KnownNumbers.{primary_there}
 use Rattle.laws_entries.specs.AnsweredAttempts.{IsFinal}
 use Rattle.laws_entries.proofs.UsedOrders.{IsRight, IsCaused, Causes, refusal_caused, reading_caused, right_denied, right_refused, right_numbered, success_right, right_acknowledged, right_extended, right_reported, right_new}
@@ -71,9 +53,7 @@ AreRight F leases = (q : ℕ) (p : SerialOrder) → table.get leases q ≡ Some 
 
 -- it asks to read, or for a length, under this number
 abbrev pub IsReading : ℕ → Body → Type 0
-IsReading number (body.Read n handle version offset count) = n ≡ number
-IsReading number (body.Len n handle version) = n ≡ number
-IsReading number other = ⊥
+IsReading number b = IsAskedUnder number b
 
 -- a new attempt came to this: it is refused, which is kept, or it is placed
 abbrev pub IsEnd : ServerDoing → ℕ → SerialOrder → DataId → ServerDoing → Type 0
@@ -112,38 +92,6 @@ module _ (F : DataId → Type 0) (G : ℕ → ℕ → Type 0) (Now : ℕ) where
   abbrev Reads : Node → ℕ → Type 0
   Reads receiver number = (c : ClientId) → receiver ≡ node.Client c → G c.0 number
 
-  -- readings
-
-  bytes_fine : (d : ServerDoing) (receiver : Node) (number q : ℕ) (o : Option (List ℕ)) → Reads receiver number → Fine d → Fine (answers_bytes d receiver number q o)
-  bytes_fine d receiver number q None who h = refused (drops_corrupt d q) receiver number Corrupt (reading_caused F G number Corrupt receiver who) (lost d q h)
-  bytes_fine d receiver number q (Some bytes) who h = said d receiver (body.Bytes number bytes) tt h
-
-  read_fine : (d : ServerDoing) (receiver : Node) (number q v offset count : ℕ) (o : Option Row) → Reads receiver number → Fine d → Fine (reads_from d receiver number q v offset count o)
-  read_fine d receiver number q v offset count None who h = refused d receiver number NoChunk (reading_caused F G number NoChunk receiver who) h
-  read_fine d receiver number q v offset count (Some r) who h =
-      on_cond Fine (r.version.0 == v) (answers_bytes d receiver number q (read_at d.server.disk q offset count)) (refuses d receiver number Version)
-      (λ _. bytes_fine d receiver number q (read_at d.server.disk q offset count) who h) (λ _. refused d receiver number Version (reading_caused F G number Version receiver who) h)
-
-  length_fine : (d : ServerDoing) (receiver : Node) (number v : ℕ) (o : Option Row) → Reads receiver number → Fine d → Fine (measures d receiver number v o)
-  length_fine d receiver number v None who h = refused d receiver number NoChunk (reading_caused F G number NoChunk receiver who) h
-  length_fine d receiver number v (Some r) who h =
-      on_cond Fine (r.version.0 == v) (sends d receiver (body.LenIs number r.count)) (refuses d receiver number Version) (λ _. said d receiver (body.LenIs number r.count) tt h) (λ _. refused d receiver number Version (reading_caused F G number Version receiver who) h)
-
-  image_fine : (d : ServerDoing) (receiver : Node) (q : ℕ) (r : Row) (o : Option (List ℕ)) → Fine d → Fine (sends_image d receiver q r o)
-  image_fine d receiver q r None h = lost d q h
-  image_fine d receiver q r (Some bytes) h = said d receiver (body.Image (handle_of q) r.version r.serial bytes) tt h
-
-  copy_fine : (d : ServerDoing) (receiver : Node) (q v : ℕ) (o : Option Row) → Fine d → Fine (copies_out d receiver q v o)
-  copy_fine d receiver q v None h = h
-  copy_fine d receiver q v (Some r) h =
-      on_cond Fine (r.version.0 == v) (sends_image d receiver q r (read_at d.server.disk q 0 r.count)) d (λ _. image_fine d receiver q r (read_at d.server.disk q 0 r.count) h) (λ _. h)
-
-  -- mutations
-
-  passed : (d : ServerDoing) (id : DataId) (bytes rest : List ℕ) (o : Option ServerId) → Fine d → Fine (passes_on d id bytes rest o)
-  passed d id bytes rest None h = said d (the_client id.client.0) (body.Pushed id) tt h
-  passed d id bytes rest (Some next) h = said d (the_server next.0) (body.Push id bytes (hops_after rest next.0)) tt h
-
   answered : (d : ServerDoing) (id : DataId) (o : Option ℕ) → F id → Fine d → Fine (answers_settled d id o)
   answered d id None used h = attempt_refused d id ChunkFull (λ final. used) h
   answered d id (Some place) used h = said d (the_client id.client.0) (body.Done id place) used h
@@ -172,41 +120,6 @@ module _ (F : DataId → Type 0) (G : ℕ → ℕ → Type 0) (Now : ℕ) where
       attempt_refused (takes_data (with_primary d q (denied p id.client id.seq refusal)) id) id refusal (λ final. used)
       (put d.server.leases q (denied p id.client id.seq refusal) (right_denied F p id.client id.seq refusal used right) h.0, h.1, h.2)
 
-  places_fine : (d : ServerDoing) (q : ℕ) (p : SerialOrder) (id : DataId) (m : Mutation) → (nat_le counter_limit p.serial ≡ false → F id) → IsRight F p → Fine d → Fine (places d q p id m)
-  places_fine d q p id m used right h =
-      on_cond Fine (nat_le counter_limit p.serial) d _ (λ _. h)
-      (λ room. on_cond Fine (is_writable_at d.server.disk q (start_of m) (end_of (chunk_limit d.server q) m)) (primary_applies taken q p id m) (refuses_attempt (drops_corrupt taken q) id Corrupt)
-      (λ _. acknowledged_fine (forwards (stores taken (stored_as (chunk_limit d.server q) q (p.serial + 1) m)) (without p.held.members d.server.id) q p.held.version (p.serial + 1) id (change_of m)) q
-      (numbered p id.client id.seq (place_of m)) d.server.id (p.serial + 1) (new_right room)
-      (forwards_fine (stores taken (stored_as (chunk_limit d.server q) q (p.serial + 1) m)) (without p.held.members d.server.id) q p.held.version (p.serial + 1) id (change_of m) (there room)))
-      (λ _. attempt_refused (drops_corrupt taken q) id Corrupt (λ final. used room) (lost taken q (there room))))
-    where
-      taken : ServerDoing
-      taken = shows (takes_data (with_primary d q (numbered p id.client id.seq (place_of m))) id) (Numbered (handle_of q) (version_of p.held.version) (serial_of (p.serial + 1)) id m)
-
-      new_right : nat_le counter_limit p.serial ≡ false → IsRight F (numbered p id.client id.seq (place_of m))
-      new_right room = right_numbered F p id (place_of m) (used room) right
-
-      there : nat_le counter_limit p.serial ≡ false → Fine taken
-      there room = (put d.server.leases q (numbered p id.client id.seq (place_of m)) (new_right room) h.0, h.1, h.2)
-
-  appends_fine : (d : ServerDoing) (q : ℕ) (p : SerialOrder) (id : DataId) (bytes : List ℕ) (where_ : Placing) → (IsEnd d q p id (appends_as d q p id bytes where_) → F id) → IsRight F p → Fine d → Fine (appends_as d q p id bytes where_)
-  appends_fine d q p id bytes TooLong used right h = denied_fine d q p id ServerTooLong (used (inl (ServerTooLong, refl))) right h
-  appends_fine d q p id bytes Full used right h = denied_fine d q p id ChunkFull (used (inl (ChunkFull, refl))) right h
-  appends_fine d q p id bytes (Pad offset) used right h = places_fine d q p id (mutation.Pad offset) (λ room. used (inr (mutation.Pad offset, refl, room))) right h
-  appends_fine d q p id bytes (At offset) used right h = places_fine d q p id (mutation.Append offset bytes) (λ room. used (inr (mutation.Append offset bytes, refl, room))) right h
-
-  with_fine : (d : ServerDoing) (q : ℕ) (p : SerialOrder) (r : Row) (id : DataId) (t : Target) (bytes : List ℕ) → (IsEnd d q p id (mutates_with d q p r id t bytes) → F id) → IsRight F p → Fine d → Fine (mutates_with d q p r id t bytes)
-  with_fine d q p r id (target.Write offset) bytes used right h =
-      on_cond (λ (x : ServerDoing). (IsEnd d q p id x → F id) → Fine x) (nat_lt (chunk_limit d.server q) (offset + length bytes)) d (places d q p id (mutation.Write offset bytes)) (λ _ end. h)
-      (λ _ end. places_fine d q p id (mutation.Write offset bytes) (λ room. end (inr (mutation.Write offset bytes, refl, room))) right h) used
-  with_fine d q p r id target.Append bytes used right h = appends_fine d q p id bytes (placing r.count (length bytes) (chunk_limit d.server q)) used right h
-
-  new_fine : (d : ServerDoing) (q : ℕ) (p : SerialOrder) (id : DataId) (t : Target) (o : Option Row) (found : Option (List ℕ)) → (IsEnd d q p id (mutates_new d q p id t o found) → F id) → IsRight F p → Fine d → Fine (mutates_new d q p id t o found)
-  new_fine d q p id t None found used right h = h
-  new_fine d q p id t (Some r) None used right h = denied_fine d q p id NoData (used (inl (NoData, refl))) right h
-  new_fine d q p id t (Some r) (Some bytes) used right h = with_fine d q p r id t bytes used right h
-
   -- a repeated attempt is what is kept for its client
   repeated : (n : ℕ) (o : Option Kept) (standing : Standing) → attempted_by n o ≡ IsRepeat standing → (k : Kept) × (o ≡ Some k) × (k.seq ≡ n) × (k.standing ≡ standing)
   repeated n None standing is = absurd (let both : IsNew ≡ IsRepeat standing = is in cc)
@@ -219,7 +132,8 @@ module _ (F : DataId → Type 0) (G : ℕ → ℕ → Type 0) (Now : ℕ) where
       by_order true g = absurd (let both : IsOld ≡ IsRepeat standing = g in cc)
       by_order false g = absurd (let both : IsNew ≡ IsRepeat standing = g in cc)
 
-      by_test : (b : Bool) → (k.seq == n) ≡ b → cond b (IsRepeat k.standing) (cond (nat_lt n k.seq) IsOld IsNew) ≡ IsRepeat standing → (x : Kept) × (Some k ≡ Some x) × (x.seq ≡ n) × (x.standing ≡ standing)
+      by_test : (b : Bool) → (k.seq == n) ≡ b → cond b (IsRepeat k.standing) (cond (nat_lt n k.seq) IsOld IsNew) ≡ IsRepeat standing
+          → (x : Kept) × (Some k ≡ Some x) × (x.seq ≡ n) × (x.standing ≡ standing)
       by_test true there g = (k, refl, eqb-true k.seq n there, same g)
       by_test false other g = by_order (nat_lt n k.seq) g
 
@@ -231,124 +145,6 @@ module _ (F : DataId → Type 0) (G : ℕ → ℕ → Type 0) (Now : ℕ) where
   abbrev pub Knowing : ServerDoing → ℕ → SerialOrder → DataId → ServerDoing → Type 0
   Knowing d q p id x = (attempted p id.client id.seq ≡ IsOld → F id) × (attempted p id.client id.seq ≡ IsNew → IsEnd d q p id x → F id)
 
-  as_fine : (d : ServerDoing) (q : ℕ) (p : SerialOrder) (id : DataId) (t : Target) (a : Attempted) → attempted p id.client id.seq ≡ a → Knowing d q p id (mutates_as d q p id t a) → IsRight F p → Fine d → Fine (mutates_as d q p id t a)
-  as_fine d q p id t IsOld is used right h = attempt_refused d id OldRequest (λ final. used.0 is) h
-  as_fine d q p id t (IsRepeat IsPending) is used right h = h
-  as_fine d q p id t (IsRepeat (IsSettled place)) is used right h = answered d id place (kept_used p id (IsSettled place) is right) h
-  as_fine d q p id t (IsRepeat (IsRefused refusal)) is used right h = attempt_refused d id refusal (λ final. kept_used p id (IsRefused refusal) is right) h
-  as_fine d q p id t IsNew is used right h = new_fine d q p id t (row_at d.server.disk q) (data_of d.server.pushed id) (used.1 is) right h
-
-  under_fine : (d : ServerDoing) (q : ℕ) (id : DataId) (t : Target) (deadline : ℕ) (o : Option SerialOrder) → ((p : SerialOrder) → o ≡ Some p → IsRight F p × Knowing d q p id (mutates_under d q id t deadline o) × (nat_le deadline d.server.now ≡ true → F id)) → Fine d
-      → Fine (mutates_under d q id t deadline o)
-  under_fine d q id t deadline None right h = attempt_refused d id NoLease (λ final. absurd final) h
-  under_fine d q id t deadline (Some p) right h =
-      on_cond (λ (x : ServerDoing). Knowing d q p id x → Fine x) (nat_le deadline d.server.now) (refuses_attempt d id Late) (mutates_as d q p id t (attempted p id.client id.seq)) (λ late used. attempt_refused d id Late (λ final. (right p refl).2 late) h)
-      (λ _ used. as_fine d q p id t (attempted p id.client id.seq) refl used (right p refl).0 h) (right p refl).1
-
-  nacks_fine : (d : ServerDoing) (primary : Node) (q v serial : ℕ) (refusal : Refusal) → Fine d → Fine (nacks d primary q v serial refusal)
-  nacks_fine d primary q v serial refusal h = said d primary (body.Nacked (handle_of q) (version_of v) (serial_of serial) refusal) tt h
-
-  stored_fine : (b : Bool) (d : ServerDoing) (primary : Node) (q v serial : ℕ) (x : StoreChange) → Fine d → Fine (member_stores b d primary q v serial x)
-  stored_fine true d primary q v serial x h = said (stores d x) primary (body.Acked (handle_of q) (version_of v) (serial_of serial)) tt h
-  stored_fine false d primary q v serial x h = nacks_fine (drops_corrupt d q) primary q v serial Corrupt (lost d q h)
-
-  member_fine : (d : ServerDoing) (primary : Node) (q v serial : ℕ) (id : DataId) (x : StoreChange) (offset end_place : ℕ) → Fine d → Fine (member_applies d primary q v serial id x offset end_place)
-  member_fine d primary q v serial id x offset end_place h =
-      on_cond Fine (nat_lt (chunk_limit d.server q) end_place) d _ (λ _. h) (λ _. stored_fine (is_writable_at d.server.disk q offset end_place) (takes_data d id) primary q v serial x h)
-
-  data_fine : (d : ServerDoing) (primary : Node) (q v serial : ℕ) (id : DataId) (offset : ℕ) (o : Option (List ℕ)) → Fine d → Fine (applies_data d primary q v serial id offset o)
-  data_fine d primary q v serial id offset None h = nacks_fine d primary q v serial NoData h
-  data_fine d primary q v serial id offset (Some bytes) h = member_fine d primary q v serial id (Write (handle_of q) (serial_of serial) offset bytes) offset (offset + length bytes) h
-
-  change_fine : (d : ServerDoing) (primary : Node) (q v serial : ℕ) (id : DataId) (c : Change) → Fine d → Fine (applies_change d primary q v serial id c)
-  change_fine d primary q v serial id (change.Write offset) h = data_fine d primary q v serial id offset (data_of d.server.pushed id) h
-  change_fine d primary q v serial id (change.Append offset) h = data_fine d primary q v serial id offset (data_of d.server.pushed id) h
-  change_fine d primary q v serial id (change.Pad offset) h =
-      let count : ℕ = chunk_limit d.server q - offset in
-      member_fine d primary q v serial id (Zero (handle_of q) (serial_of serial) offset count) offset (offset + count) h
-
-  forwarded_fine : (d : ServerDoing) (primary : Node) (q v serial : ℕ) (id : DataId) (c : Change) (o : Option Row) → Fine d → Fine (forwarded_to d primary q v serial id c o)
-  forwarded_fine d primary q v serial id c None h = nacks_fine d primary q v serial NoChunk h
-  forwarded_fine d primary q v serial id c (Some r) h =
-      on_cond Fine (r.version.0 == v) _ (nacks d primary q v serial Version)
-      (λ _. on_cond Fine (nat_lt r.serial.0 serial) (applies_change d primary q v serial id c) (nacks d primary q v serial OldSerial) (λ _. change_fine d primary q v serial id c h) (λ _. nacks_fine d primary q v serial OldSerial h))
-      (λ _. nacks_fine d primary q v serial Version h)
-
-  acked_fine : (d : ServerDoing) (q server serial : ℕ) (o : Option SerialOrder) → ((p : SerialOrder) → o ≡ Some p → IsRight F p) → Fine d → Fine (acked_under d q server serial o)
-  acked_fine d q server serial None right h = h
-  acked_fine d q server serial (Some p) right h = acknowledged_fine d q p server serial (right p refl) h
-
-  waiting_fine : (d : ServerDoing) (refusal : Refusal) (o : Option Waiting) → ((w : Waiting) → o ≡ Some w → F (attempt_of w)) → Fine d → Fine (refuses_waiting d refusal (option_map attempt_of o))
-  waiting_fine d refusal None used h = h
-  waiting_fine d refusal (Some w) used h = attempt_refused d (attempt_of w) refusal (λ final. used w refl) h
-
-  nacked_fine : (d : ServerDoing) (q serial : ℕ) (refusal : Refusal) (o : Option SerialOrder) → ((p : SerialOrder) → o ≡ Some p → IsRight F p) → Fine d → Fine (nacked_under d q serial refusal o)
-  nacked_fine d q serial refusal None right h = h
-  nacked_fine d q serial refusal (Some p) right h =
-      waiting_fine (with_primary d q (refused_by p refusal (table.get p.waiting serial))) refusal (table.get p.waiting serial) (λ w at. (right p refl).waits serial w at)
-      (put d.server.leases q (refused_by p refusal (table.get p.waiting serial)) (right_refused F p refusal (table.get p.waiting serial) (right p refl)) h.0, h.1, h.2)
-
-  -- orders
-
-  ordered : (d : ServerDoing) (order : OrderNo) (f : ServerDoing → ServerDoing) → ((e : ServerDoing) → Fine e → Fine (f e)) → Fine d → Fine (on_order d order f)
-  ordered d order f go h = on_cond Fine (is_new_order d.server.disk order.epoch order.count) (f (stores d (SetOrder order))) d (λ _. go (stores d (SetOrder order)) h) (λ _. h)
-
-  recorded : (d : ServerDoing) (q v : ℕ) → Fine d → Fine (records d q v)
-  recorded d q v h = said d Master (body.Recorded (handle_of q) (version_of v)) tt h
-
-  created : (q v : ℕ) (d : ServerDoing) → Fine d → Fine (takes_create d q v)
-  created q v d h =
-      let stored : ServerDoing = stores d (Put (handle_of q) (version_of v) (serial_of 0) []) in
-      on_cond Fine (can_take d q) (records stored q v) d (λ _. recorded stored q v h) (λ _. h)
-
-  raised : (d : ServerDoing) (q v base : ℕ) (o : Option Row) → Fine d → Fine (raises d q v base o)
-  raised d q v base None h = h
-  raised d q v base (Some r) h =
-      let after : ServerDoing = without_lease (stores d (Raise (handle_of q) (version_of v))) q in
-      on_cond Fine (r.version.0 == base) (records after q v) d (λ _. recorded after q v (gone d.server.leases q h.0, h.1, h.2)) (λ _. h)
-
-  granted : (q v end_moment : ℕ) (members : List ℕ) (d : ServerDoing) → Fine d → Fine (takes_grant d q v end_moment members)
-  granted q v end_moment members d h =
-      let held : LeaseHeld = record { version = v; until = end_moment; members = members } in
-      on_cond Fine (holds_version v (row_at d.server.disk q)) (with_primary d q (new_order held)) d (λ _. (put d.server.leases q (new_order held) (right_new F held) h.0, h.1, h.2)) (λ _. h)
-
-  extended_fine : (d : ServerDoing) (q v end_moment : ℕ) (o : Option SerialOrder) → table.get d.server.leases q ≡ o → Fine d → Fine (extends_held d q v end_moment o)
-  extended_fine d q v end_moment None at h = h
-  extended_fine d q v end_moment (Some p) at h =
-      let longer : SerialOrder = record p { held = extended d.server.config.skew_ms p.held end_moment d.server.now } in
-      on_cond Fine (p.held.version == v) (with_primary d q longer) d
-      (λ _. (put d.server.leases q longer (right_extended F p d.server.config.skew_ms end_moment d.server.now (h.0 q p at)) h.0, h.1, h.2)) (λ _. h)
-
-  ended_fine : (d : ServerDoing) (q v : ℕ) (o : Option SerialOrder) → Fine d → Fine (ends_held d q v o)
-  ended_fine d q v None h = h
-  ended_fine d q v (Some p) h = on_cond Fine (p.held.version == v) (without_lease d q) d (λ _. (gone d.server.leases q h.0, h.1, h.2)) (λ _. h)
-
-  revoked : (q v : ℕ) (d : ServerDoing) → Fine d → Fine (takes_revoke d q v)
-  revoked q v d h =
-      let left : ServerDoing = ends_held d q v (table.get d.server.leases q) in
-      said left Master (body.Revoked (handle_of q) (version_of v)) tt (ended_fine d q v (table.get d.server.leases q) h)
-
-  dropped : (d : ServerDoing) (q v : ℕ) (o : Option Row) → Fine d → Fine (drops_old d q v o)
-  dropped d q v None h = h
-  dropped d q v (Some r) h = on_cond Fine (nat_le r.version.0 v) _ d (λ _. (gone d.server.leases q h.0, h.1, h.2)) (λ _. h)
-
-  cloned : (q v source : ℕ) (d : ServerDoing) → Fine d → Fine (takes_clone d q v source)
-  cloned q v source d h = said (record d { server = record d.server { clones = table.insert d.server.clones q v } }) (the_server source) (body.CopyAsk (handle_of q) (version_of v)) tt h
-
-  imaged : (d : ServerDoing) (q v serial : ℕ) (bytes : List ℕ) → Fine d → Fine (takes_image d q v serial bytes)
-  imaged d q v serial bytes h =
-      let stored : ServerDoing = stores d (Put (handle_of q) (version_of v) (serial_of serial) bytes) in
-      let cleared : ServerDoing = record stored { server = record stored.server { clones = table.remove stored.server.clones q } } in
-      on_cond Fine _ (sends cleared Master (body.Cloned (handle_of q) (version_of v))) d (λ _. said cleared Master (body.Cloned (handle_of q) (version_of v)) tt h) (λ _. h)
-
-  locally : (d : ServerDoing) (q v copy copy_version : ℕ) (o : Option Row) → Fine d → Fine (copies_locally d q v copy copy_version o)
-  locally d q v copy copy_version None h = h
-  locally d q v copy copy_version (Some r) h =
-      let stored : ServerDoing = stores d (Copy (handle_of q) (handle_of copy) (version_of copy_version)) in
-      on_cond Fine (r.version.0 == v) _ d
-      (λ _. on_cond Fine (is_copyable_at d.server.disk q) _ (drops_corrupt d q) (λ _. on_cond Fine (can_take d copy) (records stored copy copy_version) d (λ _. recorded stored copy copy_version h) (λ _. h)) (λ _. lost d q h))
-      (λ _. h)
-
   -- A server s that takes an input: what it knows of an attempt that is asked for, and who asks for readings.
   module _ (s : ServerState) (i : NodeInput)
       (knows : (m : Message) (id : DataId) (q : Handle) (v : VersionId) (t : Target) (deadline : Moment) (p : SerialOrder) → i ≡ input.Deliver m → m.body ≡ body.Mutate id q v t deadline → primary_of s q.0 v.0 ≡ Some p
@@ -356,41 +152,6 @@ module _ (F : DataId → Type 0) (G : ℕ → ℕ → Type 0) (Now : ℕ) where
       (reads : (m : Message) (number : ℕ) → i ≡ input.Deliver m → IsReading number m.body → Reads m.sender number) where
     abbrev D : ServerDoing
     D = server_begins s
-
-    takes_fine : (m : Message) (b : Body) → i ≡ input.Deliver m → m.body ≡ b → Fine (server_begins s) → Fine (server_takes (server_begins s) m b)
-    takes_fine m (body.Push id bytes rest) came is h = passed (record D { server = record D.server { pushed = with_data D.server.pushed id bytes } }) id bytes rest (next_hop rest D.server.id) h
-    takes_fine m (body.Mutate id q v t deadline) came is h = under_fine D q.0 id t deadline.0 (primary_of D.server q.0 v.0) (λ p at. (right_primary D q.0 v.0 p at h, (knows m id q v t deadline p came is at).0, (knows m id q v t deadline p came is at).1)) h
-    takes_fine m (body.Read number q v offset count) came is h = read_fine D m.sender number q.0 v.0 offset count (row_at D.server.disk q.0) (reads m number came (subst (IsReading number) (sym is) refl)) h
-    takes_fine m (body.Len number q v) came is h = length_fine D m.sender number v.0 (row_at D.server.disk q.0) (reads m number came (subst (IsReading number) (sym is) refl)) h
-    takes_fine m (body.Forward q v serial id c) came is h = forwarded_fine D m.sender q.0 v.0 serial.0 id c (row_at D.server.disk q.0) h
-    takes_fine m (body.Acked q v serial) came is h = acked_fine D q.0 (server_number m.sender) serial.0 (primary_of D.server q.0 v.0) (λ p at. right_primary D q.0 v.0 p at h) h
-    takes_fine m (body.Nacked q v serial refusal) came is h = nacked_fine D q.0 serial.0 refusal (primary_of D.server q.0 v.0) (λ p at. right_primary D q.0 v.0 p at h) h
-    takes_fine m (body.Create order q v) came is h = ordered D order (λ e. takes_create e q.0 v.0) (created q.0 v.0) h
-    takes_fine m (body.SetVersion order q v base) came is h = ordered D order (λ e. takes_set_version e q.0 v.0 base.0) (λ e g. raised e q.0 v.0 base.0 (row_at e.server.disk q.0) g) h
-    takes_fine m (body.Grant order q v end_moment members) came is h = ordered D order (λ e. takes_grant e q.0 v.0 end_moment.0 members) (granted q.0 v.0 end_moment.0 members) h
-    takes_fine m (body.Revoke order q v) came is h = ordered D order (λ e. takes_revoke e q.0 v.0) (revoked q.0 v.0) h
-    takes_fine m (body.Drop order q v) came is h = ordered D order (λ e. takes_drop e q.0 v.0) (λ e g. dropped e q.0 v.0 (row_at e.server.disk q.0) g) h
-    takes_fine m (body.Clone order q v source) came is h = ordered D order (λ e. takes_clone e q.0 v.0 source.0) (cloned q.0 v.0 source.0) h
-    takes_fine m (body.CopyLocal order q v copy copy_version) came is h =
-        ordered D order (λ e. takes_copy_local e q.0 v.0 copy.0 copy_version.0) (λ e g. locally e q.0 v.0 copy.0 copy_version.0 (row_at e.server.disk q.0) g) h
-    takes_fine m (body.Extend q v end_moment) came is h = extended_fine D q.0 v.0 end_moment.0 (table.get D.server.leases q.0) refl h
-    takes_fine m (body.CopyAsk q v) came is h = copy_fine D m.sender q.0 v.0 (row_at D.server.disk q.0) h
-    takes_fine m (body.Image q v serial bytes) came is h = imaged D q.0 v.0 serial.0 bytes h
-    takes_fine m (body.Name number deadline c) came is h = h
-    takes_fine m (body.Look number c) came is h = h
-    takes_fine m (body.Ask number file wanted deadline lost_lease) came is h = h
-    takes_fine m (body.Named number reply) came is h = h
-    takes_fine m (body.Told number location) came is h = h
-    takes_fine m (body.Wait number) came is h = h
-    takes_fine m (body.Refused number refusal) came is h = h
-    takes_fine m (body.Pushed id) came is h = h
-    takes_fine m (body.Done id place) came is h = h
-    takes_fine m (body.Bytes number bytes) came is h = h
-    takes_fine m (body.LenIs number count) came is h = h
-    takes_fine m (body.Recorded q v) came is h = h
-    takes_fine m (body.Revoked q v) came is h = h
-    takes_fine m (body.Cloned q v) came is h = h
-    takes_fine m (body.Report replicas leases) came is h = h
 
     ticks_fine : Fine (server_begins s) → Fine (server_ticks (server_begins s))
     ticks_fine h = (right, both.1, both.2)
@@ -404,9 +165,103 @@ module _ (F : DataId → Type 0) (G : ℕ → ℕ → Type 0) (Now : ℕ) where
             let there = kept_where_cases (λ e. counts_at D.server.config.skew_ms e.1.held D.server.now) D.server.leases q old.0 old.1 in
             subst (IsRight F) old.2 (right_reported F old.0 (h.0 q old.0 there))
 
+    -- what is known of an attempt under a lease that counts
+    known : (l : Leased s i) → Knowing (server_begins s) l.c.handle.0 l.p l.c.id (mutates_under (server_begins s) l.c.handle.0 l.c.id l.c.aim l.c.deadline.0 (primary_of s l.c.handle.0 l.c.version.0))
+        × (nat_le l.c.deadline.0 s.now ≡ true → F l.c.id)
+    known l = knows l.c.m l.c.id l.c.handle l.c.version l.c.aim l.c.deadline l.p l.c.came l.c.is l.primary
+
+    used : (a : Attempting s i) (x : ServerDoing) → server_does (server_begins s) i ≡ x → IsEnd (server_begins s) a.c.handle.0 a.p a.c.id x → F a.c.id
+    used a x comes end =
+        (knows a.c.m a.c.id a.c.handle a.c.version a.c.aim a.c.deadline a.p a.c.came a.c.is a.primary).0.1 a.new
+        (subst (IsEnd (server_begins s) a.c.handle.0 a.p a.c.id) (sym comes ∙ mutates_there s i a.c) end)
+
+    used_number : (n : Numbering s i) (b : Bool) → is_sound s i n ≡ b
+        → server_does (server_begins s) i ≡ cond b (primary_applies (number_of s i n) n.a.c.handle.0 n.a.p n.a.c.id n.placed) (refuses_attempt (drops_corrupt (number_of s i n) n.a.c.handle.0) n.a.c.id Corrupt) → F n.a.c.id
+    used_number n b is comes = used n.a (places (server_begins s) n.a.c.handle.0 n.a.p n.a.c.id n.placed) (comes ∙ placed_there s i n b is) (inr (n.placed, refl, n.room))
+
+    module _ (h : Fine (server_begins s)) where
+      right : (q v : ℕ) (p : SerialOrder) → primary_of s q v ≡ Some p → IsRight F p
+      right q v p is = right_primary (server_begins s) q v p is h
+
+      denies_fine : (a : Attempting s i) (refusal : Refusal) → server_does (server_begins s) i ≡ denies (server_begins s) a.c.handle.0 a.p a.c.id refusal
+          → Fine (denies (server_begins s) a.c.handle.0 a.p a.c.id refusal)
+      denies_fine a refusal comes =
+          denied_fine D a.c.handle.0 a.p a.c.id refusal (used a (denies (server_begins s) a.c.handle.0 a.p a.c.id refusal) comes (inl (refusal, refl))) (right a.c.handle.0 a.c.version.0 a.p a.primary) h
+
+      number_right : (n : Numbering s i) → F n.a.c.id → IsRight F (numbered n.a.p n.a.c.id.client n.a.c.id.seq (place_of n.placed))
+      number_right n is = right_numbered F n.a.p n.a.c.id (place_of n.placed) is (right n.a.c.handle.0 n.a.c.version.0 n.a.p n.a.primary)
+
+      number_fine : (n : Numbering s i) → F n.a.c.id → Fine (number_of s i n)
+      number_fine n is = (put s.leases n.a.c.handle.0 (numbered n.a.p n.a.c.id.client n.a.c.id.seq (place_of n.placed)) (number_right n is) h.0, tt, h.2)
+
+      applied_fine : (n : Numbering s i) → F n.a.c.id → Fine (primary_applies (number_of s i n) n.a.c.handle.0 n.a.p n.a.c.id n.placed)
+      applied_fine n is =
+          let q : ℕ = n.a.c.handle.0 in
+          let serial : ℕ = n.a.p.serial + 1 in
+          let stored : ServerDoing = stores (number_of s i n) (stored_as s.config.chunk q serial n.placed) in
+          acknowledged_fine (forwards stored (without n.a.p.held.members s.id) q n.a.p.held.version serial n.a.c.id (change_of n.placed)) q (numbered n.a.p n.a.c.id.client n.a.c.id.seq (place_of n.placed)) s.id serial
+          (number_right n is) (forwards_fine stored (without n.a.p.held.members s.id) q n.a.p.held.version serial n.a.c.id (change_of n.placed) (number_fine n is))
+
+      outcomes : Outcomes s i (λ d. server_does (server_begins s) i ≡ d → Fine d)
+      outcomes =
+          record {
+            rests = λ e. h;
+            ticks = λ came e. ticks_fine h;
+            ends_push = λ c e. (h.0, (tt, tt), h.2);
+            passes_push = λ c next e. (h.0, (tt, tt), h.2);
+            misses_chunk = λ c e. refused D c.m.sender c.number NoChunk (reading_caused F G c.number NoChunk c.m.sender (reads c.m c.number c.came c.is)) h;
+            misses_version = λ c e. refused D c.m.sender c.number Version (reading_caused F G c.number Version c.m.sender (reads c.m c.number c.came c.is)) h;
+            reads_rot = λ c e.
+                refused (drops_corrupt D c.handle.0) c.m.sender c.number Corrupt
+                (reading_caused F G c.number Corrupt c.m.sender (reads c.m c.number c.came (subst (IsReading c.number) (sym c.is) refl))) (lost D c.handle.0 h);
+            reads = λ c r bytes found same is e. (h.0, (tt, tt), h.2);
+            measures = λ c r found same e. (h.0, (tt, tt), h.2);
+            copies_rot = λ c e. lost D c.handle.0 h;
+            copies = λ c r bytes found same is e. (h.0, (tt, tt), h.2);
+            lacks_lease = λ c e. attempt_refused D c.id NoLease (λ final. absurd final) h;
+            is_late = λ l late e. attempt_refused D l.c.id Late (λ final. (known l).1 late) h;
+            is_old = λ l old e. attempt_refused D l.c.id OldRequest (λ final. (known l).0.0 old) h;
+            was_placed = λ l place is e.
+                said D (the_client l.c.id.client.0) (body.Done l.c.id place) (kept_used l.p l.c.id (IsSettled (Some place)) is (right l.c.handle.0 l.c.version.0 l.p l.primary)) h;
+            was_padded = λ l is e. attempt_refused D l.c.id ChunkFull (λ final. kept_used l.p l.c.id (IsSettled None) is (right l.c.handle.0 l.c.version.0 l.p l.primary)) h;
+            was_refused = λ l refusal is e. attempt_refused D l.c.id refusal (λ final. kept_used l.p l.c.id (IsRefused refusal) is (right l.c.handle.0 l.c.version.0 l.p l.primary)) h;
+            lacks_data = λ a e. denies_fine a NoData e;
+            is_long = λ a e. denies_fine a ServerTooLong e;
+            is_full = λ a e. denies_fine a ChunkFull e;
+            spoils = λ n rotten e.
+                let told = used_number n false rotten e in
+                attempt_refused (drops_corrupt (number_of s i n) n.a.c.handle.0) n.a.c.id Corrupt (λ final. told) (lost (number_of s i n) n.a.c.handle.0 (number_fine n told));
+            applies = λ n sound e. applied_fine n (used_number n true sound e);
+            lacks_replica = λ c none e. (h.0, (tt, tt), h.2);
+            has_version = λ c r found other e. (h.0, (tt, tt), h.2);
+            has_serial = λ f least e. (h.0, (tt, tt), h.2);
+            lacks_bytes = λ f none e. (h.0, (tt, tt), h.2);
+            stores_rot = λ t rotten e. (gone s.leases t.f.c.handle.0 h.0, (tt, tt), h.2);
+            stored = λ t sound e. (h.0, (tt, tt), h.2);
+            acked = λ c p primary e. acknowledged_fine D c.handle.0 p (server_number c.m.sender) c.serial.0 (right c.handle.0 c.version.0 p primary) h;
+            nacked = λ c p w primary waits e.
+                let was = right c.handle.0 c.version.0 p primary in
+                attempt_refused (with_primary D c.handle.0 (refused_by p c.refusal (Some w))) (attempt_of w) c.refusal (λ final. was.waits c.serial.0 w waits)
+                (put s.leases c.handle.0 (refused_by p c.refusal (Some w)) (right_refused F p c.refusal (Some w) was) h.0, tt, h.2);
+            nacked_late = λ c p primary e. (put s.leases c.handle.0 p (right c.handle.0 c.version.0 p primary) h.0, tt, h.2);
+            orders = λ o new e. h;
+            creates = λ c new none e. (h.0, (tt, tt), h.2);
+            raised = λ c r new found same e. (gone s.leases c.handle.0 h.0, (tt, tt), h.2);
+            grants = λ c new holds e.
+                let held : LeaseHeld = record { version = c.version.0; until = c.end_moment.0; members = c.members } in
+                (put s.leases c.handle.0 (new_order held) (right_new F held) h.0, tt, h.2);
+            revokes = λ c q new same e. (gone s.leases c.handle.0 h.0, (tt, tt), h.2);
+            revoked = λ c new apart e. (h.0, (tt, tt), h.2);
+            drops = λ c r new found old e. lost D c.handle.0 h;
+            clones = λ c new e. (h.0, (tt, tt), h.2);
+            copied = λ c r new found same sound none e. (h.0, (tt, tt), h.2);
+            copied_rot = λ c new e. lost D c.handle.0 h;
+            extends = λ c q same e. (put s.leases c.handle.0 (until_later s q.p c.end_moment.0) (right_extended F q.p s.config.skew_ms c.end_moment.0 s.now (h.0 c.handle.0 q.p q.there)) h.0, tt, h.2);
+            installs = λ c pending fits none e. (h.0, (tt, tt), h.2);
+          }
+
     does_fine : (j : NodeInput) → i ≡ j → Fine (server_begins s) → Fine (server_does (server_begins s) j)
-    does_fine (input.Deliver m) came h = takes_fine m m.body came refl h
-    does_fine input.Tick came h = ticks_fine h
+    does_fine j came h = does_comes s i (λ d. server_does (server_begins s) i ≡ d → Fine d) (outcomes h) j came (ap (λ (x : NodeInput). server_does (server_begins s) x) came)
 
   -- what a step leaves: its leases are right, and each answer that it tells is caused
   abbrev pub Leaves : Taken ServerState → Type 0
@@ -423,7 +278,8 @@ module _ (F : DataId → Type 0) (G : ℕ → ℕ → Type 0) (Now : ℕ) where
   pub step_leaves : (s : ServerState) (moment : ℕ) (i : NodeInput) (choice : Choice)
       → ((m : Message) (id : DataId) (q : Handle) (v : VersionId) (t : Target) (deadline : Moment) (p : SerialOrder) → i ≡ input.Deliver m → m.body ≡ body.Mutate id q v t deadline → primary_of (server_at s moment) q.0 v.0 ≡ Some p
       → Knowing (server_begins (server_at s moment)) q.0 p id (mutates_under (server_begins (server_at s moment)) q.0 id t deadline.0 (primary_of (server_at s moment) q.0 v.0)) × (nat_le deadline.0 (server_at s moment).now ≡ true → F id))
-      → ((m : Message) (number : ℕ) → i ≡ input.Deliver m → IsReading number m.body → Reads m.sender number) → (server_at s moment).now ≡ Now → AreRight F s.leases → Leaves (server_step s moment i choice)
+      → ((m : Message) (number : ℕ) → i ≡ input.Deliver m → IsReading number m.body → Reads m.sender number) → (server_at s moment).now ≡ Now → AreRight F s.leases
+      → Leaves (server_step s moment i choice)
   step_leaves s moment i choice knows reads clock h =
       on_cond Leaves s.up (server_ends s (server_goes s moment i) choice choice.ending) (no_step s)
       (λ _. ends_fine s (server_goes s moment i) choice choice.ending (does_fine (server_at s moment) i knows reads i refl (h, tt, clock))) (λ _. (h, tt))

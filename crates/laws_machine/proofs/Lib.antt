@@ -39,7 +39,6 @@ pub mod MasterSteps
 pub mod NotesBelow
 pub mod OverRounds
 pub mod OwnParts
-pub mod Parts
 pub mod PassedRounds
 pub mod ReadPieces
 pub mod RecordDues

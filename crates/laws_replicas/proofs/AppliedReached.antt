@@ -35,7 +35,7 @@ use Rattle.laws_base.proofs.Entries.{AllOf}
 use Rattle.laws_base.proofs.LeasesTold.{numbered_from}
 use Rattle.laws_base.proofs.MembersRecorded.{all_at}
 use Rattle.laws_base.proofs.MessagesSent.{IsSent, sent_cases, none_sent, numbered_sent}
-use Rattle.laws_steps.proofs.Events.{IsGiven, with_call, with_rot}
+use Rattle.laws_steps.proofs.Events.{IsGiven, with_call, with_rot, is_kept_after, HoldsExactly, holds_exactly}
 use Rattle.laws_steps.proofs.ClientNumbers.{IsSaid, IsStepOf, of_step, of_call}
 use Rattle.laws_steps.proofs.RequestsOnce.{numbered_reached}
 use Rattle.laws_steps.proofs.LeasesStayOver.{reached_later}
@@ -46,7 +46,6 @@ use Rattle.laws_entries.proofs.RoundsPassed.{server_shown}
 use Rattle.laws_entries.proofs.CountedRounds.{set_split, comes_in}
 use Rattle.laws_steps.proofs.Lengths.{settings_stay}
 use Rattle.laws_entries.proofs.Forwards.{images_are_of_replicas}
-use Rattle.laws_replicas.proofs.ExactEvents.{is_kept_after, HoldsExactly, holds_exactly}
 use Rattle.laws_replicas.proofs.KeptDisks.{none_more, replicas_are_read_as_stored}
 use Rattle.laws_replicas.specs.CopiedEntries.{Follows}
 use Rattle.laws_replicas.proofs.OrdersGrow.{IsAny, same_follows, orders_grow}

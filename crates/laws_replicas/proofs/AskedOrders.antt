@@ -1,41 +1,36 @@
 -- What the master orders of versions as it takes an Ask: a SetVersion goes above its base, which a server holds, and a CopyLocal is of a shared chunk and goes to the copy that begins in the same step, above the version that it copies. A Create is of a chunk of which nothing was granted, or of a copy that begins of one.
 use Rattle.std.proofs.Common.{◌≡◌, ◌⊎◌, ℕ, zero, suc, ◌+◌, ◌≤◌, ◌<◌, Bool, true, false, List, [], ◌∷◌, ◌++◌, length, map, Option, Some, None, refl, sym, ap, subst, ◌∙◌, inl, inr, arith}
 use Rattle.std.specs.Prelude.{◌==◌, nat_lt, nat_le, cond, unwrap_or}
-use Rattle.std.specs.List.{filter_map, cons_option}
+use Rattle.std.specs.List.{filter_map}
 use Rattle.std.proofs.lemmas.Bool.{ltb-true, ltb-false, leb-true}
 use Rattle.std.proofs.Math.Nat.{le-max_left}
 use Rattle.std.specs.FinMap as table
 use Rattle.gfs_types.specs.declared.ids.Node.{Node}
 use Rattle.gfs_types.specs.declared.ids.Node.TheVariants as node
 use Rattle.gfs_types.specs.declared.ids.OrderNo.{OrderNo}
-use Rattle.gfs_types.specs.declared.call.Call.{Call}
-use Rattle.gfs_types.specs.declared.call.Call.TheVariants as call
-use Rattle.gfs_types.specs.declared.refusal.Refusal.{Refusal}
-use Rattle.gfs_types.specs.declared.refusal.Refusal.TheVariants.{TooLong, Collected, NamesFull}
+use Rattle.gfs_types.specs.declared.refusal.Refusal.TheVariants.{TooLong, Collected}
 use Rattle.messages.specs.declared.message.Body.{Body}
 use Rattle.messages.specs.declared.message.Body.TheVariants as body
 use Rattle.messages.specs.declared.message.Message.{Message}
 use Rattle.messages.specs.declared.message.Holder.{Holder}
 use Rattle.messages.specs.declared.message.Wanted.{Wanted}
 use Rattle.messages.specs.declared.message.Wanted.TheVariants as wanted
-use Rattle.messages.specs.declared.message.NameReply.TheVariants.{Answered}
 use Rattle.messages.specs.declared.event.NodeInput.{NodeInput}
 use Rattle.messages.specs.declared.event.NodeInput.TheVariants as input
 use Rattle.log_records.specs.declared.record.Record.{Record}
 use Rattle.log_records.specs.declared.record.Record.TheVariants as log
-use Rattle.relaxed_file.specs.NameStep.{needs_room}
 use Rattle.chunk_table.specs.ChunkTable.{ChunkRow, new_row, chunk_of, file_of, handles_of}
 use Rattle.leases.specs.LeaseEnds.{has_ended}
 use Rattle.protocol.specs.Tables.{element_at}
 use Rattle.protocol.specs.LogSizes.{checkpoint_fits}
-use Rattle.protocol.specs.Sending.{message, client_id, file_id, handle_of, version_of, the_server, the_client}
+use Rattle.protocol.specs.Sending.{message, file_id, handle_of, version_of, the_server}
 use Rattle.protocol.specs.Choice.{Choice, Ending, Goes, Lost, Stops}
 use Rattle.protocol.specs.Seen.{Taken, no_step}
 use Rattle.protocol.specs.declared.seen.Seen.{Seen}
 use Rattle.protocol.specs.declared.seen.Seen.TheVariants.{CopyStarted}
 use Rattle.protocol.specs.Logged.{Logged, checkpoint_of, copies_given_up}
 use Rattle.protocol.specs.Master.{MasterState, MasterDoing, PendingSnapshot, HeldAt, master_begins, tells, orders, logs, logs_after_checkpoint, appends, fits, writes_checkpoint, is_of_copy, with_attempt, gives_up_copy, holders_where, current_holders, present_current_holders, held_where, version_held, servers_of, is_present, has_lease}
-use Rattle.protocol.specs.MasterSnapshots.{revokes_row, revokes, reply_of, answers_name, settles_name, refuses_name, changes_names, first_is_true, all_but_first, lets_go, takes_snapshot, takes_ready, is_ready, waits_for}
+use Rattle.protocol.specs.MasterSnapshots.{revokes_row, revokes, takes_ready, waits_for}
 use Rattle.protocol.specs.MasterVersions.{Asker, VersionTarget, holder_line, group_of, tells_location, tells_holders, tells_none, tells_to_wait, version_order, sends_versions, new_attempt, sends_issued, issues_to, targets_by, recorded_holders, placement, placed_targets, issues_own, is_attempted, copy_order, sends_copies, copy_targets, sends_copy_started, copies_to, begins_copy, copy_for, is_copied, wants_own, wants_own_of, issues_copy, wants_copy, wants_by, wants_primary, holder_target}
 use Rattle.protocol.specs.MasterAsks.{looks_at_row, looks_at, mutates_row, mutates_at, adds_chunk, with_index, asks_to_write, asks_to_append, asks_for_last, asks_for, asks_of, takes_ask}
 use Rattle.protocol.specs.MasterStep.{master_takes, master_at, master_goes, may_end, master_bounded, master_ends, master_step}
@@ -43,7 +38,9 @@ use Rattle.laws_base.proofs.Words.{true_false}
 use Rattle.laws_base.proofs.Steps.{on_cond, none_some, put_cases, removed_cases}
 use Rattle.laws_base.proofs.Entries.{AllOf, all_joined, all_filtered}
 use Rattle.laws_base.proofs.MembersRecorded.{all_in_order}
-use Rattle.laws_versions.proofs.MasterCauses.{is_caused, IsAsk, Causes, step_caused}
+use Rattle.laws_steps.proofs.MasterPremises.{IsAsk, IsOfCalls, StepEffects, NameKeeps}
+use Rattle.laws_steps.proofs.MasterWalk.{IsHolder, all_hold, ready_here}
+use Rattle.laws_versions.proofs.MasterCauses.{is_caused, Causes, step_caused}
 
 -- a server holds this version of the chunk
 abbrev pub IsHeldBySome : MasterState → ℕ → ℕ → Type 0
@@ -81,27 +78,13 @@ IsAskBody (body.Ask number file w deadline lost) = Unit {0}
 IsAskBody other = ⊥
 
 -- holders that pass a test are of what the master believes
-abbrev IsHolder : MasterState → ℕ → (ℕ → Bool) → HeldAt → Type 0
-IsHolder n handle test x = (version_held n handle x.server ≡ Some x.version) × (test x.version ≡ true)
-
-holders_pass : (n : MasterState) (handle : ℕ) (test : ℕ → Bool) (servers : List ℕ) → AllOf (IsHolder n handle test) (filter_map (λ s. held_where test s (version_held n handle s)) servers)
-holders_pass n handle test [] = tt
-holders_pass n handle test (s ∷ rest) = first (version_held n handle s) refl (holders_pass n handle test rest)
-  where
-    others : List HeldAt
-    others = filter_map (λ t. held_where test t (version_held n handle t)) rest
-
-    first : (o : Option ℕ) → version_held n handle s ≡ o → AllOf (IsHolder n handle test) others → AllOf (IsHolder n handle test) (cons_option (held_where test s o) others)
-    first None is all = all
-    first (Some version) is all =
-        on_cond (λ (o : Option HeldAt). AllOf (IsHolder n handle test) (cons_option o others)) (test version) (Some (record { server = s; version = version })) None (λ passes. ((is, passes), all)) (λ _. all)
 
 all_held : (n : MasterState) (handle : ℕ) (test : ℕ → Bool) (holders : List HeldAt) → AllOf (IsHolder n handle test) holders → AllOf (λ (x : HeldAt). version_held n handle x.server ≡ Some x.version) holders
 all_held n handle test [] all = tt
 all_held n handle test (x ∷ rest) all = ((all.0).0, all_held n handle test rest all.1)
 
 holders_held : (n : MasterState) (handle : ℕ) (test : ℕ → Bool) (servers : List ℕ) → AllOf (λ (x : HeldAt). version_held n handle x.server ≡ Some x.version) (filter_map (λ s. held_where test s (version_held n handle s)) servers)
-holders_held n handle test servers = all_held n handle test (filter_map (λ s. held_where test s (version_held n handle s)) servers) (holders_pass n handle test servers)
+holders_held n handle test servers = all_held n handle test (filter_map (λ s. held_where test s (version_held n handle s)) servers) (all_hold n handle test servers)
 
 -- what is held was issued
 abbrev pub IsLow : MasterState → Type 0
@@ -151,32 +134,24 @@ module _ (m : MasterState) (low : IsLow m) (apart : AreOwn m) where
       (λ _. on_cond Fine (checkpoint_fits d.master.config.log_bytes (checkpoint_of d.master.logged)) (logs_after_checkpoint (writes_checkpoint d) r (is_of_copy d.master.logged r) then_) d
       (λ _. on_cond Fine _ (then_ (appends (writes_checkpoint d) r)) (writes_checkpoint d) (λ _. go (appends (writes_checkpoint d) r) refl refl) (λ _. h)) (λ _. h))
 
-  -- snapshots that are taken
-
-  answered : (d : MasterDoing) (client number : ℕ) (o : Option Refusal) → Fine d → Fine (answers_name d client number o)
-  answered d client number o h = said d (the_client client) (body.Named number (Answered (reply_of o))) tt h
-
   same_fine : (d e : MasterDoing) → e.seen ≡ d.seen → e.sent ≡ d.sent → Fine d → Fine e
   same_fine d e seen sent h = subst (λ (xs : List Seen). AllOf (λ x. IsHigher m xs x.body) e.sent) (sym seen) (subst (λ (ms : List Message). AllOf (λ x. IsHigher m d.seen x.body) ms) (sym sent) h)
 
-  settled : (d : MasterDoing) (client number : ℕ) (r : Record) (o : Option Refusal) → Fine d → Fine (settles_name d client number r o)
-  settled d client number r o h = logged d r (λ e. answers_name e client number o) h (λ e seen sent. answered e client number o (same_fine d e seen sent h))
+  -- snapshots that are taken
 
-  refused : (d : MasterDoing) (client number : ℕ) (refusal : Refusal) → Fine d → Fine (refuses_name d client number refusal)
-  refused d client number refusal h = settled d client number (log.Refused (client_id client) number refusal) (Some refusal) h
+  abbrev AreHigherSoFar : StepEffects → Type 0
+  AreHigherSoFar g = AllOf (λ x. IsHigher m g.seen x.body) g.sent
 
-  changed : (d : MasterDoing) (client number : ℕ) (c : Call) (r : Record) → Fine d → Fine (changes_names d client number c r)
-  changed d client number c r h =
-      let tried : MasterDoing = record d { refused = all_but_first d.refused } in
-      on_cond Fine (needs_room c) _ (settles_name d client number r None)
-      (λ _. on_cond Fine (first_is_true d.refused) (refuses_name tried client number NamesFull) (settles_name tried client number r None) (λ _. refused tried client number NamesFull h) (λ _. settled tried client number r None h))
-      (λ _. settled d client number r None h)
+  names : NameKeeps IsOfCalls AreHigherSoFar
+  names =
+      record {
+        named = λ g receiver number reply h. all_joined (λ x. IsHigher m g.seen x.body) g.sent (message node.Master receiver (body.Named number reply) ∷ []) h (tt, tt);
+        recorded = λ g r is h. h;
+        checkpointed = λ g items h. h;
+      }
 
   ready : (d : MasterDoing) (ss : List PendingSnapshot) → Fine d → Fine (takes_ready d ss)
-  ready d [] h = h
-  ready d (s ∷ ss) h =
-      on_cond (λ (e : MasterDoing). Fine (takes_ready e ss)) (is_ready d.master s) (takes_snapshot d s) d
-      (λ _. ready (takes_snapshot d s) ss (changed (lets_go d s) s.client s.number (call.Snapshot s.from s.to) (log.Snapshot (client_id s.client) s.number s.from s.to) h)) (λ _. ready d ss h)
+  ready d ss h = ready_here IsOfCalls (λ r is. is) AreHigherSoFar names d ss h
 
   -- what is said of locations
 
@@ -306,7 +281,7 @@ module _ (m : MasterState) (low : IsLow m) (apart : AreOwn m) where
       → AllOf (IsCopier (CopyStarted (handle_of handle) (handle_of copy) ∷ []) handle copy (suc row.issued)) (copy_targets d.master handle row)
   copied d kept handle row own at many copy =
       on_cond (AllOf Source) (nat_lt 0 row.granted) (map holder_target (current_holders d.master handle row)) (map (λ s. record { server = s; base = None }) (placement d.master))
-      (λ _. held_sources (current_holders d.master handle row) (holders_pass d.master handle (λ v. nat_le row.granted v) (servers_of d.master)))
+      (λ _. held_sources (current_holders d.master handle row) (all_hold d.master handle (λ v. nat_le row.granted v) (servers_of d.master)))
       (λ none. placed_sources (let most = ltb-false 0 row.granted none in omega (arith, most)) (placement d.master))
     where
       Source : VersionTarget → Type 0

@@ -49,7 +49,8 @@ use Rattle.laws_steps.proofs.EndedLeases.{ended_leases_are_over}
 use Rattle.laws_steps.proofs.Events.{with_call, HoldsAfter}
 use Rattle.laws_versions.proofs.UnaskedSteps.{ready, does_kept}
 use Rattle.laws_versions.proofs.FreeSources.{AreFree}
-use Rattle.laws_versions.proofs.CopiedSources.{IsAsk, asked_or_not, free_reached, copied_chunks_have_no_lease}
+use Rattle.laws_steps.proofs.MasterPremises.{IsAsk}
+use Rattle.laws_versions.proofs.CopiedSources.{asked_or_not, free_reached, copied_chunks_have_no_lease}
 use Rattle.laws_versions.proofs.LeaseLaws.{told_ends_are_the_masters}
 use Rattle.laws_entries.specs.Entries.{IsAmong}
 use Rattle.laws_entries.proofs.Stemming.{came_in}

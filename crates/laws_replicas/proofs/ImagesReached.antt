@@ -47,7 +47,7 @@ use Rattle.laws_entries.proofs.Within.{entries_lie_within_the_chunk}
 use Rattle.laws_entries.proofs.RoundsPassed.{IsOfServers, server_shown}
 use Rattle.laws_steps.proofs.Lengths.{settings_stay}
 use Rattle.laws_entries.proofs.Forwards.{images_are_of_replicas}
-use Rattle.laws_replicas.proofs.ExactEvents.{HoldsExactly, holds_exactly}
+use Rattle.laws_steps.proofs.Events.{HoldsExactly, holds_exactly}
 use Rattle.laws_replicas.proofs.KeptDisks.{none_more, found_made, take_whole, frame_kept, replicas_are_read_as_stored}
 use Rattle.laws_replicas.specs.CopiedEntries.{Follows}
 use Rattle.laws_replicas.proofs.OrdersGrow.{IsAny, same_follows, all_grow, orders_grow}

@@ -34,7 +34,7 @@ use Rattle.laws_steps.proofs.ServerActs.{goes_fine}
 use Rattle.laws_steps.proofs.Lengths.{all_taken}
 use Rattle.laws_steps.proofs.HeldReplicas.{IsNumber, numbers_quiet, changed_last}
 use Rattle.laws_replicas.specs.StoredChanges.{ReplicasAreReadAsStored, ReadsAreAsStored}
-use Rattle.laws_replicas.proofs.ExactEvents.{HoldsExactly, holds_exactly}
+use Rattle.laws_steps.proofs.Events.{HoldsExactly, holds_exactly}
 use Rattle.laws_replicas.proofs.StoreCauses.{IsNumbered, IsWritable, IsStoredFor, AreMade, AreMadeOn, step_made}
 use Rattle.laws_replicas.proofs.SoundBlocks.{zeros, alike_long, IsRotNoticed, rotten_sound, written_sound, read_whole, read_part}
 

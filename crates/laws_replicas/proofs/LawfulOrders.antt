@@ -49,7 +49,7 @@ use Rattle.laws_replicas.specs.LawfulOrders.{IsPlaceBehind, MayFollow, IsMadeOf,
 use Rattle.laws_replicas.specs.SkippedRounds.{up_to}
 use Rattle.laws_replicas.proofs.Acknowledging.{settled_mutations_were_acknowledged}
 use Rattle.laws_replicas.proofs.AppliedReached.{kept_of, kept_both}
-use Rattle.laws_replicas.proofs.ExactEvents.{HoldsExactly, holds_exactly}
+use Rattle.laws_steps.proofs.Events.{HoldsExactly, holds_exactly}
 use Rattle.laws_replicas.proofs.ImagesReached.{answered_kept}
 use Rattle.laws_replicas.proofs.LawfulPlaces.{numbered_data, numbered_mutations_may_follow}
 use Rattle.laws_replicas.proofs.Rising.{orders_rise}

@@ -1,277 +1,31 @@
 -- A member says Nacked only of a mutation that was forwarded to it in this step, for a cause in its replica or its data.
-use Rattle.std.proofs.Common.{◌≡◌, ℕ, ◌+◌, ◌-◌, Bool, true, false, List, [], ◌∷◌, ◌++◌, length, map, Option, Some, None, refl, sym, subst}
-use Rattle.std.specs.Prelude.{nat_le, nat_lt, ◌==◌, ◌&&◌}
-use Rattle.std.specs.Option.{option_map}
-use Rattle.std.specs.FinMap as table
-use Rattle.std.proofs.lemmas.Bool.{eqb-true, eqb-false, ltb-false}
+use Rattle.std.proofs.Common.{◌≡◌, ℕ, List, [], ◌∷◌, Option, Some, None, refl, sym, subst}
 use Rattle.gfs_types.specs.declared.ids.Serial.{Serial}
-use Rattle.protocol.specs.Sending.{message, the_server, the_client}
-use Rattle.protocol.specs.Server.{sends, without_lease}
-use Rattle.gfs_types.specs.declared.ids.Node.TheVariants.{Master}
-use Rattle.protocol.specs.ServerWrites.{forward_to, nacks}
-use Rattle.protocol.specs.ServerOrders.{records, is_pending_clone}
-use Rattle.laws_base.proofs.Entries.{AllOf, all_joined}
+use Rattle.laws_base.proofs.Entries.{AllOf}
 use Rattle.laws_base.proofs.MembersRecorded.{all_in_order}
-use Rattle.gfs_types.specs.declared.ids.Node.{Node}
-use Rattle.gfs_types.specs.declared.ids.ServerId.{ServerId}
-use Rattle.gfs_types.specs.declared.ids.DataId.{DataId}
 use Rattle.gfs_types.specs.declared.ids.Handle.{Handle}
-use Rattle.gfs_types.specs.declared.ids.OrderNo.{OrderNo}
 use Rattle.gfs_types.specs.declared.refusal.Refusal.{Refusal}
-use Rattle.gfs_types.specs.declared.refusal.Refusal.TheVariants.{Corrupt, Late, NoData, ServerTooLong, ChunkFull, NoChunk, NoLease, OldRequest, OldSerial, Version}
-use Rattle.gfs_types.specs.declared.mutation.Mutation.{Mutation}
-use Rattle.gfs_types.specs.declared.mutation.Mutation.TheVariants as mutation
-use Rattle.gfs_types.specs.Mutations.{start_of, end_of}
+use Rattle.gfs_types.specs.declared.refusal.Refusal.TheVariants.{Corrupt, NoData, NoChunk, OldSerial, Version}
 use Rattle.messages.specs.declared.message.Body.{Body}
 use Rattle.messages.specs.declared.message.Body.TheVariants as body
 use Rattle.messages.specs.declared.message.Message.{Message}
-use Rattle.messages.specs.declared.message.Target.{Target}
-use Rattle.messages.specs.declared.message.Target.TheVariants as target
-use Rattle.messages.specs.declared.message.Change.{Change}
-use Rattle.messages.specs.declared.message.Change.TheVariants as change
 use Rattle.messages.specs.declared.event.NodeInput.{NodeInput}
-use Rattle.messages.specs.declared.event.NodeInput.TheVariants as input
-use Rattle.record_append.specs.declared.placing.Placing.{Placing}
-use Rattle.record_append.specs.declared.placing.Placing.TheVariants.{At, Pad, Full, TooLong}
-use Rattle.record_append.specs.Placing.{placing}
-use Rattle.data_push.specs.Buffers.{data_of, with_data}
-use Rattle.replica_store.specs.declared.row.Row.{Row}
 use Rattle.replica_store.specs.declared.change.StoreChange.{StoreChange}
-use Rattle.replica_store.specs.declared.change.StoreChange.TheVariants.{SetOrder, Put, Write, Zero, Raise, Copy, Remove}
-use Rattle.replica_store.specs.Replicas.{is_new_order, row_at, read_at, is_copyable_at, is_writable_at, disk_changed_by_all}
-use Rattle.primary_order.specs.declared.answer.Attempted.{Attempted}
-use Rattle.primary_order.specs.declared.answer.Attempted.TheVariants.{IsNew, IsRepeat, IsOld}
-use Rattle.primary_order.specs.declared.answer.Settled.{Settled}
-use Rattle.primary_order.specs.declared.kept.Standing.TheVariants.{IsPending, IsSettled, IsRefused}
-use Rattle.primary_order.specs.declared.order.SerialOrder.{SerialOrder}
-use Rattle.primary_order.specs.PrimaryOrder.{place_of}
-use Rattle.primary_order.specs.SerialOrder.{attempted, denied, numbered, settled, acknowledged, refused_by, attempt_of}
-use Rattle.gfs_types.specs.Counters.{counter_limit}
-use Rattle.protocol.specs.Tables.{without, element_at}
-use Rattle.protocol.specs.Sending.{handle_of, version_of, serial_of, server_number}
-use Rattle.protocol.specs.PushBuffer.{next_hop, hops_after}
+use Rattle.replica_store.specs.Replicas.{disk_changed_by_all}
+use Rattle.protocol.specs.Tables.{element_at}
 use Rattle.protocol.specs.Choice.{Choice, Ending, Goes, Lost, Stops, in_order}
 use Rattle.protocol.specs.Seen.{Taken, no_step}
-use Rattle.protocol.specs.declared.seen.Seen.{Seen}
-use Rattle.protocol.specs.declared.seen.Seen.TheVariants.{Numbered, BecameSettled}
-use Rattle.protocol.specs.Server.{ServerState, ServerDoing, server_begins, chunk_limit, stores, shows, with_primary, takes_data, drops_corrupt, primary_of}
-use Rattle.protocol.specs.ServerReads.{answers_bytes, reads_from, measures, sends_image, copies_out}
-use Rattle.protocol.specs.ServerWrites.{passes_on, refuses_attempt, answers_settled, denies, forwards, settles, acknowledges, change_of, stored_as, primary_applies, places, appends_as, mutates_with, mutates_new, mutates_as, mutates_under, member_stores, member_applies, applies_data, applies_change, forwarded_to, acked_under, refuses_waiting, nacked_under}
-use Rattle.protocol.specs.ServerOrders.{on_order, can_take, takes_create, raises, takes_set_version, holds_version, takes_grant, extends_held, ends_held, takes_revoke, drops_old, takes_drop, takes_clone, takes_image, copies_locally, takes_copy_local}
-use Rattle.protocol.specs.ServerStep.{server_at, server_takes, server_goes, server_ends}
+use Rattle.protocol.specs.Server.{ServerState, ServerDoing}
+use Rattle.protocol.specs.ServerStep.{server_at, server_goes, server_ends}
 use Rattle.laws_base.proofs.Steps.{on_cond}
 use Rattle.gfs_types.specs.declared.ids.Version.{Version as VersionId}
-use Rattle.replica_store.specs.Replicas.{Replica, replica_of, row_of}
+use Rattle.replica_store.specs.Replicas.{Replica, ServerDisk, replica_of, row_of}
 use Rattle.laws_base.proofs.MembersRecorded.{all_at}
 use Rattle.laws_base.proofs.Steps.{none_some, gone_there}
+use Rattle.laws_base.proofs.ServerWalk.{Forwarding}
+use Rattle.laws_steps.proofs.ServerSays.{IsNackedFor, IsSaid, IsWord, goes_says}
 use Rattle.laws_replicas.specs.RefusedMutations.{IsRefusedFor, IsRefusal, NackedMutationsWereForwarded}
 
-abbrev IsNoNacked : Body → Type 0
-IsNoNacked (body.Nacked handle version serial refusal) = ⊥
-IsNoNacked other = Unit {0}
-
-abbrev IsNoForward : Body → Type 0
-IsNoForward (body.Forward handle version serial id c) = ⊥
-IsNoForward other = Unit {0}
-
--- no other message makes a server say Nacked
-
-abbrev Fine : ServerDoing → Type 0
-Fine d = AllOf (λ m. IsNoNacked m.body) d.sent
-
--- nothing was said so far
-abbrev Quiet : ServerDoing → Type 0
-Quiet d = d.sent ≡ []
-
-fine : (d : ServerDoing) → Quiet d → Fine d
-fine d q = subst (λ (ms : List Message). AllOf (λ m. IsNoNacked m.body) ms) (sym q) tt
-
-said : (d : ServerDoing) (receiver : Node) (b : Body) → IsNoNacked b → Fine d → Fine (sends d receiver b)
-said d receiver b cause h = all_joined (λ m. IsNoNacked m.body) d.sent (message (the_server d.server.id) receiver b ∷ []) h (cause, tt)
-
-spoke : (d : ServerDoing) (receiver : Node) (b : Body) → IsNoNacked b → Quiet d → Fine (sends d receiver b)
-spoke d receiver b cause q = said d receiver b cause (fine d q)
-
-bytes_fine : (d : ServerDoing) (receiver : Node) (number q : ℕ) (o : Option (List ℕ)) → Quiet d → Fine (answers_bytes d receiver number q o)
-bytes_fine d receiver number q None h = spoke (drops_corrupt d q) receiver (body.Refused number Corrupt) tt h
-bytes_fine d receiver number q (Some bytes) h = spoke d receiver (body.Bytes number bytes) tt h
-
-read_fine : (d : ServerDoing) (receiver : Node) (number q v offset count : ℕ) (o : Option Row) → Quiet d → Fine (reads_from d receiver number q v offset count o)
-read_fine d receiver number q v offset count None h = spoke d receiver (body.Refused number NoChunk) tt h
-read_fine d receiver number q v offset count (Some r) h =
-    on_cond Fine (r.version.0 == v) (answers_bytes d receiver number q (read_at d.server.disk q offset count)) _ (λ _. bytes_fine d receiver number q (read_at d.server.disk q offset count) h) (λ _. spoke d receiver (body.Refused number Version) tt h)
-
-length_fine : (d : ServerDoing) (receiver : Node) (number v : ℕ) (o : Option Row) → Quiet d → Fine (measures d receiver number v o)
-length_fine d receiver number v None h = spoke d receiver (body.Refused number NoChunk) tt h
-length_fine d receiver number v (Some r) h = on_cond Fine (r.version.0 == v) _ _ (λ _. spoke d receiver (body.LenIs number r.count) tt h) (λ _. spoke d receiver (body.Refused number Version) tt h)
-
-image_fine : (d : ServerDoing) (receiver : Node) (q : ℕ) (r : Row) (o : Option (List ℕ)) → Quiet d → Fine (sends_image d receiver q r o)
-image_fine d receiver q r None h = fine (drops_corrupt d q) h
-image_fine d receiver q r (Some bytes) h = spoke d receiver (body.Image (handle_of q) r.version r.serial bytes) tt h
-
-passed : (d : ServerDoing) (id : DataId) (bytes rest : List ℕ) (o : Option ServerId) → Quiet d → Fine (passes_on d id bytes rest o)
-passed d id bytes rest None h = spoke d (the_client id.client.0) (body.Pushed id) tt h
-passed d id bytes rest (Some next) h = spoke d (the_server next.0) (body.Push id bytes (hops_after rest next.0)) tt h
-
-refused_attempt : (d : ServerDoing) (id : DataId) (refusal : Refusal) → Fine d → Fine (refuses_attempt d id refusal)
-refused_attempt d id refusal h = said d (the_client id.client.0) (body.Refused id.seq refusal) tt h
-
-answered : (d : ServerDoing) (id : DataId) (o : Option ℕ) → Fine d → Fine (answers_settled d id o)
-answered d id None h = refused_attempt d id ChunkFull h
-answered d id (Some place) h = said d (the_client id.client.0) (body.Done id place) tt h
-
-settles_fine : (d : ServerDoing) (q v serial : ℕ) (o : Option Settled) → Fine d → Fine (settles d q v serial o)
-settles_fine d q v serial None h = h
-settles_fine d q v serial (Some x) h =
-    let shown : Seen = BecameSettled (handle_of q) (version_of v) (serial_of serial) in
-    answered (shows d shown) (record { client = x.client; seq = x.seq }) x.place h
-
-acknowledged_fine : (d : ServerDoing) (q : ℕ) (p : SerialOrder) (server serial : ℕ) → Fine d → Fine (acknowledges d q p server serial)
-acknowledged_fine d q p server serial h = settles_fine (with_primary d q (acknowledged p server serial)) q p.held.version serial (settled p server serial) h
-
-denied_fine : (d : ServerDoing) (q : ℕ) (p : SerialOrder) (id : DataId) (refusal : Refusal) → Quiet d → Fine (denies d q p id refusal)
-denied_fine d q p id refusal h = refused_attempt (takes_data (with_primary d q (denied p id.client id.seq refusal)) id) id refusal (fine d h)
-
-forwarded : (me q version serial : ℕ) (id : DataId) (c : Change) (members : List ℕ) → AllOf (λ x. IsNoNacked x.body) (map (forward_to me q version serial id c) members)
-forwarded me q version serial id c [] = tt
-forwarded me q version serial id c (member ∷ rest) = (tt, forwarded me q version serial id c rest)
-
-places_fine : (d : ServerDoing) (q : ℕ) (p : SerialOrder) (id : DataId) (m : Mutation) → Quiet d → Fine (places d q p id m)
-places_fine d q p id m h =
-    let new : SerialOrder = numbered p id.client id.seq (place_of m) in
-    let taken : ServerDoing = shows (takes_data (with_primary d q (numbered p id.client id.seq (place_of m))) id) (Numbered (handle_of q) (version_of p.held.version) (serial_of (p.serial + 1)) id m) in
-    let stored : ServerDoing = stores taken (stored_as (chunk_limit d.server q) q (p.serial + 1) m) in
-    let more : ServerDoing = forwards stored (without p.held.members d.server.id) q p.held.version (p.serial + 1) id (change_of m) in
-    let first : Fine more =
-    all_joined (λ x. IsNoNacked x.body) stored.sent (map (forward_to stored.server.id q p.held.version (p.serial + 1) id (change_of m)) (without p.held.members d.server.id)) (fine stored h)
-    (forwarded stored.server.id q p.held.version (p.serial + 1) id (change_of m) (without p.held.members d.server.id)) in
-    on_cond Fine (nat_le counter_limit p.serial) d _ (λ _. fine d h)
-    (λ _. on_cond Fine (is_writable_at d.server.disk q (start_of m) (end_of (chunk_limit d.server q) m)) (primary_applies taken q p id m) (refuses_attempt (drops_corrupt taken q) id Corrupt)
-    (λ _. acknowledged_fine more q new d.server.id (p.serial + 1) first)
-    (λ _. refused_attempt (drops_corrupt taken q) id Corrupt (fine (drops_corrupt taken q) h)))
-
-appends_fine : (d : ServerDoing) (q : ℕ) (p : SerialOrder) (id : DataId) (bytes : List ℕ) (where_ : Placing) → Quiet d → Fine (appends_as d q p id bytes where_)
-appends_fine d q p id bytes TooLong h = denied_fine d q p id ServerTooLong h
-appends_fine d q p id bytes Full h = denied_fine d q p id ChunkFull h
-appends_fine d q p id bytes (Pad offset) h = places_fine d q p id (mutation.Pad offset) h
-appends_fine d q p id bytes (At offset) h = places_fine d q p id (mutation.Append offset bytes) h
-
-with_fine : (d : ServerDoing) (q : ℕ) (p : SerialOrder) (r : Row) (id : DataId) (t : Target) (bytes : List ℕ) → Quiet d → Fine (mutates_with d q p r id t bytes)
-with_fine d q p r id (target.Write offset) bytes h =
-    on_cond Fine (nat_lt (chunk_limit d.server q) (offset + length bytes)) d (places d q p id (mutation.Write offset bytes)) (λ _. fine d h) (λ _. places_fine d q p id (mutation.Write offset bytes) h)
-with_fine d q p r id target.Append bytes h = appends_fine d q p id bytes (placing r.count (length bytes) (chunk_limit d.server q)) h
-
-new_fine : (d : ServerDoing) (q : ℕ) (p : SerialOrder) (id : DataId) (t : Target) (o : Option Row) (found : Option (List ℕ)) → Quiet d → Fine (mutates_new d q p id t o found)
-new_fine d q p id t None found h = fine d h
-new_fine d q p id t (Some r) None h = denied_fine d q p id NoData h
-new_fine d q p id t (Some r) (Some bytes) h = with_fine d q p r id t bytes h
-
-as_fine : (d : ServerDoing) (q : ℕ) (p : SerialOrder) (id : DataId) (t : Target) (a : Attempted) → Quiet d → Fine (mutates_as d q p id t a)
-as_fine d q p id t IsOld h = refused_attempt d id OldRequest (fine d h)
-as_fine d q p id t (IsRepeat IsPending) h = fine d h
-as_fine d q p id t (IsRepeat (IsSettled place)) h = answered d id place (fine d h)
-as_fine d q p id t (IsRepeat (IsRefused refusal)) h = refused_attempt d id refusal (fine d h)
-as_fine d q p id t IsNew h = new_fine d q p id t (row_at d.server.disk q) (data_of d.server.pushed id) h
-
-under_fine : (d : ServerDoing) (q : ℕ) (id : DataId) (t : Target) (deadline : ℕ) (o : Option SerialOrder) → Quiet d → Fine (mutates_under d q id t deadline o)
-under_fine d q id t deadline None h = refused_attempt d id NoLease (fine d h)
-under_fine d q id t deadline (Some p) h =
-    on_cond Fine (nat_le deadline d.server.now) (refuses_attempt d id Late) (mutates_as d q p id t (attempted p id.client id.seq)) (λ _. refused_attempt d id Late (fine d h)) (λ _. as_fine d q p id t (attempted p id.client id.seq) h)
-
-acked_fine : (d : ServerDoing) (q server serial : ℕ) (o : Option SerialOrder) → Quiet d → Fine (acked_under d q server serial o)
-acked_fine d q server serial None h = fine d h
-acked_fine d q server serial (Some p) h = acknowledged_fine d q p server serial (fine d h)
-
-waiting_fine : (d : ServerDoing) (refusal : Refusal) (o : Option DataId) → Quiet d → Fine (refuses_waiting d refusal o)
-waiting_fine d refusal None h = fine d h
-waiting_fine d refusal (Some id) h = refused_attempt d id refusal (fine d h)
-
-nacked_fine : (d : ServerDoing) (q serial : ℕ) (refusal : Refusal) (o : Option SerialOrder) → Quiet d → Fine (nacked_under d q serial refusal o)
-nacked_fine d q serial refusal None h = fine d h
-nacked_fine d q serial refusal (Some p) h =
-    waiting_fine (with_primary d q (refused_by p refusal (table.get p.waiting serial))) refusal (option_map attempt_of (table.get p.waiting serial)) h
-
--- orders
-
-recorded : (d : ServerDoing) (q v : ℕ) → Quiet d → Fine (records d q v)
-recorded d q v h = spoke d Master (body.Recorded (handle_of q) (version_of v)) tt h
-
-created : (d : ServerDoing) (q v : ℕ) → Quiet d → Fine (takes_create d q v)
-created d q v h = on_cond Fine (can_take d q) _ d (λ _. recorded (stores d (Put (handle_of q) (version_of v) (serial_of 0) [])) q v h) (λ _. fine d h)
-
-raised : (d : ServerDoing) (q v from : ℕ) (o : Option Row) → Quiet d → Fine (raises d q v from o)
-raised d q v from None h = fine d h
-raised d q v from (Some r) h = on_cond Fine (r.version.0 == from) _ d (λ _. recorded (without_lease (stores d (Raise (handle_of q) (version_of v))) q) q v h) (λ _. fine d h)
-
-granted : (d : ServerDoing) (q v end_moment : ℕ) (members : List ℕ) → Quiet d → Fine (takes_grant d q v end_moment members)
-granted d q v end_moment members h = on_cond Fine (holds_version v (row_at d.server.disk q)) _ d (λ _. fine d h) (λ _. fine d h)
-
-extended_fine : (d : ServerDoing) (q v end_moment : ℕ) (o : Option SerialOrder) → Quiet d → Fine (extends_held d q v end_moment o)
-extended_fine d q v end_moment None h = fine d h
-extended_fine d q v end_moment (Some p) h = on_cond Fine (p.held.version == v) _ d (λ _. fine d h) (λ _. fine d h)
-
-ended_fine : (d : ServerDoing) (q v : ℕ) (o : Option SerialOrder) → Quiet d → Quiet (ends_held d q v o)
-ended_fine d q v None h = h
-ended_fine d q v (Some p) h = on_cond Quiet (p.held.version == v) _ d (λ _. h) (λ _. h)
-
-dropped : (d : ServerDoing) (q v : ℕ) (o : Option Row) → Quiet d → Fine (drops_old d q v o)
-dropped d q v None h = fine d h
-dropped d q v (Some r) h = on_cond Fine (nat_le r.version.0 v) (without_lease (stores d (Remove (handle_of q))) q) d (λ _. fine (without_lease (stores d (Remove (handle_of q))) q) h) (λ _. fine d h)
-
-imaged : (d : ServerDoing) (q v serial : ℕ) (bytes : List ℕ) → Quiet d → Fine (takes_image d q v serial bytes)
-imaged d q v serial bytes h =
-    let stored : ServerDoing = stores d (Put (handle_of q) (version_of v) (serial_of serial) bytes) in
-    let less : ServerDoing = record stored { server = record stored.server { clones = table.remove stored.server.clones q } } in
-    on_cond Fine (is_pending_clone v (table.get d.server.clones q) && nat_le (length bytes) (chunk_limit d.server q) && can_take d q) (sends less Master (body.Cloned (handle_of q) (version_of v))) d
-    (λ _. spoke less Master (body.Cloned (handle_of q) (version_of v)) tt h) (λ _. fine d h)
-
-locally : (d : ServerDoing) (q v copy copy_version : ℕ) (o : Option Row) → Quiet d → Fine (copies_locally d q v copy copy_version o)
-locally d q v copy copy_version None h = fine d h
-locally d q v copy copy_version (Some r) h =
-    on_cond Fine (r.version.0 == v) _ d
-    (λ _. on_cond Fine (is_copyable_at d.server.disk q) _ (drops_corrupt d q)
-    (λ _. on_cond Fine (can_take d copy) _ d (λ _. recorded (stores d (Copy (handle_of q) (handle_of copy) (version_of copy_version))) copy copy_version h) (λ _. fine d h)) (λ _. fine (drops_corrupt d q) h))
-    (λ _. fine d h)
-
-module _ (s : ServerState) where
-  abbrev Said : ServerDoing → Type 0
-  Said d = AllOf (λ m. IsNoNacked m.body) d.sent
-
-  ordered : (order : OrderNo) (f : ServerDoing → ServerDoing) → Said (f (stores (server_begins s) (SetOrder order))) → Said (on_order (server_begins s) order f)
-  ordered order f h = on_cond Said (is_new_order s.disk order.epoch order.count) (f (stores (server_begins s) (SetOrder order))) (server_begins s) (λ _. h) (λ _. tt)
-
-  copy_fine : (receiver : Node) (q v : ℕ) (o : Option Row) → Said (copies_out (server_begins s) receiver q v o)
-  copy_fine receiver q v None = tt
-  copy_fine receiver q v (Some r) =
-      on_cond Said (r.version.0 == v) (sends_image (server_begins s) receiver q r (read_at s.disk q 0 r.count)) (server_begins s) (λ _. image_fine (server_begins s) receiver q r (read_at s.disk q 0 r.count) refl) (λ _. tt)
-
-  takes_fine : (m : Message) (b : Body) → IsNoForward b → Said (server_takes (server_begins s) m b)
-  takes_fine m (body.Push id bytes rest) apart = passed (record (server_begins s) { server = record s { pushed = with_data s.pushed id bytes } }) id bytes rest (next_hop rest s.id) refl
-  takes_fine m (body.Mutate id q v t deadline) apart = under_fine (server_begins s) q.0 id t deadline.0 (primary_of s q.0 v.0) refl
-  takes_fine m (body.Read number q v offset count) apart = read_fine (server_begins s) m.sender number q.0 v.0 offset count (row_at s.disk q.0) refl
-  takes_fine m (body.Len number q v) apart = length_fine (server_begins s) m.sender number v.0 (row_at s.disk q.0) refl
-  takes_fine m (body.Acked q v serial) apart = acked_fine (server_begins s) q.0 (server_number m.sender) serial.0 (primary_of s q.0 v.0) refl
-  takes_fine m (body.Nacked q v serial refusal) apart = nacked_fine (server_begins s) q.0 serial.0 refusal (primary_of s q.0 v.0) refl
-  takes_fine m (body.Create order q v) apart = ordered order (λ e. takes_create e q.0 v.0) (created (stores (server_begins s) (SetOrder order)) q.0 v.0 refl)
-  takes_fine m (body.SetVersion order q v base) apart = ordered order (λ e. takes_set_version e q.0 v.0 base.0) (raised (stores (server_begins s) (SetOrder order)) q.0 v.0 base.0 (row_at s.disk q.0) refl)
-  takes_fine m (body.Grant order q v end_moment members) apart = ordered order (λ e. takes_grant e q.0 v.0 end_moment.0 members) (granted (stores (server_begins s) (SetOrder order)) q.0 v.0 end_moment.0 members refl)
-  takes_fine m (body.Revoke order q v) apart =
-      let d : ServerDoing = stores (server_begins s) (SetOrder order) in
-      ordered order (λ e. takes_revoke e q.0 v.0)
-      (spoke (ends_held d q.0 v.0 (table.get s.leases q.0)) Master (body.Revoked (handle_of q.0) (version_of v.0)) tt (ended_fine d q.0 v.0 (table.get s.leases q.0) refl))
-  takes_fine m (body.Drop order q v) apart = ordered order (λ e. takes_drop e q.0 v.0) (dropped (stores (server_begins s) (SetOrder order)) q.0 v.0 (row_at s.disk q.0) refl)
-  takes_fine m (body.Clone order q v source) apart = ordered order (λ e. takes_clone e q.0 v.0 source.0) (tt, tt)
-  takes_fine m (body.CopyLocal order q v copy copy_version) apart =
-      ordered order (λ e. takes_copy_local e q.0 v.0 copy.0 copy_version.0) (locally (stores (server_begins s) (SetOrder order)) q.0 v.0 copy.0 copy_version.0 (row_at s.disk q.0) refl)
-  takes_fine m (body.Extend q v end_moment) apart = extended_fine (server_begins s) q.0 v.0 end_moment.0 (table.get s.leases q.0) refl
-  takes_fine m (body.CopyAsk q v) apart = copy_fine m.sender q.0 v.0 (row_at s.disk q.0)
-  takes_fine m (body.Image q v serial bytes) apart = imaged (server_begins s) q.0 v.0 serial.0 bytes refl
-  takes_fine m (body.Forward q v serial id c) apart = absurd apart
-  takes_fine m other apart = tt
-
--- a Forward
-
--- the server once its disk has changed
 abbrev after : ServerDoing → ServerState
 after d = record d.server { disk = disk_changed_by_all d.server.disk d.changes }
 
@@ -282,66 +36,44 @@ IsCausedBy s d i m other = Unit {0}
 abbrev AreCaused : ServerState → NodeInput → ServerDoing → Type 0
 AreCaused s i d = AllOf (λ m. IsCausedBy s d i m m.body) d.sent
 
-none_caused : (s : ServerState) (i : NodeInput) (d : ServerDoing) (m : Message) (b : Body) → IsNoNacked b → IsCausedBy s d i m b
-none_caused s i d m (body.Nacked handle version serial cause) none = absurd none
-none_caused s i d m other none = tt
-
 no_row : (o : Option Replica) → row_of o ≡ None → o ≡ None
 no_row None is = refl
 no_row (Some r) is = none_some _ (sym is)
 
-module _ (s : ServerState) (moment : ℕ) (m : Message) (q : Handle) (v : VersionId) (serial : Serial) (id : DataId) (c : Change) (is : m.body ≡ body.Forward q v serial id c) where
-  abbrev Begun : ServerDoing
-  Begun = server_begins (server_at s moment)
+-- the cause of a refusal, as the statement has it
+refused_for : (s : ServerState) (moment : ℕ) (i : NodeInput) (d : ServerDoing) (c : Forwarding i) (why : Refusal) → IsNackedFor (server_at s moment) i d c why
+    → IsRefusedFor s (after d) c.handle.0 c.version.0 c.serial.0 c.id why
+refused_for s moment i d c NoChunk h = no_row (replica_of s.disk c.handle.0) h
+refused_for s moment i d c Version h = h
+refused_for s moment i d c OldSerial h = h
+refused_for s moment i d c NoData h = h
+refused_for s moment i d c Corrupt h = (
+  h.0,
+  subst (λ (e : ServerDisk). replica_of (disk_changed_by_all e d.changes) c.handle.0 ≡ None) (sym h.2)
+      (subst (λ (xs : List StoreChange). replica_of (disk_changed_by_all s.disk xs) c.handle.0 ≡ None) (sym h.1) (gone_there s.disk.replicas c.handle.0 c.handle.0 refl)),
+)
+refused_for s moment i d c other h = absurd h
 
-  abbrev Caused : ServerDoing → Type 0
-  Caused d = AreCaused s (input.Deliver m) d
+caused : (s : ServerState) (moment : ℕ) (i : NodeInput) (d : ServerDoing) (m : Message) (b : Body) → IsSaid (server_at s moment) i d m.receiver b → IsCausedBy s d i m b
+caused s moment i d m (body.Nacked handle version serial why) h =
+    let c = h.0 in
+    let reason = refused_for s moment i d c why h.5 in
+    subst (λ (q : Handle). IsRefusal s (after d) i m q version serial why) (sym h.1)
+    (subst (λ (v : VersionId). IsRefusal s (after d) i m c.handle v serial why) (sym h.2)
+    (subst (λ (n : Serial). IsRefusal s (after d) i m c.handle c.version n why) (sym h.3)
+    (record { forward = c.m; id = c.id; named = c.named; input_is = c.came; body_is = c.is; sender_is = sym h.4; caused = reason })))
+caused s moment i d m other h = tt
 
-  nacked : (d : ServerDoing) (cause : Refusal) → d.sent ≡ [] → IsRefusedFor s (after d) q.0 v.0 serial.0 id cause → Caused (nacks d m.sender q.0 v.0 serial.0 cause)
-  nacked d cause none why =
-      subst (λ (ms : List Message). AllOf (λ x. IsCausedBy s (nacks d m.sender q.0 v.0 serial.0 cause) (input.Deliver m) x x.body) (ms ++ message (the_server d.server.id) m.sender (body.Nacked q v serial cause) ∷ [])) (sym none)
-      (record { forward = m; id = id; named = c; input_is = refl; body_is = is; sender_is = refl; caused = why }, tt)
-
-  stored_caused : (b : Bool) (x : StoreChange) (offset end_place : ℕ) → is_writable_at s.disk q.0 offset end_place ≡ b → Caused (member_stores b (takes_data Begun id) m.sender q.0 v.0 serial.0 x)
-  stored_caused true x offset end_place writable = (tt, tt)
-  stored_caused false x offset end_place rotten = nacked (drops_corrupt (takes_data Begun id) q.0) Corrupt refl ((offset, end_place, rotten), gone_there s.disk.replicas q.0 q.0 refl)
-
-  member_caused : (x : StoreChange) (offset end_place : ℕ) → Caused (member_applies Begun m.sender q.0 v.0 serial.0 id x offset end_place)
-  member_caused x offset end_place = on_cond Caused (nat_lt (chunk_limit s q.0) end_place) Begun _ (λ _. tt) (λ _. stored_caused (is_writable_at s.disk q.0 offset end_place) x offset end_place refl)
-
-  data_caused : (offset : ℕ) (o : Option (List ℕ)) → data_of s.pushed id ≡ o → Caused (applies_data Begun m.sender q.0 v.0 serial.0 id offset o)
-  data_caused offset None there = nacked Begun NoData refl there
-  data_caused offset (Some bytes) there = member_caused (Write (handle_of q.0) (serial_of serial.0) offset bytes) offset (offset + length bytes)
-
-  change_caused : (d : Change) → Caused (applies_change Begun m.sender q.0 v.0 serial.0 id d)
-  change_caused (change.Write offset) = data_caused offset (data_of s.pushed id) refl
-  change_caused (change.Append offset) = data_caused offset (data_of s.pushed id) refl
-  change_caused (change.Pad offset) = let count : ℕ = chunk_limit s q.0 - offset in member_caused (Zero (handle_of q.0) (serial_of serial.0) offset count) offset (offset + count)
-
-  forward_caused : (o : Option Row) → row_at s.disk q.0 ≡ o → Caused (forwarded_to Begun m.sender q.0 v.0 serial.0 id c o)
-  forward_caused None there = nacked Begun NoChunk refl (no_row (replica_of s.disk q.0) there)
-  forward_caused (Some r) there =
-      on_cond Caused (r.version.0 == v.0) _ _
-      (λ same. on_cond Caused (nat_lt r.serial.0 serial.0) (applies_change Begun m.sender q.0 v.0 serial.0 id c) _ (λ _. change_caused c)
-      (λ old. nacked Begun OldSerial refl (r, there, eqb-true r.version.0 v.0 same, ltb-false r.serial.0 serial.0 old)))
-      (λ apart. nacked Begun Version refl (r, there, eqb-false r.version.0 v.0 apart))
-
--- a step
-
-all_none : (s : ServerState) (i : NodeInput) (d : ServerDoing) (ms : List Message) → AllOf (λ m. IsNoNacked m.body) ms → AllOf (λ m. IsCausedBy s d i m m.body) ms
-all_none s i d [] all = tt
-all_none s i d (m ∷ ms) all = (none_caused s i d m m.body all.0, all_none s i d ms all.1)
-
-takes_caused : (s : ServerState) (moment : ℕ) (m : Message) (b : Body) → m.body ≡ b → AreCaused s (input.Deliver m) (server_takes (server_begins (server_at s moment)) m b)
-takes_caused s moment m (body.Forward q v serial id c) is = forward_caused s moment m q v serial id c is (row_at s.disk q.0) refl
-takes_caused s moment m other is = let d : ServerDoing = server_takes (server_begins (server_at s moment)) m other in all_none s (input.Deliver m) d d.sent (takes_fine (server_at s moment) m other tt)
+all_caused : (s : ServerState) (moment : ℕ) (i : NodeInput) (d : ServerDoing) (ms : List Message) → AllOf (IsWord (server_at s moment) i d) ms → AllOf (λ m. IsCausedBy s d i m m.body) ms
+all_caused s moment i d [] all = tt
+all_caused s moment i d (m ∷ ms) all = (caused s moment i d m m.body all.0.1, all_caused s moment i d ms all.1)
 
 goes_caused : (s : ServerState) (moment : ℕ) (i : NodeInput) → AreCaused s i (server_goes s moment i)
-goes_caused s moment (input.Deliver m) = takes_caused s moment m m.body refl
-goes_caused s moment input.Tick = (tt, tt)
+goes_caused s moment i = all_caused s moment i (server_goes s moment i) (server_goes s moment i).sent (goes_says s moment i)
 
 abbrev AreSaid : ServerState → NodeInput → Taken ServerState → Type 0
-AreSaid s i t = (handle : Handle) (version : VersionId) (serial : Serial) (cause : Refusal) (place : ℕ) (m : Message) → element_at t.out.sent place ≡ Some m → m.body ≡ body.Nacked handle version serial cause → IsRefusal s t.state i m handle version serial cause
+AreSaid s i t =
+    (handle : Handle) (version : VersionId) (serial : Serial) (cause : Refusal) (place : ℕ) (m : Message) → element_at t.out.sent place ≡ Some m → m.body ≡ body.Nacked handle version serial cause → IsRefusal s t.state i m handle version serial cause
 
 ends_said : (s : ServerState) (moment : ℕ) (i : NodeInput) (choice : Choice) (e : Ending) → AreSaid s i (server_ends s (server_goes s moment i) choice e)
 ends_said s moment i choice Lost handle version serial cause place m at is = none_some m at

@@ -30,7 +30,7 @@ use Rattle.laws_base.proofs.Namespace.{IsNamespace, IsNamed, IsAmong, among_free
 use Rattle.laws_base.proofs.CopiesUnderWay.{AreCopied, listed_copied}
 use Rattle.laws_base.proofs.MasterMoves.{Core, core_of, Nothing, Keeps, IsDue, IsNoGrantRecord, logs_snapshots}
 use Rattle.laws_base.proofs.MasterNamesMoves.{copies_keeps}
-use Rattle.laws_steps.proofs.MasterActs.{Waits, Acts, Base, Here, tells_here, less_here, logs_all, IsRowing}
+use Rattle.laws_steps.proofs.MasterActs.{Waits, Acts, Base, Here, tells_here, logs_all, IsRowing}
 use Rattle.laws_steps.proofs.ApartPaths.{AreLocksApart, create_apart, rename_apart, snapshot_apart}
 use Rattle.laws_steps.proofs.Awaited.{Attempts, handle_in}
 use Rattle.laws_steps.proofs.AwaitedRecords.{IsBeside, waiting_more, waiting_filtered, still_waits, among_filtered}

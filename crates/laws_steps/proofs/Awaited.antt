@@ -1,6 +1,6 @@
 -- For the files that a snapshot copies there is no version attempt and no copy under way: the pointwise form of what a snapshot waits for, and what the tables say of it.
-use Rattle.std.proofs.Common.{◌≡◌, ◌⊎◌, ℕ, zero, suc, ◌+◌, ◌≤◌, ◌<◌, Bool, true, false, cond, List, [], ◌∷◌, ◌++◌, map, drop, length, Option, Some, None, refl, sym, ap, subst, ◌∙◌, inl, inr, arith}
-use Rattle.std.specs.Prelude.{◌==◌, ◌||◌, nat_lt, filter, flat_map, count_by, unwrap_or}
+use Rattle.std.proofs.Common.{◌≡◌, ◌⊎◌, ℕ, zero, suc, ◌+◌, ◌≤◌, ◌<◌, Bool, true, false, cond, List, [], ◌∷◌, ◌++◌, map, drop, length, Some, refl, sym, ap, subst, ◌∙◌, inl, inr, arith}
+use Rattle.std.specs.Prelude.{◌==◌, ◌||◌, nat_lt, filter, flat_map}
 use Rattle.std.specs.List.{list_any}
 use Rattle.std.specs.Ordering.{nat_cmp, eq_by_cmp}
 use Rattle.std.specs.Cmp.{unsigned_tied}
@@ -8,14 +8,13 @@ use Rattle.std.specs.FinMap as table
 use Rattle.std.specs.FinMap.Entries.{find}
 use Rattle.std.proofs.lemmas.Bool.{true≢false, or_left, or_right, eqb-true}
 use Rattle.gfs_types.specs.Paths.{Path, is_at_or_below}
-use Rattle.relaxed_file.specs.Names.{Names, Node, Dir, File, node_at, copied_entries}
+use Rattle.relaxed_file.specs.Names.{Names, Node, Dir, File, node_at}
 use Rattle.relaxed_file.proofs.NamesTree.{HasAt, found_at, entry_is}
 use Rattle.protocol.specs.Tables.{Table, has_number, with_number, rising, removed_all}
-use Rattle.chunk_table.specs.ChunkTable.{ChunkTable, handles_of}
 use Rattle.protocol.specs.Logged.{Logged, Copy, copies_that}
 use Rattle.protocol.specs.Master.{MasterState, VersionAttempt, PendingSnapshot}
 use Rattle.protocol.specs.MasterSnapshots.{node_handles, snapshot_handles, node_files, snapshot_files, waits_for, is_same_snapshot}
-use Rattle.laws_base.proofs.Steps.{on_cond, none_some, same_some, tally, count-cons, count-append, same_or_not, now_gone, removed_cases}
+use Rattle.laws_base.proofs.Steps.{on_cond, none_some, same_some, tally, count-cons, count-append, same_or_not, now_gone}
 use Rattle.laws_base.proofs.Entries.{same_number}
 use Rattle.laws_base.proofs.VersionAttempts.{rising_cases}
 use Rattle.laws_base.proofs.FilesNamed.{Files}

@@ -1,6 +1,6 @@
 -- What snapshots wait for stays quiet over records, checkpoints, attempts and copies.
-use Rattle.std.proofs.Common.{◌≡◌, ◌⊎◌, ℕ, suc, ◌+◌, ◌≤◌, ◌<◌, Bool, true, false, cond, List, [], ◌∷◌, ◌++◌, Option, Some, None, refl, sym, ap, subst, ◌∙◌, inl, inr, arith}
-use Rattle.std.specs.Prelude.{◌==◌, ◌&&◌, not, filter, find, unwrap_or}
+use Rattle.std.proofs.Common.{◌≡◌, ◌⊎◌, ℕ, ◌≤◌, ◌<◌, Bool, true, false, cond, List, [], ◌∷◌, ◌++◌, Option, Some, None, refl, sym, ap, subst, ◌∙◌, inl, inr, arith}
+use Rattle.std.specs.Prelude.{◌==◌, not, filter, find, unwrap_or}
 use Rattle.std.specs.FinMap as table
 use Rattle.std.proofs.lemmas.Bool.{true≢false, and_from}
 use Rattle.gfs_types.specs.Paths.{Path, is_at_or_below, hidden_name}
@@ -8,13 +8,13 @@ use Rattle.log_records.specs.declared.record.Record.{Record}
 use Rattle.log_records.specs.declared.record.Record.TheVariants as log
 use Rattle.relaxed_file.specs.Names.{Names, Node, Dir, File, node_at, copied_entries, with_copies, id_after}
 use Rattle.relaxed_file.specs.NameStep.{with_node, hidden}
-use Rattle.relaxed_file.proofs.NamesTree.{Tree, HasAt, same_or_other, inserted_there, inserted_other, removed_there, removed_other, copies_other, copies_are_new}
-use Rattle.protocol.specs.Tables.{Table, removed_all, has_number}
+use Rattle.relaxed_file.proofs.NamesTree.{Tree, same_or_other, inserted_there, inserted_other, removed_there, removed_other, copies_other, copies_are_new}
+use Rattle.protocol.specs.Tables.{removed_all, has_number}
 use Rattle.chunk_table.specs.ChunkTable.{ChunkTable, handles_of, grant}
 use Rattle.protocol.specs.Logged.{Logged, Copy, after_record, copies_for_file, copies_given_up, swapped_in, is_this_file, name_removed, with_copied_node, with_copied_nodes}
 use Rattle.protocol.specs.Master.{MasterState, VersionAttempt, PendingSnapshot}
 use Rattle.protocol.specs.MasterSnapshots.{snapshot_handles, snapshot_files, copies_for_files, is_same_snapshot}
-use Rattle.laws_base.proofs.Steps.{none_some, same_some, same_or_not, put_cases, put_there, put_other, gone_there, gone_other, kept_cases, removed_cases, tally, count-cons, count-append}
+use Rattle.laws_base.proofs.Steps.{none_some, same_or_not, put_cases, put_there, put_other, gone_there, gone_other, kept_cases, removed_cases, count-cons, count-append}
 use Rattle.laws_base.proofs.Entries.{same_number}
 use Rattle.laws_base.proofs.ChunkRows.{rows_of}
 use Rattle.laws_base.proofs.LeasesEnded.{HasEnded, ended_removed}

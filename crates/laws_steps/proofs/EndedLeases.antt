@@ -1,6 +1,6 @@
 -- A lease of which each end that was told is past is over.
-use Rattle.std.proofs.Common.{◌≡◌, ◌⊎◌, ℕ, suc, ◌≤◌, ◌<◌, ◌+◌, Bool, true, false, List, [], Option, Some, None, refl, sym, ap, ◌∙◌, inl, inr, arith}
-use Rattle.std.specs.Prelude.{◌==◌, ◌&&◌, max, IsTrue, IsFalse}
+use Rattle.std.proofs.Common.{◌≡◌, ℕ, suc, ◌≤◌, ◌<◌, ◌+◌, Bool, true, false, List, [], Option, Some, None, refl, sym, ap, ◌∙◌, inl, inr, arith}
+use Rattle.std.specs.Prelude.{◌==◌, ◌&&◌, max, IsTrue}
 use Rattle.std.specs.FinMap as table
 use Rattle.std.proofs.lemmas.Bool.{and_from, and_parts, eqb-true, ltb-true}
 use Rattle.std.proofs.Math.Nat.{le-max_left, le-max_right}
@@ -12,7 +12,7 @@ use Rattle.gfs_types.specs.declared.ids.Moment.{Moment}
 use Rattle.messages.specs.declared.message.Message.{Message}
 use Rattle.messages.specs.declared.message.Body.TheVariants as body
 use Rattle.protocol.specs.Tables.{element_at}
-use Rattle.protocol.specs.Sending.{the_server, handle_of, version_of}
+use Rattle.protocol.specs.Sending.{handle_of, version_of}
 use Rattle.chunk_table.specs.ChunkTable.{ChunkRow}
 use Rattle.protocol.specs.Logged.{Logged}
 use Rattle.replica_store.specs.Replicas.{is_new_order}
@@ -32,7 +32,7 @@ use Rattle.laws_base.proofs.LeasesTold.{IsToldLease, new_not_stale, server_numbe
 use Rattle.laws_base.proofs.RevokedLeases.{WasRevoked}
 use Rattle.laws_base.proofs.LeaseEnds.{IsEndTold, WasSaidOver, IsPast, HasEnd, HasVersion}
 use Rattle.laws_base.proofs.LeasesTimely.{IsOfTimes, times_kept}
-use Rattle.laws_base.proofs.ScenesReached.{Scene, scene_of, now_passed, scene_reached}
+use Rattle.laws_base.proofs.ScenesReached.{scene_of, now_passed, scene_reached}
 use Rattle.laws_steps.specs.Versions.{IsRefusedBy, IsLeaseOver, EndedLeasesAreOver, LeasesInTheLogAreOver, AttemptedChunksHaveNoLease, OverLeasesNumberNothing}
 
 not_true : (b : Bool) → (b ≡ true → ⊥) → b ≡ false

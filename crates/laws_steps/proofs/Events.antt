@@ -39,7 +39,26 @@ with_call w index moment c = record w { observer = observed_call (observed_momen
 abbrev pub with_rot : WorldState → ℕ → ℕ → ServerState → Replica → Bool → Happened
 with_rot w index handle s r is_kept = record { out = no_output; world = record (with_server_disk w index s handle r) { observer = record w.observer { are_disks_kept = is_kept } } }
 
--- what holds after each kind of event
+-- whether disks are kept once this place of a replica became so
+abbrev pub is_kept_after : WorldState → ServerState → Replica → ℕ → Bool
+is_kept_after w s r place = w.observer.are_disks_kept && not (hides_change s.disk.block r place)
+
+-- what holds after each kind of event, with what rot says of kept disks: they are kept while each block that changed has another digest
+pub record HoldsExactly (w : WorldState) (Q : Event → Happened → Type 0) : Type 0 where
+  pub nothing : (e : Event) → Q e (nothing_happens w)
+  pub masters : (e : Event) (moment : ℕ) (i : NodeInput) (choice : Choice) → IsGiven w e node.Master moment i → IsTrue w.master.up → Q e (after_master w moment (master_step w.master moment i choice))
+  pub opens : (e : Event) (moment : ℕ) (choice : Choice) → Q e (after_master w moment (master_restart w.master moment choice))
+  pub serves : (e : Event) (index moment : ℕ) (s : ServerState) (i : NodeInput) (choice : Choice) → element_at w.servers index ≡ Some s → IsGiven w e (the_server (suc index)) moment i → IsTrue s.up
+      → Q e (after_server w index moment (server_step s moment i choice))
+  pub restarts : (e : Event) (index moment : ℕ) (s : ServerState) (choice : Choice) → element_at w.servers index ≡ Some s → Q e (after_server w index moment (server_restart s moment choice))
+  pub steps : (e : Event) (index moment : ℕ) (s : ClientState) (i : NodeInput) (choice : Choice) → element_at w.clients index ≡ Some s → IsGiven w e (the_client (suc index)) moment i → IsTrue s.up
+      → Q e (after_client w index moment (client_step s moment i choice))
+  pub calls : (e : Event) (index moment : ℕ) (s : ClientState) (c : Call) (choice : Choice) → element_at w.clients index ≡ Some s → IsTrue (may_call s)
+      → Q e (after_client (with_call w index moment c) index moment (client_call s moment c choice))
+  pub rots : (e : Event) (index handle : ℕ) (s : ServerState) (r : Replica) (place byte : ℕ) → element_at w.servers index ≡ Some s → replica_of s.disk handle ≡ Some r → IsTrue s.up
+      → Q e (with_rot w index handle s (rotten_replica r place byte) (is_kept_after w s (rotten_replica r place byte) place))
+
+-- what holds after each kind of event, whatever rot says of kept disks
 pub record HoldsAfter (w : WorldState) (Q : Event → Happened → Type 0) : Type 0 where
   pub nothing : (e : Event) → Q e (nothing_happens w)
   pub masters : (e : Event) (moment : ℕ) (i : NodeInput) (choice : Choice) → IsGiven w e node.Master moment i → IsTrue w.master.up → Q e (after_master w moment (master_step w.master moment i choice))
@@ -54,7 +73,20 @@ pub record HoldsAfter (w : WorldState) (Q : Event → Happened → Type 0) : Typ
   pub rots : (e : Event) (index handle : ℕ) (s : ServerState) (r : Replica) (place byte : ℕ) (is_kept : Bool) → element_at w.servers index ≡ Some s → replica_of s.disk handle ≡ Some r → IsTrue s.up
       → Q e (with_rot w index handle s (rotten_replica r place byte) is_kept)
 
-module _ (w : WorldState) (Q : Event → Happened → Type 0) (k : HoldsAfter w Q) where
+holds_exactly_too : (w : WorldState) (Q : Event → Happened → Type 0) → HoldsAfter w Q → HoldsExactly w Q
+holds_exactly_too w Q k =
+    record {
+      nothing = k.nothing;
+      masters = k.masters;
+      opens = k.opens;
+      serves = k.serves;
+      restarts = k.restarts;
+      steps = k.steps;
+      calls = k.calls;
+      rots = λ e index handle s r place byte at there up. k.rots e index handle s r place byte (is_kept_after w s (rotten_replica r place byte) place) at there up;
+    }
+
+module _ (w : WorldState) (Q : Event → Happened → Type 0) (k : HoldsExactly w Q) where
   after_master_moves : (e : Event) (moment : ℕ) (i : NodeInput) (choice : Choice) → IsGiven w e node.Master moment i → Q e (master_moves w moment i choice)
   after_master_moves e moment i choice is =
       on_cond (Q e) w.master.up (after_master w moment (master_step w.master moment i choice)) (nothing_happens w) (λ up. k.masters e moment i choice is up) (λ _. k.nothing e)
@@ -100,7 +132,7 @@ module _ (w : WorldState) (Q : Event → Happened → Type 0) (k : HoldsAfter w 
   after_rots_replica : (e : Event) (index : ℕ) (s : ServerState) (handle place byte : ℕ) (o : Option Replica) → element_at w.servers index ≡ Some s → replica_of s.disk handle ≡ o → IsTrue s.up → Q e (rots_replica w index s handle place byte o)
   after_rots_replica e index s handle place byte None at there up = k.nothing e
   after_rots_replica e index s handle place byte (Some r) at there up =
-      k.rots e index handle s r place byte (w.observer.are_disks_kept && not (hides_change s.disk.block (rotten_replica r place byte) place)) at there up
+      k.rots e index handle s r place byte at there up
 
   after_rots : (e : Event) (n handle place byte : ℕ) (o : Option ServerState) → numbered_from_1 w.servers n ≡ o → Q e (rots_on w (n - 1) handle place byte o)
   after_rots e n handle place byte None at = k.nothing e
@@ -111,17 +143,20 @@ module _ (w : WorldState) (Q : Event → Happened → Type 0) (k : HoldsAfter w 
   after_at_moment : (e : Event) (moment : ℕ) (x : Happened) → Q e x → Q e (at_moment w moment x)
   after_at_moment e moment x h = on_cond (Q e) (nat_le moment moment_limit) x (nothing_happens w) (λ _. h) (λ _. k.nothing e)
 
-  pub holds_after : (e : Event) (choice : Choice) → Q e (happens w e choice)
-  holds_after (event.Call client c now) choice =
+  pub holds_exactly : (e : Event) (choice : Choice) → Q e (happens w e choice)
+  holds_exactly (event.Call client c now) choice =
       after_at_moment (event.Call client c now) now.0 (call_moves w (client.0 - 1) now.0 c choice (numbered_from_1 w.clients client.0))
       (after_calls (event.Call client c now) client.0 now.0 c choice (numbered_from_1 w.clients client.0) refl)
-  holds_after (event.Deliver number now) choice =
+  holds_exactly (event.Deliver number now) choice =
       after_at_moment (event.Deliver number now) now.0 (delivered w now.0 choice (numbered_from_1 w.sent number))
       (after_delivery (event.Deliver number now) now.0 choice (numbered_from_1 w.sent number) (λ m is. (is, refl, refl)))
-  holds_after (event.Tick n now) choice = after_at_moment (event.Tick n now) now.0 (moves w n now.0 input.Tick choice) (after_moves (event.Tick n now) n now.0 input.Tick choice (refl, refl))
-  holds_after (event.Restart n now) choice = after_at_moment (event.Restart n now) now.0 (restarts w n now.0 choice) (after_restarts (event.Restart n now) n now.0 choice)
-  holds_after (event.Rot server handle place byte) choice = after_rots (event.Rot server handle place byte) server.0 handle.0 place byte (numbered_from_1 w.servers server.0) refl
-  holds_after (event.Fuse n count torn) choice = k.nothing (event.Fuse n count torn)
+  holds_exactly (event.Tick n now) choice = after_at_moment (event.Tick n now) now.0 (moves w n now.0 input.Tick choice) (after_moves (event.Tick n now) n now.0 input.Tick choice (refl, refl))
+  holds_exactly (event.Restart n now) choice = after_at_moment (event.Restart n now) now.0 (restarts w n now.0 choice) (after_restarts (event.Restart n now) n now.0 choice)
+  holds_exactly (event.Rot server handle place byte) choice = after_rots (event.Rot server handle place byte) server.0 handle.0 place byte (numbered_from_1 w.servers server.0) refl
+  holds_exactly (event.Fuse n count torn) choice = k.nothing (event.Fuse n count torn)
+
+pub holds_after : (w : WorldState) (Q : Event → Happened → Type 0) → HoldsAfter w Q → (e : Event) (choice : Choice) → Q e (happens w e choice)
+holds_after w Q k e choice = holds_exactly w Q (holds_exactly_too w Q k) e choice
 
 -- what each event keeps holds after a list of them
 module _ (Q : WorldState → Type 0) (k : (w : WorldState) → Q w → HoldsAfter w (λ e h. Q h.world)) where

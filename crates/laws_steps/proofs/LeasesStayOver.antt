@@ -1,6 +1,6 @@
 -- A lease that is over stays over: its server refuses the Grant or finds it ended, and extends no lease that has ended.
 use Rattle.std.proofs.Common.{◌≡◌, ◌⊎◌, ℕ, zero, suc, ◌+◌, ◌≤◌, ◌<◌, Bool, true, false, cond, List, [], ◌∷◌, ◌++◌, Option, Some, None, refl, sym, ap, subst, ◌∙◌, inl, inr, arith}
-use Rattle.std.specs.Prelude.{◌==◌, ◌&&◌, ◌||◌, nat_lt, nat_le, max, count_by, IsTrue, IsFalse}
+use Rattle.std.specs.Prelude.{◌==◌, ◌&&◌, ◌||◌, nat_lt, nat_le, count_by, IsTrue}
 use Rattle.std.specs.Ordering.{nat_cmp}
 use Rattle.std.specs.FinMap as table
 use Rattle.std.proofs.lemmas.Bool.{and_parts, eqb-true, eqb-false, ltb-true, ltb-false, cases_lt}
@@ -23,7 +23,7 @@ use Rattle.protocol.specs.Sending.{the_server, handle_of, version_of}
 use Rattle.leases.specs.LeaseHeld.{LeaseHeld, counts_at, extended}
 use Rattle.primary_order.specs.declared.order.SerialOrder.{SerialOrder}
 use Rattle.replica_store.specs.declared.change.StoreChange.TheVariants.{SetOrder}
-use Rattle.replica_store.specs.Replicas.{Replica, ServerDisk, disk_changed, is_new_order}
+use Rattle.replica_store.specs.Replicas.{ServerDisk, disk_changed, is_new_order}
 use Rattle.protocol.specs.Server.{ServerState, ServerDoing, server_begins, with_primary}
 use Rattle.protocol.specs.ServerOrders.{extends_held}
 use Rattle.protocol.specs.ServerStep.{server_at, server_takes, server_goes, server_ends, server_step, server_restarts, server_restart}
@@ -31,15 +31,14 @@ use Rattle.protocol.specs.MasterStep.{master_step, master_restart}
 use Rattle.protocol.specs.World.{WorldState, new_world, stamped, happens, after_events, IsReached}
 use Rattle.laws_base.specs.Laws.{is_grant, grants_of}
 use Rattle.laws_base.proofs.Steps.{on_cond, none_some, same_some, tally, put_cases, count-cons, count-append}
-use Rattle.laws_base.proofs.ServerMoves.{ServerCore, server_core, AreHeldFrom, lease_of, KeepsServer, IsCameIn, same_held, server_goes_holds}
+use Rattle.laws_base.proofs.ServerMoves.{server_core, AreHeldFrom, lease_of, KeepsServer, same_held, server_goes_holds}
 use Rattle.laws_base.proofs.RisingOrders.{Later, same_later, risen_later, HasOneRisingChange, step_goes_on, restarts_as, set_cases}
-use Rattle.laws_base.proofs.MessagesSent.{IsSent, sent_before, sent_cases}
-use Rattle.laws_base.proofs.LeasesTold.{IsStaleAt, stale_later, new_not_stale, replica_later, CameTo, came_in, IsToldServer, AreTold, told_kept, granting}
+use Rattle.laws_base.proofs.MessagesSent.{IsSent, sent_cases}
+use Rattle.laws_base.proofs.LeasesTold.{IsStaleAt, stale_later, new_not_stale, replica_later, CameTo, came_in, AreTold, told_kept, granting}
 use Rattle.laws_base.proofs.ServerSettings.{AreSet, settings_kept}
 use Rattle.laws_base.proofs.GrantsOnce.{versions_are_granted_once}
-use Rattle.laws_base.proofs.ScenesReached.{Scene, scene_of, IsNow, IsSentTo, rotten_server, scene_reached}
-use Rattle.laws_steps.specs.Versions.{IsRefusedBy, IsLeaseOver, LeasesStayOver}
-use Rattle.laws_steps.proofs.ScenesGoOn.{IsKeptOn, goes_on, kept_on}
+use Rattle.laws_base.proofs.ScenesReached.{Scene, scene_of, IsNow, IsSentTo, rotten_server, scene_reached, IsKeptOn, goes_on, kept_on}
+use Rattle.laws_steps.specs.Versions.{IsLeaseOver, LeasesStayOver}
 
 -- counts of messages
 

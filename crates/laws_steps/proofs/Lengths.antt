@@ -25,7 +25,8 @@ use Rattle.laws_base.proofs.RisingOrders.{set_cases}
 use Rattle.laws_base.proofs.LeasesTold.{numbered_from}
 use Rattle.laws_steps.proofs.Events.{HoldsAfter, holds_on, world_reached}
 use Rattle.laws_steps.specs.Replicas.{AreWithin, ReplicasLieWithinTheChunk}
-use Rattle.laws_steps.proofs.ServerActs.{Acting, acting, with_change, IsPlacedAt, IsWriting, KeepsActs, goes_fine}
+use Rattle.laws_base.proofs.ServerWalk.{IsPlacedAt}
+use Rattle.laws_steps.proofs.ServerActs.{Acting, acting, with_change, IsWriting, KeepsActs, goes_fine}
 
 -- lists
 

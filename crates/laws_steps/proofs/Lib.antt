@@ -13,11 +13,13 @@ pub mod ActsOfChunks
 pub mod ActsOfSteps
 pub mod WaitsKept
 pub mod EndedLeases
-pub mod ScenesGoOn
 pub mod LeasesStayOver
+pub mod MasterPremises
+pub mod MasterWalk
 pub mod NewCopies
 pub mod Unleased
 pub mod Histories
+pub mod ServerSays
 pub mod ServerTalks
 pub mod MasterTalks
 pub mod Locations

@@ -12,11 +12,11 @@ use Rattle.messages.specs.declared.message.Body.TheVariants as body
 use Rattle.log_records.specs.declared.record.Record.{Record}
 use Rattle.log_records.specs.declared.record.Record.TheVariants as log
 use Rattle.relaxed_file.proofs.NamesTree.{Tree}
-use Rattle.protocol.specs.Tables.{Table, removed_all, has_number, rising}
+use Rattle.protocol.specs.Tables.{removed_all, has_number, rising}
 use Rattle.protocol.specs.Sending.{message, the_server, handle_of, version_of, moment_of, order_number}
 use Rattle.chunk_table.specs.ChunkTable.{ChunkRow, chunk_of}
 use Rattle.protocol.specs.LogSizes.{checkpoint_fits}
-use Rattle.protocol.specs.Logged.{Logged, LogDisk, WriteCheckpoint, checkpoint_of, copies_given_up, all_copies_given_up}
+use Rattle.protocol.specs.Logged.{LogDisk, WriteCheckpoint, checkpoint_of, copies_given_up, all_copies_given_up}
 use Rattle.protocol.specs.Master.{MasterDoing, VersionAttempt, PendingSnapshot, tells, orders, ends_at, fits, appends, writes_checkpoint, gives_up_copies, logs, logs_after_checkpoint, is_of_copy}
 use Rattle.laws_base.proofs.Steps.{on_cond}
 use Rattle.laws_steps.specs.Given.{version_given}
@@ -24,15 +24,14 @@ use Rattle.laws_base.proofs.Words.{is_of_lease}
 use Rattle.laws_base.proofs.CopiesUnderWay.{AreCopied}
 use Rattle.laws_base.proofs.LeasesEnded.{less_ready}
 use Rattle.laws_base.proofs.VersionAttempts.{fewer_told}
-use Rattle.laws_base.proofs.Namespace.{IsNamed, IsAmong}
+use Rattle.laws_base.proofs.Namespace.{IsNamed}
 use Rattle.laws_base.proofs.OneName.{HasOneName}
 use Rattle.laws_base.proofs.MasterMoves.{Core, core_of, core_changed, core_appended, core_ended, core_ordered, core_granted, core_extended, core_revoked, grant_record, IsDue, IsNoGrantRecord, IsPlainOrder, IsLeft, Nothing, NoneEnded, Keeps, At, IsAfter, due_later, logs_keeps, ends_keeps, extends_keeps}
 use Rattle.laws_base.proofs.MasterNamesMoves.{tells_keeps, orders_keeps, copies_keeps}
 use Rattle.laws_base.proofs.NamesReached.{IsNaming, naming_keeps}
 use Rattle.laws_base.proofs.RowsLogged.{IsFoundRows, IsRowedLog}
 use Rattle.laws_base.proofs.RowsKept.{rows_kept}
-use Rattle.laws_steps.proofs.ApartPaths.{AreLocksApart}
-use Rattle.laws_steps.proofs.Awaited.{Attempts, AreWaiting, IsUnawaited}
+use Rattle.laws_steps.proofs.Awaited.{Attempts, AreWaiting}
 use Rattle.laws_steps.proofs.AwaitedRecords.{IsBeside, waiting_less, waiting_after, beside_less}
 use Rattle.laws_base.specs.Laws.{times_in}
 

@@ -21,7 +21,8 @@ use Rattle.laws_base.proofs.Steps.{on_cond, none_some, same_some}
 use Rattle.laws_base.proofs.Entries.{AllOf, all_joined, all_filtered}
 use Rattle.laws_base.proofs.MembersRecorded.{all_at}
 use Rattle.laws_steps.specs.Replicas.{HasReplicaOf, IsPlacedBehind, MutationsArePlacedByReplicas}
-use Rattle.laws_steps.proofs.ServerActs.{Acting, acting, IsPlacedAt, IsNumbering, shown_as, KeepsActs, goes_fine}
+use Rattle.laws_base.proofs.ServerWalk.{IsPlacedAt}
+use Rattle.laws_steps.proofs.ServerActs.{Acting, acting, IsNumbering, shown_as, KeepsActs, goes_fine}
 use Rattle.laws_steps.proofs.Lengths.{IsWithin, servers_within}
 use Rattle.laws_steps.proofs.HeldReplicas.{leases_have_their_replica}
 

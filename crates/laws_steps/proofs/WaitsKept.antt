@@ -1,5 +1,5 @@
 -- In each reached world no version attempt and no copy is under way for what a snapshot waits for.
-use Rattle.std.proofs.Common.{◌≡◌, ℕ, suc, Bool, List, [], Some, refl, sym, subst, ◌∙◌}
+use Rattle.std.proofs.Common.{◌≡◌, ℕ, suc, List, [], Some, refl, sym, subst, ◌∙◌}
 use Rattle.std.specs.Prelude.{◌&&◌}
 use Rattle.std.specs.Ordering.{nat_cmp}
 use Rattle.std.specs.FinMap as table
@@ -31,10 +31,10 @@ use Rattle.laws_steps.proofs.ActsOfSteps.{IsWordSaid, IsInputSaid, goes_acts}
 
 -- where nothing more is asked of a step
 
-abbrev Anything : Core → Attempts → Waits → Type 0
+abbrev pub Anything : Core → Attempts → Waits → Type 0
 Anything c attempts ss = Unit {0}
 
-any_acts : (start : LogDisk) → Acts start NoneEnded (IsRowing start) Anything
+pub any_acts : (start : LogDisk) → Acts start NoneEnded (IsRowing start) Anything
 any_acts start =
     record {
       tells = λ c attempts ss receiver b quiet h. h;

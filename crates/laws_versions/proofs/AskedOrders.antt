@@ -10,33 +10,28 @@ use Rattle.gfs_types.specs.declared.ids.Node.TheVariants as node
 use Rattle.gfs_types.specs.declared.ids.OrderNo.{OrderNo}
 use Rattle.gfs_types.specs.declared.ids.FileId.{FileId}
 use Rattle.gfs_types.specs.declared.ids.Moment.{Moment}
-use Rattle.gfs_types.specs.declared.call.Call.{Call}
-use Rattle.gfs_types.specs.declared.call.Call.TheVariants as call
-use Rattle.gfs_types.specs.declared.refusal.Refusal.{Refusal}
-use Rattle.gfs_types.specs.declared.refusal.Refusal.TheVariants.{TooLong, Collected, NamesFull}
+use Rattle.gfs_types.specs.declared.refusal.Refusal.TheVariants.{TooLong, Collected}
 use Rattle.messages.specs.declared.message.Body.{Body}
 use Rattle.messages.specs.declared.message.Body.TheVariants as body
 use Rattle.messages.specs.declared.message.Message.{Message}
 use Rattle.messages.specs.declared.message.Holder.{Holder}
 use Rattle.messages.specs.declared.message.Wanted.{Wanted}
 use Rattle.messages.specs.declared.message.Wanted.TheVariants as wanted
-use Rattle.messages.specs.declared.message.NameReply.TheVariants.{Answered}
 use Rattle.messages.specs.declared.event.NodeInput.{NodeInput}
 use Rattle.messages.specs.declared.event.NodeInput.TheVariants as input
 use Rattle.log_records.specs.declared.record.Record.{Record}
 use Rattle.log_records.specs.declared.record.Record.TheVariants as log
-use Rattle.relaxed_file.specs.NameStep.{needs_room}
 use Rattle.chunk_table.specs.ChunkTable.{ChunkRow, new_row, chunk_of, file_of}
 use Rattle.leases.specs.LeaseEnds.{has_ended}
 use Rattle.protocol.specs.Tables.{element_at}
 use Rattle.protocol.specs.LogSizes.{checkpoint_fits}
-use Rattle.protocol.specs.Sending.{message, client_id, file_id, handle_of, version_of, the_server, the_client}
+use Rattle.protocol.specs.Sending.{message, file_id, handle_of, version_of, the_server}
 use Rattle.protocol.specs.Choice.{Choice, Ending, Goes, Lost, Stops}
 use Rattle.protocol.specs.Seen.{Taken, no_step}
 use Rattle.protocol.specs.declared.seen.Seen.TheVariants.{CopyStarted}
 use Rattle.protocol.specs.Logged.{Logged, Copy, checkpoint_of}
 use Rattle.protocol.specs.Master.{MasterState, MasterDoing, PendingSnapshot, HeldAt, master_begins, tells, orders, logs, logs_after_checkpoint, appends, fits, writes_checkpoint, is_of_copy, with_attempt, gives_up_copy, gives_up_copies, holders_where, current_holders, has_lease}
-use Rattle.protocol.specs.MasterSnapshots.{revokes_row, revokes, reply_of, answers_name, settles_name, refuses_name, changes_names, first_is_true, all_but_first, lets_go, takes_snapshot, takes_ready, is_ready, waits_for}
+use Rattle.protocol.specs.MasterSnapshots.{revokes_row, revokes, takes_ready, waits_for}
 use Rattle.protocol.specs.MasterVersions.{Asker, VersionTarget, holder_line, group_of, tells_location, tells_holders, tells_none, tells_to_wait, version_order, sends_versions, new_attempt, sends_issued, issues_to, targets_by, recorded_holders, issues_own, is_attempted, copy_order, sends_copies, copy_targets, sends_copy_started, copies_to, begins_copy, copy_for, is_copied, wants_own, wants_own_of, issues_copy, wants_copy, wants_by, wants_primary, holder_target}
 use Rattle.protocol.specs.MasterAsks.{looks_at_row, looks_at, mutates_row, mutates_at, adds_chunk, with_index, asks_to_write, asks_to_append, asks_for_last, asks_for, asks_of, takes_ask}
 use Rattle.protocol.specs.MasterStep.{master_takes, master_at, master_goes, may_end, master_bounded, master_ends, master_step}
@@ -47,7 +42,8 @@ use Rattle.laws_base.proofs.LeasesEnded.{HasEnded}
 use Rattle.laws_base.proofs.MembersRecorded.{all_in_order}
 use Rattle.laws_base.proofs.Entries.{AllOf, all_joined}
 use Rattle.laws_steps.specs.Given.{version_given}
-use Rattle.laws_versions.proofs.MasterCauses.{IsAsk}
+use Rattle.laws_steps.proofs.MasterPremises.{IsAsk, IsOfCalls, StepEffects, NameKeeps}
+use Rattle.laws_steps.proofs.MasterWalk.{ready_here}
 
 -- what each message of a step so far is, and what the step shows
 
@@ -69,27 +65,19 @@ module _ (X : Message → Type 0) (quiet : (receiver : Node) (b : Body) → vers
       (λ _. on_cond Fine (checkpoint_fits d.master.config.log_bytes (checkpoint_of d.master.logged)) (logs_after_checkpoint (writes_checkpoint d) r (is_of_copy d.master.logged r) then_) d
       (λ _. on_cond Fine _ (then_ (appends (writes_checkpoint d) r)) (writes_checkpoint d) (λ _. go (appends (writes_checkpoint d) r) h) (λ _. h)) (λ _. h))
 
-  answered : (client number : ℕ) (o : Option Refusal) (d : MasterDoing) → Fine d → Fine (answers_name d client number o)
-  answered client number o d h = said d (the_client client) (body.Named number (Answered (reply_of o))) refl h
+  abbrev AreSaid : StepEffects → Type 0
+  AreSaid g = AllOf X g.sent × (g.seen ≡ shown)
 
-  settled : (d : MasterDoing) (client number : ℕ) (r : Record) (o : Option Refusal) → Fine d → Fine (settles_name d client number r o)
-  settled d client number r o h = logged d r (λ e. answers_name e client number o) (answered client number o) h
-
-  refused : (d : MasterDoing) (client number : ℕ) (refusal : Refusal) → Fine d → Fine (refuses_name d client number refusal)
-  refused d client number refusal h = settled d client number (log.Refused (client_id client) number refusal) (Some refusal) h
-
-  changed : (d : MasterDoing) (client number : ℕ) (c : Call) (r : Record) → Fine d → Fine (changes_names d client number c r)
-  changed d client number c r h =
-      let tried : MasterDoing = record d { refused = all_but_first d.refused } in
-      on_cond Fine (needs_room c) _ (settles_name d client number r None)
-      (λ _. on_cond Fine (first_is_true d.refused) (refuses_name tried client number NamesFull) (settles_name tried client number r None) (λ _. refused tried client number NamesFull h) (λ _. settled tried client number r None h))
-      (λ _. settled d client number r None h)
+  names : NameKeeps IsOfCalls AreSaid
+  names =
+      record {
+        named = λ g receiver number reply h. (all_joined X g.sent (message node.Master receiver (body.Named number reply) ∷ []) h.0 (quiet receiver (body.Named number reply) refl, tt), h.1);
+        recorded = λ g r is h. h;
+        checkpointed = λ g items h. h;
+      }
 
   snapshots_said : (d : MasterDoing) (ss : List PendingSnapshot) → Fine d → Fine (takes_ready d ss)
-  snapshots_said d [] h = h
-  snapshots_said d (s ∷ ss) h =
-      on_cond (λ (e : MasterDoing). Fine (takes_ready e ss)) (is_ready d.master s) (takes_snapshot d s) d
-      (λ _. snapshots_said (takes_snapshot d s) ss (changed (lets_go d s) s.client s.number (call.Snapshot s.from s.to) (log.Snapshot (client_id s.client) s.number s.from s.to) h)) (λ _. snapshots_said d ss h)
+  snapshots_said d ss h = ready_here IsOfCalls (λ r is. is) AreSaid names d ss h
 
   -- what is said of locations
 

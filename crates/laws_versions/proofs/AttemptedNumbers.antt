@@ -45,7 +45,8 @@ use Rattle.laws_steps.proofs.Awaited.{Attempts}
 use Rattle.laws_steps.proofs.Events.{HoldsAfter}
 use Rattle.laws_entries.proofs.RisingRounds.{held_reached}
 use Rattle.laws_versions.proofs.UnaskedSteps.{IsOfNames, KeepsNames, KeepsReports, ready, does_kept}
-use Rattle.laws_versions.proofs.CopiedSources.{IsAsk, asked_or_not}
+use Rattle.laws_steps.proofs.MasterPremises.{IsAsk}
+use Rattle.laws_versions.proofs.CopiedSources.{asked_or_not}
 use Rattle.laws_versions.specs.MasterRows.{AttemptsAreOfTheLastVersion}
 
 -- handles of rows and attempts were used, and the version of an attempt is the last one issued

@@ -1,8 +1,11 @@
 -- A Clone that the master orders at a tick names a version that a server holds, that is not attempted, and whose chunk's lease has ended.
-use Rattle.std.proofs.Common.{◌≡◌, ◌⊎◌, ℕ, ◌≤◌, Bool, true, false, cond, List, [], ◌∷◌, Option, Some, None, refl, sym, ap, subst, ◌∙◌, inl, inr}
+use Rattle.std.proofs.Common.{◌≡◌, ◌⊎◌, ℕ, suc, ◌≤◌, Bool, true, false, cond, List, [], ◌∷◌, Option, Some, None, refl, sym, ap, subst, ◌∙◌, inl, inr}
 use Rattle.std.specs.Prelude.{◌==◌, ◌&&◌, not, nat_le, nat_lt, filter}
 use Rattle.std.specs.FinMap as table
 use Rattle.std.proofs.lemmas.Bool.{and_parts, leb-true, true≢false}
+use Rattle.gfs_types.specs.declared.ids.Node.{Node}
+use Rattle.gfs_types.specs.declared.ids.Node.TheVariants as node
+use Rattle.gfs_types.specs.declared.ids.OrderNo.{OrderNo}
 use Rattle.messages.specs.declared.event.NodeInput.TheVariants as input
 use Rattle.messages.specs.declared.message.Body.{Body}
 use Rattle.messages.specs.declared.message.Body.TheVariants as body
@@ -15,20 +18,29 @@ use Rattle.relaxed_file.specs.Names.{copied_entries}
 use Rattle.leases.specs.LeaseEnds.{has_ended}
 use Rattle.chunk_table.specs.ChunkTable.{ChunkRow, chunk_of}
 use Rattle.protocol.specs.Tables.{Table, first_of_list}
-use Rattle.protocol.specs.Sending.{client_id, client_number, server_number, server_id, file_id, handle_of, version_of}
+use Rattle.protocol.specs.Sending.{message, the_server, client_id, server_id, file_id, handle_of, version_of}
 use Rattle.protocol.specs.LogSizes.{checkpoint_fits}
 use Rattle.protocol.specs.Logged.{Logged, checkpoint_of, after_record}
-use Rattle.protocol.specs.Master.{MasterState, MasterDoing, PendingSnapshot, VersionAttempt, HeldAt, master_begins, appends, fits, writes_checkpoint, gives_up_copies, logs, logs_after_checkpoint, is_of_copy, current_holders, present_current_holders, is_present, servers_of, version_held}
+use Rattle.protocol.specs.Master.{MasterState, MasterDoing, PendingSnapshot, VersionAttempt, HeldAt, master_begins, appends, fits, writes_checkpoint, gives_up_copies, logs}
+use Rattle.protocol.specs.Master.{logs_after_checkpoint, is_of_copy, current_holders, present_current_holders, is_present, servers_of, version_held}
 use Rattle.protocol.specs.MasterSnapshots.{answers_name, settles_name, refuses_name, first_is_true, all_but_first, lets_go, takes_snapshot, takes_ready, is_ready}
-use Rattle.protocol.specs.MasterReports.{holds_now}
 use Rattle.protocol.specs.MasterClones.{CloneOrder, is_attempt_at, is_closed, clone_source, clone_target, clone_by, missing_replicas, clone_of, better_clone, best_clone, orders_clone}
-use Rattle.protocol.specs.MasterStep.{is_in_time, gives_up_attempts, lost_copies, gives_up_lost_copies, expires_all, expired_files, expires_old, master_takes, master_at, master_goes}
+use Rattle.protocol.specs.MasterStep.{is_in_time, gives_up_attempts, lost_copies, gives_up_lost_copies, expires_all, expired_files, expires_old, master_at, master_goes}
 use Rattle.laws_base.proofs.Steps.{on_cond, none_some, same_some, removed_cases}
-use Rattle.laws_base.proofs.Entries.{AllOf, all_filtered, kept_where_cases, same_number}
+use Rattle.laws_base.proofs.Entries.{AllOf, all_joined, all_filtered, kept_where_cases, same_number}
 use Rattle.laws_base.proofs.ChunkRows.{Rows, rows_of, OwnedFrom, removed_owned, all_copied_owned, expired_owned}
 use Rattle.laws_steps.proofs.MasterActs.{AreAttemptedFrom}
+use Rattle.laws_steps.proofs.MasterPremises.{IsAnswer, IsOrder, AnyDoing, any_kept, StepEffects, effects_of, NameKeeps, MasterSays, keeps_said}
+use Rattle.laws_steps.proofs.MasterWalk.{IsHolder, all_hold, ready_here, expires_here, goes_here}
 use Rattle.laws_versions.proofs.TrueWords.{all_entries}
-use Rattle.laws_versions.proofs.MasterWords.{IsMastersWord, IsMastersMessage, cond_some, IsHeld, held_in, Words, orders_words, expires_words, ready_words, name_words, look_words, ask_words, takes_revoked_words, learns_words, report_words}
+
+-- what the master says
+abbrev pub IsMastersMessage : (Body → Type 0) → Message → Type 0
+IsMastersMessage S m = (m.sender ≡ node.Master) × S m.body
+
+cond_some : {X : Type 0} (b : Bool) (x : Option X) (y : X) → cond b x None ≡ Some y → (b ≡ true) × (x ≡ Some y)
+cond_some true x y is = (refl, is)
+cond_some false x y is = none_some y is
 
 -- what a step leaves of rows, attempts and its moment
 
@@ -92,14 +104,16 @@ snapshot_less b d s h =
     let gone : MasterDoing = lets_go d s in
     let tried : MasterDoing = record gone { refused = all_but_first gone.refused } in
     let left : IsLess b tried = record { rows = h.rows; attempts = h.attempts; now = h.now } in
-    on_cond (IsLess b) (first_is_true gone.refused) (refuses_name tried s.client s.number NamesFull) (settles_name tried s.client s.number (log.Snapshot (client_id s.client) s.number s.from s.to) None)
+    on_cond (IsLess b) (first_is_true gone.refused) (refuses_name tried s.client s.number NamesFull)
+    (settles_name tried s.client s.number (log.Snapshot (client_id s.client) s.number s.from s.to) None)
     (λ _. settles_less b tried s.client s.number (log.Refused (client_id s.client) s.number NamesFull) (Some NamesFull) (λ l. all_rows (rows_of l)) left)
     (λ _. settles_less b tried s.client s.number (log.Snapshot (client_id s.client) s.number s.from s.to) None (λ l. all_copied_owned l.table l.next_file (copied_entries l.names s.from s.to)) left)
 
 pub ready_less : (b d : MasterDoing) (ss : List PendingSnapshot) → IsLess b d → IsLess b (takes_ready d ss)
 ready_less b d [] h = h
 ready_less b d (s ∷ ss) h =
-    on_cond (λ (e : MasterDoing). IsLess b (takes_ready e ss)) (is_ready d.master s) (takes_snapshot d s) d (λ _. ready_less b (takes_snapshot d s) ss (snapshot_less b d s h)) (λ _. ready_less b d ss h)
+    on_cond (λ (e : MasterDoing). IsLess b (takes_ready e ss)) (is_ready d.master s) (takes_snapshot d s) d (λ _. ready_less b (takes_snapshot d s) ss (snapshot_less b d s h))
+    (λ _. ready_less b d ss h)
 
 -- the choice of a clone
 
@@ -120,13 +134,14 @@ first_all : {X : Type 0} (P : X → Type 0) (xs : List X) (x : X) → AllOf P xs
 first_all P [] x all is = none_some x is
 first_all P (y ∷ xs) x all is = subst P (same_some y x is) all.0
 
-source_held : (m : MasterState) (handle : ℕ) (row : ChunkRow) (h : HeldAt) → clone_source m handle row ≡ Some h → IsHeld m handle h × (is_closed m handle h ≡ true)
+source_held : (m : MasterState) (handle : ℕ) (row : ChunkRow) (h : HeldAt) → clone_source m handle row ≡ Some h → (version_held m handle h.server ≡ Some h.version) × (is_closed m handle h ≡ true)
 source_held m handle row h is =
+    let test : ℕ → Bool = λ v. nat_le row.granted v in
     let current : List HeldAt = current_holders m handle row in
     let present : List HeldAt = present_current_holders m handle row in
-    let held : AllOf (IsHeld m handle) current = held_in m handle (λ v. nat_le row.granted v) (servers_of m) in (
-      first_all (IsHeld m handle) (filter (is_closed m handle) present) h
-          (all_filtered (IsHeld m handle) (is_closed m handle) present (all_filtered (IsHeld m handle) (λ x. is_present m x.server) current held)) is,
+    let held : AllOf (IsHolder m handle test) current = all_hold m handle test (servers_of m) in (
+      (first_all (IsHolder m handle test) (filter (is_closed m handle) present) h
+          (all_filtered (IsHolder m handle test) (is_closed m handle) present (all_filtered (IsHolder m handle test) (λ x. is_present m x.server) current held)) is).0,
       first_all (λ x. is_closed m handle x ≡ true) (filter (is_closed m handle) present) h (all_pass (is_closed m handle) present) is,
     )
 
@@ -186,9 +201,32 @@ IsTickWord C (body.Named number reply) = Unit {0}
 IsTickWord C (body.Clone order handle version source) = C handle.0 version.0
 IsTickWord C other = ⊥
 
-clone_words : (H : Table (Table ℕ) → Type 0) (C : ℕ → ℕ → Type 0) (d : MasterDoing) (o : Option CloneOrder) → ((c : CloneOrder) → o ≡ Some c → C c.handle c.version) → Words H (IsTickWord C) d → Words H (IsTickWord C) (orders_clone d o)
-clone_words H C d None chosen h = h
-clone_words H C d (Some c) chosen h = orders_words H (IsTickWord C) d c.target (λ order. body.Clone order (handle_of c.handle) (version_of c.version) (server_id c.source)) (λ order. chosen c refl) h
+-- these are known of servers, and the words so far are such
+abbrev AreTickWords : Table (Table ℕ) → (ℕ → ℕ → Type 0) → StepEffects → Type 0
+AreTickWords holders C g = (g.holders ≡ holders) × AllOf (IsMastersMessage (IsTickWord C)) g.sent
+
+abbrev Any : Record → Type 0
+Any r = Unit {0}
+
+names_said : (holders : Table (Table ℕ)) (C : ℕ → ℕ → Type 0) → NameKeeps Any (AreTickWords holders C)
+names_said holders C =
+    record {
+      named = λ g receiver number reply h. (h.0, all_joined (IsMastersMessage (IsTickWord C)) g.sent (message node.Master receiver (body.Named number reply) ∷ []) h.1 ((refl, tt), tt));
+      recorded = λ g r is h. h;
+      checkpointed = λ g items h. h;
+    }
+
+clone_said : (C : ℕ → ℕ → Type 0) (d : MasterDoing) (o : Option CloneOrder) → ((c : CloneOrder) → o ≡ Some c → C c.handle c.version) → AllOf (IsMastersMessage (IsTickWord C)) d.sent
+    → AllOf (IsMastersMessage (IsTickWord C)) (orders_clone d o).sent
+clone_said C d None chosen h = h
+clone_said C d (Some c) chosen h =
+    let order : OrderNo = record { epoch = d.master.logged.epoch; count = suc d.master.order_count } in
+    let x : Message = message node.Master (the_server c.target) (body.Clone order (handle_of c.handle) (version_of c.version) (server_id c.source)) in
+    all_joined (IsMastersMessage (IsTickWord C)) d.sent (x ∷ []) h ((refl, chosen c refl), tt)
+
+clone_holders : (d : MasterDoing) (o : Option CloneOrder) → (orders_clone d o).master.holders ≡ d.master.holders
+clone_holders d None = refl
+clone_holders d (Some c) = refl
 
 clone_less : (b d : MasterDoing) (o : Option CloneOrder) → IsLess b d → IsLess b (orders_clone d o)
 clone_less b d None h = h
@@ -211,18 +249,20 @@ tick_says m moment refused =
     let c : MasterDoing = expires_old b in
     let o : Option CloneOrder = best_clone c.master (table.entries c.master.logged.table.chunks) in
     let e : MasterDoing = orders_clone c o in
-    let H : Table (Table ℕ) → Type 0 = λ x. x ≡ m.holders in
     let C : ℕ → ℕ → Type 0 = IsChosen c.master in
     let left : IsLess start a = record { rows = all_rows (rows_of m.logged); attempts = λ handle x is. kept_where_cases (is_in_time d.master) m.attempts handle x is; now = refl } in
-    let now : Words H (IsTickWord C) c = expires_words H (IsTickWord C) b (expired_files b.master) (refl, tt) in
-    let rows : AllOf (λ (x : ℕ × ChunkRow). chunk_of c.master.logged.table x.0 ≡ Some x.1) (table.entries c.master.logged.table.chunks) = all_entries (λ k x. chunk_of c.master.logged.table k ≡ Some x) c.master.logged.table.chunks (λ k x is. is) in
+    let names : NameKeeps Any (AreTickWords m.holders C) = names_said m.holders C in
+    let now : AreTickWords m.holders C (effects_of c) = expires_here Any (λ r is. tt) (AreTickWords m.holders C) names (λ file. tt) b (expired_files b.master) (refl, tt) in
+    let rows : AllOf (λ (x : ℕ × ChunkRow). chunk_of c.master.logged.table x.0 ≡ Some x.1) (table.entries c.master.logged.table.chunks) =
+    all_entries (λ k x. chunk_of c.master.logged.table k ≡ Some x) c.master.logged.table.chunks (λ k x is. is) in
     let later : IsLess c (takes_ready e e.master.snapshots) = ready_less c e e.master.snapshots (clone_less c c o (same_less c)) in
     record {
       at = c;
       before = expires_less start b (expired_files b.master) (copies_less start a (lost_copies a.master) left);
       holders = now.0;
       after = later.attempts;
-      words = (ready_words H (IsTickWord C) (λ number reply. tt) e e.master.snapshots (clone_words H C c o (λ x is. best_chosen c.master (table.entries c.master.logged.table.chunks) rows x is) now)).1;
+      words = (ready_here Any (λ r is. tt) (AreTickWords m.holders C) names e e.master.snapshots
+          (clone_holders c o ∙ now.0, clone_said C c o (λ x is. best_chosen c.master (table.entries c.master.logged.table.chunks) rows x is) now.1)).1;
     }
 
 -- at no delivery a clone is ordered
@@ -231,27 +271,26 @@ abbrev pub IsNoClone : Body → Type 0
 IsNoClone (body.Clone order handle version source) = ⊥
 IsNoClone other = Unit {0}
 
-no_clone_said : (b : Body) → IsMastersWord b → IsNoClone b
-no_clone_said (body.Clone order handle version source) h = h
-no_clone_said other h = tt
+module _ (l : Logged) (x : Message) where
+  no_answer : (receiver : Node) (b : Body) → IsAnswer l (input.Deliver x) AnyDoing receiver b → IsNoClone b
+  no_answer receiver (body.Clone order handle version source) is = is
+  no_answer receiver other is = tt
 
-abbrev Anything : Table (Table ℕ) → Type 0
-Anything holders = Unit {0}
+  no_order : (server : ℕ) (b : Body) → IsOrder (input.Deliver x) AnyDoing server b → IsNoClone b
+  no_order server (body.Clone order handle version source) is = is
+  no_order server other is = tt
 
-abbrev Unowned : ℕ → Type 0
-Unowned handle = Unit {0}
-
-takes_none : (d : MasterDoing) (m : Message) (b : Body) → Words Anything IsNoClone d → Words Anything IsNoClone (master_takes d m b)
-takes_none d m (body.Name number deadline c) h = name_words Anything IsNoClone no_clone_said d (client_number m.sender) number deadline.0 c h
-takes_none d m (body.Look number c) h = look_words Anything IsNoClone no_clone_said d m.sender number c h
-takes_none d m (body.Ask number file w deadline lost) h = ask_words Anything IsNoClone no_clone_said Unowned (λ holders held handle version server k is order copy n. tt) d m.sender number file.0 w deadline.0 lost (λ handle row is more. tt) h
-takes_none d m (body.Recorded handle version) h = learns_words Anything IsNoClone no_clone_said (holds_now d (server_number m.sender) handle.0 version.0) (server_number m.sender) handle.0 version.0 h
-takes_none d m (body.Revoked handle version) h = takes_revoked_words Anything IsNoClone no_clone_said d (server_number m.sender) handle.0 version.0 h
-takes_none d m (body.Cloned handle version) h = h
-takes_none d m (body.Report replicas leases) h = report_words Anything IsNoClone no_clone_said d (server_number m.sender) replicas leases h
-takes_none d m other h = h
+  says : MasterSays l (input.Deliver x) AnyDoing (IsMastersMessage IsNoClone)
+  says =
+      record {
+        answered = λ receiver b is. (refl, no_answer receiver b is);
+        ordered = λ server b is. (refl, no_order server b is);
+        extended = λ server line until is. (refl, tt);
+        dropped = λ server order line is useless. (refl, tt);
+      }
 
 pub delivery_says : (m : MasterState) (moment : ℕ) (x : Message) (refused : List Bool) → AllOf (IsMastersMessage IsNoClone) (master_goes m moment (input.Deliver x) refused).sent
 delivery_says m moment x refused =
-    let d : MasterDoing = master_takes (master_begins (master_at m moment) refused) x x.body in
-    (ready_words Anything IsNoClone (λ number reply. tt) d d.master.snapshots (takes_none (master_begins (master_at m moment) refused) x x.body (tt, tt))).1
+    let W : Message → Type 0 = IsMastersMessage IsNoClone in
+    goes_here m.logged (input.Deliver x) AnyDoing (λ g. AllOf W g.sent) (keeps_said m.logged (input.Deliver x) AnyDoing W (says m.logged x)) any_kept
+    (master_begins (master_at m moment) refused) refl tt tt

@@ -33,9 +33,8 @@ use Rattle.laws_base.proofs.ChunkRows.{rows_of}
 use Rattle.laws_base.proofs.OrderNumbers.{AllFound}
 use Rattle.laws_base.proofs.LeaseEnds.{IsEndTold, IsPast, HasEnd}
 use Rattle.laws_base.proofs.LeasesTimely.{IsOfTimes, times_kept}
-use Rattle.laws_base.proofs.ScenesReached.{scene_of, scene_reached}
+use Rattle.laws_base.proofs.ScenesReached.{scene_of, scene_reached, goes_on}
 use Rattle.laws_steps.specs.Versions.{IsLeaseOver}
-use Rattle.laws_steps.proofs.ScenesGoOn.{goes_on}
 use Rattle.laws_steps.proofs.EndedLeases.{past_is_over}
 use Rattle.laws_steps.proofs.LeasesStayOver.{reached_later, over_later}
 use Rattle.laws_steps.proofs.IssuedNumbers.{IsPassed, IsLogPassed}
@@ -47,10 +46,9 @@ use Rattle.laws_versions.proofs.HeldVersions.{replicas_were_ordered, members_alo
 use Rattle.laws_steps.proofs.Events.{HoldsAfter, holds_after}
 use Rattle.laws_versions.specs.ToldVersions.{WasOrdered}
 use Rattle.laws_versions.proofs.TrueWords.{IsCloned, IsTrueFrom, copy_ask_true, image_true}
-use Rattle.laws_versions.proofs.MasterWords.{IsMastersMessage}
 use Rattle.laws_versions.proofs.ToldVersions.{AreHeld, told_reached, said_versions_were_ordered}
 use Rattle.laws_versions.specs.ClonedVersions.{version_copied, IsVersionOver, ClonesAreOfClosedVersions, AttemptedVersionsAreNotCopied, AttemptedVersionsStandAtTheirServers, GrantedVersionsStandAtMembers, OrderedVersionsWereIssued, ReplicasAreOfIssuedVersions, SaidVersionsWereIssued}
-use Rattle.laws_versions.proofs.CloneOrders.{IsLess, IsChosen, IsTickWord, IsTick, tick_says, IsNoClone, delivery_says}
+use Rattle.laws_versions.proofs.CloneOrders.{IsMastersMessage, IsLess, IsChosen, IsTickWord, IsTick, tick_says, IsNoClone, delivery_says}
 
 -- one of these messages orders a clone of the version
 abbrev pub IsCloneSent : List Message → ℕ → ℕ → Type 0

@@ -39,10 +39,9 @@ use Rattle.laws_base.proofs.RowsLogged.{IsFoundRows, IsRowedLog}
 use Rattle.laws_base.proofs.RowsKept.{rows_kept}
 use Rattle.laws_base.proofs.GrantsOnce.{row_below}
 use Rattle.laws_base.proofs.LeasesTimely.{IsOfTimes, times_kept}
-use Rattle.laws_base.proofs.ScenesReached.{Scene, scene_of, IsKeptByScenes, lifted, scene_reached}
+use Rattle.laws_base.proofs.ScenesReached.{Scene, scene_of, IsKeptByScenes, lifted, scene_reached, IsKeptOn, goes_on}
 use Rattle.laws_steps.specs.Versions.{IsLeaseOver}
 use Rattle.laws_versions.specs.ClosedVersions.{ClosedVersionsStayClosed}
-use Rattle.laws_steps.proofs.ScenesGoOn.{IsKeptOn, goes_on}
 use Rattle.laws_steps.proofs.EndedLeases.{over_by_row}
 use Rattle.laws_steps.proofs.LeasesStayOver.{over_later}
 use Rattle.laws_steps.proofs.Awaited.{Attempts}

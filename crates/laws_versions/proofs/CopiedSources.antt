@@ -5,8 +5,6 @@ use Rattle.std.specs.Ordering.{nat_cmp}
 use Rattle.std.specs.FinMap as table
 use Rattle.std.proofs.Math.Nat.{le-max_left}
 use Rattle.gfs_types.specs.declared.config.Config.{Config}
-use Rattle.gfs_types.specs.declared.ids.FileId.{FileId}
-use Rattle.gfs_types.specs.declared.ids.Moment.{Moment}
 use Rattle.gfs_types.specs.declared.ids.Node.{Node}
 use Rattle.messages.specs.declared.event.Event.{Event}
 use Rattle.messages.specs.declared.event.NodeInput.{NodeInput}
@@ -14,7 +12,6 @@ use Rattle.messages.specs.declared.event.NodeInput.TheVariants as input
 use Rattle.messages.specs.declared.message.Body.{Body}
 use Rattle.messages.specs.declared.message.Body.TheVariants as body
 use Rattle.messages.specs.declared.message.Message.{Message}
-use Rattle.messages.specs.declared.message.Wanted.{Wanted}
 use Rattle.log_records.specs.declared.record.Record.{Record}
 use Rattle.log_records.specs.declared.record.Record.TheVariants as log
 use Rattle.chunk_table.specs.ChunkTable.{ChunkRow, chunk_of}
@@ -47,22 +44,12 @@ use Rattle.laws_steps.proofs.Events.{HoldsAfter, holds_after}
 use Rattle.laws_steps.proofs.EndedLeases.{ended_leases_are_over}
 use Rattle.laws_steps.proofs.LeasesStayOver.{reached_later}
 use Rattle.laws_versions.proofs.ClosedVersions.{clocks_before}
+use Rattle.laws_steps.proofs.MasterPremises.{IsAsk}
 use Rattle.laws_versions.proofs.SharedChunks.{shared_chunks_have_no_lease}
 use Rattle.laws_versions.specs.CopiedSources.{CopiedChunksHaveNoLease}
 use Rattle.laws_versions.proofs.UnaskedSteps.{is_location, IsOfNames, IsNoAsk, IsUnasked, ready, does_kept}
 use Rattle.laws_versions.proofs.FreeSources.{IsUntried, AreFree, IsFine, fine_names, fine_reports}
 use Rattle.laws_versions.proofs.AskedSteps.{IsSaid, plain_said, IsNoGrant, names_grant_nothing, Post, ask_post, begun_here, post_free, post_fine}
-
--- a client asks for a location
-pub record IsAsk (i : NodeInput) : Type 0 where
-  pub message : Message
-  pub number : ℕ
-  pub file : FileId
-  pub what : Wanted
-  pub deadline : Moment
-  pub lost : Bool
-  pub taken : i ≡ input.Deliver message
-  pub is : message.body ≡ body.Ask number file what deadline lost
 
 pub asked_or_not : (i : NodeInput) → IsUnasked i ⊎ IsAsk i
 asked_or_not input.Tick = inl tt

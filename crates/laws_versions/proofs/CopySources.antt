@@ -1,27 +1,28 @@
 -- A CopyLocal names a version that a server holds of a chunk with several owners: it is closed as the order is sent, and stays so.
-use Rattle.std.proofs.Common.{◌≡◌, ◌⊎◌, ℕ, suc, ◌++◌, ◌≤◌, Bool, List, [], ◌∷◌, length, Some, None, refl, sym, ap, subst, ◌∙◌, inl, inr}
-use Rattle.std.specs.Prelude.{◌&&◌, IsTrue, unwrap_or}
+use Rattle.std.proofs.Common.{◌≡◌, ◌⊎◌, ℕ, suc, ◌++◌, ◌≤◌, Bool, true, List, [], ◌∷◌, length, Some, None, refl, sym, ap, subst, ◌∙◌, inl, inr}
+use Rattle.std.specs.Prelude.{◌&&◌, nat_lt, IsTrue, unwrap_or}
 use Rattle.std.specs.FinMap as table
 use Rattle.std.proofs.lemmas.Bool.{ltb-true}
 use Rattle.gfs_types.specs.declared.config.Config.{Config}
+use Rattle.gfs_types.specs.declared.ids.Node.{Node}
 use Rattle.messages.specs.declared.event.Event.{Event}
 use Rattle.messages.specs.declared.event.NodeInput.{NodeInput}
-use Rattle.messages.specs.declared.event.NodeInput.TheVariants as input
 use Rattle.messages.specs.declared.message.Body.{Body}
 use Rattle.messages.specs.declared.message.Body.TheVariants as body
 use Rattle.messages.specs.declared.message.Message.{Message}
-use Rattle.chunk_table.specs.ChunkTable.{ChunkRow, chunk_of}
+use Rattle.chunk_table.specs.ChunkTable.{ChunkRow, new_row, chunk_of}
 use Rattle.protocol.specs.Choice.{Choice, Ending, Goes, Lost, Stops}
 use Rattle.protocol.specs.Seen.{Taken, no_step}
 use Rattle.protocol.specs.Tables.{Table}
-use Rattle.protocol.specs.Sending.{client_number, server_number, order_number}
-use Rattle.protocol.specs.Master.{MasterState, MasterDoing, master_begins, version_held}
-use Rattle.protocol.specs.MasterReports.{holds_now}
-use Rattle.protocol.specs.MasterStep.{master_at, master_takes, master_goes, master_ends, master_bounded, master_step, is_within_limits, may_end, found_log, started_master, opening, has_opened, opens_as}
+use Rattle.protocol.specs.Sending.{order_number}
+use Rattle.protocol.specs.Logged.{Logged}
+use Rattle.protocol.specs.Master.{MasterState, MasterDoing, master_begins, gives_up_copies, version_held}
+use Rattle.protocol.specs.MasterStep.{master_at, master_goes, master_ends, master_bounded, master_step, is_within_limits, may_end, found_log, started_master, opening, has_opened, opens_as}
 use Rattle.protocol.specs.ServerStep.{server_step, server_restart}
 use Rattle.protocol.specs.ClientStep.{client_step, client_call}
 use Rattle.protocol.specs.World.{WorldState, new_world, stamped, happens, after_events, IsReached}
-use Rattle.laws_base.proofs.Steps.{on_cond, none_some, same_some}
+use Rattle.laws_base.proofs.Words.{true_false}
+use Rattle.laws_base.proofs.Steps.{on_cond, none_some, same_some, put_cases, removed_cases}
 use Rattle.laws_base.proofs.Entries.{AllOf}
 use Rattle.laws_base.proofs.MembersRecorded.{all_at, all_in_order}
 use Rattle.laws_base.proofs.MessagesSent.{IsSent, sent_cases, none_sent, numbered_sent}
@@ -35,10 +36,11 @@ use Rattle.laws_versions.proofs.GivenVersions.{given_reached}
 use Rattle.laws_steps.proofs.Events.{HoldsAfter, holds_after}
 use Rattle.laws_versions.proofs.SharedChunks.{shared_chunks_have_no_lease}
 use Rattle.laws_versions.specs.ToldVersions.{WasOrdered}
-use Rattle.laws_versions.proofs.MasterWords.{IsMastersWord, IsMastersMessage, AreCopiesSaid, ready_words, name_words, look_words, ask_words, takes_revoked_words, learns_words, report_words}
+use Rattle.laws_steps.proofs.MasterPremises.{IsCopySource, IsAnswer, IsOrder, AskKeeps, MasterSays, keeps_said}
+use Rattle.laws_steps.proofs.MasterWalk.{goes_here}
 use Rattle.laws_versions.proofs.ToldVersions.{holders_were_ordered}
 use Rattle.laws_versions.specs.ClonedVersions.{version_sourced, CopiesAreOfClosedVersions}
-use Rattle.laws_versions.proofs.CloneOrders.{IsTickWord, tick_says}
+use Rattle.laws_versions.proofs.CloneOrders.{IsMastersMessage}
 use Rattle.laws_versions.proofs.ClonedVersions.{IsShutIn, sent_of_cloned, shut_later, clones_shut, version_over}
 
 -- one of these messages has a server copy the version
@@ -59,45 +61,59 @@ IsSourced m other = Unit {0}
 
 -- what the master says in a step
 
-plain_said : (m : MasterState) (b : Body) → IsMastersWord b → IsSourced m b
-plain_said m (body.CopyLocal order handle version copy copy_version) h = absurd h
-plain_said m other h = tt
+-- while an Ask is looked at, chunks with several owners had them as the step began
+abbrev IsLike : MasterState → MasterDoing → Type 0
+IsLike m d = (d.master.holders ≡ m.holders) × ((handle : ℕ) (row : ChunkRow) → chunk_of d.master.logged.table handle ≡ Some row → nat_lt 1 row.references ≡ true → IsOwned m handle)
 
-source_said : (m : MasterState) → AreCopiesSaid (λ x. x ≡ m.holders) (IsSourced m) (IsOwned m)
-source_said m holders same handle version server owned held order copy number =
-    (owned, (server, ap (λ (x : Table (Table ℕ)). table.get (unwrap_or (table.get x server) table.empty) handle) (sym same) ∙ held))
+like_less : (m : MasterState) (d : MasterDoing) (handles : List ℕ) → IsLike m d → IsLike m (gives_up_copies d handles)
+like_less m d handles h = (h.0, λ handle row is more. h.1 handle row (removed_cases d.master.logged.table.chunks handles handle row is) more)
 
-abbrev Anything : Table (Table ℕ) → Type 0
-Anything holders = Unit {0}
+like_kept : (m : MasterState) → AskKeeps (IsLike m)
+like_kept m =
+    record {
+      ordered = λ d server b h. h;
+      added = λ d file h. (
+        h.0,
+        λ handle row is more. elim (put_cases d.master.logged.table.chunks d.master.logged.next_handle (record new_row { references = 1 }) handle row is) [
+          | inl same ↦ let two : nat_lt 1 1 ≡ true = subst (λ (x : ChunkRow). nat_lt 1 x.references ≡ true) (sym same.1) more in true_false (sym two)
+          | inr before ↦ h.1 handle row before more
+        ],
+      );
+      checkpointed = λ d h. like_less m d (table.keys d.master.logged.copies) h;
+      less = λ d copy h. like_less m d (copy ∷ []) h;
+    }
 
-takes_sourced : (s : MasterState) (refused : List Bool) (m : Message) (b : Body) → AllOf (IsMastersMessage (IsSourced s)) (master_takes (master_begins s refused) m b).sent
-takes_sourced s refused m (body.Name number deadline c) = (name_words Anything (IsSourced s) (plain_said s) (master_begins s refused) (client_number m.sender) number deadline.0 c (tt, tt)).1
-takes_sourced s refused m (body.Look number c) = (look_words Anything (IsSourced s) (plain_said s) (master_begins s refused) m.sender number c (tt, tt)).1
-takes_sourced s refused m (body.Ask number file w deadline lost) =
-    (ask_words (λ x. x ≡ s.holders) (IsSourced s) (plain_said s) (IsOwned s) (source_said s) (master_begins s refused) m.sender number file.0 w deadline.0 lost (λ handle row is more. (row, is, ltb-true 1 row.references more)) (refl, tt)).1
-takes_sourced s refused m (body.Recorded handle version) =
-    (learns_words Anything (IsSourced s) (plain_said s) (holds_now (master_begins s refused) (server_number m.sender) handle.0 version.0) (server_number m.sender) handle.0 version.0 (tt, tt)).1
-takes_sourced s refused m (body.Revoked handle version) = (takes_revoked_words Anything (IsSourced s) (plain_said s) (master_begins s refused) (server_number m.sender) handle.0 version.0 (tt, tt)).1
-takes_sourced s refused m (body.Cloned handle version) = tt
-takes_sourced s refused m (body.Report replicas leases) = (report_words Anything (IsSourced s) (plain_said s) (master_begins s refused) (server_number m.sender) replicas leases (tt, tt)).1
-takes_sourced s refused m other = tt
+source_said : (m : MasterState) (handle version copy : ℕ) → IsCopySource (IsLike m) handle version copy → IsSource m handle version
+source_said m handle version copy source =
+    let same : source.doing.master.holders ≡ m.holders = source.found.0 in (
+      source.found.1 handle source.row source.at source.shared,
+      (source.server, ap (λ (x : Table (Table ℕ)). table.get (unwrap_or (table.get x source.server) table.empty) handle) (sym same) ∙ source.held),
+    )
 
-tick_sourced : (s : MasterState) (C : ℕ → ℕ → Type 0) (b : Body) → IsTickWord C b → IsSourced s b
-tick_sourced s C (body.CopyLocal order handle version copy copy_version) word = absurd word
-tick_sourced s C other word = tt
+module _ (l : Logged) (i : NodeInput) (m : MasterState) where
+  answer_sourced : (receiver : Node) (b : Body) → IsAnswer l i (IsLike m) receiver b → IsSourced m b
+  answer_sourced receiver (body.CopyLocal order handle version copy copy_version) is = absurd is
+  answer_sourced receiver other is = tt
 
-all_as : (S T : Body → Type 0) → ((b : Body) → S b → T b) → (ms : List Message) → AllOf (IsMastersMessage S) ms → AllOf (IsMastersMessage T) ms
-all_as S T f [] h = tt
-all_as S T f (m ∷ ms) h = ((h.0.0, f m.body h.0.1), all_as S T f ms h.1)
+  order_sourced : (server : ℕ) (b : Body) → IsOrder i (IsLike m) server b → IsSourced m b
+  order_sourced server (body.CopyLocal order handle version copy copy_version) is = source_said m handle.0 version.0 copy.0 is.1
+  order_sourced server other is = tt
+
+  says : MasterSays l i (IsLike m) (IsMastersMessage (IsSourced m))
+  says =
+      record {
+        answered = λ receiver b is. (refl, answer_sourced receiver b is);
+        ordered = λ server b is. (refl, order_sourced server b is);
+        extended = λ server line until is. (refl, tt);
+        dropped = λ server order line is useless. (refl, tt);
+      }
 
 goes_sourced : (m : MasterState) (moment : ℕ) (i : NodeInput) (refused : List Bool) → AllOf (IsMastersMessage (IsSourced (master_at m moment))) (master_goes m moment i refused).sent
-goes_sourced m moment (input.Deliver x) refused =
+goes_sourced m moment i refused =
     let s : MasterState = master_at m moment in
-    let d : MasterDoing = master_takes (master_begins s refused) x x.body in
-    (ready_words Anything (IsSourced s) (λ number reply. tt) d d.master.snapshots (tt, takes_sourced s refused x x.body)).1
-goes_sourced m moment input.Tick refused =
-    let tick = tick_says m moment refused in
-    all_as (IsTickWord _) (IsSourced (master_at m moment)) (tick_sourced (master_at m moment) _) (master_goes m moment input.Tick refused).sent tick.words
+    let W : Message → Type 0 = IsMastersMessage (IsSourced s) in
+    goes_here m.logged i (IsLike s) (λ g. AllOf W g.sent) (keeps_said m.logged i (IsLike s) W (says m.logged i s)) (like_kept s) (master_begins s refused) refl
+    (refl, λ handle row is more. (row, is, ltb-true 1 row.references more)) tt
 
 sourced_by : (m : MasterState) (b : Body) (handle version : ℕ) → IsSourced m b → version_sourced b ≡ Some (handle, version) → IsSource m handle version
 sourced_by m (body.CopyLocal order h v copy copy_version) handle version word is =
@@ -164,7 +180,8 @@ module _ (w : WorldState) (moment : ℕ) where
       (λ _. silent_known (no_step w.master) refl))
       (λ _. silent_known (no_step w.master) refl)
 
-  opens_known : (choice : Choice) (e : Ending) → (let started : MasterState = started_master w.master.config w.master.server_count (found_log w.master choice) moment in BringsKnown (opens_as w.master started (opening started) choice e))
+  opens_known : (choice : Choice) (e : Ending)
+      → (let started : MasterState = started_master w.master.config w.master.server_count (found_log w.master choice) moment in BringsKnown (opens_as w.master started (opening started) choice e))
   opens_known choice Lost =
       let started : MasterState = started_master w.master.config w.master.server_count (found_log w.master choice) moment in
       silent_known (opens_as w.master started (opening started) choice Lost) refl
@@ -184,7 +201,8 @@ copies_known w =
       masters = λ e moment i choice is up. step_known w moment i choice up;
       opens = λ e moment choice. opens_known w moment choice choice.ending;
       serves = λ e index moment s i choice at is up handle version g. inl (quiet_known w.sent k (server_step s moment i choice).out.sent handle version (server_quiet s moment i choice) g);
-      restarts = λ e index moment s choice at handle version g. inl (quiet_known w.sent k (server_restart s moment choice).out.sent handle version (server_restarts_quiet s moment choice choice.ending) g);
+      restarts = λ e index moment s choice at handle version g.
+          inl (quiet_known w.sent k (server_restart s moment choice).out.sent handle version (server_restarts_quiet s moment choice choice.ending) g);
       steps = λ e index moment s i choice at is up handle version g.
           inl (quiet_known w.sent k (client_step s moment i choice).out.sent handle version (quiet_orders (client_step s moment i choice).out.sent (client_quiet s moment i choice)) g);
       calls = λ e index moment s c choice at may handle version g.
@@ -193,7 +211,8 @@ copies_known w =
     }
 
 -- a source is closed: it was issued, and its chunk has no attempt and no lease
-source_shut : (config : Config) (servers clients : ℕ) (w : WorldState) → IsReached config servers clients w → IsTrue w.observer.are_clocks_kept → IsTrue w.master.up → (handle version : ℕ) → IsSource w.master handle version → IsShutIn w handle version
+source_shut : (config : Config) (servers clients : ℕ) (w : WorldState) → IsReached config servers clients w → IsTrue w.observer.are_clocks_kept → IsTrue w.master.up → (handle version : ℕ)
+    → IsSource w.master handle version → IsShutIn w handle version
 source_shut config servers clients w r clocks up handle version source =
     let owned = source.0 in
     let alone = shared_chunks_have_no_lease config servers clients w r clocks up handle owned.0 owned.1 owned.2 in
@@ -202,7 +221,9 @@ source_shut config servers clients w r clocks up handle version source =
   where
     issued : WasOrdered w.sent (source.1).0 handle version → AllFound (IsLogPassed handle version) w.master.disk w.master.under_way × (IsTrue w.master.up → IsPassed handle version w.master.logged)
     issued (inl given) = (given_reached handle version config servers clients w r).words given.1 (given.0, given.2) (inl given.4)
-    issued (inr cloned) = let before : IsShutIn w handle version = clones_shut config servers clients w r handle version (sent_of_cloned w.sent (source.1).0 handle version cloned) in (before.found, λ on. (before.up on).0)
+    issued (inr cloned) =
+        let before : IsShutIn w handle version =
+        clones_shut config servers clients w r handle version (sent_of_cloned w.sent (source.1).0 handle version cloned) in (before.found, λ on. (before.up on).0)
 
 abbrev AreSourcesShut : WorldState → Type 0
 AreSourcesShut w = IsTrue w.observer.are_clocks_kept → (handle version : ℕ) → IsCopySent w.sent handle version → IsShutIn w handle version
@@ -221,5 +242,6 @@ sources_on config servers clients w (step ∷ rest) r h =
 
 pub copies_are_of_closed_versions : CopiesAreOfClosedVersions
 copies_are_of_closed_versions config servers clients w r clocks place m at handle version is =
-    let all : AreSourcesShut w = subst (λ (v : WorldState). AreSourcesShut v) r.1 (sources_on config servers clients (new_world config servers clients) r.0 ([], refl) (λ kept q v g. none_sent g.0 g.1)) in
+    let all : AreSourcesShut w =
+    subst (λ (v : WorldState). AreSourcesShut v) r.1 (sources_on config servers clients (new_world config servers clients) r.0 ([], refl) (λ kept q v g. none_sent g.0 g.1)) in
     version_over w handle version clocks (all clocks handle version (m, (place, at), is))

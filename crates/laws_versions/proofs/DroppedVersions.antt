@@ -29,8 +29,7 @@ use Rattle.laws_base.proofs.ClientMoves.{HasNoOrder, quiet_orders, client_quiet,
 use Rattle.laws_base.proofs.SentReached.{without_order, server_quiet, server_restarts_quiet}
 use Rattle.laws_base.proofs.RisingOrders.{element_numbered}
 use Rattle.laws_base.proofs.RevokedLeases.{IsOfRevoked, revoked_kept}
-use Rattle.laws_base.proofs.ScenesReached.{scene_of, scene_reached}
-use Rattle.laws_steps.proofs.ScenesGoOn.{goes_on}
+use Rattle.laws_base.proofs.ScenesReached.{scene_of, scene_reached, goes_on}
 use Rattle.laws_steps.proofs.LeasesStayOver.{reached_later}
 use Rattle.laws_steps.proofs.IssuedNumbers.{IsPassed}
 use Rattle.laws_versions.proofs.GivenVersions.{given_reached}

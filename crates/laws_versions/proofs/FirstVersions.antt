@@ -30,8 +30,7 @@ use Rattle.laws_base.proofs.SentReached.{without_order, server_quiet, server_res
 use Rattle.laws_base.proofs.GrantedIssued.{granted_is_at_most_issued}
 use Rattle.laws_base.proofs.RevokesNumbered.{Agrees}
 use Rattle.laws_base.proofs.RevokedLeases.{IsOfRevoked, revoked_kept}
-use Rattle.laws_base.proofs.ScenesReached.{scene_of, scene_reached}
-use Rattle.laws_steps.proofs.ScenesGoOn.{goes_on}
+use Rattle.laws_base.proofs.ScenesReached.{scene_of, scene_reached, goes_on}
 use Rattle.laws_steps.proofs.LeasesStayOver.{reached_later}
 use Rattle.laws_steps.specs.Given.{version_given}
 use Rattle.laws_steps.proofs.WaitsKept.{IsOfWaits, waits_kept}
@@ -44,7 +43,8 @@ use Rattle.laws_steps.proofs.RequestsOnce.{later_cases}
 use Rattle.laws_steps.proofs.Histories.{SentIn, sent_in, after_both}
 use Rattle.laws_versions.specs.EmptyGrants.{IsGrantUsed}
 use Rattle.laws_versions.proofs.UsedGrants.{numbered_versions_have_used_grants}
-use Rattle.laws_versions.proofs.MasterCauses.{is_caused, is_told, Attempts, IsAsk, IsTold, IsRaised, Causes, step_caused}
+use Rattle.laws_steps.proofs.MasterPremises.{is_told, IsAsk, IsTold}
+use Rattle.laws_versions.proofs.MasterCauses.{is_caused, Attempts, IsRaised, Causes, step_caused}
 use Rattle.laws_versions.proofs.ExtendLaws.{restart_silent, new_one, none_before}
 use Rattle.laws_versions.proofs.RaisedVersions.{grant_parts, counted_grant, skipped}
 use Rattle.laws_versions.specs.FirstVersions.{version_made, FirstVersionsSkipNoGrant, FirstVersionsSkipNoEntry}

@@ -22,10 +22,9 @@ use Rattle.laws_base.proofs.MembersRecorded.{all_at, all_in_order, kept_place, p
 use Rattle.laws_base.proofs.MessagesSent.{IsSent}
 use Rattle.laws_versions.specs.HeldVersions.{version_cloned}
 use Rattle.laws_versions.proofs.TrueWords.{IsCloned, IsTrueFrom, copy_ask_true, image_true}
-use Rattle.laws_versions.proofs.MasterWords.{IsMastersMessage}
 use Rattle.laws_versions.proofs.ToldVersions.{told_reached, holders_were_ordered}
 use Rattle.laws_versions.specs.ClonedVersions.{version_copied}
-use Rattle.laws_versions.proofs.CloneOrders.{IsChosen, IsTickWord, tick_says, IsNoClone, delivery_says}
+use Rattle.laws_versions.proofs.CloneOrders.{IsMastersMessage, IsChosen, IsTickWord, tick_says, IsNoClone, delivery_says}
 use Rattle.laws_versions.proofs.ClonedVersions.{IsCloneSent, sent_of_cloned}
 use Rattle.laws_steps.proofs.Histories.{IsGrown}
 use Rattle.laws_versions.proofs.OrderSteps.{IsOrderedNow, WasOrderedIn, was_ordered_in}

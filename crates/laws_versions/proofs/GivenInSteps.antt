@@ -6,33 +6,28 @@ use Rattle.gfs_types.specs.declared.ids.Node.TheVariants as node
 use Rattle.gfs_types.specs.declared.ids.OrderNo.{OrderNo}
 use Rattle.gfs_types.specs.declared.ids.FileId.{FileId}
 use Rattle.gfs_types.specs.declared.ids.Moment.{Moment}
-use Rattle.gfs_types.specs.declared.call.Call.{Call}
-use Rattle.gfs_types.specs.declared.call.Call.TheVariants as call
-use Rattle.gfs_types.specs.declared.refusal.Refusal.{Refusal}
-use Rattle.gfs_types.specs.declared.refusal.Refusal.TheVariants.{TooLong, Collected, NamesFull}
+use Rattle.gfs_types.specs.declared.refusal.Refusal.TheVariants.{TooLong, Collected}
 use Rattle.messages.specs.declared.message.Body.{Body}
 use Rattle.messages.specs.declared.message.Body.TheVariants as body
 use Rattle.messages.specs.declared.message.Message.{Message}
 use Rattle.messages.specs.declared.message.Holder.{Holder}
 use Rattle.messages.specs.declared.message.Wanted.{Wanted}
 use Rattle.messages.specs.declared.message.Wanted.TheVariants as wanted
-use Rattle.messages.specs.declared.message.NameReply.TheVariants.{Answered}
 use Rattle.messages.specs.declared.event.NodeInput.{NodeInput}
 use Rattle.messages.specs.declared.event.NodeInput.TheVariants as input
 use Rattle.log_records.specs.declared.record.Record.{Record}
 use Rattle.log_records.specs.declared.record.Record.TheVariants as log
-use Rattle.relaxed_file.specs.NameStep.{needs_room}
 use Rattle.chunk_table.specs.ChunkTable.{ChunkRow, chunk_of, file_of}
 use Rattle.leases.specs.LeaseEnds.{has_ended}
 use Rattle.protocol.specs.Tables.{element_at}
 use Rattle.protocol.specs.LogSizes.{checkpoint_fits}
-use Rattle.protocol.specs.Sending.{message, client_id, file_id, handle_of, version_of, the_server, the_client}
+use Rattle.protocol.specs.Sending.{message, file_id, handle_of, version_of, the_server}
 use Rattle.protocol.specs.Choice.{Choice, Ending, Goes, Lost, Stops}
 use Rattle.protocol.specs.Seen.{Taken, no_step}
 use Rattle.protocol.specs.declared.seen.Seen.TheVariants.{CopyStarted}
 use Rattle.protocol.specs.Logged.{Logged, checkpoint_of}
 use Rattle.protocol.specs.Master.{MasterState, MasterDoing, PendingSnapshot, HeldAt, master_begins, tells, orders, logs, logs_after_checkpoint, appends, fits, writes_checkpoint, is_of_copy, with_attempt, gives_up_copy, holders_where, current_holders, has_lease}
-use Rattle.protocol.specs.MasterSnapshots.{revokes_row, revokes, reply_of, answers_name, settles_name, refuses_name, changes_names, first_is_true, all_but_first, lets_go, takes_snapshot, takes_ready, is_ready, waits_for}
+use Rattle.protocol.specs.MasterSnapshots.{revokes_row, revokes, takes_ready, waits_for}
 use Rattle.protocol.specs.MasterVersions.{Asker, VersionTarget, holder_line, group_of, tells_location, tells_holders, tells_none, tells_to_wait, version_order, sends_versions, new_attempt, sends_issued, issues_to, targets_by, recorded_holders, issues_own, is_attempted, copy_order, sends_copies, copy_targets, sends_copy_started, copies_to, begins_copy, copy_for, is_copied, wants_own, wants_own_of, issues_copy, wants_copy, wants_by, wants_primary, holder_target}
 use Rattle.protocol.specs.MasterAsks.{looks_at_row, looks_at, mutates_row, mutates_at, adds_chunk, with_index, asks_to_write, asks_to_append, asks_for_last, asks_for, asks_of, takes_ask}
 use Rattle.protocol.specs.MasterStep.{master_takes, master_at, master_goes, may_end, master_bounded, master_ends, master_step}
@@ -40,7 +35,9 @@ use Rattle.laws_base.proofs.Words.{true_false}
 use Rattle.laws_base.proofs.Steps.{on_cond, none_some, same_some, tally, count-cons, count-append, count-in_order}
 use Rattle.laws_base.proofs.Entries.{AllOf}
 use Rattle.laws_steps.specs.Given.{version_given}
-use Rattle.laws_versions.proofs.MasterCauses.{is_caused, Attempts, IsAsk, Causes, step_caused}
+use Rattle.laws_steps.proofs.MasterPremises.{IsAsk, IsOfCalls, StepEffects, NameKeeps}
+use Rattle.laws_steps.proofs.MasterWalk.{ready_here}
+use Rattle.laws_versions.proofs.MasterCauses.{is_caused, Attempts, Causes, step_caused}
 use Rattle.laws_versions.proofs.Targets.{AreOnce, held_once, own_once, copy_once}
 
 -- whether a message gives this server this version of a chunk
@@ -96,27 +93,19 @@ module _ (taker chunk issued : ℕ) where
 
   -- snapshots that are ready
 
-  answered : (limit : ℕ) (client number : ℕ) (o : Option Refusal) (d : MasterDoing) → Fine limit d → Fine limit (answers_name d client number o)
-  answered limit client number o d h = said limit d (the_client client) (body.Named number (Answered (reply_of o))) refl h
+  abbrev AreGiven : ℕ → StepEffects → Type 0
+  AreGiven limit g = count_by (gives taker chunk issued) g.sent ≤ limit
 
-  settled : (limit : ℕ) (d : MasterDoing) (client number : ℕ) (r : Record) (o : Option Refusal) → Fine limit d → Fine limit (settles_name d client number r o)
-  settled limit d client number r o h = logged limit limit d r (λ e. answers_name e client number o) (omega arith) (answered limit client number o) h
-
-  refused : (limit : ℕ) (d : MasterDoing) (client number : ℕ) (refusal : Refusal) → Fine limit d → Fine limit (refuses_name d client number refusal)
-  refused limit d client number refusal h = settled limit d client number (log.Refused (client_id client) number refusal) (Some refusal) h
-
-  changed : (limit : ℕ) (d : MasterDoing) (client number : ℕ) (c : Call) (r : Record) → Fine limit d → Fine limit (changes_names d client number c r)
-  changed limit d client number c r h =
-      let tried : MasterDoing = record d { refused = all_but_first d.refused } in
-      on_cond (Fine limit) (needs_room c) _ (settles_name d client number r None)
-      (λ _. on_cond (Fine limit) (first_is_true d.refused) (refuses_name tried client number NamesFull) (settles_name tried client number r None) (λ _. refused limit tried client number NamesFull h) (λ _. settled limit tried client number r None h))
-      (λ _. settled limit d client number r None h)
+  names : (limit : ℕ) → NameKeeps IsOfCalls (AreGiven limit)
+  names limit =
+      record {
+        named = λ g receiver number reply h. let same = quiet_count g.sent (message node.Master receiver (body.Named number reply)) refl in omega (arith, same, h);
+        recorded = λ g r is h. h;
+        checkpointed = λ g items h. h;
+      }
 
   ready : (limit : ℕ) (d : MasterDoing) (ss : List PendingSnapshot) → Fine limit d → Fine limit (takes_ready d ss)
-  ready limit d [] h = h
-  ready limit d (s ∷ ss) h =
-      on_cond (λ (e : MasterDoing). Fine limit (takes_ready e ss)) (is_ready d.master s) (takes_snapshot d s) d
-      (λ _. ready limit (takes_snapshot d s) ss (changed limit (lets_go d s) s.client s.number (call.Snapshot s.from s.to) (log.Snapshot (client_id s.client) s.number s.from s.to) h)) (λ _. ready limit d ss h)
+  ready limit d ss h = ready_here IsOfCalls (λ r is. is) (AreGiven limit) (names limit) d ss h
 
   -- what is said of locations
 

@@ -29,10 +29,10 @@ use Rattle.laws_steps.proofs.IssuedNumbers.{IsPassed}
 use Rattle.laws_versions.proofs.GivenVersions.{given_reached}
 use Rattle.laws_versions.specs.HeldVersions.{version_cloned}
 use Rattle.laws_steps.proofs.Histories.{stood_before}
-use Rattle.laws_versions.proofs.MasterWords.{IsMastersMessage}
-use Rattle.laws_versions.proofs.CloneOrders.{IsNoClone, delivery_says}
+use Rattle.laws_versions.proofs.CloneOrders.{IsMastersMessage, IsNoClone, delivery_says}
 use Rattle.laws_versions.proofs.ClonedVersions.{IsShutIn, clones_shut}
-use Rattle.laws_versions.proofs.MasterCauses.{is_caused, Attempts, IsAsk, IsRaised, Causes, step_caused}
+use Rattle.laws_steps.proofs.MasterPremises.{IsAsk}
+use Rattle.laws_versions.proofs.MasterCauses.{is_caused, Attempts, IsRaised, Causes, step_caused}
 use Rattle.laws_versions.proofs.ExtendLaws.{new_one}
 use Rattle.laws_versions.specs.GivenOnce.{VersionsAreGivenOnce, ClonesFollowTheirVersions}
 use Rattle.laws_versions.proofs.GivenInSteps.{is_version, is_server, gives, step_once}

@@ -16,8 +16,8 @@ use Rattle.relaxed_file.proofs.NamesTree.{Tree}
 use Rattle.protocol.specs.Sending.{message, the_server, handle_of, version_of, moment_of, order_number}
 use Rattle.protocol.specs.Choice.{Choice, Ending, Goes, Lost, Stops, in_order, decided_changes}
 use Rattle.protocol.specs.Seen.{Taken, no_step}
-use Rattle.chunk_table.specs.ChunkTable.{ChunkRow, chunk_of, row_granted}
-use Rattle.protocol.specs.Logged.{Logged, LogDisk, LogChange, AppendRecord, WriteCheckpoint, first_logged, log_changed, log_changed_by_all, after_record, after_records, checkpoint_of, copies_given_up, all_copies_given_up, swapped_in}
+use Rattle.chunk_table.specs.ChunkTable.{ChunkRow, chunk_of}
+use Rattle.protocol.specs.Logged.{Logged, LogDisk, LogChange, AppendRecord, WriteCheckpoint, first_logged, log_changed, log_changed_by_all, after_record, after_records, checkpoint_of, copies_given_up, all_copies_given_up}
 use Rattle.protocol.specs.Master.{MasterState, MasterDoing, stopped_master, master_begins, writes_checkpoint}
 use Rattle.protocol.specs.MasterStep.{master_at, master_goes, master_ends, master_bounded, master_step, is_within_limits, may_end, found_log, started_master, opening, has_opened, opens_as, new_master}
 use Rattle.protocol.specs.ServerStep.{server_step, server_restart}
@@ -25,8 +25,7 @@ use Rattle.protocol.specs.World.{stamped}
 use Rattle.laws_base.proofs.Steps.{on_cond, none_some, same_some}
 use Rattle.laws_base.proofs.Entries.{same_number}
 use Rattle.laws_base.proofs.Words.{is_of_lease, true_false}
-use Rattle.laws_base.proofs.ChunkRows.{Rows, rows_of, From, removed_from, changed_from, swapped_from}
-use Rattle.laws_base.proofs.VersionsAhead.{changed_cases}
+use Rattle.laws_base.proofs.ChunkRows.{Rows, rows_of, From, removed_from, changed_from}
 use Rattle.laws_base.proofs.MasterMoves.{Core, core_of, IsDue, IsPlainOrder, Nothing, NoneEnded, Keeps, core_changed, core_appended, core_ended, core_granted, core_extended, grant_record, logs_alone}
 use Rattle.laws_base.proofs.MasterSteps.{no_input, goes_named}
 use Rattle.laws_base.proofs.MembersRecorded.{all_at}
@@ -39,11 +38,11 @@ use Rattle.laws_base.proofs.FilesLogged.{same_copy}
 use Rattle.laws_base.proofs.CountsLogged.{next_grows}
 use Rattle.laws_base.proofs.CountsKept.{counts_kept}
 use Rattle.laws_base.proofs.RowsSame.{IsSameRow, AreSameAt}
-use Rattle.laws_base.proofs.RowsFit.{AreFit, granted_logged, fit_from, fit_same, IsFitRecord, fit_after}
+use Rattle.laws_base.proofs.RowsFit.{AreFit, fit_from, fit_same, IsFitRecord, fit_after}
 use Rattle.laws_base.proofs.RowsLogged.{IsFoundRows, IsRowedLog}
 use Rattle.laws_base.proofs.RowsKept.{rows_kept, checkpoint_same}
 use Rattle.laws_base.proofs.GrantsOnce.{row_below}
-use Rattle.laws_base.proofs.RevokesNumbered.{AreAmong, IsOneMore, one_more, IsRowing, before_among, none_more}
+use Rattle.laws_base.proofs.RevokesNumbered.{AreAmong, IsOneMore, one_more, IsRowing, before_among, none_more, IsGrantedTo, granted_to_from, granted_to_after}
 use Rattle.laws_base.proofs.RevokedLeases.{IsOfRevoked, revoked_kept}
 use Rattle.laws_base.proofs.EndsToldByMaster.{TellsNoEnd, TellNoEnds, quiet_ends, server_tells, restarts_tell}
 use Rattle.laws_base.proofs.ScenesReached.{Scene, IsKeptByScenes, scene_reached}
@@ -115,22 +114,6 @@ fresh ms l other due h = tt
 agrees_after : (ms : List Message) (l k : Logged) (r : Record) → IsDue (Unit {0}) l r → IsFitRecord (Fits ms) r → Agrees ms k → Agrees ms (after_record k r)
 agrees_after ms l k r due new h =
     record { used = λ m s. used_more k.next_handle (after_record k r).next_handle m (next_grows l k r due) (h.used m s); rows = fit_after (Fits ms) l k r due new h.rows }
-
--- the row of a chunk, if it is there, says so
-abbrev IsGrantedTo : Logged → ℕ → ℕ → ℕ → Type 0
-IsGrantedTo k handle version primary = (row : ChunkRow) → table.get (rows_of k) handle ≡ Some row → (row.granted ≡ version) × (row.primary ≡ primary)
-
-granted_to_from : (k n : Logged) (handle version primary : ℕ) → From (rows_of k) (rows_of n) → IsGrantedTo k handle version primary → IsGrantedTo n handle version primary
-granted_to_from k n handle version primary f h row is = let was = f handle row is in let old = h was.old was.at in (sym was.granted ∙ old.0, sym was.primary ∙ old.1)
-
-granted_to_after : (k : Logged) (handle version primary : ℕ) (members : List ℕ) → IsGrantedTo (after_record k (grant_record handle version primary members)) handle version primary
-granted_to_after k handle version primary members =
-    let one : Logged = granted_logged k handle version primary members in
-    granted_to_from one (swapped_in one handle (table.get k.copies handle)) handle version primary (swapped_from one handle (table.get k.copies handle))
-    (λ row is. elim (changed_cases (rows_of k) handle (row_granted version primary members) (table.get (rows_of k) handle) handle row refl is) [
-      | inl now ↦ (sym (ap (λ (x : ChunkRow). x.granted) now.3), sym (ap (λ (x : ChunkRow). x.primary) now.3))
-      | inr before ↦ absurd (before.0 refl)
-    ])
 
 -- one message more
 

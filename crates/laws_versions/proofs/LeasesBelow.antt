@@ -30,10 +30,9 @@ use Rattle.laws_base.proofs.OrderNumbers.{state_of, AllFound}
 use Rattle.laws_base.proofs.GrantedIssued.{granted_is_at_most_issued}
 use Rattle.laws_base.proofs.LeaseEnds.{IsEndTold, IsPast, HasEnd}
 use Rattle.laws_base.proofs.LeasesTimely.{IsOfTimes, times_kept}
-use Rattle.laws_base.proofs.ScenesReached.{scene_of, scene_reached}
+use Rattle.laws_base.proofs.ScenesReached.{scene_of, scene_reached, goes_on}
 use Rattle.laws_base.proofs.SentReached.{sent_reached}
 use Rattle.laws_steps.specs.Versions.{IsLeaseOver}
-use Rattle.laws_steps.proofs.ScenesGoOn.{goes_on}
 use Rattle.laws_steps.proofs.EndedLeases.{past_is_over}
 use Rattle.laws_steps.proofs.LeasesStayOver.{leases_stay_over}
 use Rattle.laws_steps.specs.Given.{version_given}
@@ -43,7 +42,8 @@ use Rattle.laws_versions.proofs.GivenVersions.{given_reached}
 use Rattle.laws_versions.proofs.ClosedVersions.{StaysShut, stays_shut, clocks_before}
 use Rattle.laws_entries.proofs.SentGrants.{counted_one}
 use Rattle.laws_entries.proofs.RisingRounds.{leased_granted}
-use Rattle.laws_versions.proofs.MasterCauses.{is_caused, is_told, Attempts, IsAsk, Causes, step_caused}
+use Rattle.laws_steps.proofs.MasterPremises.{is_told, IsAsk}
+use Rattle.laws_versions.proofs.MasterCauses.{is_caused, Attempts, Causes, step_caused}
 use Rattle.laws_versions.proofs.AttemptsAbove.{step_above}
 use Rattle.laws_versions.proofs.OrderSteps.{IsOrderedNow, WasOrderedIn, was_ordered_in}
 use Rattle.laws_versions.proofs.GivenOnce.{IsNext, now_given, given_number}

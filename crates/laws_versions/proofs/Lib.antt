@@ -16,14 +16,13 @@ pub mod TakenOrders
 pub mod ToldOrders
 pub mod TrueWords
 pub mod ServerWords
-pub mod MasterWords
+pub mod HoldersKnown
 pub mod ReachedEvents
 pub mod ToldVersions
 pub mod CloneOrders
 pub mod ClonedVersions
 pub mod CopySources
 pub mod UsedGrants
-pub mod DropWords
 pub mod OutdatedVersions
 pub mod DropLaws
 pub mod DroppedVersions

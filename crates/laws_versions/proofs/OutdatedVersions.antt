@@ -28,8 +28,7 @@ use Rattle.laws_base.proofs.RowsLogged.{IsFoundRows, IsRowedLog}
 use Rattle.laws_base.proofs.RowsKept.{rows_kept, given_up_same}
 use Rattle.laws_base.proofs.RevokesNumbered.{IsRowing}
 use Rattle.laws_base.proofs.RevokedLeases.{IsOfRevoked, revoked_kept}
-use Rattle.laws_base.proofs.ScenesReached.{Scene}
-use Rattle.laws_steps.proofs.ScenesGoOn.{IsKeptOn}
+use Rattle.laws_base.proofs.ScenesReached.{Scene, IsKeptOn}
 
 ended_rows : (c : Core) (chunk moment : ℕ) → From (rows_of c.logged) (rows_of (core_ended c chunk moment).logged)
 ended_rows c chunk moment = let rows : Rows = rows_of c.logged in changed_from rows chunk (λ row. record row { lease_end = moment }) (table.get rows chunk) refl (λ row. (refl, refl, refl))

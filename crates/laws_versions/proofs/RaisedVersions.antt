@@ -37,8 +37,7 @@ use Rattle.laws_base.proofs.GrantedIssued.{granted_is_at_most_issued}
 use Rattle.laws_base.proofs.GrantsOnce.{row_below}
 use Rattle.laws_base.proofs.RevokesNumbered.{Agrees}
 use Rattle.laws_base.proofs.RevokedLeases.{IsOfRevoked, revoked_kept}
-use Rattle.laws_base.proofs.ScenesReached.{scene_of, scene_reached}
-use Rattle.laws_steps.proofs.ScenesGoOn.{goes_on}
+use Rattle.laws_base.proofs.ScenesReached.{scene_of, scene_reached, goes_on}
 use Rattle.laws_steps.proofs.WaitsKept.{IsOfWaits, waits_kept}
 use Rattle.laws_steps.proofs.IssuedNumbers.{IsPassed, IsLogPassed, passed_same}
 use Rattle.laws_versions.proofs.ClosedVersions.{StaysShut, stays_shut}

@@ -1,59 +1,26 @@
 -- What a server says in a step, with the cause of each Report and each Recorded.
-use Rattle.std.proofs.Common.{◌≡◌, ℕ, ◌+◌, ◌-◌, Bool, true, false, List, [], ◌∷◌, length, Option, Some, None, refl, ap, ◌≤◌, arith}
+use Rattle.std.proofs.Common.{◌≡◌, ℕ, Bool, true, false, Some, refl, sym, ap, subst, ◌∙◌, ◌≤◌, arith}
 use Rattle.std.proofs.Math.Nat.{le-max_left}
-use Rattle.std.specs.Prelude.{◌==◌, ◌&&◌, nat_le, nat_lt, map, max}
-use Rattle.std.specs.Option.{option_map}
+use Rattle.std.specs.Prelude.{map, max}
 use Rattle.std.specs.FinMap as table
 use Rattle.gfs_types.specs.declared.ids.Node.{Node}
-use Rattle.gfs_types.specs.declared.ids.Node.TheVariants as node
-use Rattle.gfs_types.specs.declared.ids.DataId.{DataId}
-use Rattle.gfs_types.specs.declared.ids.ServerId.{ServerId}
 use Rattle.gfs_types.specs.declared.ids.OrderNo.{OrderNo}
-use Rattle.gfs_types.specs.declared.refusal.Refusal.{Refusal}
-use Rattle.gfs_types.specs.declared.mutation.Mutation.{Mutation}
-use Rattle.gfs_types.specs.declared.mutation.Mutation.TheVariants as mutation
-use Rattle.gfs_types.specs.Mutations.{start_of, end_of}
 use Rattle.messages.specs.declared.event.NodeInput.{NodeInput}
 use Rattle.messages.specs.declared.event.NodeInput.TheVariants as input
 use Rattle.messages.specs.declared.message.Body.{Body}
 use Rattle.messages.specs.declared.message.Body.TheVariants as body
 use Rattle.messages.specs.declared.message.Message.{Message}
-use Rattle.messages.specs.declared.message.Target.{Target}
-use Rattle.messages.specs.declared.message.Target.TheVariants as target
-use Rattle.messages.specs.declared.message.Change.{Change}
-use Rattle.messages.specs.declared.message.Change.TheVariants as change
-use Rattle.gfs_types.specs.Counters.{counter_limit}
-use Rattle.protocol.specs.Tables.{without}
-use Rattle.protocol.specs.Sending.{message, the_server, the_client, handle_of, version_of, serial_of, server_number, order_number}
+use Rattle.protocol.specs.Sending.{the_server, handle_of, version_of, order_number}
 use Rattle.protocol.specs.Choice.{Choice, Ending, Goes, Lost, Stops}
 use Rattle.protocol.specs.Seen.{Taken, no_step}
-use Rattle.protocol.specs.declared.seen.Seen.TheVariants.{Numbered, BecameSettled}
-use Rattle.protocol.specs.PushBuffer.{next_hop, hops_after}
-use Rattle.replica_store.specs.declared.row.Row.{Row}
-use Rattle.replica_store.specs.declared.change.StoreChange.{StoreChange}
-use Rattle.replica_store.specs.declared.change.StoreChange.TheVariants.{SetOrder, Put, Write, Zero, Raise, Copy}
-use Rattle.replica_store.specs.Replicas.{is_new_order, row_at, read_at, is_copyable_at, is_writable_at}
-use Rattle.data_push.specs.Buffers.{with_data, data_of}
-use Rattle.primary_order.specs.declared.answer.Attempted.{Attempted}
-use Rattle.primary_order.specs.declared.answer.Attempted.TheVariants.{IsNew, IsRepeat, IsOld}
-use Rattle.primary_order.specs.declared.answer.Settled.{Settled}
-use Rattle.primary_order.specs.declared.kept.Standing.TheVariants.{IsPending, IsSettled, IsRefused}
-use Rattle.primary_order.specs.declared.order.SerialOrder.{SerialOrder}
-use Rattle.primary_order.specs.PrimaryOrder.{place_of}
-use Rattle.primary_order.specs.SerialOrder.{attempted, denied, numbered, settled, acknowledged, refused_by, attempt_of}
-use Rattle.record_append.specs.declared.placing.Placing.{Placing}
-use Rattle.record_append.specs.declared.placing.Placing.TheVariants.{At, Pad, Full, TooLong}
-use Rattle.record_append.specs.Placing.{placing}
-use Rattle.protocol.specs.Server.{ServerState, ServerDoing, server_begins, chunk_limit, sends, refuses, stores, shows, with_primary, without_lease, takes_data, drops_corrupt, primary_of}
-use Rattle.protocol.specs.ServerReads.{answers_bytes, reads_from, measures, sends_image, copies_out}
-use Rattle.protocol.specs.ServerWrites.{refuses_attempt, denies, forward_to, nacks, passes_on, answers_settled, forwards, settles, acknowledges, change_of, stored_as, primary_applies, places, appends_as, mutates_with, mutates_new, mutates_as, mutates_under, member_stores, member_applies, applies_data, applies_change, forwarded_to, acked_under, refuses_waiting, nacked_under}
-use Rattle.protocol.specs.ServerOrders.{on_order, records, can_take, takes_create, raises, takes_set_version, holds_version, takes_grant, extends_held, ends_held, takes_revoke, drops_old, takes_drop, is_pending_clone, takes_clone, takes_image, copies_locally, takes_copy_local}
-use Rattle.protocol.specs.ServerStep.{replica_line, lease_line, counting_leases, server_ticks, server_takes, server_does, server_at, server_goes, server_ends, server_step}
+use Rattle.replica_store.specs.Replicas.{is_new_order}
+use Rattle.protocol.specs.Server.{ServerState, ServerDoing}
+use Rattle.protocol.specs.ServerStep.{replica_line, lease_line, counting_leases, server_at, server_goes, server_ends, server_step}
 use Rattle.laws_base.proofs.Steps.{on_cond}
-use Rattle.laws_base.proofs.Entries.{AllOf, all_joined}
+use Rattle.laws_steps.proofs.ServerSays.{IsSaid, step_says}
+use Rattle.laws_entries.proofs.UsedAnswers.{goes_clock}
+use Rattle.laws_base.proofs.Entries.{AllOf}
 use Rattle.laws_steps.specs.Given.{version_given}
-use Rattle.gfs_types.specs.declared.refusal.Refusal.TheVariants.{NoChunk, Version as VersionRefused, Corrupt, ChunkFull, ServerTooLong, NoData, OldRequest, NoLease, Late, OldSerial}
-use Rattle.laws_base.proofs.MembersRecorded.{all_in_order}
 
 -- words of a server that need no cause here
 abbrev pub is_plain : Body → Bool
@@ -74,288 +41,24 @@ module _ (server now : ℕ) (W : Body → Type 0) (plain : (b : Body) → is_pla
   abbrev pub Said : Message → Type 0
   Said m = (m.sender ≡ the_server server) × W m.body
 
-  -- a step so far, of the server of this number, at this moment
-  abbrev pub Says : ServerDoing → Type 0
-  Says d = ((d.server.id ≡ server) × (d.server.now ≡ now)) × AllOf Said d.sent
-
-  says_true : (d : ServerDoing) (receiver : Node) (b : Body) → W b → Says d → Says (sends d receiver b)
-  says_true d receiver b is h = (h.0, all_joined Said d.sent (message (the_server d.server.id) receiver b ∷ []) h.1 ((ap the_server h.0.0, is), tt))
-
-  calm : (d : ServerDoing) (receiver : Node) (b : Body) → is_plain b ≡ true → Says d → Says (sends d receiver b)
-  calm d receiver b is h = says_true d receiver b (plain b is) h
-
-  refuses_true : (d : ServerDoing) (client : Node) (number : ℕ) (refusal : Refusal) → Says d → Says (refuses d client number refusal)
-  refuses_true d client number refusal h = calm d client (body.Refused number refusal) refl h
-
-  attempt_refused : (d : ServerDoing) (id : DataId) (refusal : Refusal) → Says d → Says (refuses_attempt d id refusal)
-  attempt_refused d id refusal h = refuses_true d (the_client id.client.0) id.seq refusal h
-
-  -- reads
-
-  bytes_says : (d : ServerDoing) (client : Node) (number handle : ℕ) (o : Option (List ℕ)) → Says d → Says (answers_bytes d client number handle o)
-  bytes_says d client number handle None h = refuses_true (drops_corrupt d handle) client number Corrupt h
-  bytes_says d client number handle (Some bytes) h = calm d client (body.Bytes number bytes) refl h
-
-  read_says : (d : ServerDoing) (client : Node) (number handle version offset count : ℕ) (o : Option Row) → Says d → Says (reads_from d client number handle version offset count o)
-  read_says d client number handle version offset count None h = refuses_true d client number NoChunk h
-  read_says d client number handle version offset count (Some r) h =
-      on_cond Says (r.version.0 == version) (answers_bytes d client number handle (read_at d.server.disk handle offset count)) _ (λ _. bytes_says d client number handle (read_at d.server.disk handle offset count) h)
-      (λ _. refuses_true d client number VersionRefused h)
-
-  measure_says : (d : ServerDoing) (client : Node) (number version : ℕ) (o : Option Row) → Says d → Says (measures d client number version o)
-  measure_says d client number version None h = refuses_true d client number NoChunk h
-  measure_says d client number version (Some r) h = on_cond Says (r.version.0 == version) _ _ (λ _. calm d client (body.LenIs number r.count) refl h) (λ _. refuses_true d client number VersionRefused h)
-
-  image_sent_says : (d : ServerDoing) (receiver : Node) (handle : ℕ) (r : Row) (o : Option (List ℕ)) → Says d → Says (sends_image d receiver handle r o)
-  image_sent_says d receiver handle r None h = h
-  image_sent_says d receiver handle r (Some bytes) h = calm d receiver (body.Image (handle_of handle) r.version r.serial bytes) refl h
-
-  copy_out_says : (d : ServerDoing) (receiver : Node) (handle version : ℕ) (o : Option Row) → Says d → Says (copies_out d receiver handle version o)
-  copy_out_says d receiver handle version None h = h
-  copy_out_says d receiver handle version (Some r) h =
-      on_cond Says (r.version.0 == version) (sends_image d receiver handle r (read_at d.server.disk handle 0 r.count)) d
-      (λ _. image_sent_says d receiver handle r (read_at d.server.disk handle 0 r.count) h) (λ _. h)
-
-  -- mutations
-
-  pass_says : (d : ServerDoing) (id : DataId) (bytes rest : List ℕ) (o : Option ServerId) → Says d → Says (passes_on d id bytes rest o)
-  pass_says d id bytes rest None h = calm d (the_client id.client.0) (body.Pushed id) refl h
-  pass_says d id bytes rest (Some next) h = calm d (the_server next.0) (body.Push id bytes (hops_after rest next.0)) refl h
-
-  settled_says : (d : ServerDoing) (id : DataId) (o : Option ℕ) → Says d → Says (answers_settled d id o)
-  settled_says d id None h = attempt_refused d id ChunkFull h
-  settled_says d id (Some place) h = calm d (the_client id.client.0) (body.Done id place) refl h
-
-  settles_says : (d : ServerDoing) (handle version serial : ℕ) (o : Option Settled) → Says d → Says (settles d handle version serial o)
-  settles_says d handle version serial None h = h
-  settles_says d handle version serial (Some s) h =
-      settled_says (shows d (BecameSettled (handle_of handle) (version_of version) (serial_of serial))) (record { client = s.client; seq = s.seq }) s.place h
-
-  acks_says : (d : ServerDoing) (handle : ℕ) (p : SerialOrder) (member serial : ℕ) → Says d → Says (acknowledges d handle p member serial)
-  acks_says d handle p member serial h = settles_says (with_primary d handle (acknowledged p member serial)) handle p.held.version serial (settled p member serial) h
-
-  forwards_true : (me : ℕ) (members : List ℕ) (handle version serial : ℕ) (id : DataId) (c : Change) → me ≡ server → AllOf Said (map (forward_to me handle version serial id c) members)
-  forwards_true me [] handle version serial id c is = tt
-  forwards_true me (member ∷ members) handle version serial id c is =
-      ((ap the_server is, plain (body.Forward (handle_of handle) (version_of version) (serial_of serial) id c) refl), forwards_true me members handle version serial id c is)
-
-  forwards_says : (d : ServerDoing) (members : List ℕ) (handle version serial : ℕ) (id : DataId) (c : Change) → Says d → Says (forwards d members handle version serial id c)
-  forwards_says d members handle version serial id c h =
-      (h.0, all_joined Said d.sent (map (forward_to d.server.id handle version serial id c) members) h.1 (forwards_true d.server.id members handle version serial id c h.0.0))
-
-  primary_says : (d : ServerDoing) (handle : ℕ) (p : SerialOrder) (id : DataId) (m : Mutation) → Says d → Says (primary_applies d handle p id m)
-  primary_says d handle p id m h =
-      let serial : ℕ = p.serial + 1 in
-      let x : StoreChange = stored_as (chunk_limit d.server handle) handle serial m in
-      let members : List ℕ = without p.held.members d.server.id in
-      acks_says (forwards (stores d x) members handle p.held.version serial id (change_of m)) handle (numbered p id.client id.seq (place_of m)) d.server.id serial
-      (forwards_says (stores d x) members handle p.held.version serial id (change_of m) h)
-
-  places_says : (d : ServerDoing) (handle : ℕ) (p : SerialOrder) (id : DataId) (m : Mutation) → Says d → Says (places d handle p id m)
-  places_says d handle p id m h =
-      let serial : ℕ = p.serial + 1 in
-      let taken : ServerDoing = shows (takes_data (with_primary d handle (numbered p id.client id.seq (place_of m))) id) (Numbered (handle_of handle) (version_of p.held.version) (serial_of serial) id m) in
-      on_cond Says (nat_le counter_limit p.serial) d _ (λ _. h)
-      (λ _. on_cond Says (is_writable_at d.server.disk handle (start_of m) (end_of (chunk_limit d.server handle) m)) (primary_applies taken handle p id m) _ (λ _. primary_says taken handle p id m h)
-      (λ _. attempt_refused (drops_corrupt taken handle) id Corrupt h))
-
-  denies_says : (d : ServerDoing) (handle : ℕ) (p : SerialOrder) (id : DataId) (refusal : Refusal) → Says d → Says (denies d handle p id refusal)
-  denies_says d handle p id refusal h = attempt_refused (takes_data (with_primary d handle (denied p id.client id.seq refusal)) id) id refusal h
-
-  appends_says : (d : ServerDoing) (handle : ℕ) (p : SerialOrder) (id : DataId) (bytes : List ℕ) (where_ : Placing) → Says d → Says (appends_as d handle p id bytes where_)
-  appends_says d handle p id bytes TooLong h = denies_says d handle p id ServerTooLong h
-  appends_says d handle p id bytes Full h = denies_says d handle p id ChunkFull h
-  appends_says d handle p id bytes (Pad offset) h = places_says d handle p id (mutation.Pad offset) h
-  appends_says d handle p id bytes (At offset) h = places_says d handle p id (mutation.Append offset bytes) h
-
-  with_says : (d : ServerDoing) (handle : ℕ) (p : SerialOrder) (r : Row) (id : DataId) (t : Target) (bytes : List ℕ) → Says d → Says (mutates_with d handle p r id t bytes)
-  with_says d handle p r id (target.Write offset) bytes h =
-      on_cond Says (nat_lt (chunk_limit d.server handle) (offset + length bytes)) d (places d handle p id (mutation.Write offset bytes)) (λ _. h) (λ _. places_says d handle p id (mutation.Write offset bytes) h)
-  with_says d handle p r id target.Append bytes h = appends_says d handle p id bytes (placing r.count (length bytes) (chunk_limit d.server handle)) h
-
-  new_says : (d : ServerDoing) (handle : ℕ) (p : SerialOrder) (id : DataId) (t : Target) (o : Option Row) (bytes : Option (List ℕ)) → Says d → Says (mutates_new d handle p id t o bytes)
-  new_says d handle p id t None bytes h = h
-  new_says d handle p id t (Some r) None h = denies_says d handle p id NoData h
-  new_says d handle p id t (Some r) (Some bytes) h = with_says d handle p r id t bytes h
-
-  as_says : (d : ServerDoing) (handle : ℕ) (p : SerialOrder) (id : DataId) (t : Target) (a : Attempted) → Says d → Says (mutates_as d handle p id t a)
-  as_says d handle p id t IsOld h = attempt_refused d id OldRequest h
-  as_says d handle p id t (IsRepeat IsPending) h = h
-  as_says d handle p id t (IsRepeat (IsSettled place)) h = settled_says d id place h
-  as_says d handle p id t (IsRepeat (IsRefused refusal)) h = attempt_refused d id refusal h
-  as_says d handle p id t IsNew h = new_says d handle p id t (row_at d.server.disk handle) (data_of d.server.pushed id) h
-
-  under_says : (d : ServerDoing) (handle : ℕ) (id : DataId) (t : Target) (deadline : ℕ) (o : Option SerialOrder) → Says d → Says (mutates_under d handle id t deadline o)
-  under_says d handle id t deadline None h = attempt_refused d id NoLease h
-  under_says d handle id t deadline (Some p) h =
-      on_cond Says (nat_le deadline d.server.now) _ (mutates_as d handle p id t (attempted p id.client id.seq)) (λ _. attempt_refused d id Late h) (λ _. as_says d handle p id t (attempted p id.client id.seq) h)
-
-  nacks_says : (d : ServerDoing) (primary : Node) (handle version serial : ℕ) (refusal : Refusal) → Says d → Says (nacks d primary handle version serial refusal)
-  nacks_says d primary handle version serial refusal h = calm d primary (body.Nacked (handle_of handle) (version_of version) (serial_of serial) refusal) refl h
-
-  member_says : (b : Bool) (d : ServerDoing) (primary : Node) (handle version serial : ℕ) (x : StoreChange) → Says d → Says (member_stores b d primary handle version serial x)
-  member_says true d primary handle version serial x h = calm (stores d x) primary (body.Acked (handle_of handle) (version_of version) (serial_of serial)) refl h
-  member_says false d primary handle version serial x h = nacks_says (drops_corrupt d handle) primary handle version serial Corrupt h
-
-  member_applies_says : (d : ServerDoing) (primary : Node) (handle version serial : ℕ) (id : DataId) (x : StoreChange) (offset end_place : ℕ) → Says d → Says (member_applies d primary handle version serial id x offset end_place)
-  member_applies_says d primary handle version serial id x offset end_place h =
-      on_cond Says (nat_lt (chunk_limit d.server handle) end_place) d _ (λ _. h)
-      (λ _. member_says (is_writable_at d.server.disk handle offset end_place) (takes_data d id) primary handle version serial x h)
-
-  data_says : (d : ServerDoing) (primary : Node) (handle version serial : ℕ) (id : DataId) (offset : ℕ) (o : Option (List ℕ)) → Says d → Says (applies_data d primary handle version serial id offset o)
-  data_says d primary handle version serial id offset None h = nacks_says d primary handle version serial NoData h
-  data_says d primary handle version serial id offset (Some bytes) h = member_applies_says d primary handle version serial id (Write (handle_of handle) (serial_of serial) offset bytes) offset (offset + length bytes) h
-
-  change_says : (d : ServerDoing) (primary : Node) (handle version serial : ℕ) (id : DataId) (c : Change) → Says d → Says (applies_change d primary handle version serial id c)
-  change_says d primary handle version serial id (change.Write offset) h = data_says d primary handle version serial id offset (data_of d.server.pushed id) h
-  change_says d primary handle version serial id (change.Append offset) h = data_says d primary handle version serial id offset (data_of d.server.pushed id) h
-  change_says d primary handle version serial id (change.Pad offset) h =
-      let count : ℕ = chunk_limit d.server handle - offset in
-      member_applies_says d primary handle version serial id (Zero (handle_of handle) (serial_of serial) offset count) offset (offset + count) h
-
-  forwarded_says : (d : ServerDoing) (primary : Node) (handle version serial : ℕ) (id : DataId) (c : Change) (o : Option Row) → Says d → Says (forwarded_to d primary handle version serial id c o)
-  forwarded_says d primary handle version serial id c None h = nacks_says d primary handle version serial NoChunk h
-  forwarded_says d primary handle version serial id c (Some r) h =
-      on_cond Says (r.version.0 == version) _ _
-      (λ _. on_cond Says (nat_lt r.serial.0 serial) (applies_change d primary handle version serial id c) _ (λ _. change_says d primary handle version serial id c h) (λ _. nacks_says d primary handle version serial OldSerial h))
-      (λ _. nacks_says d primary handle version serial VersionRefused h)
-
-  acked_says : (d : ServerDoing) (handle member serial : ℕ) (o : Option SerialOrder) → Says d → Says (acked_under d handle member serial o)
-  acked_says d handle member serial None h = h
-  acked_says d handle member serial (Some p) h = acks_says d handle p member serial h
-
-  waiting_says : (d : ServerDoing) (refusal : Refusal) (o : Option DataId) → Says d → Says (refuses_waiting d refusal o)
-  waiting_says d refusal None h = h
-  waiting_says d refusal (Some id) h = attempt_refused d id refusal h
-
-  nacked_says : (d : ServerDoing) (handle serial : ℕ) (refusal : Refusal) (o : Option SerialOrder) → Says d → Says (nacked_under d handle serial refusal o)
-  nacked_says d handle serial refusal None h = h
-  nacked_says d handle serial refusal (Some p) h =
-      let less : ServerDoing = with_primary d handle (refused_by p refusal (table.get p.waiting serial)) in
-      waiting_says less refusal (option_map attempt_of (table.get p.waiting serial)) h
-
-  -- orders
-
-  order_says : (d : ServerDoing) (order : OrderNo) (f : ServerDoing → ServerDoing) → (is_new_order d.server.disk order.epoch order.count ≡ true → (e : ServerDoing) → Says e → Says (f e)) → Says d → Says (on_order d order f)
-  order_says d order f go h = on_cond Says (is_new_order d.server.disk order.epoch order.count) (f (stores d (SetOrder order))) d (λ new. go new (stores d (SetOrder order)) h) (λ _. h)
-
-  -- what may be said to be recorded
-  abbrev Records : ℕ → ℕ → Type 0
-  Records handle version = W (body.Recorded (handle_of handle) (version_of version))
-
-  records_says : (d : ServerDoing) (handle version : ℕ) → Records handle version → Says d → Says (records d handle version)
-  records_says d handle version ordered h = says_true d node.Master (body.Recorded (handle_of handle) (version_of version)) ordered h
-
-  create_says : (handle version : ℕ) → Records handle version → (d : ServerDoing) → Says d → Says (takes_create d handle version)
-  create_says handle version ordered d h =
-      let x : StoreChange = Put (handle_of handle) (version_of version) (serial_of 0) [] in
-      on_cond Says (can_take d handle) (records (stores d x) handle version) d (λ _. records_says (stores d x) handle version ordered h) (λ _. h)
-
-  raises_says : (d : ServerDoing) (handle version base : ℕ) (o : Option Row) → Records handle version → Says d → Says (raises d handle version base o)
-  raises_says d handle version base None ordered h = h
-  raises_says d handle version base (Some r) ordered h =
-      let x : StoreChange = Raise (handle_of handle) (version_of version) in
-      on_cond Says (r.version.0 == base) (records (without_lease (stores d x) handle) handle version) d (λ _. records_says (without_lease (stores d x) handle) handle version ordered h) (λ _. h)
-
-  grant_says : (d : ServerDoing) (handle version end_moment : ℕ) (members : List ℕ) → Says d → Says (takes_grant d handle version end_moment members)
-  grant_says d handle version end_moment members h = on_cond Says (holds_version version (row_at d.server.disk handle)) _ d (λ _. h) (λ _. h)
-
-  extend_says : (d : ServerDoing) (handle version end_moment : ℕ) (o : Option SerialOrder) → Says d → Says (extends_held d handle version end_moment o)
-  extend_says d handle version end_moment None h = h
-  extend_says d handle version end_moment (Some p) h = on_cond Says (p.held.version == version) _ d (λ _. h) (λ _. h)
-
-  ended_says : (d : ServerDoing) (handle version : ℕ) (o : Option SerialOrder) → Says d → Says (ends_held d handle version o)
-  ended_says d handle version None h = h
-  ended_says d handle version (Some p) h = on_cond Says (p.held.version == version) (without_lease d handle) d (λ _. h) (λ _. h)
-
-  revoke_says : (d : ServerDoing) (handle version : ℕ) → Says d → Says (takes_revoke d handle version)
-  revoke_says d handle version h =
-      calm (ends_held d handle version (table.get d.server.leases handle)) node.Master (body.Revoked (handle_of handle) (version_of version)) refl (ended_says d handle version (table.get d.server.leases handle) h)
-
-  drops_says : (d : ServerDoing) (handle version : ℕ) (o : Option Row) → Says d → Says (drops_old d handle version o)
-  drops_says d handle version None h = h
-  drops_says d handle version (Some r) h = on_cond Says (nat_le r.version.0 version) _ d (λ _. h) (λ _. h)
-
-  clone_says : (handle version source : ℕ) (d : ServerDoing) → Says d → Says (takes_clone d handle version source)
-  clone_says handle version source d h =
-      calm (record d { server = record d.server { clones = table.insert d.server.clones handle version } }) (the_server source) (body.CopyAsk (handle_of handle) (version_of version)) refl h
-
-  image_says : (d : ServerDoing) (handle version serial : ℕ) (bytes : List ℕ) → Says d → Says (takes_image d handle version serial bytes)
-  image_says d handle version serial bytes h =
-      let stored : ServerDoing = stores d (Put (handle_of handle) (version_of version) (serial_of serial) bytes) in
-      on_cond Says (is_pending_clone version (table.get d.server.clones handle) && nat_le (length bytes) (chunk_limit d.server handle) && can_take d handle) _ d
-      (λ _. calm (record stored { server = record stored.server { clones = table.remove stored.server.clones handle } }) node.Master (body.Cloned (handle_of handle) (version_of version)) refl h) (λ _. h)
-
-  locally_says : (d : ServerDoing) (handle version copy copy_version : ℕ) (o : Option Row) → Records copy copy_version → Says d → Says (copies_locally d handle version copy copy_version o)
-  locally_says d handle version copy copy_version None ordered h = h
-  locally_says d handle version copy copy_version (Some r) ordered h =
-      let x : StoreChange = Copy (handle_of handle) (handle_of copy) (version_of copy_version) in
-      on_cond Says (r.version.0 == version) _ d
-      (λ _. on_cond Says (is_copyable_at d.server.disk handle) _ (drops_corrupt d handle)
-      (λ _. on_cond Says (can_take d copy) (records (stores d x) copy copy_version) d (λ _. records_says (stores d x) copy copy_version ordered h) (λ _. h))
-      (λ _. h))
-      (λ _. h)
-
-  -- the step
-
-  -- a new order that gives a version may be recorded
-  abbrev MayRecord : ServerDoing → Body → Type 0
-  MayRecord d b = (order : OrderNo) (handle version : ℕ) → IsOrderOf b order handle version → is_new_order d.server.disk order.epoch order.count ≡ true → Records handle version
-
-  takes_says : (d : ServerDoing) (m : Message) (b : Body) → MayRecord d b → Says d → Says (server_takes d m b)
-  takes_says d m (body.Push id bytes rest) may h = pass_says (record d { server = record d.server { pushed = with_data d.server.pushed id bytes } }) id bytes rest (next_hop rest d.server.id) h
-  takes_says d m (body.Mutate id handle version t deadline) may h = under_says d handle.0 id t deadline.0 (primary_of d.server handle.0 version.0) h
-  takes_says d m (body.Read number handle version offset count) may h = read_says d m.sender number handle.0 version.0 offset count (row_at d.server.disk handle.0) h
-  takes_says d m (body.Len number handle version) may h = measure_says d m.sender number version.0 (row_at d.server.disk handle.0) h
-  takes_says d m (body.Forward handle version serial id c) may h = forwarded_says d m.sender handle.0 version.0 serial.0 id c (row_at d.server.disk handle.0) h
-  takes_says d m (body.Acked handle version serial) may h = acked_says d handle.0 (server_number m.sender) serial.0 (primary_of d.server handle.0 version.0) h
-  takes_says d m (body.Nacked handle version serial refusal) may h = nacked_says d handle.0 serial.0 refusal (primary_of d.server handle.0 version.0) h
-  takes_says d m (body.Create order handle version) may h =
-      order_says d order (λ e. takes_create e handle.0 version.0) (λ new e g. create_says handle.0 version.0 (may order handle.0 version.0 (record { number = refl; given = refl }) new) e g) h
-  takes_says d m (body.SetVersion order handle version base) may h =
-      order_says d order (λ e. takes_set_version e handle.0 version.0 base.0)
-      (λ new e g. raises_says e handle.0 version.0 base.0 (row_at e.server.disk handle.0) (may order handle.0 version.0 (record { number = refl; given = refl }) new) g) h
-  takes_says d m (body.Grant order handle version end_moment members) may h = order_says d order (λ e. takes_grant e handle.0 version.0 end_moment.0 members) (λ _ e g. grant_says e handle.0 version.0 end_moment.0 members g) h
-  takes_says d m (body.Revoke order handle version) may h = order_says d order (λ e. takes_revoke e handle.0 version.0) (λ _ e g. revoke_says e handle.0 version.0 g) h
-  takes_says d m (body.Drop order handle version) may h = order_says d order (λ e. takes_drop e handle.0 version.0) (λ _ e g. drops_says e handle.0 version.0 (row_at e.server.disk handle.0) g) h
-  takes_says d m (body.Clone order handle version source) may h = order_says d order (λ e. takes_clone e handle.0 version.0 source.0) (λ _ e g. clone_says handle.0 version.0 source.0 e g) h
-  takes_says d m (body.CopyLocal order handle version copy copy_version) may h =
-      order_says d order (λ e. takes_copy_local e handle.0 version.0 copy.0 copy_version.0)
-      (λ new e g. locally_says e handle.0 version.0 copy.0 copy_version.0 (row_at e.server.disk handle.0) (may order copy.0 copy_version.0 (record { number = refl; given = refl }) new) g) h
-  takes_says d m (body.Extend handle version end_moment) may h = extend_says d handle.0 version.0 end_moment.0 (table.get d.server.leases handle.0) h
-  takes_says d m (body.CopyAsk handle version) may h = copy_out_says d m.sender handle.0 version.0 (row_at d.server.disk handle.0) h
-  takes_says d m (body.Image handle version serial bytes) may h = image_says d handle.0 version.0 serial.0 bytes h
-  takes_says d m other may h = h
-
-  ticks_says : (d : ServerDoing) → W (reported d.server) → Says d → Says (server_ticks d)
-  ticks_says d is h = says_true d node.Master (reported d.server) is h
-
-  does_says : (d : ServerDoing) (i : NodeInput) → (i ≡ input.Tick → W (reported d.server)) → ((m : Message) → i ≡ input.Deliver m → MayRecord d m.body) → Says d → Says (server_does d i)
-  does_says d (input.Deliver m) reports may h = takes_says d m m.body (may m refl) h
-  does_says d input.Tick reports may h = ticks_says d (reports refl) h
-
-  ends_says : (s : ServerState) (d : ServerDoing) (choice : Choice) (e : Ending) → Says d → AllOf Said (server_ends s d choice e).out.sent
-  ends_says s d choice Goes h = all_in_order Said choice.order d.sent h.1
-  ends_says s d choice Lost h = tt
-  ends_says s d choice (Stops made) h = tt
-
   -- what a server says in a step: a Report of what it has, a Recorded of what a new order gives it, and words that need no cause here
   pub step_words : (s : ServerState) (moment : ℕ) (i : NodeInput) (choice : Choice) → s.id ≡ server → (server_at s moment).now ≡ now → (i ≡ input.Tick → W (reported (server_at s moment)))
       → ((m : Message) → i ≡ input.Deliver m → (order : OrderNo) (handle version : ℕ) → IsOrderOf m.body order handle version → is_new_order s.disk order.epoch order.count ≡ true → W (body.Recorded (handle_of handle) (version_of version)))
       → AllOf Said (server_step s moment i choice).out.sent
   step_words s moment i choice id clock reports may =
-      on_cond (λ (t : Taken ServerState). AllOf Said t.out.sent) s.up (server_ends s (server_goes s moment i) choice choice.ending) (no_step s)
-      (λ _. ends_says s (server_goes s moment i) choice choice.ending (does_says (server_begins (server_at s moment)) i reports may ((id, clock), tt))) (λ _. tt)
+      step_says Said s moment i choice (λ m word. (word.0 ∙ ap the_server id, by_body (server_goes s moment i) m.receiver m.body word.1))
+    where
+      by_body : (d : ServerDoing) (receiver : Node) (b : Body) → IsSaid (server_at s moment) i d receiver b → W b
+      by_body d receiver (body.Recorded handle version) h = may h.0.m h.0.came h.0.order handle.0 version.0 (record { number = h.0.is; given = h.1 }) h.2
+      by_body d receiver (body.Report replicas leases) h = subst W (sym h.1) (reports h.0)
+      by_body d receiver other h = plain other refl
 
 -- after a step a server is at the greatest moment that it was given since its start
 pub step_now : (s : ServerState) (moment : ℕ) (i : NodeInput) (choice : Choice) → (server_step s moment i choice).state.now ≤ max s.now moment
 step_now s moment i choice =
     on_cond (λ (t : Taken ServerState). t.state.now ≤ max s.now moment) s.up (server_ends s (server_goes s moment i) choice choice.ending) (no_step s) (λ _. by_ending choice.ending) (λ _. le-max_left s.now moment)
   where
-    goes : Says s.id (max s.now moment) (λ b. Unit {0}) (λ b is. tt) (server_goes s moment i)
-    goes = does_says s.id (max s.now moment) (λ b. Unit {0}) (λ b is. tt) (server_begins (server_at s moment)) i (λ _. tt) (λ m came order handle version of new. tt) ((refl, refl), tt)
-
     by_ending : (e : Ending) → (server_ends s (server_goes s moment i) choice e).state.now ≤ max s.now moment
-    by_ending Goes = let same = goes.0.1 in omega (arith, same)
+    by_ending Goes = let same : (server_goes s moment i).server.now ≡ max s.now moment = goes_clock s moment i in omega (arith, same)
     by_ending Lost = omega arith
     by_ending (Stops made) = omega arith

@@ -1,65 +1,51 @@
 -- What a server stores of versions is of orders that it took: every change of its disk that gives a replica a version comes after the number of its order, so the server refuses that order from then on.
 use Rattle.std.proofs.Common.{◌≡◌, ◌⊎◌, ℕ, zero, suc, ◌+◌, ◌-◌, ◌≤◌, Bool, true, false, List, [], ◌∷◌, ◌++◌, length, take, drop, Option, Some, None, refl, sym, ap, subst, ◌∙◌, inl, inr, arith}
-use Rattle.std.specs.Prelude.{◌==◌, ◌&&◌, nat_le, nat_lt, IsTrue}
-use Rattle.std.specs.Option.{option_map}
+use Rattle.std.specs.Prelude.{IsTrue}
 use Rattle.std.specs.Ordering.{nat_cmp}
 use Rattle.std.specs.FinMap as table
-use Rattle.std.proofs.lemmas.Bool.{eqb-true, and_parts, true≢false}
+use Rattle.std.proofs.lemmas.Bool.{true≢false}
 use Rattle.gfs_types.specs.declared.config.Config.{Config}
-use Rattle.gfs_types.specs.declared.ids.Node.{Node}
+use Rattle.messages.specs.declared.event.Event.{Event}
+use Rattle.messages.specs.declared.event.Event.TheVariants as event
+use Rattle.gfs_types.specs.declared.ids.Node.TheVariants.{Master}
 use Rattle.gfs_types.specs.declared.ids.DataId.{DataId}
-use Rattle.gfs_types.specs.declared.ids.ServerId.{ServerId}
 use Rattle.gfs_types.specs.declared.ids.OrderNo.{OrderNo}
-use Rattle.gfs_types.specs.declared.refusal.Refusal.{Refusal}
 use Rattle.gfs_types.specs.declared.mutation.Mutation.{Mutation}
 use Rattle.gfs_types.specs.declared.mutation.Mutation.TheVariants as mutation
-use Rattle.gfs_types.specs.Mutations.{start_of, end_of}
 use Rattle.messages.specs.declared.event.NodeInput.{NodeInput}
 use Rattle.messages.specs.declared.event.NodeInput.TheVariants as input
 use Rattle.messages.specs.declared.message.Body.{Body}
 use Rattle.messages.specs.declared.message.Body.TheVariants as body
 use Rattle.messages.specs.declared.message.Message.{Message}
-use Rattle.messages.specs.declared.message.Target.{Target}
-use Rattle.messages.specs.declared.message.Target.TheVariants as target
 use Rattle.messages.specs.declared.message.Change.{Change}
 use Rattle.messages.specs.declared.message.Change.TheVariants as change
-use Rattle.gfs_types.specs.Counters.{counter_limit}
 use Rattle.protocol.specs.Tables.{Table, element_at, with_at, without}
 use Rattle.protocol.specs.Sending.{the_server, handle_of, version_of, serial_of, server_number, order_number}
 use Rattle.protocol.specs.Choice.{Choice, Ending, Goes, Lost, Stops, decided_changes}
 use Rattle.protocol.specs.Seen.{Taken, no_step}
-use Rattle.protocol.specs.declared.seen.Seen.TheVariants.{Numbered, BecameSettled}
-use Rattle.protocol.specs.PushBuffer.{next_hop}
-use Rattle.replica_store.specs.declared.row.Row.{Row}
+use Rattle.protocol.specs.declared.seen.Seen.TheVariants.{BecameSettled}
 use Rattle.replica_store.specs.declared.change.StoreChange.{StoreChange}
 use Rattle.replica_store.specs.declared.change.StoreChange.TheVariants.{SetOrder, Put, Write, Zero, Raise, Copy, Remove}
-use Rattle.replica_store.specs.Replicas.{Replica, ServerDisk, new_server_disk, replica_of, with_replica, replica_becomes, stored_replica, written_replica, raised_replica, rotten_replica, bytes_on_disk, disk_changed, disk_changed_by_all, is_new_order, row_at, read_at, is_copyable_at, is_writable_at}
-use Rattle.data_push.specs.Buffers.{with_data, data_of}
-use Rattle.primary_order.specs.declared.answer.Attempted.{Attempted}
-use Rattle.primary_order.specs.declared.answer.Attempted.TheVariants.{IsNew, IsRepeat, IsOld}
+use Rattle.replica_store.specs.Replicas.{Replica, ServerDisk, new_server_disk, replica_of, with_replica, replica_becomes, stored_replica, written_replica, raised_replica, rotten_replica, bytes_on_disk, disk_changed, disk_changed_by_all, is_new_order}
+use Rattle.data_push.specs.Buffers.{data_of}
 use Rattle.primary_order.specs.declared.answer.Settled.{Settled}
-use Rattle.primary_order.specs.declared.kept.Standing.TheVariants.{IsPending, IsSettled, IsRefused}
 use Rattle.primary_order.specs.declared.order.SerialOrder.{SerialOrder}
 use Rattle.primary_order.specs.PrimaryOrder.{place_of}
-use Rattle.primary_order.specs.SerialOrder.{attempted, numbered, settled, acknowledged, refused_by, attempt_of}
-use Rattle.record_append.specs.declared.placing.Placing.{Placing}
-use Rattle.record_append.specs.declared.placing.Placing.TheVariants.{At, Pad, Full, TooLong}
-use Rattle.record_append.specs.Placing.{placing}
-use Rattle.protocol.specs.Server.{ServerState, ServerDoing, started_server, server_begins, chunk_limit, stores, shows, with_primary, without_lease, takes_data, drops_corrupt, primary_of}
-use Rattle.protocol.specs.ServerReads.{answers_bytes, reads_from, measures, sends_image, copies_out}
-use Rattle.protocol.specs.ServerWrites.{passes_on, answers_settled, forwards, settles, acknowledges, change_of, stored_as, primary_applies, places, appends_as, mutates_with, mutates_new, mutates_as, mutates_under, member_stores, member_applies, applies_data, applies_change, forwarded_to, acked_under, refuses_waiting, nacked_under}
-use Rattle.protocol.specs.ServerOrders.{on_order, records, can_take, takes_create, raises, takes_set_version, holds_version, takes_grant, extends_held, ends_held, takes_revoke, drops_old, takes_drop, is_pending_clone, takes_clone, takes_image, copies_locally, takes_copy_local}
-use Rattle.protocol.specs.ServerStep.{server_ticks, server_takes, server_does, server_at, server_goes, server_ends, server_step, server_restarts, server_restart}
+use Rattle.primary_order.specs.SerialOrder.{numbered, settled, acknowledged}
+use Rattle.protocol.specs.Server.{ServerState, ServerDoing, started_server, server_begins, sends, stores, shows, with_primary, drops_corrupt}
+use Rattle.protocol.specs.ServerWrites.{answers_settled, forwards, settles, acknowledges, change_of, stored_as, primary_applies}
+use Rattle.protocol.specs.ServerOrders.{takes_clone}
+use Rattle.protocol.specs.ServerStep.{server_at, server_goes, server_ends, server_step, server_restarts, server_restart}
 use Rattle.protocol.specs.World.{WorldState, new_world, IsReached}
+use Rattle.laws_base.proofs.ServerWalk.{Imaging, Numbering, Storing, IsStoredAs, IsNewOrder, Outcomes, with_order, number_of, installed, server_comes_to}
 use Rattle.laws_base.proofs.Steps.{on_cond, none_some, put_cases, gone_split}
 use Rattle.laws_base.proofs.ServerMoves.{all-push}
 use Rattle.laws_base.proofs.MembersRecorded.{kept_place}
-use Rattle.laws_base.proofs.RisingOrders.{Later, IsRisen, risen_later, set_cases}
-use Rattle.laws_base.proofs.LeasesTold.{IsStaleAt, stale_later, numbered_from}
-use Rattle.laws_steps.proofs.Events.{HoldsAfter, world_reached}
+use Rattle.laws_base.proofs.RisingOrders.{element_numbered, Later, IsRisen, risen_later, set_cases}
+use Rattle.laws_base.proofs.LeasesTold.{stale_later, numbered_from}
+use Rattle.laws_steps.proofs.Events.{IsGiven, HoldsAfter, world_reached}
 use Rattle.laws_steps.specs.Given.{version_given}
 use Rattle.laws_versions.specs.HeldVersions.{version_cloned}
-use Rattle.laws_versions.proofs.HeldVersions.{IsSentHere, given_here}
 use Rattle.laws_versions.specs.TakenOrders.{IsTaken, ReplicasAreOfTakenOrders, PendingClonesAreOfTakenOrders}
 
 -- of at most one change that is under way
@@ -73,6 +59,21 @@ one_next (x ∷ xs) (suc made) = one_next xs made
 decided_none : (decided : List Bool) → decided_changes {C = StoreChange} decided [] ≡ []
 decided_none [] = refl
 decided_none (made ∷ rest) = refl
+
+-- what is delivered to the server was sent to it
+abbrev pub IsSentHere : List Message → ℕ → NodeInput → Type 0
+IsSentHere sent server (input.Deliver m) = (place : ℕ) × (element_at sent place ≡ Some m) × (m.receiver ≡ the_server server)
+IsSentHere sent server input.Tick = Unit {0}
+
+pub given_here : (w : WorldState) (e : Event) (index moment : ℕ) (i : NodeInput) → IsGiven w e (the_server (suc index)) moment i → IsSentHere w.sent (suc index) i
+given_here w (event.Deliver number now) index moment (input.Deliver m) is = (number - 1, element_numbered w.sent number m is.0, is.1)
+given_here w (event.Tick to now) index moment input.Tick is = tt
+given_here w (event.Deliver number now) index moment input.Tick is = tt
+given_here w (event.Tick to now) index moment (input.Deliver m) is = absurd is
+given_here w (event.Call client c now) index moment i is = absurd is
+given_here w (event.Restart to now) index moment i is = absurd is
+given_here w (event.Rot to handle place byte) index moment i is = absurd is
+given_here w (event.Fuse to count torn) index moment i is = absurd is
 
 module _ (sent : List Message) (server : ℕ) where
   -- an order to this server said so, and the disk refuses it
@@ -102,7 +103,8 @@ module _ (sent : List Message) (server : ℕ) where
 
   -- an order that was taken stays so
 
-  taken_later : (kind : Body → Option (ℕ × ℕ)) (d e : ServerDisk) (handle version : ℕ) → Later d e → IsTaken kind sent server d.epoch d.count handle version → IsTaken kind sent server e.epoch e.count handle version
+  taken_later : (kind : Body → Option (ℕ × ℕ)) (d e : ServerDisk) (handle version : ℕ) → Later d e → IsTaken kind sent server d.epoch d.count handle version
+      → IsTaken kind sent server e.epoch e.count handle version
   taken_later kind d e handle version later h =
       record { place = h.place; message = h.message; order = h.order; at = h.at; receiver = h.receiver; number = h.number; is = h.is; taken = stale_later d e h.order later h.taken }
 
@@ -133,7 +135,8 @@ module _ (sent : List Message) (server : ℕ) where
         | inr before ↦ h handle r before
       ]
 
-  becomes_ordered : (f : Replica → Replica) (d : ServerDisk) (at : ℕ) (o : Option Replica) → ((r : Replica) → o ≡ Some r → IsOrdered d at (f r).version) → AreOrdered d → AreOrdered (replica_becomes f d at o)
+  becomes_ordered : (f : Replica → Replica) (d : ServerDisk) (at : ℕ) (o : Option Replica) → ((r : Replica) → o ≡ Some r → IsOrdered d at (f r).version) → AreOrdered d
+      → AreOrdered (replica_becomes f d at o)
   becomes_ordered f d at None new h = h
   becomes_ordered f d at (Some r) new h = put_ordered d at (f r) (new r refl) h
 
@@ -168,10 +171,12 @@ module _ (sent : List Message) (server : ℕ) where
   sound_push d (y ∷ ys) x sound more = (sound.0, sound_push (disk_changed d y) ys x sound.1 more)
 
   -- what is found of one change under way
-  found_ordered : (d : ServerDisk) (xs : List StoreChange) (decided : List Bool) → AreOfTakenOrders d xs → length xs ≤ 1 → AreOrdered d → AreOrdered (disk_changed_by_all d (decided_changes decided xs))
+  found_ordered : (d : ServerDisk) (xs : List StoreChange) (decided : List Bool) → AreOfTakenOrders d xs → length xs ≤ 1 → AreOrdered d
+      → AreOrdered (disk_changed_by_all d (decided_changes decided xs))
   found_ordered d xs [] sound few h = h
   found_ordered d [] (made ∷ rest) sound few h = h
-  found_ordered d (x ∷ []) (true ∷ rest) sound few h = subst (λ (ys : List StoreChange). AreOrdered (disk_changed_by_all (disk_changed d x) ys)) (sym (decided_none rest)) (changed_ordered d x sound.0 h)
+  found_ordered d (x ∷ []) (true ∷ rest) sound few h =
+      subst (λ (ys : List StoreChange). AreOrdered (disk_changed_by_all (disk_changed d x) ys)) (sym (decided_none rest)) (changed_ordered d x sound.0 h)
   found_ordered d (x ∷ []) (false ∷ rest) sound few h = subst (λ (ys : List StoreChange). AreOrdered (disk_changed_by_all d ys)) (sym (decided_none rest)) h
   found_ordered d (x ∷ y ∷ ys) (made ∷ rest) sound few h = absurd (omega (arith, few))
 
@@ -216,37 +221,6 @@ module _ (sent : List Message) (server : ℕ) where
           idle = under_way ∙ h.idle;
         }
 
-    -- reads
-
-    bytes_holds : (d : ServerDoing) (client : Node) (number handle : ℕ) (o : Option (List ℕ)) → Holds d → Holds (answers_bytes d client number handle o)
-    bytes_holds d client number handle None h = let c = corrupt_holds d handle h in again (drops_corrupt d handle) _ refl refl refl refl c
-    bytes_holds d client number handle (Some bytes) h = again d _ refl refl refl refl h
-
-    read_holds : (d : ServerDoing) (client : Node) (number handle version offset count : ℕ) (o : Option Row) → Holds d → Holds (reads_from d client number handle version offset count o)
-    read_holds d client number handle version offset count None h = again d _ refl refl refl refl h
-    read_holds d client number handle version offset count (Some r) h =
-        on_cond Holds (r.version.0 == version) (answers_bytes d client number handle (read_at d.server.disk handle offset count)) _ (λ _. bytes_holds d client number handle (read_at d.server.disk handle offset count) h)
-        (λ _. again d _ refl refl refl refl h)
-
-    measure_holds : (d : ServerDoing) (client : Node) (number version : ℕ) (o : Option Row) → Holds d → Holds (measures d client number version o)
-    measure_holds d client number version None h = again d _ refl refl refl refl h
-    measure_holds d client number version (Some r) h = on_cond Holds (r.version.0 == version) _ _ (λ _. again d _ refl refl refl refl h) (λ _. again d _ refl refl refl refl h)
-
-    image_sent_holds : (d : ServerDoing) (receiver : Node) (handle : ℕ) (r : Row) (o : Option (List ℕ)) → Holds d → Holds (sends_image d receiver handle r o)
-    image_sent_holds d receiver handle r None h = corrupt_holds d handle h
-    image_sent_holds d receiver handle r (Some bytes) h = again d _ refl refl refl refl h
-
-    copy_out_holds : (d : ServerDoing) (receiver : Node) (handle version : ℕ) (o : Option Row) → Holds d → Holds (copies_out d receiver handle version o)
-    copy_out_holds d receiver handle version None h = h
-    copy_out_holds d receiver handle version (Some r) h =
-        on_cond Holds (r.version.0 == version) (sends_image d receiver handle r (read_at d.server.disk handle 0 r.count)) d (λ _. image_sent_holds d receiver handle r (read_at d.server.disk handle 0 r.count) h) (λ _. h)
-
-    -- mutations
-
-    pass_holds : (d : ServerDoing) (id : DataId) (bytes rest : List ℕ) (o : Option ServerId) → Holds d → Holds (passes_on d id bytes rest o)
-    pass_holds d id bytes rest None h = again d _ refl refl refl refl h
-    pass_holds d id bytes rest (Some next) h = again d _ refl refl refl refl h
-
     settled_holds : (d : ServerDoing) (id : DataId) (o : Option ℕ) → Holds d → Holds (answers_settled d id o)
     settled_holds d id None h = again d _ refl refl refl refl h
     settled_holds d id (Some place) h = again d _ refl refl refl refl h
@@ -258,142 +232,16 @@ module _ (sent : List Message) (server : ℕ) where
         settled_holds seen (record { client = s.client; seq = s.seq }) s.place (again d seen refl refl refl refl h)
 
     acks_holds : (d : ServerDoing) (handle : ℕ) (p : SerialOrder) (member serial : ℕ) → Holds d → Holds (acknowledges d handle p member serial)
-    acks_holds d handle p member serial h = settles_holds (with_primary d handle (acknowledged p member serial)) handle p.held.version serial (settled p member serial) (again d _ refl refl refl refl h)
+    acks_holds d handle p member serial h =
+        settles_holds (with_primary d handle (acknowledged p member serial)) handle p.held.version serial (settled p member serial) (again d _ refl refl refl refl h)
 
     stored_sound : (e : ServerDisk) (chunk handle serial : ℕ) (m : Mutation) → IsOfTakenOrder e (stored_as chunk handle serial m)
     stored_sound e chunk handle serial (mutation.Write offset bytes) = tt
     stored_sound e chunk handle serial (mutation.Append offset bytes) = tt
     stored_sound e chunk handle serial (mutation.Pad offset) = tt
 
-    primary_holds : (d : ServerDoing) (handle : ℕ) (p : SerialOrder) (id : DataId) (m : Mutation) → Holds d → Holds (primary_applies d handle p id m)
-    primary_holds d handle p id m h =
-        let serial : ℕ = p.serial + 1 in
-        let x : StoreChange = stored_as (chunk_limit d.server handle) handle serial m in
-        acks_holds (forwards (stores d x) (without p.held.members d.server.id) handle p.held.version serial id (change_of m)) handle (numbered p id.client id.seq (place_of m)) d.server.id serial
-        (again (stores d x) _ refl refl refl refl (stores_holds d x (stored_sound (after d) (chunk_limit d.server handle) handle serial m) h))
-
-    places_holds : (d : ServerDoing) (handle : ℕ) (p : SerialOrder) (id : DataId) (m : Mutation) → Holds d → Holds (places d handle p id m)
-    places_holds d handle p id m h =
-        let serial : ℕ = p.serial + 1 in
-        let taken : ServerDoing = shows (takes_data (with_primary d handle (numbered p id.client id.seq (place_of m))) id) (Numbered (handle_of handle) (version_of p.held.version) (serial_of serial) id m) in
-        let now : Holds taken = again d taken refl refl refl refl h in
-        on_cond Holds (nat_le counter_limit p.serial) d _ (λ _. h)
-        (λ _. on_cond Holds (is_writable_at d.server.disk handle (start_of m) (end_of (chunk_limit d.server handle) m)) (primary_applies taken handle p id m) _
-        (λ _. primary_holds taken handle p id m now)
-        (λ _. again (drops_corrupt taken handle) _ refl refl refl refl (corrupt_holds taken handle now)))
-
-    appends_holds : (d : ServerDoing) (handle : ℕ) (p : SerialOrder) (id : DataId) (bytes : List ℕ) (where_ : Placing) → Holds d → Holds (appends_as d handle p id bytes where_)
-    appends_holds d handle p id bytes TooLong h = again d _ refl refl refl refl h
-    appends_holds d handle p id bytes Full h = again d _ refl refl refl refl h
-    appends_holds d handle p id bytes (Pad offset) h = places_holds d handle p id (mutation.Pad offset) h
-    appends_holds d handle p id bytes (At offset) h = places_holds d handle p id (mutation.Append offset bytes) h
-
-    with_holds : (d : ServerDoing) (handle : ℕ) (p : SerialOrder) (r : Row) (id : DataId) (t : Target) (bytes : List ℕ) → Holds d → Holds (mutates_with d handle p r id t bytes)
-    with_holds d handle p r id (target.Write offset) bytes h =
-        on_cond Holds (nat_lt (chunk_limit d.server handle) (offset + length bytes)) d (places d handle p id (mutation.Write offset bytes)) (λ _. h) (λ _. places_holds d handle p id (mutation.Write offset bytes) h)
-    with_holds d handle p r id target.Append bytes h = appends_holds d handle p id bytes (placing r.count (length bytes) (chunk_limit d.server handle)) h
-
-    new_holds : (d : ServerDoing) (handle : ℕ) (p : SerialOrder) (id : DataId) (t : Target) (o : Option Row) (bytes : Option (List ℕ)) → Holds d → Holds (mutates_new d handle p id t o bytes)
-    new_holds d handle p id t None bytes h = h
-    new_holds d handle p id t (Some r) None h = again d _ refl refl refl refl h
-    new_holds d handle p id t (Some r) (Some bytes) h = with_holds d handle p r id t bytes h
-
-    as_holds : (d : ServerDoing) (handle : ℕ) (p : SerialOrder) (id : DataId) (t : Target) (a : Attempted) → Holds d → Holds (mutates_as d handle p id t a)
-    as_holds d handle p id t IsOld h = again d _ refl refl refl refl h
-    as_holds d handle p id t (IsRepeat IsPending) h = h
-    as_holds d handle p id t (IsRepeat (IsSettled place)) h = settled_holds d id place h
-    as_holds d handle p id t (IsRepeat (IsRefused refusal)) h = again d _ refl refl refl refl h
-    as_holds d handle p id t IsNew h = new_holds d handle p id t (row_at d.server.disk handle) (data_of d.server.pushed id) h
-
-    under_holds : (d : ServerDoing) (handle : ℕ) (id : DataId) (t : Target) (deadline : ℕ) (o : Option SerialOrder) → Holds d → Holds (mutates_under d handle id t deadline o)
-    under_holds d handle id t deadline None h = again d _ refl refl refl refl h
-    under_holds d handle id t deadline (Some p) h =
-        on_cond Holds (nat_le deadline d.server.now) _ (mutates_as d handle p id t (attempted p id.client id.seq)) (λ _. again d _ refl refl refl refl h) (λ _. as_holds d handle p id t (attempted p id.client id.seq) h)
-
-    member_holds : (b : Bool) (d : ServerDoing) (primary : Node) (handle version serial : ℕ) (x : StoreChange) → ((e : ServerDisk) → IsOfTakenOrder e x) → Holds d → Holds (member_stores b d primary handle version serial x)
-    member_holds true d primary handle version serial x sound h = again (stores d x) _ refl refl refl refl (stores_holds d x (sound (after d)) h)
-    member_holds false d primary handle version serial x sound h = again (drops_corrupt d handle) _ refl refl refl refl (corrupt_holds d handle h)
-
-    member_applies_holds : (d : ServerDoing) (primary : Node) (handle version serial : ℕ) (id : DataId) (x : StoreChange) (offset end_place : ℕ) → ((e : ServerDisk) → IsOfTakenOrder e x) → Holds d → Holds (member_applies d primary handle version serial id x offset end_place)
-    member_applies_holds d primary handle version serial id x offset end_place sound h =
-        on_cond Holds (nat_lt (chunk_limit d.server handle) end_place) d _ (λ _. h)
-        (λ _. member_holds (is_writable_at d.server.disk handle offset end_place) (takes_data d id) primary handle version serial x sound (again d (takes_data d id) refl refl refl refl h))
-
-    data_holds : (d : ServerDoing) (primary : Node) (handle version serial : ℕ) (id : DataId) (offset : ℕ) (o : Option (List ℕ)) → Holds d → Holds (applies_data d primary handle version serial id offset o)
-    data_holds d primary handle version serial id offset None h = again d _ refl refl refl refl h
-    data_holds d primary handle version serial id offset (Some bytes) h = member_applies_holds d primary handle version serial id (Write (handle_of handle) (serial_of serial) offset bytes) offset (offset + length bytes) (λ e. tt) h
-
-    change_holds : (d : ServerDoing) (primary : Node) (handle version serial : ℕ) (id : DataId) (c : Change) → Holds d → Holds (applies_change d primary handle version serial id c)
-    change_holds d primary handle version serial id (change.Write offset) h = data_holds d primary handle version serial id offset (data_of d.server.pushed id) h
-    change_holds d primary handle version serial id (change.Append offset) h = data_holds d primary handle version serial id offset (data_of d.server.pushed id) h
-    change_holds d primary handle version serial id (change.Pad offset) h =
-        let count : ℕ = chunk_limit d.server handle - offset in
-        member_applies_holds d primary handle version serial id (Zero (handle_of handle) (serial_of serial) offset count) offset (offset + count) (λ e. tt) h
-
-    forwarded_holds : (d : ServerDoing) (primary : Node) (handle version serial : ℕ) (id : DataId) (c : Change) (o : Option Row) → Holds d → Holds (forwarded_to d primary handle version serial id c o)
-    forwarded_holds d primary handle version serial id c None h = again d _ refl refl refl refl h
-    forwarded_holds d primary handle version serial id c (Some r) h =
-        on_cond Holds (r.version.0 == version) _ _
-        (λ _. on_cond Holds (nat_lt r.serial.0 serial) (applies_change d primary handle version serial id c) _ (λ _. change_holds d primary handle version serial id c h) (λ _. again d _ refl refl refl refl h))
-        (λ _. again d _ refl refl refl refl h)
-
-    acked_holds : (d : ServerDoing) (handle member serial : ℕ) (o : Option SerialOrder) → Holds d → Holds (acked_under d handle member serial o)
-    acked_holds d handle member serial None h = h
-    acked_holds d handle member serial (Some p) h = acks_holds d handle p member serial h
-
-    waiting_holds : (d : ServerDoing) (refusal : Refusal) (o : Option DataId) → Holds d → Holds (refuses_waiting d refusal o)
-    waiting_holds d refusal None h = h
-    waiting_holds d refusal (Some id) h = again d _ refl refl refl refl h
-
-    nacked_holds : (d : ServerDoing) (handle serial : ℕ) (refusal : Refusal) (o : Option SerialOrder) → Holds d → Holds (nacked_under d handle serial refusal o)
-    nacked_holds d handle serial refusal None h = h
-    nacked_holds d handle serial refusal (Some p) h =
-        let less : ServerDoing = with_primary d handle (refused_by p refusal (table.get p.waiting serial)) in
-        waiting_holds less refusal (option_map attempt_of (table.get p.waiting serial)) (again d less refl refl refl refl h)
-
-    -- orders
-
-    -- the order's number is set first, so the disk refuses the order after that
-    order_holds : (d : ServerDoing) (order : OrderNo) (f : ServerDoing → ServerDoing) → d.changes ≡ [] → ((e : ServerDoing) → IsStaleAt (after e) order → Holds e → Holds (f e)) → Holds d → Holds (on_order d order f)
-    order_holds d order f first go h =
-        on_cond Holds (is_new_order d.server.disk order.epoch order.count) (f (stores d (SetOrder order))) d
-        (λ new. go (stores d (SetOrder order))
-        (subst (λ (e : ServerDisk). IsStaleAt e order) (sym (all-push start d.changes (SetOrder order))) (inr (refl, omega arith)))
-        (stores_holds d (SetOrder order)
-        (subst (λ (xs : List StoreChange). is_new_order (disk_changed_by_all start xs) order.epoch order.count ≡ true) (sym first)
-        (subst (λ (e : ServerDisk). is_new_order e order.epoch order.count ≡ true) h.same new)) h))
-        (λ _. h)
-
-    create_holds : (handle version : ℕ) (d : ServerDoing) → IsOrdered (after d) handle version → Holds d → Holds (takes_create d handle version)
-    create_holds handle version d ordered h =
-        let x : StoreChange = Put (handle_of handle) (version_of version) (serial_of 0) [] in
-        on_cond Holds (can_take d handle) (records (stores d x) handle version) d (λ _. again (stores d x) _ refl refl refl refl (stores_holds d x ordered h)) (λ _. h)
-
-    raises_holds : (d : ServerDoing) (handle version base : ℕ) (o : Option Row) → IsOrdered (after d) handle version → Holds d → Holds (raises d handle version base o)
-    raises_holds d handle version base None ordered h = h
-    raises_holds d handle version base (Some r) ordered h =
-        let x : StoreChange = Raise (handle_of handle) (version_of version) in
-        on_cond Holds (r.version.0 == base) (records (without_lease (stores d x) handle) handle version) d (λ _. again (stores d x) _ refl refl refl refl (stores_holds d x ordered h)) (λ _. h)
-
-    grant_holds : (d : ServerDoing) (handle version end_moment : ℕ) (members : List ℕ) → Holds d → Holds (takes_grant d handle version end_moment members)
-    grant_holds d handle version end_moment members h = on_cond Holds (holds_version version (row_at d.server.disk handle)) _ d (λ _. again d _ refl refl refl refl h) (λ _. h)
-
-    extend_holds : (d : ServerDoing) (handle version end_moment : ℕ) (o : Option SerialOrder) → Holds d → Holds (extends_held d handle version end_moment o)
-    extend_holds d handle version end_moment None h = h
-    extend_holds d handle version end_moment (Some p) h = on_cond Holds (p.held.version == version) _ d (λ _. again d _ refl refl refl refl h) (λ _. h)
-
-    ended_holds : (d : ServerDoing) (handle version : ℕ) (o : Option SerialOrder) → Holds d → Holds (ends_held d handle version o)
-    ended_holds d handle version None h = h
-    ended_holds d handle version (Some p) h = on_cond Holds (p.held.version == version) (without_lease d handle) d (λ _. again d _ refl refl refl refl h) (λ _. h)
-
-    revoke_holds : (d : ServerDoing) (handle version : ℕ) → Holds d → Holds (takes_revoke d handle version)
-    revoke_holds d handle version h = again (ends_held d handle version (table.get d.server.leases handle)) _ refl refl refl refl (ended_holds d handle version (table.get d.server.leases handle) h)
-
-    drops_holds : (d : ServerDoing) (handle version : ℕ) (o : Option Row) → Holds d → Holds (drops_old d handle version o)
-    drops_holds d handle version None h = h
-    drops_holds d handle version (Some r) h = on_cond Holds (nat_le r.version.0 version) _ d (λ _. corrupt_holds d handle h) (λ _. h)
-
-    clone_holds : (handle version source : ℕ) (d : ServerDoing) → IsTaken version_cloned sent server (after d).epoch (after d).count handle version → Holds d → Holds (takes_clone d handle version source)
+    clone_holds : (handle version source : ℕ) (d : ServerDoing) → IsTaken version_cloned sent server (after d).epoch (after d).count handle version → Holds d
+        → Holds (takes_clone d handle version source)
     clone_holds handle version source d cloned h =
         record {
           same = h.same;
@@ -408,73 +256,111 @@ module _ (sent : List Message) (server : ℕ) where
           idle = h.idle;
         }
 
-    pending_is : (version : ℕ) (o : Option ℕ) → is_pending_clone version o ≡ true → o ≡ Some version
-    pending_is version None is = absurd (true≢false (sym is))
-    pending_is version (Some ordered) is = ap (λ (v : ℕ). Some v) (eqb-true ordered version is)
+    written_sound : (e : ServerDisk) (size handle serial : ℕ) (kept : Option (List ℕ)) (named : Change) (x : StoreChange) (from end_place : ℕ)
+        → IsStoredAs size handle serial kept named x from end_place → IsOfTakenOrder e x
+    written_sound e size handle serial kept (change.Write offset) x from end_place h = subst (IsOfTakenOrder e) (sym h.2) tt
+    written_sound e size handle serial kept (change.Append offset) x from end_place h = subst (IsOfTakenOrder e) (sym h.2) tt
+    written_sound e size handle serial kept (change.Pad offset) x from end_place h = subst (IsOfTakenOrder e) (sym h.0) tt
 
-    image_holds : (d : ServerDoing) (handle version serial : ℕ) (bytes : List ℕ) → Holds d → Holds (takes_image d handle version serial bytes)
-    image_holds d handle version serial bytes h =
-        let x : StoreChange = Put (handle_of handle) (version_of version) (serial_of serial) bytes in
-        let pending : Bool = is_pending_clone version (table.get d.server.clones handle) in
-        on_cond Holds (pending && nat_le (length bytes) (chunk_limit d.server handle) && can_take d handle) _ d
-        (λ all.
-        let cloned = h.clones handle version (pending_is version (table.get d.server.clones handle) (and_parts pending (nat_le (length bytes) (chunk_limit d.server handle)) (and_parts (pending && nat_le (length bytes) (chunk_limit d.server handle)) (can_take d handle) all).0).0) in
-        let stored = stores_holds d x (inr cloned) h in
+  -- the step on a message that was sent to this server
+  module _ (s : ServerState) (i : NodeInput) (is : IsSentHere sent server i) (h : Holds s.disk (server_begins s)) where
+    abbrev Begun : ServerDoing
+    Begun = server_begins s
+
+    -- the disk after an order's number, which it refuses from then on
+    abbrev Ordered : OrderNo → ServerDisk
+    Ordered order = disk_changed s.disk (SetOrder order)
+
+    ordered : (order : OrderNo) → IsNewOrder s order → Holds s.disk (with_order s order)
+    ordered order new = stores_holds s.disk (server_begins s) (SetOrder order) new h
+
+    took : (kind : Body → Option (ℕ × ℕ)) (m : Message) (order : OrderNo) (handle version : ℕ) → i ≡ input.Deliver m → order_number m.body ≡ Some order → kind m.body ≡ Some (handle, version)
+        → IsTaken kind sent server (Ordered order).epoch (Ordered order).count handle version
+    took kind m order handle version came number gives =
+        let here = subst (IsSentHere sent server) came is in
+        record { place = here.0; message = m; order = order; at = here.1; receiver = here.2; number = number; is = gives; taken = inr (refl, omega arith) }
+
+    given : (m : Message) (order : OrderNo) (handle version : ℕ) → i ≡ input.Deliver m → order_number m.body ≡ Some order → version_given m.body ≡ Some (handle, version)
+        → IsOrdered (Ordered order) handle version
+    given m order handle version came number gives = inl (took version_given m order handle version came number gives)
+
+    -- a change after an order's number
+    records_holds : (order : OrderNo) (x : StoreChange) (e : ServerDoing) → e.server.disk ≡ s.disk → e.server.clones ≡ s.clones → e.server.under_way ≡ s.under_way
+        → e.changes ≡ (with_order s order).changes ++ x ∷ []
+        → IsNewOrder s order → IsOfTakenOrder (Ordered order) x → Holds s.disk e
+    records_holds order x e disk clones under_way changes new sound =
+        again s.disk (stores (with_order s order) x) e disk clones under_way changes (stores_holds s.disk (with_order s order) x sound (ordered order new))
+
+    applied_holds : (n : Numbering s i) → Holds s.disk (primary_applies (number_of s i n) n.a.c.handle.0 n.a.p n.a.c.id n.placed)
+    applied_holds n =
+        let q : ℕ = n.a.c.handle.0 in
+        let serial : ℕ = n.a.p.serial + 1 in
+        let x : StoreChange = stored_as s.config.chunk q serial n.placed in
+        acks_holds s.disk (forwards (stores (number_of s i n) x) (without n.a.p.held.members s.id) q n.a.p.held.version serial n.a.c.id (change_of n.placed)) q (numbered n.a.p n.a.c.id.client n.a.c.id.seq (place_of n.placed)) s.id serial
+        (again s.disk (stores (server_begins s) x) _ refl refl refl refl (stores_holds s.disk (server_begins s) x (stored_sound s.disk s.disk s.config.chunk q serial n.placed) h))
+
+    member_sound : (t : Storing s i) → IsOfTakenOrder s.disk t.x
+    member_sound t = written_sound s.disk s.disk s.config.chunk t.f.c.handle.0 t.f.c.serial.0 (data_of s.pushed t.f.c.id) t.f.c.named t.x t.from t.end_place t.stored
+
+    installed_holds : (c : Imaging i) → table.get s.clones c.handle.0 ≡ Some c.version.0
+        → Holds s.disk (sends (installed s c.handle.0 c.version.0 c.serial.0 c.bytes) Master (body.Cloned (handle_of c.handle.0) (version_of c.version.0)))
+    installed_holds c pending =
+        let stored = stores_holds s.disk (server_begins s) (Put (handle_of c.handle.0) (version_of c.version.0) (serial_of c.serial.0) c.bytes) (inr (h.clones c.handle.0 c.version.0 pending)) h in
         record {
           same = stored.same;
-          clones = λ other v is. stored.clones other v (gone_split d.server.clones handle other v is).1;
+          clones = λ other v there. stored.clones other v (gone_split s.clones c.handle.0 other v there).1;
           changes = stored.changes;
           idle = stored.idle;
-        })
-        (λ _. h)
+        }
 
-    locally_holds : (d : ServerDoing) (handle version copy copy_version : ℕ) (o : Option Row) → IsOrdered (after d) copy copy_version → Holds d → Holds (copies_locally d handle version copy copy_version o)
-    locally_holds d handle version copy copy_version None ordered h = h
-    locally_holds d handle version copy copy_version (Some r) ordered h =
-        let x : StoreChange = Copy (handle_of handle) (handle_of copy) (version_of copy_version) in
-        on_cond Holds (r.version.0 == version) _ d
-        (λ _. on_cond Holds (is_copyable_at d.server.disk handle) _ (drops_corrupt d handle)
-        (λ _. on_cond Holds (can_take d copy) (records (stores d x) copy copy_version) d (λ _. again (stores d x) _ refl refl refl refl (stores_holds d x ordered h)) (λ _. h))
-        (λ _. corrupt_holds d handle h))
-        (λ _. h)
-
-    -- the step on a message that was sent to this server
-
-    module _ (m : Message) (place : ℕ) (at : element_at sent place ≡ Some m) (to : m.receiver ≡ the_server server) where
-      took : (kind : Body → Option (ℕ × ℕ)) (d : ServerDisk) (order : OrderNo) (handle version : ℕ) → order_number m.body ≡ Some order → kind m.body ≡ Some (handle, version) → IsStaleAt d order → IsTaken kind sent server d.epoch d.count handle version
-      took kind d order handle version number is taken = record { place = place; message = m; order = order; at = at; receiver = to; number = number; is = is; taken = taken }
-
-      takes_holds : (d : ServerDoing) (b : Body) → m.body ≡ b → d.changes ≡ [] → Holds d → Holds (server_takes d m b)
-      takes_holds d (body.Push id bytes rest) is first h = pass_holds (record d { server = record d.server { pushed = with_data d.server.pushed id bytes } }) id bytes rest (next_hop rest d.server.id) (again d _ refl refl refl refl h)
-      takes_holds d (body.Mutate id handle version t deadline) is first h = under_holds d handle.0 id t deadline.0 (primary_of d.server handle.0 version.0) h
-      takes_holds d (body.Read number handle version offset count) is first h = read_holds d m.sender number handle.0 version.0 offset count (row_at d.server.disk handle.0) h
-      takes_holds d (body.Len number handle version) is first h = measure_holds d m.sender number version.0 (row_at d.server.disk handle.0) h
-      takes_holds d (body.Forward handle version serial id c) is first h = forwarded_holds d m.sender handle.0 version.0 serial.0 id c (row_at d.server.disk handle.0) h
-      takes_holds d (body.Acked handle version serial) is first h = acked_holds d handle.0 (server_number m.sender) serial.0 (primary_of d.server handle.0 version.0) h
-      takes_holds d (body.Nacked handle version serial refusal) is first h = nacked_holds d handle.0 serial.0 refusal (primary_of d.server handle.0 version.0) h
-      takes_holds d (body.Create order handle version) is first h =
-          order_holds d order (λ e. takes_create e handle.0 version.0) first
-          (λ e taken g. create_holds handle.0 version.0 e (inl (took version_given (after e) order handle.0 version.0 (ap order_number is) (ap version_given is) taken)) g) h
-      takes_holds d (body.SetVersion order handle version base) is first h =
-          order_holds d order (λ e. takes_set_version e handle.0 version.0 base.0) first
-          (λ e taken g. raises_holds e handle.0 version.0 base.0 (row_at e.server.disk handle.0) (inl (took version_given (after e) order handle.0 version.0 (ap order_number is) (ap version_given is) taken)) g) h
-      takes_holds d (body.Grant order handle version end_moment members) is first h = order_holds d order (λ e. takes_grant e handle.0 version.0 end_moment.0 members) first (λ e taken g. grant_holds e handle.0 version.0 end_moment.0 members g) h
-      takes_holds d (body.Revoke order handle version) is first h = order_holds d order (λ e. takes_revoke e handle.0 version.0) first (λ e taken g. revoke_holds e handle.0 version.0 g) h
-      takes_holds d (body.Drop order handle version) is first h = order_holds d order (λ e. takes_drop e handle.0 version.0) first (λ e taken g. drops_holds e handle.0 version.0 (row_at e.server.disk handle.0) g) h
-      takes_holds d (body.Clone order handle version source) is first h =
-          order_holds d order (λ e. takes_clone e handle.0 version.0 source.0) first
-          (λ e taken g. clone_holds handle.0 version.0 source.0 e (took version_cloned (after e) order handle.0 version.0 (ap order_number is) (ap version_cloned is) taken) g) h
-      takes_holds d (body.CopyLocal order handle version copy copy_version) is first h =
-          order_holds d order (λ e. takes_copy_local e handle.0 version.0 copy.0 copy_version.0) first
-          (λ e taken g. locally_holds e handle.0 version.0 copy.0 copy_version.0 (row_at e.server.disk handle.0) (inl (took version_given (after e) order copy.0 copy_version.0 (ap order_number is) (ap version_given is) taken)) g) h
-      takes_holds d (body.Extend handle version end_moment) is first h = extend_holds d handle.0 version.0 end_moment.0 (table.get d.server.leases handle.0) h
-      takes_holds d (body.CopyAsk handle version) is first h = copy_out_holds d m.sender handle.0 version.0 (row_at d.server.disk handle.0) h
-      takes_holds d (body.Image handle version serial bytes) is first h = image_holds d handle.0 version.0 serial.0 bytes h
-      takes_holds d other is first h = h
-
-    does_holds : (d : ServerDoing) (i : NodeInput) → IsSentHere sent server i → d.changes ≡ [] → Holds d → Holds (server_does d i)
-    does_holds d (input.Deliver m) is first h = takes_holds m is.0 is.1 is.2 d m.body refl first h
-    does_holds d input.Tick is first h = again d (server_ticks d) refl refl refl refl h
+    outcomes : Outcomes s i (λ d. Holds s.disk d)
+    outcomes =
+        record {
+          rests = h;
+          ticks = λ came. again s.disk Begun _ refl refl refl refl h;
+          ends_push = λ c. again s.disk Begun _ refl refl refl refl h;
+          passes_push = λ c next. again s.disk Begun _ refl refl refl refl h;
+          misses_chunk = λ c. again s.disk Begun _ refl refl refl refl h;
+          misses_version = λ c. again s.disk Begun _ refl refl refl refl h;
+          reads_rot = λ c. again s.disk (drops_corrupt Begun c.handle.0) _ refl refl refl refl (corrupt_holds s.disk Begun c.handle.0 h);
+          reads = λ c r bytes found same read. again s.disk Begun _ refl refl refl refl h;
+          measures = λ c r found same. again s.disk Begun _ refl refl refl refl h;
+          copies_rot = λ c. corrupt_holds s.disk Begun c.handle.0 h;
+          copies = λ c r bytes found same read. again s.disk Begun _ refl refl refl refl h;
+          lacks_lease = λ c. again s.disk Begun _ refl refl refl refl h;
+          is_late = λ l late. again s.disk Begun _ refl refl refl refl h;
+          is_old = λ l old. again s.disk Begun _ refl refl refl refl h;
+          was_placed = λ l place was. again s.disk Begun _ refl refl refl refl h;
+          was_padded = λ l was. again s.disk Begun _ refl refl refl refl h;
+          was_refused = λ l refusal was. again s.disk Begun _ refl refl refl refl h;
+          lacks_data = λ a. again s.disk Begun _ refl refl refl refl h;
+          is_long = λ a. again s.disk Begun _ refl refl refl refl h;
+          is_full = λ a. again s.disk Begun _ refl refl refl refl h;
+          spoils = λ n rotten. again s.disk (drops_corrupt Begun n.a.c.handle.0) _ refl refl refl refl (corrupt_holds s.disk Begun n.a.c.handle.0 h);
+          applies = λ n sound. applied_holds n;
+          lacks_replica = λ c none. again s.disk Begun _ refl refl refl refl h;
+          has_version = λ c r found other. again s.disk Begun _ refl refl refl refl h;
+          has_serial = λ f least. again s.disk Begun _ refl refl refl refl h;
+          lacks_bytes = λ f none. again s.disk Begun _ refl refl refl refl h;
+          stores_rot = λ t rotten. again s.disk (drops_corrupt Begun t.f.c.handle.0) _ refl refl refl refl (corrupt_holds s.disk Begun t.f.c.handle.0 h);
+          stored = λ t sound. again s.disk (stores Begun t.x) _ refl refl refl refl (stores_holds s.disk Begun t.x (member_sound t) h);
+          acked = λ c p primary. acks_holds s.disk Begun c.handle.0 p (server_number c.m.sender) c.serial.0 h;
+          nacked = λ c p w primary waits. again s.disk Begun _ refl refl refl refl h;
+          nacked_late = λ c p primary. again s.disk Begun _ refl refl refl refl h;
+          orders = λ o new. ordered o.order new;
+          creates = λ c new none. records_holds c.order (Put (handle_of c.handle.0) (version_of c.version.0) (serial_of 0) []) _ refl refl refl refl new (given c.m c.order c.handle.0 c.version.0 c.came (ap order_number c.is) (ap version_given c.is));
+          raised = λ c r new found same. records_holds c.order (Raise (handle_of c.handle.0) (version_of c.version.0)) _ refl refl refl refl new (given c.m c.order c.handle.0 c.version.0 c.came (ap order_number c.is) (ap version_given c.is));
+          grants = λ c new holds. again s.disk (with_order s c.order) _ refl refl refl refl (ordered c.order new);
+          revokes = λ c q new same. again s.disk (with_order s c.order) _ refl refl refl refl (ordered c.order new);
+          revoked = λ c new apart. again s.disk (with_order s c.order) _ refl refl refl refl (ordered c.order new);
+          drops = λ c r new found old. corrupt_holds s.disk (with_order s c.order) c.handle.0 (ordered c.order new);
+          clones = λ c new.
+              clone_holds s.disk c.handle.0 c.version.0 c.source.0 (with_order s c.order) (took version_cloned c.m c.order c.handle.0 c.version.0 c.came (ap order_number c.is) (ap version_cloned c.is)) (ordered c.order new);
+          copied = λ c r new found same sound none. records_holds c.order (Copy (handle_of c.handle.0) (handle_of c.copy.0) (version_of c.copy_version.0)) _ refl refl refl refl new (given c.m c.order c.copy.0 c.copy_version.0 c.came (ap order_number c.is) (ap version_given c.is));
+          copied_rot = λ c new. corrupt_holds s.disk (with_order s c.order) c.handle.0 (ordered c.order new);
+          extends = λ c q same. again s.disk Begun _ refl refl refl refl h;
+          installs = λ c pending fits none. installed_holds c pending;
+        }
 
   no_clones : (d : ServerDisk) → AreCloned d table.empty
   no_clones d handle version is = none_some version (sym (table.get-empty nat_cmp handle) ∙ is)
@@ -502,16 +388,19 @@ module _ (sent : List Message) (server : ℕ) where
   step_true s moment i choice is h =
       on_cond (λ (t : Taken ServerState). IsFaithful t.state) s.up (server_ends s (server_goes s moment i) choice choice.ending) (no_step s)
       (λ up. ends_true s (server_goes s moment i) choice choice.ending h
-      (does_holds s.disk (server_begins (server_at s moment)) i is refl (record { same = refl; clones = h.clones; changes = tt; idle = h.idle up }))) (λ _. h)
+      (server_comes_to (λ d. Holds s.disk d) s moment i (outcomes (server_at s moment) i is (record { same = refl; clones = h.clones; changes = tt; idle = h.idle up })))) (λ _. h)
 
   restart_true : (s : ServerState) (moment : ℕ) (choice : Choice) (e : Ending) → IsFaithful s → IsFaithful (server_restarts s moment choice e).state
   restart_true s moment choice Lost h = stopped (server_restarts s moment choice Lost).state h.disk refl h.under_way h.few (λ up. absurd (true≢false (sym up)))
-  restart_true s moment choice (Stops made) h = stopped (server_restarts s moment choice (Stops made)).state (found_ordered s.disk s.under_way choice.decided h.under_way h.few h.disk) refl tt (omega arith) (λ _. refl)
-  restart_true s moment choice Goes h = stopped (server_restarts s moment choice Goes).state (found_ordered s.disk s.under_way choice.decided h.under_way h.few h.disk) refl tt (omega arith) (λ _. refl)
+  restart_true s moment choice (Stops made) h =
+      stopped (server_restarts s moment choice (Stops made)).state (found_ordered s.disk s.under_way choice.decided h.under_way h.few h.disk) refl tt (omega arith) (λ _. refl)
+  restart_true s moment choice Goes h =
+      stopped (server_restarts s moment choice Goes).state (found_ordered s.disk s.under_way choice.decided h.under_way h.few h.disk) refl tt (omega arith) (λ _. refl)
 
 -- what was sent before was sent
 
-pub taken_more : (kind : Body → Option (ℕ × ℕ)) (sent ms : List Message) (server epoch count handle version : ℕ) → IsTaken kind sent server epoch count handle version → IsTaken kind (sent ++ ms) server epoch count handle version
+pub taken_more : (kind : Body → Option (ℕ × ℕ)) (sent ms : List Message) (server epoch count handle version : ℕ) → IsTaken kind sent server epoch count handle version
+    → IsTaken kind (sent ++ ms) server epoch count handle version
 taken_more kind sent ms server epoch count handle version h =
     record { place = h.place; message = h.message; order = h.order; at = kept_place sent ms h.place h.message h.at; receiver = h.receiver; number = h.number; is = h.is; taken = h.taken }
 

@@ -40,7 +40,8 @@ use Rattle.laws_steps.proofs.Histories.{IsGrown, steps_grown, SentIn, sent_in, a
 use Rattle.laws_versions.proofs.ExtendLaws.{restart_silent, new_one, none_before, came_in}
 use Rattle.laws_versions.proofs.UnaskedSteps.{is_location, IsUnasked}
 use Rattle.laws_versions.proofs.AskedSteps.{IsToldOf, IsSaid}
-use Rattle.laws_versions.proofs.CopiedSources.{IsAsk, IsSilent, asked_or_not, unasked_step, asked_step, free_reached}
+use Rattle.laws_steps.proofs.MasterPremises.{IsAsk}
+use Rattle.laws_versions.proofs.CopiedSources.{IsSilent, asked_or_not, unasked_step, asked_step, free_reached}
 use Rattle.laws_versions.specs.ReplacedChunks.{IsToldAt}
 
 -- who tells no location

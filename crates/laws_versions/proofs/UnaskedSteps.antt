@@ -36,6 +36,7 @@ use Rattle.laws_base.proofs.Steps.{on_cond, put_there}
 use Rattle.laws_base.proofs.MasterMoves.{removed_other}
 use Rattle.laws_base.proofs.VersionAttempts.{both_of}
 use Rattle.laws_steps.proofs.MasterActs.{both_false}
+use Rattle.laws_steps.proofs.MasterPremises.{IsOfCalls}
 
 -- a message that tells a location
 abbrev pub is_location : Body → Bool
@@ -53,17 +54,6 @@ IsOfNames (log.Snapshot client n from to) = Unit {0}
 IsOfNames (log.Refused client n refusal) = Unit {0}
 IsOfNames (log.Expired file) = Unit {0}
 IsOfNames other = ⊥
-
--- one of a name call, or a snapshot that is taken
-abbrev pub IsOfCalls : Record → Type 0
-IsOfCalls (log.Mkdir client n path) = Unit {0}
-IsOfCalls (log.Rmdir client n path) = Unit {0}
-IsOfCalls (log.Create client n file path) = Unit {0}
-IsOfCalls (log.Delete client n moment path) = Unit {0}
-IsOfCalls (log.Rename client n from to) = Unit {0}
-IsOfCalls (log.Snapshot client n from to) = Unit {0}
-IsOfCalls (log.Refused client n refusal) = Unit {0}
-IsOfCalls other = ⊥
 
 pub calls_are_of_names : (r : Record) → IsOfCalls r → IsOfNames r
 calls_are_of_names (log.Mkdir client n path) is = tt

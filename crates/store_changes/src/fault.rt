@@ -6,23 +6,31 @@ ghost use Rattle.store_changes.specs.declared.fault.StoreFault.TheVariants.{NoMe
 
 use disk::DiskFault;
 use std::alloc::AllocError;
+use thiserror::Error;
 
 /// Why a call of the store failed.
-#[derive(Clone, Copy, Debug, PartialEq, Eq)]
+#[derive(Clone, Copy, Debug, PartialEq, Eq, Error)]
 pub enum StoreFault {
     /// There is no such replica, and nothing changed.
+    #[error("no such replica")]
     NoChunk,
     /// The replica has another version, or there is one already, and nothing changed.
+    #[error("another version")]
     Version,
     /// The replica has applied this serial or a later one, and nothing changed.
+    #[error("old serial")]
     OldSerial,
     /// A block doesn't match its digest, and nothing changed.
+    #[error("corrupt block")]
     Corrupt,
     /// Each slot is used, and nothing changed.
+    #[error("no free slot")]
     NoRoom,
     /// The disk failed. The store is open no more: open its disk again.
+    #[error("disk failed")]
     Device,
     /// Memory was refused. The store is open no more: open its disk again.
+    #[error("no memory")]
     NoMemory,
 }
 

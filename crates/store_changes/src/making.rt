@@ -19,6 +19,7 @@ fn redo_area_of(layout: Layout) -> RedoArea
     RedoArea {
         place: 48,
         size: layout.redo_size(),
+        first: 32,
     }
 }
 

@@ -7,17 +7,18 @@ use Rattle.std.proofs.lemmas.List.{ext_get_or, get_or-replicate, length-replicat
 use Rattle.disk.specs.Bytes.{range_at}
 use Rattle.disk_redo.proofs.Ranges.{get_range, length_range}
 use Rattle.replica_store.specs.Replicas.{new_server_disk}
-use Rattle.store_disk.specs.Formats.{IsBlank}
+use Rattle.store_disk.specs.Formats.{IsFormatted}
 use Rattle.store_disk.proofs.FormatSlots.{slots_behind}
 use Rattle.store_disk.specs.Fields.{order_in}
-use Rattle.store_disk.specs.Places.{disk_size}
 use Rattle.store_disk.specs.Stored.{IsDiskOf, is_used}
 use Rattle.store_disk.proofs.Free.{filter_all}
 
-pub blank_is_empty : (chunk block slots : ℕ) (disk : List ℕ) → disk_size chunk block slots ≤ length disk → IsBlank chunk block slots disk
+pub formatted_is_empty : (chunk block slots : ℕ) (disk : List ℕ) → IsFormatted chunk block slots disk
     → IsDiskOf chunk block slots (record { held = map.empty; free = range_with_len 0 slots }) disk (new_server_disk block)
-blank_is_empty chunk block slots disk fits blank =
-    let room : 48 ≤ length disk = omega (arith, fits, slots_behind chunk block slots) in
+formatted_is_empty chunk block slots disk formatted =
+    let blank = formatted.blank in
+    let large = formatted.head.large in
+    let room : 48 ≤ length disk = omega (arith, large, slots_behind chunk block slots) in
     let size = length_range disk 32 16 room in
     let none : List ℕ = replicate 16 0 in
     let zeros : range_at disk 32 16 ≡ none = ext_get_or 0 (range_at disk 32 16) none (size ∙ sym (length-replicate {A = ℕ} 16 0)) (λ i lt.
@@ -25,6 +26,7 @@ blank_is_empty chunk block slots disk fits blank =
     get_range disk 32 16 i few ∙ blank.order (32 + i) (omega arith) (omega (arith, few)) ∙ sym (get_or-replicate {A = ℕ} 16 i 0 0 few)) in
     record {
       block_is = refl;
+      head = formatted.head;
       order_is = ap order_in zeros;
       held = λ handle r there. let e : None ≡ Some r = sym (map.get-empty nat_cmp handle) ∙ there in absurd cc;
       no_other = λ handle none. map.get-empty nat_cmp handle;

@@ -13,7 +13,7 @@ use Rattle.store_disk.specs.Places.{disk_size, slot_place, slot_size}
 use Rattle.store_disk.specs.Stored.{Holds, IsDiskOf, IsKnown, is_used}
 use Rattle.store_disk.proofs.Free.{Lowest, lowest, lowest_taken, one_put}
 use Rattle.store_disk.proofs.Lookups.{found_elsewhere, found_here, gone_here, kept_elsewhere}
-use Rattle.store_disk.proofs.Replicas.{its_replica, known_still, order_kept, used_by, used_still}
+use Rattle.store_disk.proofs.Replicas.{head_still, its_replica, known_still, order_kept, used_by, used_still}
 
 un_not : (b : Bool) → not b ≡ true → b ≡ false
 un_not true e = absurd cc
@@ -72,6 +72,7 @@ module _ (chunk block slots : ℕ) (index : IndexState) (disk : List ℕ) (d : S
         let within = its.2.there in
         record {
           block_is = is.block_is;
+          head = head_still chunk block slots index disk d is new found.slot fits keeps;
           order_is = order_kept chunk block slots index disk d is new found.slot fits keeps;
           held = removed_held;
           no_other = removed_none;
@@ -165,6 +166,7 @@ module _ (chunk block slots : ℕ) (index : IndexState) (disk : List ℕ) (d : S
     pub replica_added : IsDiskOf chunk block slots (record { held = map.insert index.held h (record { slot = s; row = row }); free = rest }) new (with_replica d h r')
     replica_added = record {
       block_is = is.block_is;
+      head = head_still chunk block slots index disk d is new s fits keeps;
       order_is = order_kept chunk block slots index disk d is new s fits keeps;
       held = added_held;
       no_other = added_none;

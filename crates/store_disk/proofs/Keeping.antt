@@ -5,7 +5,7 @@ use Rattle.disk.specs.Bytes.{put_at}
 use Rattle.disk_redo.proofs.Ranges.{range_put}
 use Rattle.gfs_types.specs.declared.ids.OrderNo.{OrderNo}
 use Rattle.disk_redo.specs.Moments.{is_outside}
-use Rattle.disk_redo.proofs.Places.{is_after, put_keeps}
+use Rattle.disk_redo.proofs.Places.{is_after, is_before, put_keeps}
 use Rattle.replica_store.specs.declared.change.StoreChange.TheVariants.{SetOrder}
 use Rattle.replica_store.specs.Replicas.{ServerDisk, disk_changed}
 use Rattle.store_disk.specs.Index.{IndexState}
@@ -15,6 +15,7 @@ use Rattle.store_disk.proofs.Fields.{order_back}
 use Rattle.store_disk.specs.Places.{disk_size}
 use Rattle.store_disk.specs.Stored.{IsDiskOf, is_used}
 use Rattle.store_disk.proofs.Free.{filter_same}
+use Rattle.store_disk.proofs.OpenHeads.{head_kept}
 use Rattle.store_disk.proofs.Slots.{KeepsSlot, holds_same, used_same}
 
 pub order_stored : (chunk block slots : ℕ) (index : IndexState) (disk : List ℕ) (d : ServerDisk) (order : OrderNo) → FitsOrder order → disk_size chunk block slots ≤ length disk → IsDiskOf chunk block slots index disk d
@@ -26,6 +27,7 @@ order_stored chunk block slots index disk d order small fits is =
     let kept : (slot : ℕ) → KeepsSlot chunk block (is_outside 32 16) slot = λ slot place le lt. is_after 32 16 place (omega (arith, le, slots_behind chunk block slot)) in
     record {
       block_is = is.block_is;
+      head = head_kept chunk block slots (is_outside 32 16) disk new keeps (λ place lt. is_before 32 16 place lt) is.head;
       order_is = ap order_in (range_put disk (order_bytes order) 32 room) ∙ sym (ap order_in (append-nil (order_bytes order))) ∙ order_back order [] small;
       held = λ handle r there.
           let h = is.held handle r there in

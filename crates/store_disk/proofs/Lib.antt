@@ -13,6 +13,7 @@ pub mod Heads
 pub mod Lookups
 pub mod Free
 pub mod Slots
+pub mod OpenHeads
 pub mod Replicas
 pub mod Changing
 pub mod Headers

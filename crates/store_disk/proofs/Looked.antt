@@ -1,6 +1,6 @@
 -- What a look at the index answers.
 use Rattle.std.proofs.Common.{◌≡◌, ℕ, true, false, List, [], ◌∷◌, drop, slice_get, refl, sym, ap, ◌∙◌, Option, None, Some}
-use Rattle.std.specs.Prelude.{is_some}
+use Rattle.std.specs.Prelude.{is_none, is_some}
 use Rattle.gfs_types.specs.declared.ids.OrderNo.{OrderNo}
 use Rattle.replica_store.specs.Replicas.{Replica, ServerDisk, replica_becomes}
 
@@ -11,6 +11,10 @@ test_none (Some x) e = absurd cc
 pub test_some : {X : Type 0} (o : Option X) → is_some o ≡ true → (x : X) × (o ≡ Some x)
 test_some None e = absurd cc
 test_some (Some x) e = (x, refl)
+
+pub full_none : {X : Type 0} (o : Option X) → is_none o ≡ true → o ≡ None
+full_none None e = refl
+full_none (Some x) e = absurd cc
 
 pub no_row : {X : Type 0} (o : Option X) (x : X) → o ≡ None → o ≡ Some x → ⊥
 no_row o x none some = let f : None ≡ Some x = sym none ∙ some in absurd cc
@@ -34,3 +38,7 @@ first_free (s ∷ rest) slot e = let same : s ≡ slot = cc in ap (λ (k : ℕ).
 pub none_free : (free : List ℕ) → slice_get free 0 ≡ None → free ≡ []
 none_free [] e = refl
 none_free (s ∷ rest) e = absurd cc
+
+pub some_free : (free : List ℕ) → is_none (slice_get free 0) ≡ false → free ≡ [] → ⊥
+some_free [] e is = let f : true ≡ false = e in cc
+some_free (s ∷ rest) e is = cc

@@ -13,10 +13,12 @@ use Rattle.store_disk.specs.Index.{IndexState}
 use Rattle.store_disk.specs.declared.held.HeldReplica.{HeldReplica}
 use Rattle.store_disk.proofs.FormatSlots.{slot_before, slots_behind}
 use Rattle.store_disk.specs.Fields.{order_in, used_header_in}
+use Rattle.store_disk.specs.Formats.{HasOpenHead}
 use Rattle.store_disk.specs.declared.header.SlotHeader.{SlotHeader}
 use Rattle.store_disk.specs.Places.{disk_size, slot_place, slot_size}
 use Rattle.store_disk.specs.Stored.{Holds, IsDiskOf, IsKnown, is_used}
 use Rattle.store_disk.proofs.Free.{filter_same}
+use Rattle.store_disk.proofs.OpenHeads.{head_kept}
 use Rattle.store_disk.proofs.Lookups.{found_elsewhere, found_here}
 use Rattle.store_disk.proofs.Slots.{KeepsSlot, holds_same, range_same, used_same}
 
@@ -65,8 +67,13 @@ module _ (chunk block slots : ℕ) (index : IndexState) (disk : List ℕ) (d : S
       by None e = refl
       by (Some r) e = let k = is.held h r e in let f : None ≡ Some k.0 = sym none ∙ k.1 in absurd cc
 
-  -- the order, and what is known of another handle, in another slot
+  -- the head, the order, and what is known of another handle, in another slot
   module _ (new : List ℕ) (s : ℕ) (fits : disk_size chunk block slots ≤ length disk) (keeps : KeepsAt (is_outside (slot_place chunk block s) (slot_size chunk block)) disk new) where
+    pub head_still : HasOpenHead chunk block slots new
+    head_still =
+        let behind = slots_behind chunk block s in
+        head_kept chunk block slots (is_outside (slot_place chunk block s) (slot_size chunk block)) disk new keeps (λ place lt. is_before (slot_place chunk block s) (slot_size chunk block) place (omega (arith, lt, behind))) is.head
+
     pub order_kept : order_in (range_at new 32 16) ≡ record { epoch = d.epoch; count = d.count }
     order_kept =
         let behind = slots_behind chunk block s in
@@ -157,6 +164,7 @@ module _ (chunk block slots : ℕ) (index : IndexState) (disk : List ℕ) (d : S
     pub replica_replaced : IsDiskOf chunk block slots (record index { held = map.insert index.held h (record { slot = found.slot; row = row }) }) new (with_replica d h r')
     replica_replaced = record {
       block_is = is.block_is;
+      head = head_still new found.slot fits keeps;
       order_is = order_kept new found.slot fits keeps;
       held = replaced_held;
       no_other = replaced_none;

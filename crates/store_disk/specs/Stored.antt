@@ -9,6 +9,7 @@ use Rattle.replica_store.specs.declared.row.Row.{Row}
 use Rattle.store_disk.specs.Index.{IndexState}
 use Rattle.store_disk.specs.declared.held.HeldReplica.{HeldReplica}
 use Rattle.store_disk.specs.Fields.{header_bytes, header_in, order_in}
+use Rattle.store_disk.specs.Formats.{HasOpenHead}
 use Rattle.store_disk.specs.declared.header.SlotHeader.{SlotHeader}
 use Rattle.store_disk.specs.Places.{blocks_of, data_place, digests_place, slot_place}
 
@@ -42,9 +43,10 @@ pub record IsKnown (chunk block slots : ℕ) (disk : List ℕ) (handle : ℕ) (r
   pub row : row_of (Some r) ≡ Some found.row
   pub holds : Holds chunk block disk found.slot handle r
 
--- The disk's bytes say what a server keeps over a restart, and the index knows where.
+-- The disk's head is open, its bytes say what a server keeps over a restart, and the index knows where.
 pub record IsDiskOf (chunk block slots : ℕ) (index : IndexState) (disk : List ℕ) (d : ServerDisk) : Type 0 where
   pub block_is : d.block ≡ block
+  pub head : HasOpenHead chunk block slots disk
   pub order_is : order_in (range_at disk 32 16) ≡ record { epoch = d.epoch; count = d.count }
   pub held : (handle : ℕ) (r : Replica) → replica_of d handle ≡ Some r → (found : HeldReplica) × (map.get index.held handle ≡ Some found) × IsKnown chunk block slots disk handle r found
   pub no_other : (handle : ℕ) → replica_of d handle ≡ None → map.get index.held handle ≡ None

@@ -86,6 +86,7 @@ pub fn format<D: Disk>(alloc: Global, disk: &mut D, layout: Layout) -> Result<()
     requires durable { Only (D.seen disk.old) (D.may_leave disk.old) }
     ensures formatted { OnOk result (IsFormatted layout.chunk layout.block layout.slots (D.seen disk.new)) }
     ensures durable { OnOk result (Only (D.seen disk.new) (D.may_leave disk.new)) }
+    ensures read { IsFormatting layout.chunk layout.block layout.slots (D.seen disk.new) }
     ensures any_moment { LeavesOnly D.moment D.left_since disk.old disk.new (IsFormatting layout.chunk layout.block layout.slots) }
     ensures cause { HasCause (D.failed disk.old) (D.failed disk.new) result }
 {

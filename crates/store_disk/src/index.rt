@@ -1,6 +1,6 @@
 //! The replicas of a disk, by handle.
 
-ghost use Rattle.std.specs.Prelude.{◌≡◌, ◌≢◌, [], map as mapped, slice_get, IfOk, OnErr, OnOk};
+ghost use Rattle.std.specs.Prelude.{◌≡◌, ◌≢◌, [], is_none, map as mapped, slice_get, IfOk, OnErr, OnOk};
 ghost use Rattle.std.specs.BTreeMap.{is_at};
 ghost use Rattle.std.specs.FinMap as map;
 ghost use Rattle.std.specs.List.{range_with_len};
@@ -62,6 +62,13 @@ impl SlotIndex {
             rows.push((Handle(*handle), found.row))?;
         }
         Ok(rows)
+    }
+
+    /// Whether no slot is free.
+    pub fn is_full(&self) -> bool
+        ensures { result ≡ is_none (slice_get self.now.free 0) }
+    {
+        self.free.lowest().is_none()
     }
 
     /// A new replica, in the lowest free slot, which is told; `None` where no slot is free. Memory is needed only where one is.

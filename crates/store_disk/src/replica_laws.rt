@@ -10,7 +10,7 @@ ghost use Rattle.replica_store.specs.declared.row.Row.{Row};
 ghost use Rattle.replica_store.specs.Replicas.{ServerDisk, disk_changed, new_server_disk};
 ghost use Rattle.store_disk.specs.Index.{IndexState, index_with, index_without};
 ghost use Rattle.store_disk.specs.declared.held.HeldReplica.{HeldReplica};
-ghost use Rattle.store_disk.specs.Formats.{IsBlank};
+ghost use Rattle.store_disk.specs.Formats.{IsFormatted};
 ghost use Rattle.store_disk.specs.Fields.{FitsHeader, FitsOrder, header_bytes, order_bytes};
 ghost use Rattle.store_disk.specs.Places.{disk_size, slot_place};
 ghost use Rattle.store_disk.specs.Stored.{IsDiskOf, header_of, raised_row, slot_bytes};
@@ -52,7 +52,7 @@ pub fn puts_are_stored()
 {}
 
 /// A disk that was formatted has no replicas, and no order was taken.
-pub fn blank_disks_are_empty()
-    ensures { (chunk block slots : ℕ) (disk : List ℕ) → disk_size chunk block slots ≤ length disk → IsBlank chunk block slots disk
+pub fn formatted_disks_are_empty()
+    ensures { (chunk block slots : ℕ) (disk : List ℕ) → IsFormatted chunk block slots disk
         → IsDiskOf chunk block slots (record { held = map.empty; free = range_with_len 0 slots }) disk (new_server_disk block) }
 {}

@@ -17,7 +17,11 @@ const WAYS: [Torn; 5] = [
     Torn::Byte(7),
 ];
 
-const AREA: RedoArea = RedoArea { place: 4, size: 64 };
+const AREA: RedoArea = RedoArea {
+    place: 4,
+    size: 64,
+    first: 0,
+};
 
 // The change takes 17 calls of the disk, and an opening 9 at most.
 const CALLS: u64 = 18;

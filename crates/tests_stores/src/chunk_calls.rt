@@ -5,7 +5,7 @@ ghost use Rattle.store_disk.specs.Formats.{is_head_open};
 ghost use Rattle.tests_stores.specs.Usable.{IsUsable};
 
 use bytes::Bytes;
-use chunk_store::{OpenFault, Store, StoreFault, open};
+use chunk_store::{OpenFault, Store, StoreFault};
 use disk::{Disk, FuseDisk, MemDisk};
 use gfs_types::ids::{Handle, OrderNo, Serial, Version};
 use gfs_types::mutation::Mutation;
@@ -25,12 +25,15 @@ pub(crate) struct Ran {
     pub(crate) is_device: bool,
 }
 
-/// How many replicas are listed, and the first two of them.
+/// What an opening finds: how many replicas are listed, the first two of them, the number of the last order, and the disk's bytes but for the redo area. In these stand all bytes of the replicas and the digests of their blocks.
 #[derive(Clone, Copy, PartialEq, Eq)]
 pub(crate) struct Listing {
     count: usize,
     first: Option<(Handle, Row)>,
     second: Option<(Handle, Row)>,
+    order: OrderNo,
+    front: [u8; 48],
+    slots: [u8; 464],
 }
 
 pub(crate) fn layout() -> Layout
@@ -54,7 +57,7 @@ pub(crate) fn open_new<D: Disk>(disk: D, alloc: Global) -> Result<Store<D>, (D, 
     requires { is_head_open (D.seen disk) ≡ false }
     ensures { IfOk result (λ store. IsUsable D.seen D.may_leave store) }
 {
-    match open(disk, alloc, layout()) {
+    match Store::open(disk, alloc, layout()) {
         Ok(store) => Ok(store),
         Err(error) => Err(error),
     }
@@ -151,23 +154,48 @@ pub(crate) fn run<D: Disk + Drop>(disk: D, alloc: Global, steps: usize) -> (D, R
     }
 }
 
+// The replicas, without the disk's bytes.
 fn list_replicas<D: Disk>(store: &Store<D>, alloc: Global) -> Result<Listing, OpenFault> {
     match store.list(alloc) {
         Ok(rows) => Ok(Listing {
             count: rows.len(),
             first: rows.first().copied(),
             second: rows.get(1).copied(),
+            order: store.order(),
+            front: [0; 48],
+            slots: [0; 464],
         }),
         Err(_) => Err(OpenFault::NoMemory),
     }
 }
 
-/// Opens a store, and lists its replicas.
+// The head and the order's number, and the slots behind the redo area.
+fn read_around<D: Disk>(disk: &mut D, found: &mut Listing) -> Result<(), OpenFault> {
+    if disk.size() < SIZE {
+        return Err(OpenFault::Damaged);
+    }
+    disk.read(0, &mut found.front)?;
+    disk.read(496, &mut found.slots)?;
+    Ok(())
+}
+
+fn with_bytes<D: Disk>(
+    disk: &mut D,
+    listing: Result<Listing, OpenFault>,
+) -> Result<Listing, OpenFault> {
+    let mut found = listing?;
+    read_around(disk, &mut found)?;
+    Ok(found)
+}
+
+/// Opens a store, lists its replicas, and reads its disk.
 pub(crate) fn listed<D: Disk + Drop>(disk: D, alloc: Global) -> (D, Result<Listing, OpenFault>) {
-    match open(disk, alloc, layout()) {
+    match Store::open(disk, alloc, layout()) {
         Ok(store) => {
-            let found = list_replicas(&store, alloc);
-            (store.into_disk(), found)
+            let listing = list_replicas(&store, alloc);
+            let mut disk = store.into_disk();
+            let found = with_bytes(&mut disk, listing);
+            (disk, found)
         }
         Err((disk, fault)) => (disk, Err(fault)),
     }

@@ -1,4 +1,4 @@
-use Rattle.std.proofs.Common.{◌≡◌, ◌==◌, ℕ, Bool, true, false, List, take, sym, ap, ◌∙◌, subst}
+use Rattle.std.proofs.Common.{◌≡◌, ◌==◌, ℕ, Bool, true, false, List, take, sym, ap, ◌∙◌, subst, arith}
 use Rattle.std.specs.Prelude.{slice_index}
 use Rattle.std.proofs.lemmas.Result.{IfOk-weaker, on_ok_weaker}
 use Rattle.disk_redo.specs.Redo.{stands_for}
@@ -8,7 +8,8 @@ use Rattle.store_disk.specs.Formats.{is_head_open}
 use Rattle.chunk_store.specs.Opening.{HoldsReplicas, IsFound}
 use Rattle.store_disk.specs.Stored.{IsStored}
 use Rattle.chunk_store.proofs.Fronts.{gate_read, head_read}
-use Rattle.chunk_store.proofs.Moments.{begins, closed_holds, open_holds, redoes}
+use Rattle.chunk_store.proofs.Moments.{begins, closed_holds, on_ok, open_holds, redoes}
+use Rattle.chunk_store.proofs.Stopped.{same_holds}
 use Rattle.chunk_store.proofs.disk_opening.open_disk.Goals as goal
 
 pub returns-then-is_open-clause-found : goal.returns-then-is_open-clause-found
@@ -28,6 +29,15 @@ returns-then-is_open-clause-found g c =
 pub returns-then-is_open-clause-its_head : goal.returns-then-is_open-clause-its_head
 returns-then-is_open-clause-its_head g c opened =
     on_ok_weaker c.open_headed.result (λ is. sym (head_read (g.D.Disk.seen c.args.disk.now) c.in_ok-head.head c.in_ok-head.ensures.bytes) ∙ is) c.open_headed.ensures.its_head
+
+pub returns-then-is_open-clause-sized : goal.returns-then-is_open-clause-sized
+returns-then-is_open-clause-sized g c = on_ok c.open_headed.result (omega (arith, c.if-size-disk_size.false, c.size.ensures, c.disk_size.ensures))
+
+pub returns-then-is_open-clause-undamaged : goal.returns-then-is_open-clause-undamaged
+returns-then-is_open-clause-undamaged g c large so e =
+    let old = g.D.Disk.seen c.args.disk.now in
+    let opened = gate_read old c.in_ok-head.head true c.in_ok-head.ensures.bytes c.if-is_open.ensures in
+    c.open_headed.ensures.undamaged (head_read old c.in_ok-head.head c.in_ok-head.ensures.bytes ∙ so opened) e
 
 pub returns-then-is_open-clause-any_moment : goal.returns-then-is_open-clause-any_moment
 returns-then-is_open-clause-any_moment g c =
@@ -50,8 +60,36 @@ returns-else-is_open-clause-found g c =
     subst (λ (e : ServerDisk). IsFound layout.chunk layout.block layout.slots found (stands_for area (seen c.open_new.new.disk)) e) (sym (closed_holds layout.chunk layout.block layout.slots old d closed holds)) none)
     c.open_new.ensures.found
 
+pub returns-else-is_open-clause-sized : goal.returns-else-is_open-clause-sized
+returns-else-is_open-clause-sized g c = on_ok c.open_new.result (omega (arith, c.if-size-disk_size.false, c.size.ensures, c.disk_size.ensures))
+
+pub returns-else-is_open-clause-undamaged : goal.returns-else-is_open-clause-undamaged
+returns-else-is_open-clause-undamaged g c large so e = c.open_new.ensures.undamaged e
+
 pub returns-else-is_open-clause-any_moment : goal.returns-else-is_open-clause-any_moment
 returns-else-is_open-clause-any_moment g c =
     let disk = g.D.Disk in
     let layout = c.args.layout in
     begins disk.seen disk.may_leave disk.moment disk.left_since layout.chunk layout.block layout.slots c.args.disk.now c.read_head.new.disk c.open_new.new.disk c.read_head.ensures.reads c.open_new.ensures.any_moment
+
+pub returns-in_err-head-clause-held : goal.returns-in_err-head-clause-held
+returns-in_err-head-clause-held g c d holds =
+    let layout = c.args.layout in
+    subst (λ (l : List ℕ). HoldsReplicas layout.chunk layout.block layout.slots l d) (sym c.read_head.ensures.reads.seen_same) holds
+
+pub returns-then-is_open-clause-held : goal.returns-then-is_open-clause-held
+returns-then-is_open-clause-held g c d holds =
+    let seen = g.D.Disk.seen in
+    let layout = c.args.layout in
+    let old = seen c.args.disk.now in
+    let opened = gate_read old c.in_ok-head.head true c.in_ok-head.ensures.bytes c.if-is_open.ensures in
+    same_holds layout.chunk layout.block layout.slots old (seen c.open_headed.new.disk) d (c.open_headed.ensures.same ∙ ap (stands_for (area_of layout.chunk layout.block)) c.read_head.ensures.reads.seen_same)
+    (open_holds layout.chunk layout.block layout.slots old d opened holds)
+
+pub returns-else-is_open-clause-held : goal.returns-else-is_open-clause-held
+returns-else-is_open-clause-held g c d holds =
+    let seen = g.D.Disk.seen in
+    let layout = c.args.layout in
+    let old = seen c.args.disk.now in
+    let closed = gate_read old c.in_ok-head.head false c.in_ok-head.ensures.bytes c.if-is_open.ensures in
+    subst (λ (e : ServerDisk). HoldsReplicas layout.chunk layout.block layout.slots (seen c.open_new.new.disk) e) (sym (closed_holds layout.chunk layout.block layout.slots old d closed holds)) c.open_new.ensures.held

@@ -1,4 +1,4 @@
-use Rattle.std.proofs.Common.{◌≡◌, ℕ, ◌≤◌, List, length, sym, subst, arith}
+use Rattle.std.proofs.Common.{◌≡◌, ℕ, ◌≤◌, List, length, sym, ap, ◌∙◌, subst, arith}
 use Rattle.std.proofs.lemmas.Result.{IfOk-weaker}
 use Rattle.disk_redo.specs.GateMoments.{LeavesOnly}
 use Rattle.disk_redo.specs.Redo.{IsAtRest, stands_for}
@@ -49,3 +49,16 @@ returns-clause-any_moment g c =
     c.in_ok-open.ensures.rest.durable
     (subst (λ (a : RedoArea). LeavesOnly disk.moment disk.left_since c.args.disk.now c.open.new.disk (IsRedoing a (disk.seen c.args.disk.now) (disk.may_leave c.args.disk.now))) c.redo_area_of-area.ensures c.open.ensures.any_moment)
     c.read_found.ensures.reads
+
+pub returns-clause-same : goal.returns-clause-same
+returns-clause-same g c =
+    let disk = g.D.Disk in
+    let layout = c.args.layout in
+    ap (stands_for (area_of layout.chunk layout.block)) c.read_found.ensures.reads.seen_same
+    ∙ subst (λ (a : RedoArea). stands_for a (disk.seen c.open.new.disk) ≡ stands_for a (disk.seen c.args.disk.now)) c.redo_area_of-area.ensures c.open.ensures.same
+
+pub returns-in_err-open-clause-same : goal.returns-in_err-open-clause-same
+returns-in_err-open-clause-same g c =
+    let disk = g.D.Disk in
+    let layout = c.args.layout in
+    subst (λ (a : RedoArea). stands_for a (disk.seen c.open.new.disk) ≡ stands_for a (disk.seen c.args.disk.now)) c.redo_area_of-area.ensures c.open.ensures.same

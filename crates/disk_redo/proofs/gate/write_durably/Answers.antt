@@ -20,3 +20,6 @@ returns-clause-any_moment g c =
     let left = torn c.args.at (length c.args.bytes.now) seen _ _ c.requires.durable c.write_at.ensures.crash in
     let then = goes_on g.D.Disk.moment g.D.Disk.left_since d d c.write_at.new.self P _ first c.write_at.ensures.time left in
     goes_on g.D.Disk.moment g.D.Disk.left_since d c.write_at.new.self c.sync.new.self P _ then c.sync.ensures.time (λ f now. left f (c.sync.ensures.crash f now))
+
+pub returns-clause-read : goal.returns-clause-read
+returns-clause-read g c = subst (λ b. ChangesOnly c.args.at (length c.args.bytes.now) (g.D.Disk.seen c.args.disk.now) b) (sym c.sync.ensures.seen) c.write_at.ensures.elsewhere

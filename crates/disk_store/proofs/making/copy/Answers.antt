@@ -11,3 +11,9 @@ pub returns-clause-any_moment : goal.returns-clause-any_moment
 returns-clause-any_moment g c =
     let disk = g.D.Disk in
     change_made disk.seen disk.may_leave disk.moment disk.left_since c.args.store.now c.copy_local.new.self (Copy c.args.handle c.args.other c.args.version) c.copy_local.ensures.any_moment
+
+pub returns-clause-no_room : goal.returns-clause-no_room
+returns-clause-no_room g c d is e = ((c.copy_local.ensures.no_room d is).0 e).4
+
+pub returns-clause-ok : goal.returns-clause-ok
+returns-clause-ok g c d is noticed = c.copy_local.ensures.ok d is

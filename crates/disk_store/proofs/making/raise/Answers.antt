@@ -11,3 +11,6 @@ pub returns-clause-any_moment : goal.returns-clause-any_moment
 returns-clause-any_moment g c =
     let disk = g.D.Disk in
     change_made disk.seen disk.may_leave disk.moment disk.left_since c.args.store.now c.set_version.new.self (Raise c.args.handle c.args.version) c.set_version.ensures.any_moment
+
+pub returns-clause-ok : goal.returns-clause-ok
+returns-clause-ok g c d is noticed = c.set_version.ensures.ok d is

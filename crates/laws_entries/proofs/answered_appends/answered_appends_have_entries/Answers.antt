@@ -1,4 +1,4 @@
-use Rattle.laws_entries.proofs.AnsweredAppends.{answered_appends_have_entries}
+use Rattle.laws_entries.proofs.AppendedBytes.{answered_appends_have_entries}
 use Rattle.laws_entries.proofs.answered_appends.answered_appends_have_entries.Goals as goal
 
 pub returns : goal.returns

@@ -8,6 +8,7 @@ use Rattle.disk_redo.proofs.Places.{length_put, put_within}
 use Rattle.store_disk.specs.Formats.{IsFormatted, IsFormatting, is_head_open}
 use Rattle.store_disk.proofs.Heads.{formed, forming}
 use Rattle.store_disk.proofs.FormatSlots.{slots_behind}
+use Rattle.store_disk.specs.Places.{disk_size}
 use Rattle.store_disk.proofs.formatting.format.Goals as goal
 
 pub returns-in_err-head-clause-any_moment : goal.returns-in_err-head-clause-any_moment
@@ -48,7 +49,7 @@ returns-clause-formatted g c =
     let opened : is_head_open (put_at headed 31 (1 ∷ [])) ≡ true = ap (λ (n : ℕ). n == 1) (put_within headed (1 ∷ []) 31 31 fits (omega arith) (omega arith)) in
     on_ok_weaker c.commit.result
     (λ e. subst (λ (l : List ℕ). IsFormatted layout.chunk layout.block layout.slots l) (sym e)
-    (formed layout.chunk layout.block layout.slots mid (put_at headed 31 (1 ∷ [])) head is (omega (arith, room)) c.in_ok-clear_durably.ensures.blank (put_changes headed (1 ∷ []) 31 fits) opened))
+    (formed layout.chunk layout.block layout.slots mid (put_at headed 31 (1 ∷ [])) head is (omega (arith, c.requires.size, c.clear_durably.ensures.size)) c.in_ok-clear_durably.ensures.blank (put_changes headed (1 ∷ []) 31 fits) opened))
     c.commit.ensures.committed
 
 pub returns-clause-any_moment : goal.returns-clause-any_moment
@@ -58,7 +59,23 @@ returns-clause-any_moment g c =
     let mid = disk.seen c.clear_durably.new.disk in
     let head = c.deref.result.now in
     let is = c.deref.ensures ∙ c.in_ok-head.ensures in
-    let room : 31 ≤ length mid = omega (arith, slots_behind layout.chunk layout.block layout.slots, c.requires.size, c.clear_durably.ensures.size) in
+    let room : disk_size layout.chunk layout.block layout.slots ≤ length mid = omega (arith, c.requires.size, c.clear_durably.ensures.size) in
     joined disk.moment disk.left_since c.args.disk.now c.clear_durably.new.disk c.commit.new.disk (λ bytes. is_head_open bytes ≡ false) (IsCommitting mid 0 head 31) (IsFormatting layout.chunk layout.block layout.slots)
     c.clear_durably.ensures.any_moment c.commit.ensures.any_moment (λ d p. inl p)
     (λ d p. forming layout.chunk layout.block layout.slots mid d head is room c.clear_durably.ensures.closed c.in_ok-clear_durably.ensures.blank p)
+
+pub returns-in_err-head-clause-read : goal.returns-in_err-head-clause-read
+returns-in_err-head-clause-read g c = inl c.requires.closed
+
+pub returns-in_err-clear_durably-clause-read : goal.returns-in_err-clear_durably-clause-read
+returns-in_err-clear_durably-clause-read g c = inl c.clear_durably.ensures.closed
+
+pub returns-clause-read : goal.returns-clause-read
+returns-clause-read g c =
+    let disk = g.D.Disk in
+    let layout = c.args.layout in
+    let mid = disk.seen c.clear_durably.new.disk in
+    let head = c.deref.result.now in
+    let is = c.deref.ensures ∙ c.in_ok-head.ensures in
+    let room : disk_size layout.chunk layout.block layout.slots ≤ length mid = omega (arith, c.requires.size, c.clear_durably.ensures.size) in
+    forming layout.chunk layout.block layout.slots mid (disk.seen c.commit.new.disk) head is room c.clear_durably.ensures.closed c.in_ok-clear_durably.ensures.blank c.commit.ensures.read

@@ -1,5 +1,7 @@
+use Rattle.std.proofs.Common.{refl}
 use Rattle.gfs_types.specs.declared.answer.Answer.TheVariants as answer
 use Rattle.gfs_types.specs.declared.call.Call.TheVariants as call
+use Rattle.cell_seats.specs.Seats.{is_descriptor}
 use Rattle.cell_seats.proofs.Sitting.{answers, fails}
 use Rattle.cell_seats.proofs.seat.Seat.open.Goals as goal
 
@@ -7,4 +9,4 @@ pub returns-clause-ok : goal.returns-clause-ok
 returns-clause-ok g c = answers c.call.result c.descriptor_in.result _ _ (call.Open c.args.path) answer.Fd c.call.ensures.ok c.descriptor_in.ensures.ok
 
 pub returns-clause-err : goal.returns-clause-err
-returns-clause-err g c = fails c.call.result c.descriptor_in.result _ _ (call.Open c.args.path) c.call.ensures.ok c.call.ensures.err c.descriptor_in.ensures.err
+returns-clause-err g c = fails is_descriptor c.call.result c.descriptor_in.result _ _ (call.Open c.args.path) refl c.call.ensures.ok c.call.ensures.err c.descriptor_in.ensures.err
