@@ -16,18 +16,18 @@ use Rattle.oplog.proofs.Parsing.{entry_len}
 use Rattle.oplog.specs.Disks.{DiskSays, HasLog}
 use Rattle.oplog.specs.Changes.{appended, IsBeforeOrAfter}
 use Rattle.oplog.specs.Logs.{IsOpen}
-use Rattle.oplog.specs.declared.log.Log.{Log}
+use Rattle.oplog.specs.declared.volume.LogVolume.{LogVolume}
 use Rattle.oplog.proofs.DiskAreas.{end_more}
 use Rattle.oplog.proofs.Disks.{areas_fit, has_log, first_write, both_written, stopped, room}
 
-module _ {D : Type 0} (seen : D → List ℕ) (may_leave : D → List ℕ → Type 0) (log : Log D) (area : AreaState) (is_open : IsOpen seen may_leave log area) where
+module _ {D : Type 0} (seen : D → List ℕ) (may_leave : D → List ℕ → Type 0) (log : LogVolume D) (area : AreaState) (is_open : IsOpen seen may_leave log area) where
   -- before the first call, and where there is none
   pub nothing_done : (moment : D → ℕ) (left_since : D → ℕ → List ℕ → Type 0) (r : Record) → ((c : List ℕ) → left_since log.disk (moment log.disk) c → may_leave log.disk c)
       → LeavesOnly moment left_since log.disk log.disk (IsBeforeOrAfter area r)
   nothing_done moment left_since r only_now =
       started moment left_since log.disk (IsBeforeOrAfter area r) (λ c left. inl (subst (HasLog area.items area.records) (sym (is_open.durable c (only_now c left))) (has_log log.size log.which area (seen log.disk) is_open.says)))
 
-module _ {D : Type 0} (seen : D → List ℕ) (may_leave : D → List ℕ → Type 0) (log : Log D) (area : AreaState) (is_open : IsOpen seen may_leave log area) (r : Record)
+module _ {D : Type 0} (seen : D → List ℕ) (may_leave : D → List ℕ → Type 0) (log : LogVolume D) (area : AreaState) (is_open : IsOpen seen may_leave log area) (r : Record)
     (has_room : record_fits (area_size log.size) area r ≡ true) where
   abbrev bytes : List ℕ
   bytes = entry r ++ 0 ∷ []

@@ -45,7 +45,7 @@ entries_many : (done : List Record) → length done ≤ length (entries done)
 entries_many [] = omega arith
 entries_many (r ∷ rest) = omega (arith, ap length (entries_cons r rest), length-append (entry r) (entries rest), entry_len r, entries_many rest)
 
-open_many : (done : List Record) → length done ≤ length (open_entries done)
+pub open_many : (done : List Record) → length done ≤ length (open_entries done)
 open_many [] = omega arith
 open_many (r ∷ rest) = omega (
   arith,

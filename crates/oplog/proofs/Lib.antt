@@ -20,3 +20,5 @@ pub mod NewestArea
 pub mod Refused
 pub mod Starting
 pub mod Whole
+pub mod OpenLogs
+pub mod AllEntries

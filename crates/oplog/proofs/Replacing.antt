@@ -12,7 +12,7 @@ use Rattle.oplog.specs.Layout.{area_at, area_size}
 use Rattle.oplog.specs.Disks.{area_of, other, DiskSays}
 use Rattle.oplog.proofs.Disks.{area_lies, area_long, has_log}
 use Rattle.oplog.specs.Logs.{IsOpen}
-use Rattle.oplog.specs.declared.log.Log.{Log}
+use Rattle.oplog.specs.declared.volume.LogVolume.{LogVolume}
 use Rattle.oplog.specs.Writing.{area_with, is_area_open, IsStillClosed, IsWriting}
 use Rattle.oplog.proofs.Changes.{widened}
 use Rattle.oplog.proofs.Current.{current_stays, other_is_current}
@@ -81,7 +81,7 @@ forgot moment left_since old new may_leave P time before after = record {
 
 -- A checkpoint of an open log: the past is forgotten, the other area is closed, and it is written.
 module _ {D : Type 0} (seen : D → List ℕ) (may_leave : D → List ℕ → Type 0) (moment : D → ℕ) (left_since : D → ℕ → List ℕ → Type 0)
-    (log : Log D) (area : AreaState) (is_open : IsOpen seen may_leave log area) (items : List Record)
+    (log : LogVolume D) (area : AreaState) (is_open : IsOpen seen may_leave log area) (items : List Record)
     (only_now : (c : List ℕ) → left_since log.disk (moment log.disk) c → may_leave log.disk c)
     (begun : D) (same : seen begun ≡ seen log.disk) (crash : NoMore (may_leave log.disk) (may_leave begun)) (time : Forgets (moment log.disk) (moment begun) (left_since log.disk) (left_since begun) (may_leave begun))
     (start : ℕ) (start_is : start ≡ area_at log.size (other log.which)) where

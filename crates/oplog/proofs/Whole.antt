@@ -13,7 +13,7 @@ use Rattle.disk.specs.Bytes.{range_at}
 use Rattle.oplog.specs.Disks.{area_of, is_formatted, DiskSays, HasLog}
 use Rattle.oplog.proofs.Disks.{has_log}
 use Rattle.oplog.specs.Logs.{IsOpen}
-use Rattle.oplog.specs.declared.log.Log.{Log}
+use Rattle.oplog.specs.declared.volume.LogVolume.{LogVolume}
 use Rattle.oplog.specs.declared.fault.LogFault.{LogFault}
 use Rattle.oplog.specs.Writing.{area_with}
 use Rattle.oplog.specs.NewLogs.{IsLogOf}
@@ -77,7 +77,7 @@ formatted_found found n d at number items records ends no_walk says =
     record {
       says = subst (λ (k : ℕ). DiskSays (length d) k (area_found found) d) (sym at) of_area;
       end = ends ∙ sym (ap (λ (a : AreaState). end_of a) empty ∙ end_of_new);
-      walk = subst (λ (w : Option Walk). WalksThrough (found.items ++ found.records) w) (sym no_walk) tt;
+      walk = subst (λ (w : Option Walk). WalksThrough (found.items ++ found.records) w) (sym no_walk) (ap (λ (l : List Record). l ++ found.records) items ∙ records);
     }
 
 -- on a disk with a closed head none is
@@ -120,7 +120,7 @@ module _ {D : Type 0} (seen : D → List ℕ) (may_leave : D → List ℕ → Ty
   }
 
   -- a log that is open stays so where its disk is only read
-  pub read_open : (log : Log D) (disk : D) (area : AreaState) → OnlyReads seen may_leave moment left_since log.disk disk → IsOpen seen may_leave log area → IsOpen seen may_leave (record log { disk = disk }) area
+  pub read_open : (log : LogVolume D) (disk : D) (area : AreaState) → OnlyReads seen may_leave moment left_since log.disk disk → IsOpen seen may_leave log area → IsOpen seen may_leave (record log { disk = disk }) area
   read_open log disk area reads is_open = record {
     says = subst (DiskSays log.size log.which area) (sym reads.seen_same) is_open.says;
     start = is_open.start;
@@ -133,7 +133,7 @@ module _ {D : Type 0} (seen : D → List ℕ) (may_leave : D → List ℕ → Ty
   }
 
 -- the bytes of the area that is current
-pub current_bytes : {D : Type 0} (seen : D → List ℕ) (may_leave : D → List ℕ → Type 0) (log : Log D) (area : AreaState) → IsOpen seen may_leave log area → (bytes : List ℕ) → bytes ≡ range_at (seen log.disk) log.start log.room
+pub current_bytes : {D : Type 0} (seen : D → List ℕ) (may_leave : D → List ℕ → Type 0) (log : LogVolume D) (area : AreaState) → IsOpen seen may_leave log area → (bytes : List ℕ) → bytes ≡ range_at (seen log.disk) log.start log.room
     → bytes ≡ area_of log.size log.which (seen log.disk)
 current_bytes seen may_leave log area is_open bytes is =
     let d = seen log.disk in

@@ -11,3 +11,4 @@ pub mod Writing
 pub mod Checkpoints
 pub mod NewLogs
 pub mod Opening
+pub mod Reopening

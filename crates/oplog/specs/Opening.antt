@@ -1,7 +1,7 @@
 -- Opening the operation log's disk.
 use Rattle.std.specs.Prelude.{◌≡◌, ◌⊎◌, ℕ, false, List, [], ◌++◌, length, Option, None, Some}
 use Rattle.oplog.specs.Areas.{AreaState, end_of}
-use Rattle.oplog.specs.Walks.{IsWalk}
+use Rattle.oplog.specs.Walks.{IsWalk, passed}
 use Rattle.oplog.specs.declared.walk.Walk.{Walk}
 use Rattle.oplog.specs.Disks.{is_formatted, DiskSays}
 use Rattle.log_records.specs.declared.record.Record.{Record}
@@ -12,10 +12,10 @@ use Rattle.oplog.specs.declared.found.FoundArea.{FoundArea}
 abbrev pub IsOpening : List ℕ → (List ℕ → Type 0) → List ℕ → Type 0
 IsOpening before may_leave c = may_leave c ⊎ ((is_formatted before ≡ false) × IsLogOf [] [] c)
 
--- where there is a walk, it goes through these entries
+-- The walk goes through these entries and has passed none; where there is no walk, there is no entry.
 abbrev pub WalksThrough : List Record → Option Walk → Type 0
-WalksThrough all None = Unit {0}
-WalksThrough all (Some walk) = IsWalk all walk
+WalksThrough all None = all ≡ []
+WalksThrough all (Some walk) = IsWalk all walk × (passed walk ≡ 0)
 
 abbrev pub area_found : FoundArea → AreaState
 area_found found = record { number = found.number; items = found.items; records = found.records }

@@ -13,6 +13,10 @@ pub record IsLeft (items records : List Record) (left : List ℕ) (taken : ℕ) 
   pub each : AllByRecursion IsEntry items
   pub hold : HoldsRecords records rest
 
+-- how many entries it has passed
+abbrev pub passed : Walk → ℕ
+passed walk = walk.place
+
 -- The walk goes through these entries, and has passed as many as it says.
 pub record IsWalk (all : List Record) (walk : Walk) : Type 0 where
   pub done : List Record

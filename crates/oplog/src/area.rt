@@ -7,7 +7,7 @@ ghost use Rattle.log_codec.specs.Fields.{IsIndex, IsNumber};
 ghost use Rattle.log_codec.specs.declared.fault.DecodeFault.TheVariants.{Damaged};
 ghost use Rattle.log_codec.specs.Reading.{Gives};
 
-use crate::CountedRecords;
+use crate::counted::CountedRecords;
 use crate::fields::{u32_at, u64_at};
 use crate::gate::{behind_gate, is_open};
 use crate::reading_items::{read_items, read_records};

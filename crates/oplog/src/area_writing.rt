@@ -15,7 +15,9 @@ ghost use Rattle.oplog.specs.Logs.{MayFail};
 ghost use Rattle.oplog.specs.declared.fault.LogFault.TheVariants as faults;
 ghost use Rattle.oplog.specs.Writing.{area_with, is_area_open, IsStillClosed, IsWriting};
 
-use crate::{LogFault, area_at, put_entry};
+use crate::entry_writing::put_entry;
+use crate::fault::LogFault;
+use crate::layout::area_at;
 use disk::Disk;
 use disk_redo::gate::commit;
 use gfs_types::no_memory::NoMemory;

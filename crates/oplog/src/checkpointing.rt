@@ -1,6 +1,6 @@
 //! Writing a checkpoint.
 
-ghost use Rattle.std.specs.Prelude.{◌≡◌, ◌⊎◌, ◌<◌, ◌≤◌, ◌+◌, ◌↔◌, ◌==◌, true, false, length, slice_index_or as get_or, OnOk, IsErrOf};
+ghost use Rattle.std.specs.Prelude.{◌≡◌, ◌⊎◌, ◌<◌, ◌≤◌, ◌+◌, ◌↔◌, ◌==◌, true, false, length, slice_index_or as get_or, OnErr, OnOk, IsErrOf};
 ghost use Rattle.std.specs.List.{AllByRecursion};
 ghost use Rattle.disk.specs.Device.{ChangesOnly, HasCause, Only};
 ghost use Rattle.disk.specs.declared.device.DiskFault.TheVariants as disk_faults;
@@ -13,7 +13,10 @@ ghost use Rattle.oplog.specs.declared.fault.LogFault.TheVariants as faults;
 ghost use Rattle.oplog.specs.Writing.{area_with};
 ghost use Rattle.oplog.specs.Checkpoints.{has_place, IsClosing, IsOldOrNew};
 
-use crate::{Log, LogFault, area_at, room_left, write_area};
+use crate::area_writing::{room_left, write_area};
+use crate::fault::LogFault;
+use crate::layout::area_at;
+use crate::volume::LogVolume;
 use disk::{Disk, DiskFault};
 use disk_redo::close;
 use log_records::record::Record;
@@ -38,41 +41,44 @@ fn close_if_open<D: Disk>(disk: &mut D, gate: usize) -> Result<(), DiskFault>
     close(disk, gate)
 }
 
-/// Writes a checkpoint into the other area: its items take the place of the log's items and records. At `Ok` they have, for good.
+/// Writes a checkpoint into the other area: its items take the place of the volume's items and records. At `Ok` they have, for good.
 ///
-/// `Full`: it has no room, or the areas' numbers have come to an end. `NoMemory`: an allocator refused what the call needs. Both leave the log as it was. `Device`: the disk failed in this call; the log is open no more, and its disk holds the items and records from before, or the new items alone.
+/// `Full`: it has no room, or the areas' numbers have come to an end. `NoMemory`: an allocator refused what the call needs. Both leave the volume as it was. `Device`: the disk failed in this call; the volume is open no more, and its disk holds the items and records from before, or the new items alone.
 pub fn checkpoint<D: Disk>(
-    log: &mut Log<D>,
+    volume: &mut LogVolume<D>,
     alloc: Global,
     items: &[Record],
 ) -> Result<(), LogFault>
     requires writable { AllByRecursion IsWritable items.now }
     requires order { is_checkpoint items.now ≡ true }
-    requires is_open { (area : AreaState) × IsOpen D.seen D.may_leave log.old area }
+    requires is_open { (area : AreaState) × IsOpen D.seen D.may_leave volume.old area }
 
-    ensures ok { (area : AreaState) → IsOpen D.seen D.may_leave log.old area → OnOk result (IsOpen D.seen D.may_leave log.new (area_with (area.number + 1) items.now)) }
-    ensures full { (area : AreaState) → IsOpen D.seen D.may_leave log.old area → (IsErrOf result faults.Full ↔ (has_place log.old.size area items.now ≡ false)) }
-    ensures still_open { (area : AreaState) → IsOpen D.seen D.may_leave log.old area → IsErrOf result faults.NoMemory → IsOpen D.seen D.may_leave log.new area }
-    ensures unchanged { IsErrOf result faults.Full → log.new ≡ log.old }
+    ensures ok { (area : AreaState) → IsOpen D.seen D.may_leave volume.old area → OnOk result (IsOpen D.seen D.may_leave volume.new (area_with (area.number + 1) items.now)) }
+    ensures full { (area : AreaState) → IsOpen D.seen D.may_leave volume.old area → (IsErrOf result faults.Full ↔ (has_place volume.old.size area items.now ≡ false)) }
+    ensures still_open { (area : AreaState) → IsOpen D.seen D.may_leave volume.old area → IsErrOf result faults.NoMemory → IsOpen D.seen D.may_leave volume.new area }
+    ensures unchanged { IsErrOf result faults.Full → volume.new ≡ volume.old }
     ensures undamaged { IsErrOf result faults.Damaged → ⊥ }
+    ensures size { volume.new.size ≡ volume.old.size }
+    ensures number { OnErr result (volume.new.number ≡ volume.old.number) }
+    ensures next { OnOk result (volume.new.number ≡ volume.old.number + 1) }
     // A stop at any moment of the call leaves the items and records from before it, or the new items alone.
-    ensures any_moment { (area : AreaState) → IsOpen D.seen D.may_leave log.old area → LeavesOnly D.moment D.left_since log.old.disk log.new.disk (IsOldOrNew area items.now) }
-    ensures cause { MayFail (D.failed log.old.disk) (D.failed log.new.disk) result }
+    ensures any_moment { (area : AreaState) → IsOpen D.seen D.may_leave volume.old area → LeavesOnly D.moment D.left_since volume.old.disk volume.new.disk (IsOldOrNew area items.now) }
+    ensures cause { MayFail (D.failed volume.old.disk) (D.failed volume.new.disk) result }
 {
-    let Some(number) = log.number.checked_add(1) else {
+    let Some(number) = volume.number.checked_add(1) else {
         return Err(LogFault::Full);
     };
-    let Some(left) = room_left(items, log.room.saturating_sub(14)) else {
+    let Some(left) = room_left(items, volume.room.saturating_sub(14)) else {
         return Err(LogFault::Full);
     };
-    let other = 1 - log.which;
-    let start = area_at(log.size, other);
-    log.disk.forget_past();
-    close_if_open(&mut log.disk, start)?;
-    write_area(&mut log.disk, alloc, other, number, items)?;
-    log.which = other;
-    log.start = start;
-    log.number = number;
-    log.end = log.room - 1 - left;
+    let other = 1 - volume.which;
+    let start = area_at(volume.size, other);
+    volume.disk.forget_past();
+    close_if_open(&mut volume.disk, start)?;
+    write_area(&mut volume.disk, alloc, other, number, items)?;
+    volume.which = other;
+    volume.start = start;
+    volume.number = number;
+    volume.end = volume.room - 1 - left;
     Ok(())
 }

@@ -1,6 +1,7 @@
 //! What was found on a disk.
 
-use crate::{CountedRecords, Walk};
+use crate::counted::CountedRecords;
+use crate::walk::Walk;
 
 /// Which area is current, what it says, and a walk through its entries, where it has any.
 #[derive(Drop)]

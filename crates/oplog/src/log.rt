@@ -1,76 +1,171 @@
-//! The log over its disk.
+//! The operation log.
 
-ghost use Rattle.std.specs.Prelude.{◌≡◌, ◌<◌, ◌≤◌, ◌+◌, ◌⊎◌, ◌↔◌, ◌++◌, ◌∷◌, [], true, false, length, IfOk, OnOk, IsErrOf};
-ghost use Rattle.disk.specs.Device.{HasCause, Only};
-ghost use Rattle.disk_redo.specs.Gates.{committed, IsCommitting, IsUncommitted};
-ghost use Rattle.disk_redo.specs.GateMoments.{LeavesOnly};
-ghost use Rattle.disk.specs.declared.device.DiskFault.TheVariants as disk_faults;
-ghost use Rattle.log_codec.specs.Fields.{IsIndex};
-ghost use Rattle.log_codec.specs.Payloads.{is_item, payload, IsWritable};
-ghost use Rattle.oplog.specs.Areas.{AreaState};
-ghost use Rattle.oplog.specs.Entries.{entry, IsEntry};
-ghost use Rattle.oplog.specs.Layout.{area_size, record_fits};
+ghost use Rattle.std.specs.Prelude.{◌≡◌, ◌<◌, ◌≤◌, ◌+◌, ◌↔◌, ◌++◌, ℕ, List, true, false, is_ok, length, IfErr, IfOk, OnErr, OnOk, IsErrOf};
+ghost use Rattle.std.specs.List.{AllByRecursion};
+ghost use Rattle.disk.specs.Device.{Elapses, Follows, NoMore, Only};
+ghost use Rattle.disk_redo.specs.GateMoments.{LeavesOnly, OnlyReads};
+ghost use Rattle.log_codec.specs.Payloads.{is_item, IsWritable};
+ghost use Rattle.log_records.specs.declared.record.Record.{Record};
+ghost use Rattle.oplog.specs.Areas.{end_of};
 ghost use Rattle.oplog.specs.Changes.{appended, IsBeforeOrAfter};
-ghost use Rattle.oplog.specs.Logs.{IsOpen, MayFail};
+ghost use Rattle.oplog.specs.Checkpoints.{has_place, IsOldOrNew};
+ghost use Rattle.oplog.specs.Faults.{stays_open};
+ghost use Rattle.oplog.specs.Layout.{area_size, record_fits};
+ghost use Rattle.oplog.specs.Logs.{IsDurable, MayFail, SameButDisk};
+ghost use Rattle.oplog.specs.NewLogs.{IsLogOf};
+ghost use Rattle.oplog.specs.Opening.{area_found, IsFound, IsOpening, WalksThrough};
+ghost use Rattle.oplog.specs.Order.{is_checkpoint};
+ghost use Rattle.oplog.specs.Reopening.{IsAmong, IsReopened};
+ghost use Rattle.oplog.specs.Walks.{IsWalk, passed};
+ghost use Rattle.oplog.specs.Writing.{area_with};
 ghost use Rattle.oplog.specs.declared.fault.LogFault.TheVariants as faults;
 
+use crate::checkpointing::checkpoint;
+use crate::collecting::collect;
+use crate::counted::CountedRecords;
 use crate::fault::LogFault;
-use crate::put_entry;
-use disk::{Disk, DiskFault};
-use disk_redo::gate::commit;
-use gfs_types::no_memory::NoMemory;
-use log_codec::encoded_len;
+use crate::found::FoundArea;
+use crate::opening::open_disk;
+use crate::reading::read_again;
+use crate::restarting::find_again;
+use crate::volume::LogVolume;
+use crate::walk::Walk;
+use disk::{Disk, StoppableDisk};
+use gfs_types::torn::Torn;
 use log_records::record::Record;
 use std::alloc::Global;
+use std::marker::Model;
 
-/// A log that is open on its disk: which area is current, and where in it the records end.
+/// The operation log on a disk: the items of its last checkpoint, and the records appended after it. In memory they are counted alone.
 #[derive(Drop)]
 pub struct Log<D: Disk> {
-    pub disk: D,
-    pub size: usize,
-    pub which: usize,
-    pub start: usize,
-    pub room: usize,
-    pub number: u64,
-    pub end: usize,
+    volume: LogVolume<D>,
+    items: CountedRecords,
+    records: CountedRecords,
+    // The disk hasn't failed since the log was opened.
+    is_open: bool,
 }
 
-// An entry and the closed gate after it.
-fn record_bytes(alloc: Global, logged: &Record) -> Result<Vec<u8>, NoMemory>
-    requires writable { IsWritable logged.now }
-    requires short { IsIndex (length (payload logged.now)) }
-    ensures bytes { IfOk result (λ v. v.items ≡ entry logged.now ++ 0 ∷ []) }
-    ensures stands { OnOk result (IsEntry logged.now) }
-{
-    let mut bytes = Vec::new(alloc);
-    put_entry(&mut bytes, logged)?;
-    bytes.push(0)?;
-    Ok(bytes)
-}
+impl<D: Disk> Model for Log<D> {
+    ghost use Rattle.oplog.specs.Logs.{IsCounted, LogState, log_counted};
 
-// Behind a closed gate: the bytes, and then the gate is opened.
-fn write_behind<D: Disk>(disk: &mut D, gate: usize, bytes: &[u8]) -> Result<(), DiskFault>
-    requires durable { Only (D.seen disk.old) (D.may_leave disk.old) }
-    requires room { gate + 1 + length bytes.now ≤ length (D.seen disk.old) }
-    ensures committed { OnOk result (D.seen disk.new ≡ committed (D.seen disk.old) (gate + 1) bytes.now gate) }
-    ensures durable { OnOk result (Only (D.seen disk.new) (D.may_leave disk.new)) }
-    ensures refused { IsErrOf result disk_faults.NoMemory → IsUncommitted (D.seen disk.old) (gate + 1) bytes.now (D.seen disk.new) × Only (D.seen disk.new) (D.may_leave disk.new) }
-    ensures any_moment { LeavesOnly D.moment D.left_since disk.old disk.new (IsCommitting (D.seen disk.old) (gate + 1) bytes.now gate) }
-    ensures cause { HasCause (D.failed disk.old) (D.failed disk.new) result }
-{
-    let _size = disk.size();
-    disk.forget_past();
-    commit(disk, gate + 1, bytes, gate)
+    ghost Value = { LogState D };
+
+    ghost view = { λ l. log_counted l.volume l.items l.records l.is_open };
+
+    ghost invariant = { λ l. IsCounted D.seen D.may_leave l.volume l.items l.records l.is_open };
 }
 
 impl<D: Disk> Log<D> {
+    /// Opens the log on a disk, with its last checkpoint's items and the records appended after it. A disk whose head is closed is formatted, and holds an empty log.
+    ///
+    /// An error hands the disk back. `Damaged`: what stands on the disk is no log. `NoMemory`: an allocator refused what the call needs. `Device`: the disk failed in this call.
+    pub fn open(disk: D, alloc: Global) -> Result<(Log<D>, Vec<Record>), (D, LogFault)>
+        requires large { 4096 ≤ length (D.seen disk) }
+        requires small { length (D.seen disk) ≤ 1073741824 }
+        ensures open { IfOk result (λ x. x.0.is_open ≡ true) }
+        ensures size { IfOk result (λ x. x.0.size ≡ length (D.seen disk)) }
+        ensures same { IfOk result (λ x. IsLogOf x.0.area.items x.0.area.records (D.seen disk)) }
+        ensures entries { IfOk result (λ x. x.1.items ≡ x.0.area.items ++ x.0.area.records) }
+        // Damaged comes only where the disk holds no log.
+        ensures undamaged { (items records : List Record) → IsLogOf items records (D.seen disk) → IfErr result (λ e. e.1 ≡ faults.Damaged → ⊥) }
+        ensures not_full { IfErr result (λ e. e.1 ≡ faults.Full → ⊥) }
+        // A stop at any moment of the call leaves what one before it might have left, or an empty log where none stood there.
+        ensures any_moment { IfOk result (λ x. LeavesOnly D.moment D.left_since disk x.0.disk (IsOpening (D.seen disk) (D.may_leave disk))) }
+        ensures any_moment_of_error { IfErr result (λ e. LeavesOnly D.moment D.left_since disk e.0 (IsOpening (D.seen disk) (D.may_leave disk))) }
+        ensures cause { IfErr result (λ e. e.1 ≡ faults.Device → D.failed disk < D.failed e.0) }
+    {
+        let (log, walk) = Log::open_with_walk(disk, alloc)?;
+        match collect(walk, &log.items, &log.records, alloc) {
+            Ok(entries) => Ok((log, entries)),
+            Err(fault) => Err((log.into_disk(), fault)),
+        }
+    }
+
+    /// The same with a walk through the items and records, where there are any, which has one in memory at a time.
+    pub fn open_with_walk(
+        mut disk: D,
+        alloc: Global,
+    ) -> Result<(Log<D>, Option<Walk>), (D, LogFault)>
+        requires large { 4096 ≤ length (D.seen disk) }
+        requires small { length (D.seen disk) ≤ 1073741824 }
+        ensures open { IfOk result (λ x. x.0.is_open ≡ true) }
+        ensures size { IfOk result (λ x. x.0.size ≡ length (D.seen disk)) }
+        ensures same { IfOk result (λ x. IsLogOf x.0.area.items x.0.area.records (D.seen disk)) }
+        ensures walk { IfOk result (λ x. WalksThrough (x.0.area.items ++ x.0.area.records) x.1) }
+        ensures undamaged { (items records : List Record) → IsLogOf items records (D.seen disk) → IfErr result (λ e. e.1 ≡ faults.Damaged → ⊥) }
+        ensures not_full { IfErr result (λ e. e.1 ≡ faults.Full → ⊥) }
+        ensures any_moment { IfOk result (λ x. LeavesOnly D.moment D.left_since disk x.0.disk (IsOpening (D.seen disk) (D.may_leave disk))) }
+        ensures any_moment_of_error { IfErr result (λ e. LeavesOnly D.moment D.left_since disk e.0 (IsOpening (D.seen disk) (D.may_leave disk))) }
+        ensures cause { IfErr result (λ e. e.1 ≡ faults.Device → D.failed disk < D.failed e.0) }
+    {
+        match open_disk(&mut disk, alloc) {
+            Ok(found) => Ok(Log::of_found(disk, found)),
+            Err(fault) => Err((disk, fault)),
+        }
+    }
+
+    // An open log, where this was found on its disk, and a walk through it.
+    fn of_found(disk: D, found: FoundArea) -> (Log<D>, Option<Walk>)
+        requires large { 4096 ≤ length (D.seen disk) }
+        requires small { length (D.seen disk) ≤ 1073741824 }
+        requires found { IsFound found (D.seen disk) }
+        requires durable { Only (D.seen disk) (D.may_leave disk) }
+        ensures open { result.0.is_open ≡ true }
+        ensures disk { result.0.disk ≡ disk }
+        ensures size { result.0.size ≡ length (D.seen disk) }
+        ensures area { result.0.area ≡ area_found found }
+        ensures walk { WalksThrough (found.items ++ found.records) result.1 }
+    {
+        let volume = LogVolume::new(disk, &found);
+        let log = Log {
+            volume,
+            items: found.items,
+            records: found.records,
+            is_open: true,
+        };
+        (log, found.walk)
+    }
+
+    /// Whether the log is open. Once its disk has failed in a change it isn't.
+    pub fn is_open(&self) -> bool
+        ensures value { result ≡ self.now.is_open }
+        // What an open log has is on its disk, for good.
+        ensures durable { self.now.is_open ≡ true → IsDurable D.seen D.may_leave self.now }
+    {
+        self.is_open
+    }
+
+    /// How many items the last checkpoint has.
+    pub fn item_count(&self) -> usize
+        ensures { result ≡ length self.now.area.items }
+    {
+        self.items.len()
+    }
+
+    /// How many records were appended after it.
+    pub fn record_count(&self) -> usize
+        ensures { result ≡ length self.now.area.records }
+    {
+        self.records.len()
+    }
+
+    /// How many bytes of its area the log takes, up to the closed gate after the last record.
+    pub fn used(&self) -> usize
+        requires open { self.now.is_open ≡ true }
+        ensures end { result ≡ end_of self.now.area }
+        ensures within { result < self.now.size }
+    {
+        self.volume.end
+    }
+
     /// Whether the record has room. Where it has none, `append` answers `Full`.
     pub fn fits(&self, logged: &Record) -> bool
-        requires { IsWritable logged.now }
-        ensures { (area : AreaState) → IsOpen D.seen D.may_leave self.now area → result ≡ record_fits (area_size self.now.size) area logged.now }
+        requires writable { IsWritable logged.now }
+        requires open { self.now.is_open ≡ true }
+        ensures { result ≡ record_fits (area_size self.now.size) self.now.area logged.now }
     {
-        let left = self.room.saturating_sub(self.end);
-        left >= 6 && encoded_len(logged) <= left - 6
+        self.volume.fits(logged)
     }
 
     /// Appends a record. At `Ok` it is on the disk for good.
@@ -79,30 +174,133 @@ impl<D: Disk> Log<D> {
     pub fn append(&mut self, alloc: Global, logged: &Record) -> Result<(), LogFault>
         requires writable { IsWritable logged.now }
         requires no_item { is_item logged.now ≡ false }
-        requires is_open { (area : AreaState) × IsOpen D.seen D.may_leave self.old area }
-
-        ensures ok { (area : AreaState) → IsOpen D.seen D.may_leave self.old area → OnOk result (IsOpen D.seen D.may_leave self.new (appended area logged.now)) }
-        ensures full { (area : AreaState) → IsOpen D.seen D.may_leave self.old area → (IsErrOf result faults.Full ↔ (record_fits (area_size self.old.size) area logged.now ≡ false)) }
-        ensures still_open { (area : AreaState) → IsOpen D.seen D.may_leave self.old area → IsErrOf result faults.NoMemory → IsOpen D.seen D.may_leave self.new area }
+        requires open { self.old.is_open ≡ true }
+        ensures ok { OnOk result (self.new.area ≡ appended self.old.area logged.now) }
+        ensures durable { OnOk result (IsDurable D.seen D.may_leave self.new) }
+        ensures err { OnErr result (self.new.area ≡ self.old.area) }
+        ensures open { self.new.is_open ≡ stays_open result }
+        ensures size { self.new.size ≡ self.old.size }
+        ensures full { IsErrOf result faults.Full ↔ record_fits (area_size self.old.size) self.old.area logged.now ≡ false }
         ensures unchanged { IsErrOf result faults.Full → self.new ≡ self.old }
         ensures undamaged { IsErrOf result faults.Damaged → ⊥ }
         // A stop at any moment of the call leaves the records from before it, with the new one or without.
-        ensures any_moment { (area : AreaState) → IsOpen D.seen D.may_leave self.old area → LeavesOnly D.moment D.left_since self.old.disk self.new.disk (IsBeforeOrAfter area logged.now) }
+        ensures any_moment { LeavesOnly D.moment D.left_since self.old.disk self.new.disk (IsBeforeOrAfter self.old.area logged.now) }
         ensures cause { MayFail (D.failed self.old.disk) (D.failed self.new.disk) result }
     {
-        if !self.fits(logged) {
-            return Err(LogFault::Full);
+        match self.volume.append(alloc, logged) {
+            Ok(()) => {
+                self.records.push(logged);
+                Ok(())
+            }
+            Err(fault) => {
+                self.is_open = fault.leaves_open();
+                Err(fault)
+            }
         }
-        let bytes = record_bytes(alloc, logged)?;
-        write_behind(&mut self.disk, self.start + self.end, &bytes)?;
-        self.end += bytes.len();
-        Ok(())
+    }
+
+    /// Writes a checkpoint: its items take the place of the log's items and records. At `Ok` they have, for good.
+    ///
+    /// `Full`: it has no room, or the areas' numbers have come to an end. `NoMemory`: an allocator refused what the call needs. Both leave the log as it was. `Device`: the disk failed in this call; the log is open no more, and its disk holds the items and records from before, or the new items alone.
+    pub fn checkpoint(&mut self, alloc: Global, items: &[Record]) -> Result<(), LogFault>
+        requires writable { AllByRecursion IsWritable items.now }
+        requires order { is_checkpoint items.now ≡ true }
+        requires open { self.old.is_open ≡ true }
+        ensures ok { OnOk result (self.new.area ≡ area_with (self.old.area.number + 1) items.now) }
+        ensures durable { OnOk result (IsDurable D.seen D.may_leave self.new) }
+        ensures err { OnErr result (self.new.area ≡ self.old.area) }
+        ensures open { self.new.is_open ≡ stays_open result }
+        ensures size { self.new.size ≡ self.old.size }
+        ensures full { IsErrOf result faults.Full ↔ has_place self.old.size self.old.area items.now ≡ false }
+        ensures unchanged { IsErrOf result faults.Full → self.new ≡ self.old }
+        ensures undamaged { IsErrOf result faults.Damaged → ⊥ }
+        // A stop at any moment of the call leaves the items and records from before it, or the new items alone.
+        ensures any_moment { LeavesOnly D.moment D.left_since self.old.disk self.new.disk (IsOldOrNew self.old.area items.now) }
+        ensures cause { MayFail (D.failed self.old.disk) (D.failed self.new.disk) result }
+    {
+        match checkpoint(&mut self.volume, alloc, items) {
+            Ok(()) => {
+                self.items = CountedRecords::of(items);
+                self.records = CountedRecords::new();
+                Ok(())
+            }
+            Err(fault) => {
+                self.is_open = fault.leaves_open();
+                Err(fault)
+            }
+        }
+    }
+
+    /// A walk through the items and records, which are read from the disk once more. An error changes nothing.
+    pub fn walk(&mut self, alloc: Global) -> Result<Walk, LogFault>
+        requires { self.old.is_open ≡ true }
+        ensures walk { IfOk result (λ w. IsWalk (self.old.area.items ++ self.old.area.records) w) }
+        ensures place { IfOk result (λ w. passed w ≡ 0) }
+        ensures same { SameButDisk self.old self.new }
+        ensures reads { OnlyReads D.seen D.may_leave D.moment D.left_since self.old.disk self.new.disk }
+        ensures undamaged { IsErrOf result faults.Damaged → ⊥ }
+        ensures not_full { IsErrOf result faults.Full → ⊥ }
+        ensures cause { MayFail (D.failed self.old.disk) (D.failed self.new.disk) result }
+    {
+        read_again(&mut self.volume, alloc)
     }
 
     /// The disk as it is.
     pub fn into_disk(self) -> D
         ensures { result ≡ self.disk }
     {
-        self.disk
+        self.volume.into_disk()
+    }
+
+    /// Lets that many calls of the disk pass and fails each later one, where the disk can be told to fail. Changes no byte.
+    pub fn arm(&mut self, calls: u64)
+        ensures same { SameButDisk self.old self.new }
+        ensures seen { D.seen self.new.disk ≡ D.seen self.old.disk }
+        ensures crash { NoMore (D.may_leave self.old.disk) (D.may_leave self.new.disk) }
+        ensures time { Elapses (D.moment self.old.disk) (D.moment self.new.disk) (D.left_since self.old.disk) (D.left_since self.new.disk) (D.may_leave self.new.disk) }
+        ensures failed { D.failed self.new.disk ≡ D.failed self.old.disk }
+    {
+        self.volume.disk.arm(calls);
+    }
+}
+
+impl<D: StoppableDisk> Log<D> {
+    /// Lets so many calls of the disk pass and fails each later one until it begins again, which then finds what was under way as `torn` says. Changes no byte.
+    pub fn stop_after(&mut self, calls: u64, torn: Torn)
+        ensures same { SameButDisk self.old self.new }
+        ensures seen { D.seen self.new.disk ≡ D.seen self.old.disk }
+        ensures crash { NoMore (D.may_leave self.old.disk) (D.may_leave self.new.disk) }
+    {
+        self.volume.disk.stop_after(calls, torn);
+    }
+
+    /// The same, once it has begun again. Of several the last one counts.
+    pub fn stop_after_restart(&mut self, calls: u64, torn: Torn)
+        ensures same { SameButDisk self.old self.new }
+        ensures seen { D.seen self.new.disk ≡ D.seen self.old.disk }
+        ensures crash { NoMore (D.may_leave self.old.disk) (D.may_leave self.new.disk) }
+    {
+        self.volume.disk.stop_after_restart(calls, torn);
+    }
+
+    /// Has the disk begin again, and opens the log that stands there: that of one of the disks that a stop might have left. Gives a walk through its items and records, where there are any.
+    ///
+    /// After an error the log is closed, and shows what it showed. `Damaged`: what stands on the disk is no log, or the disk has another size.
+    pub fn reopen(&mut self, alloc: Global) -> Result<Option<Walk>, LogFault>
+        ensures among { OnOk result (IsAmong (D.may_leave self.old.disk) self.old.size self.new.area.items self.new.area.records) }
+        ensures walk { IfOk result (λ w. WalksThrough (self.new.area.items ++ self.new.area.records) w) }
+        ensures err { OnErr result (self.new.area ≡ self.old.area) }
+        ensures open { self.new.is_open ≡ is_ok result }
+        ensures size { self.new.size ≡ self.old.size }
+        // A stop leaves what one before it might have left, or an empty log where none stood there.
+        ensures stops { Follows IsReopened (D.may_leave self.old.disk) (D.may_leave self.new.disk) }
+    {
+        self.is_open = false;
+        let found = find_again(&mut self.volume.disk, alloc, self.volume.size)?;
+        self.volume.place(&found);
+        self.items = found.items;
+        self.records = found.records;
+        self.is_open = true;
+        Ok(found.walk)
     }
 }

@@ -10,7 +10,9 @@ ghost use Rattle.oplog.specs.declared.fault.LogFault.TheVariants as faults;
 ghost use Rattle.oplog.specs.Writing.{area_with, is_area_open};
 ghost use Rattle.oplog.specs.NewLogs.{IsLogOf};
 
-use crate::{LogFault, area_at, write_area};
+use crate::area_writing::write_area;
+use crate::fault::LogFault;
+use crate::layout::area_at;
 use disk::{Disk, DiskFault};
 use disk_redo::gate::commit;
 use std::alloc::Global;

@@ -5,15 +5,20 @@ ghost use Rattle.disk.specs.Device.{HasCause, Only};
 ghost use Rattle.disk_redo.specs.GateMoments.{OnlyReads};
 ghost use Rattle.oplog.specs.Areas.{AreaSays, AreaState, end_of};
 ghost use Rattle.oplog.specs.Disks.{area_of, front_of, head, newest, open_number, DiskSays};
-ghost use Rattle.oplog.specs.Walks.{IsWalk};
+ghost use Rattle.oplog.specs.Walks.{IsWalk, passed};
 ghost use Rattle.log_codec.specs.declared.fault.DecodeFault.TheVariants as damaged;
 ghost use Rattle.oplog.specs.Logs.{IsOpen, MayFail};
 ghost use Rattle.oplog.specs.declared.fault.LogFault.TheVariants as faults;
 ghost use Rattle.oplog.specs.NewLogs.{IsLogOf};
 ghost use Rattle.oplog.specs.Opening.{area_found, IsFound, WalksThrough};
 
+use crate::area::read_area;
+use crate::disk_reading::{newest, open_number, read_range};
+use crate::fault::LogFault;
 use crate::found::FoundArea;
-use crate::{Log, LogFault, Walk, area_at, area_size, newest, open_number, read_area, read_range};
+use crate::layout::{area_at, area_size};
+use crate::volume::LogVolume;
+use crate::walk::Walk;
 use disk::{Disk, DiskFault};
 use log_codec::DecodeFault;
 use std::alloc::Global;
@@ -127,15 +132,20 @@ pub fn read_log<D: Disk>(disk: &mut D, alloc: Global) -> Result<FoundArea, LogFa
     read_current(disk, alloc, which)
 }
 
-/// A walk through the entries of a log that is open, whose current area is read once more.
-pub fn read_again<D: Disk>(log: &mut Log<D>, alloc: Global) -> Result<Walk, LogFault>
-    requires { (area : AreaState) × IsOpen D.seen D.may_leave log.old area }
-    ensures walk { (area : AreaState) → IsOpen D.seen D.may_leave log.old area → IfOk result (λ w. IsWalk (area.items ++ area.records) w) }
-    ensures place { IfOk result (λ w. w.place ≡ 0) }
-    ensures open { (area : AreaState) → IsOpen D.seen D.may_leave log.old area → IsOpen D.seen D.may_leave log.new area }
+/// A walk through the entries of an open volume, whose current area is read once more.
+pub fn read_again<D: Disk>(volume: &mut LogVolume<D>, alloc: Global) -> Result<Walk, LogFault>
+    requires { (area : AreaState) × IsOpen D.seen D.may_leave volume.old area }
+    ensures walk { (area : AreaState) → IsOpen D.seen D.may_leave volume.old area → IfOk result (λ w. IsWalk (area.items ++ area.records) w) }
+    ensures place { IfOk result (λ w. passed w ≡ 0) }
+    ensures open { (area : AreaState) → IsOpen D.seen D.may_leave volume.old area → IsOpen D.seen D.may_leave volume.new area }
     ensures undamaged { IsErrOf result faults.Damaged → ⊥ }
+    ensures not_full { IsErrOf result faults.Full → ⊥ }
+    ensures size { volume.new.size ≡ volume.old.size }
+    ensures number { volume.new.number ≡ volume.old.number }
+    ensures reads { OnlyReads D.seen D.may_leave D.moment D.left_since volume.old.disk volume.new.disk }
+    ensures cause { MayFail (D.failed volume.old.disk) (D.failed volume.new.disk) result }
 {
-    let bytes = read_range(&mut log.disk, alloc, log.start, log.room)?;
+    let bytes = read_range(&mut volume.disk, alloc, volume.start, volume.room)?;
     match Walk::begin(bytes) {
         Ok(walk) => Ok(walk),
         Err(DecodeFault::Damaged) => Err(LogFault::Damaged),

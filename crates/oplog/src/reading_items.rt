@@ -7,7 +7,7 @@ ghost use Rattle.log_codec.specs.declared.fault.DecodeFault.TheVariants.{Damaged
 ghost use Rattle.oplog.specs.Entries.{entries, open_entries, IsEntry, HoldsRecords};
 ghost use Rattle.oplog.specs.Order.{is_checkpoint};
 
-use crate::CountedRecords;
+use crate::counted::CountedRecords;
 use crate::entries::entry_at;
 use crate::gate::{behind_gate, is_open};
 use crate::order::comes_next;

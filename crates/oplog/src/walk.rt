@@ -4,7 +4,7 @@ ghost use Rattle.std.specs.Prelude.{◌≡◌, ◌+◌, ◌-◌, ◌<◌, ◌≤
 ghost use Rattle.log_records.specs.declared.record.Record.{Record};
 ghost use Rattle.log_codec.specs.declared.fault.DecodeFault.TheVariants.{Damaged};
 ghost use Rattle.oplog.specs.Areas.{AreaSays, AreaState};
-ghost use Rattle.oplog.specs.Walks.{IsLeft, IsWalk, Steps};
+ghost use Rattle.oplog.specs.Walks.{IsLeft, IsWalk, passed, Steps};
 
 use crate::area::parts_of;
 use crate::entries::entry_at;
@@ -16,13 +16,13 @@ use std::alloc::Global;
 /// A walk through an area's bytes, which it keeps: the items, and then the records.
 #[derive(Drop)]
 pub struct Walk {
-    pub bytes: Vec<u8>,
+    bytes: Vec<u8>,
     // where the next entry stands, or the gate before it
-    pub at: usize,
+    at: usize,
     // where the checkpoint ends
-    pub items_end: usize,
+    items_end: usize,
     // how many entries it has passed
-    pub place: u64,
+    place: u64,
 }
 
 // The entry that comes first of those that are left, and the bytes after it; None at a closed gate. So many of the bytes are items.
@@ -60,7 +60,7 @@ impl Walk {
     /// Before the first entry. `Damaged`: the bytes are none of an open area's.
     pub fn begin(bytes: Vec<u8>) -> Result<Walk, DecodeFault>
         ensures walk { (area : AreaState) → AreaSays area bytes.items → IfOk result (λ w. IsWalk (area.items ++ area.records) w) }
-        ensures place { IfOk result (λ w. w.place ≡ 0) }
+        ensures place { IfOk result (λ w. passed w ≡ 0) }
         ensures undamaged { (area : AreaState) → AreaSays area bytes.items → IsErrOf result Damaged → ⊥ }
     {
         let parts = parts_of(&bytes)?;
@@ -73,12 +73,19 @@ impl Walk {
         })
     }
 
+    /// How many entries it has passed.
+    pub fn place(&self) -> u64
+        ensures { result ≡ passed self.now }
+    {
+        self.place
+    }
+
     /// The next entry; None behind the last one. After an error the walk is where it was.
     pub fn next(&mut self, alloc: Global) -> Result<Option<Record>, DecodeFault>
         requires { (all : List Record) × IsWalk all self.old }
-        ensures entry { (all : List Record) → IsWalk all self.old → IfOk result (λ o. o ≡ slice_get all self.old.place) }
+        ensures entry { (all : List Record) → IsWalk all self.old → IfOk result (λ o. o ≡ slice_get all (passed self.old)) }
         ensures walk { (all : List Record) → IsWalk all self.old → IsWalk all self.new }
-        ensures place { (all : List Record) → IsWalk all self.old → self.old.place < length all → OnOk result (self.new.place ≡ self.old.place + 1) }
+        ensures place { (all : List Record) → IsWalk all self.old → passed self.old < length all → OnOk result (passed self.new ≡ passed self.old + 1) }
         ensures err { OnErr result (self.new ≡ self.old) }
         ensures undamaged { IsErrOf result Damaged → ⊥ }
     {
@@ -95,9 +102,9 @@ impl Walk {
     /// Goes on to a place.
     pub fn go_to(&mut self, place: u64, alloc: Global) -> Result<(), DecodeFault>
         requires there { (all : List Record) × IsWalk all self.old × (place < length all) }
-        requires ahead { self.old.place ≤ place }
+        requires ahead { passed self.old ≤ place }
         ensures walk { (all : List Record) → IsWalk all self.old → IsWalk all self.new }
-        ensures place { OnOk result (self.new.place ≡ place) }
+        ensures place { OnOk result (passed self.new ≡ place) }
         ensures undamaged { IsErrOf result Damaged → ⊥ }
     {
         while self.place < place {

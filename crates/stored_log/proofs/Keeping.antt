@@ -1,21 +1,20 @@
 -- What is kept of a log, over changes of it and of its disk.
-use Rattle.std.proofs.Common.{◌≡◌, ◌⊎◌, ℕ, ◌+◌, ◌≤◌, List, [], ◌∷◌, ◌++◌, refl, sym, subst, ◌∙◌, arith}
+use Rattle.std.proofs.Common.{◌≡◌, ◌⊎◌, ℕ, ◌+◌, ◌≤◌, true, List, [], ◌∷◌, ◌++◌, Option, None, Some, refl, sym, subst, ◌∙◌, arith}
 use Rattle.std.specs.List.{AllByRecursion}
 use Rattle.disk.specs.Device.{NoMore}
 use Rattle.disk_redo.specs.GateMoments.{LeavesOnly}
-use Rattle.oplog.specs.Areas.{AreaState}
 use Rattle.log_codec.specs.Payloads.{IsWritable}
-use Rattle.oplog.specs.Changes.{appended, IsBeforeOrAfter}
-use Rattle.oplog.specs.Disks.{DiskSays, HasLog}
-use Rattle.oplog.proofs.Disks.{has_log}
 use Rattle.log_records.specs.declared.record.Record.{Record}
-use Rattle.oplog.specs.Logs.{IsOpen}
-use Rattle.oplog.specs.declared.log.Log.{Log}
-use Rattle.oplog.specs.Writing.{area_with}
+use Rattle.oplog.specs.Areas.{AreaState}
+use Rattle.oplog.specs.Changes.{IsBeforeOrAfter}
 use Rattle.oplog.specs.Checkpoints.{IsOldOrNew}
+use Rattle.oplog.specs.Disks.{HasLog}
+use Rattle.oplog.specs.Logs.{IsDurable, LogState, SameButDisk}
+use Rattle.oplog.specs.Opening.{WalksThrough}
+use Rattle.oplog.specs.declared.walk.Walk.{Walk}
 use Rattle.stored_log.specs.declared.standing.LogStanding.{LogStanding}
 use Rattle.stored_log.specs.declared.standing.LogStanding.TheVariants.{Open, Unread, Appending, Checkpointing}
-use Rattle.stored_log.specs.Kept.{closed, IsKept, IsWritten, Leaves, Takes}
+use Rattle.stored_log.specs.Kept.{all_entries, closed, HasKept, IsKept, IsWritten, KeepsWalk, Leaves, Takes}
 
 pub same_taken : (used : ℕ) (items records items_after records_after : List Record) → items_after ≡ items → records_after ≡ records → Takes used items records → Takes used items_after records_after
 same_taken used items records items_after records_after items_are records_are takes =
@@ -26,92 +25,58 @@ pub no_writing : (written : ℕ) (writing : List Record) → written ≡ 13 → 
 no_writing written writing is none =
     (subst (λ (n : ℕ). Takes n writing []) (sym is) (same_taken 13 [] [] writing [] none refl (refl, omega arith)), subst (AllByRecursion IsWritable) (sym none) tt)
 
-abbrev state_of : ℕ → List Record → List Record → AreaState
-state_of number items records = record { number = number; items = items; records = records }
+-- an area that says the same takes as many bytes
+pub area_taken : (used : ℕ) (old new : AreaState) → new ≡ old → Takes used old.items old.records → Takes used new.items new.records
+area_taken used old new same takes = subst (λ (a : AreaState). Takes used a.items a.records) (sym same) takes
+
+pub walk_kept : (all : List Record) (walk : Option Walk) → WalksThrough all walk → KeepsWalk all walk
+walk_kept all None through = tt
+walk_kept all (Some walk) through = through.0
+
+area_kept : (standing : LogStanding) (old new : AreaState) (c : List ℕ) → new ≡ old → HasKept old.items old.records standing c → HasKept new.items new.records standing c
+area_kept standing old new c same kept = subst (λ (a : AreaState). HasKept a.items a.records standing c) (sym same) kept
 
 module _ {D : Type 0} (seen : D → List ℕ) (may_leave : D → List ℕ → Type 0) where
   -- what a stop of an open log leaves
-  open_leaves : (log : Log D) (area : AreaState) → IsOpen seen may_leave log area → (c : List ℕ) → may_leave log.disk c → HasLog area.items area.records c
-  open_leaves log area is_open c left = subst (HasLog area.items area.records) (sym (is_open.durable c left)) (has_log log.size log.which area (seen log.disk) is_open.says)
-
-  -- a change was refused, and the log is open still
-  pub refused_kept : (log new : Log D) (items records : List Record) (standing : LogStanding) → standing ≡ Open → IsKept seen may_leave log items records standing
-      → ((area : AreaState) → IsOpen seen may_leave log area → IsOpen seen may_leave new area) → IsKept seen may_leave new items records standing
-  refused_kept log new items records standing is kept stays =
-      let open' = subst (IsKept seen may_leave log items records) is kept in
-      subst (IsKept seen may_leave new items records) (sym is) (open'.0, stays (state_of open'.0 items records) open'.1)
-
-  -- a record was added
-  pub appended_kept : (log new : Log D) (items records after : List Record) (r : Record) (standing : LogStanding) → standing ≡ Open → IsKept seen may_leave log items records standing
-      → ((area : AreaState) → IsOpen seen may_leave log area → IsOpen seen may_leave new (appended area r)) → after ≡ records ++ r ∷ [] → IsKept seen may_leave new items after standing
-  appended_kept log new items records after r standing is kept added after_is =
-      let open' = subst (IsKept seen may_leave log items records) is kept in
-      let now_open = added (state_of open'.0 items records) open'.1 in
-      subst (IsKept seen may_leave new items after) (sym is)
-      (open'.0, subst (λ (rs : List Record). IsOpen seen may_leave new (state_of open'.0 items rs)) (sym after_is) now_open)
-
-  -- a checkpoint took the place of what was there
-  pub checkpoint_kept : (log new : Log D) (items records written items_after records_after : List Record) (standing : LogStanding) → standing ≡ Open → IsKept seen may_leave log items records standing
-      → ((area : AreaState) → IsOpen seen may_leave log area → IsOpen seen may_leave new (area_with (area.number + 1) written)) → items_after ≡ written → records_after ≡ [] → IsKept seen may_leave new items_after records_after standing
-  checkpoint_kept log new items records written items_after records_after standing is kept made items_are records_are =
-      let open' = subst (IsKept seen may_leave log items records) is kept in
-      let now_open = made (state_of open'.0 items records) open'.1 in
-      let with_items = subst (λ (l : List Record). IsOpen seen may_leave new (state_of (open'.0 + 1) l [])) (sym items_are) now_open in
-      subst (IsKept seen may_leave new items_after records_after) (sym is)
-      (open'.0 + 1, subst (λ (l : List Record). IsOpen seen may_leave new (state_of (open'.0 + 1) items_after l)) (sym records_are) with_items)
+  open_leaves : (log : LogState D) → IsDurable seen may_leave log → (c : List ℕ) → may_leave log.disk c → HasLog log.area.items log.area.records c
+  open_leaves log is c left = subst (HasLog log.area.items log.area.records) (sym (is.only c left)) is.says
 
   -- what a stop leaves of a log that isn't open any more
-  pub closed_leaves : (log : Log D) (items records : List Record) (standing : LogStanding) → IsKept seen may_leave log items records standing → Leaves may_leave log.disk items records (closed standing)
-  closed_leaves log items records Open kept = open_leaves log (state_of kept.0 items records) kept.1
-  closed_leaves log items records Unread kept = kept
-  closed_leaves log items records (Appending entry) kept = kept
-  closed_leaves log items records (Checkpointing written) kept = kept
+  pub closed_leaves : (log : LogState D) (standing : LogStanding) → (log.is_open ≡ true → IsDurable seen may_leave log) → IsKept may_leave log standing → Leaves may_leave log.disk log.area.items log.area.records (closed standing)
+  closed_leaves log Open durable kept = open_leaves log (durable kept)
+  closed_leaves log Unread durable kept = kept
+  closed_leaves log (Appending entry) durable kept = kept
+  closed_leaves log (Checkpointing written) durable kept = kept
 
-  pub closed_kept : (log : Log D) (items records : List Record) (standing : LogStanding) → Leaves may_leave log.disk items records (closed standing) → IsKept seen may_leave log items records (closed standing)
-  closed_kept log items records Open left = left
-  closed_kept log items records Unread left = left
-  closed_kept log items records (Appending entry) left = left
-  closed_kept log items records (Checkpointing written) left = left
+module _ {D : Type 0} (may_leave : D → List ℕ → Type 0) where
+  pub closed_kept : (old new : LogState D) (standing : LogStanding) → new.area ≡ old.area → Leaves may_leave new.disk old.area.items old.area.records (closed standing) → IsKept may_leave new (closed standing)
+  closed_kept old new Open same left = λ c might. area_kept Unread old.area new.area c same (left c might)
+  closed_kept old new Unread same left = λ c might. area_kept Unread old.area new.area c same (left c might)
+  closed_kept old new (Appending entry) same left = λ c might. area_kept (Appending entry) old.area new.area c same (left c might)
+  closed_kept old new (Checkpointing written) same left = λ c might. area_kept (Checkpointing written) old.area new.area c same (left c might)
 
-  -- the disk says the same, and a stop leaves no more
-  armed_open : (log : Log D) (disk : D) (area : AreaState) → seen disk ≡ seen log.disk → NoMore (may_leave log.disk) (may_leave disk)
-      → IsOpen seen may_leave log area → IsOpen seen may_leave (record log { disk = disk }) area
-  armed_open log disk area same more is_open = record {
-    says = subst (DiskSays log.size log.which area) (sym same) is_open.says;
-    start = is_open.start;
-    room = is_open.room;
-    number = is_open.number;
-    end = is_open.end;
-    small = is_open.small;
-    large = is_open.large;
-    durable = λ c left. is_open.durable c (more c left) ∙ sym same;
-  }
+  -- an open log stays open
+  pub still_kept : (new : LogState D) (standing : LogStanding) → standing ≡ Open → new.is_open ≡ true → IsKept may_leave new standing
+  still_kept new standing is opened = subst (IsKept may_leave new) (sym is) opened
 
-  pub armed_kept : (log : Log D) (disk : D) (items records : List Record) (standing : LogStanding) → seen disk ≡ seen log.disk → NoMore (may_leave log.disk) (may_leave disk)
-      → IsKept seen may_leave log items records standing → IsKept seen may_leave (record log { disk = disk }) items records standing
-  armed_kept log disk items records Open same more kept = (kept.0, armed_open log disk (state_of kept.0 items records) same more kept.1)
-  armed_kept log disk items records Unread same more kept = λ c left. kept c (more c left)
-  armed_kept log disk items records (Appending entry) same more kept = λ c left. kept c (more c left)
-  armed_kept log disk items records (Checkpointing written) same more kept = λ c left. kept c (more c left)
+  -- the same log, of whose disk a stop leaves no more
+  pub same_kept : (old new : LogState D) (standing : LogStanding) → SameButDisk old new → NoMore (may_leave old.disk) (may_leave new.disk) → IsKept may_leave old standing → IsKept may_leave new standing
+  same_kept old new Open same more kept = same.is_open ∙ kept
+  same_kept old new Unread same more kept = λ c left. area_kept Unread old.area new.area c same.area (kept c (more c left))
+  same_kept old new (Appending entry) same more kept = λ c left. area_kept (Appending entry) old.area new.area c same.area (kept c (more c left))
+  same_kept old new (Checkpointing written) same more kept = λ c left. area_kept (Checkpointing written) old.area new.area c same.area (kept c (more c left))
 
   module _ (moment : D → ℕ) (left_since : D → ℕ → List ℕ → Type 0) (counts_now : (disk : D) (t : ℕ) (c : List ℕ) → t ≤ moment disk → may_leave disk c → left_since disk t c) where
     -- what a stop leaves at the end of a run
-    pub ends : (old new : D) (P : List ℕ → Type 0) → LeavesOnly moment left_since old new P → (c : List ℕ) → may_leave new c → P c
+    ends : (old new : D) (P : List ℕ → Type 0) → LeavesOnly moment left_since old new P → (c : List ℕ) → may_leave new c → P c
     ends old new P run c left = run.each c (counts_now new (moment old) c run.later left)
 
     -- an append failed on its way
-    pub append_failed : (log new : Log D) (items records : List Record) (r : Record) (standing : LogStanding) → standing ≡ Open → IsKept seen may_leave log items records standing
-        → ((area : AreaState) → IsOpen seen may_leave log area → LeavesOnly moment left_since log.disk new.disk (IsBeforeOrAfter area r)) → IsKept seen may_leave new items records (Appending r)
-    append_failed log new items records r standing is kept run =
-        let open' = subst (IsKept seen may_leave log items records) is kept in
-        let area = state_of open'.0 items records in
-        ends log.disk new.disk (IsBeforeOrAfter area r) (run area open'.1)
+    pub append_failed : (old new : LogState D) (r : Record) → new.area ≡ old.area → LeavesOnly moment left_since old.disk new.disk (IsBeforeOrAfter old.area r) → IsKept may_leave new (Appending r)
+    append_failed old new r same run c left = area_kept (Appending r) old.area new.area c same (ends old.disk new.disk (IsBeforeOrAfter old.area r) run c left)
 
     -- a checkpoint failed on its way
-    pub checkpoint_failed : (log new : Log D) (items records written kept_written : List Record) (standing : LogStanding) → standing ≡ Open → IsKept seen may_leave log items records standing
-        → ((area : AreaState) → IsOpen seen may_leave log area → LeavesOnly moment left_since log.disk new.disk (IsOldOrNew area written)) → kept_written ≡ written → IsKept seen may_leave new items records (Checkpointing kept_written)
-    checkpoint_failed log new items records written kept_written standing is kept run written_is =
-        let open' = subst (IsKept seen may_leave log items records) is kept in
-        let area = state_of open'.0 items records in
-        let left = ends log.disk new.disk (IsOldOrNew area written) (run area open'.1) in
-        subst (λ (l : List Record). (c : List ℕ) → may_leave new.disk c → HasLog items records c ⊎ HasLog l [] c) (sym written_is) left
+    pub checkpoint_failed : (old new : LogState D) (written counted : List Record) → new.area ≡ old.area → LeavesOnly moment left_since old.disk new.disk (IsOldOrNew old.area written) → counted ≡ written → IsKept may_leave new (Checkpointing counted)
+    checkpoint_failed old new written counted same run written_is c left =
+        let is = ends old.disk new.disk (IsOldOrNew old.area written) run c left in
+        area_kept (Checkpointing counted) old.area new.area c same (subst (λ (l : List Record). HasLog old.area.items old.area.records c ⊎ HasLog l [] c) (sym written_is) is)

@@ -1,20 +1,19 @@
 -- A log that is opened again has what one of the disks has that a stop may leave.
 use Rattle.std.proofs.Common.{◌≡◌, ℕ, ◌≤◌, true, false, List, [], ◌∷◌, ◌++◌, length, inl, inr, ⊎_elim, refl, sym, ap, subst, ◌∙◌, arith}
-use Rattle.disk.specs.Device.{Follows, NoMore, Only}
-use Rattle.disk_redo.specs.GateMoments.{LeavesOnly}
+use Rattle.disk.specs.Device.{Follows}
 use Rattle.oplog.specs.Areas.{AreaState, AreaSays}
 use Rattle.oplog.proofs.Areas.{area_unique}
 use Rattle.oplog.specs.Disks.{area_of, is_formatted, HasLog}
 use Rattle.log_records.specs.declared.record.Record.{Record}
 use Rattle.oplog.specs.NewLogs.{IsLogOf}
-use Rattle.oplog.specs.Opening.{IsOpening}
+use Rattle.oplog.specs.Reopening.{IsAmong, IsReopened}
 use Rattle.oplog.proofs.NewestArea.{current_is, only_area}
 use Rattle.oplog.proofs.Whole.{front_formatted, opened_log}
 use Rattle.operation_log.specs.Logs.{IsDecided}
 use Rattle.protocol.specs.Logged.{LogDisk}
 use Rattle.stored_log.specs.declared.standing.LogStanding.{LogStanding}
 use Rattle.stored_log.specs.declared.standing.LogStanding.TheVariants.{Open, Unread, Appending, Checkpointing}
-use Rattle.stored_log.specs.Kept.{changes_of, closed, HasKept, IsAmong, IsReopened, Leaves}
+use Rattle.stored_log.specs.Kept.{changes_of, closed, HasKept, Leaves}
 
 abbrev pub log_of : List Record → List Record → LogDisk
 log_of items records = record { items = items; records = records }
@@ -66,18 +65,3 @@ pub found_decided : {D : Type 0} (may_leave : D → List ℕ → Type 0) (old : 
     → IsAmong (may_leave old) size found_items found_records → Leaves may_leave old items records (closed standing) → IsDecided (log_of items records) (changes_of standing) (log_of found_items found_records)
 found_decided may_leave old size items records found_items found_records standing large found kept =
     decided items records found_items found_records standing found.disk (omega (arith, large, found.sized)) found.log (kept found.disk found.left)
-
-module _ {D : Type 0} (seen : D → List ℕ) (may_leave : D → List ℕ → Type 0) where
-  -- nothing was begun anew
-  pub not_reopened : (old new : D) → NoMore (may_leave old) (may_leave new) → Follows IsReopened (may_leave old) (may_leave new)
-  not_reopened old new more c left = (c, more c left, inl refl)
-
-  -- it was begun anew, and no more
-  pub only_restarted : (old mid : D) → may_leave old (seen mid) → Only (seen mid) (may_leave mid) → Follows IsReopened (may_leave old) (may_leave mid)
-  only_restarted old mid lawful durable c left = (seen mid, lawful, inl (durable c left))
-
-  module _ (moment : D → ℕ) (left_since : D → ℕ → List ℕ → Type 0) (counts_now : (disk : D) (t : ℕ) (c : List ℕ) → t ≤ moment disk → may_leave disk c → left_since disk t c) where
-    -- it was begun anew, and opened
-    pub restarted_and_opened : (old mid new : D) → may_leave old (seen mid) → Only (seen mid) (may_leave mid) → LeavesOnly moment left_since mid new (IsOpening (seen mid) (may_leave mid)) → Follows IsReopened (may_leave old) (may_leave new)
-    restarted_and_opened old mid new lawful durable run c left =
-        (seen mid, lawful, ⊎_elim (λ here. inl (durable c here)) (λ empty. inr empty) (run.each c (counts_now new (moment mid) c run.later left)))

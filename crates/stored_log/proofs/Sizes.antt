@@ -1,22 +1,17 @@
 -- How many bytes a log takes of its area.
-use Rattle.std.proofs.Common.{◌≡◌, ℕ, ◌+◌, ◌<◌, ◌≤◌, List, [], ◌∷◌, ◌++◌, length, drop, length-append, length-drop, length-take, sym, ap, ◌∙◌, arith}
+use Rattle.std.proofs.Common.{◌≡◌, ℕ, ◌+◌, ◌<◌, List, [], ◌∷◌, ◌++◌, length, length-append, sym, ap, ◌∙◌, arith}
 use Rattle.std.specs.List.{sum_by}
 use Rattle.std.proofs.lemmas.List.Sums.{sum_by-cons}
 use Rattle.log_records.specs.declared.record.Record.{Record}
 use Rattle.log_records.specs.declared.record.Record.TheVariants as log
 use Rattle.log_codec.specs.Payloads.{payload}
 use Rattle.log_codec.proofs.Lengths.{payload_len}
-use Rattle.oplog.specs.Areas.{AreaState, AreaSays, end_of}
+use Rattle.oplog.specs.Areas.{AreaState, end_of}
 use Rattle.oplog.specs.Entries.{entries, entry, open_entries}
-use Rattle.oplog.specs.Layout.{area_at, area_size}
+use Rattle.oplog.specs.Logs.{LogState}
 use Rattle.oplog.proofs.Parsing.{entries_cons, entries_nil, entry_len, open_cons, open_nil}
-use Rattle.oplog.proofs.DiskAreas.{front_len, front_of, parts_of}
-use Rattle.oplog.specs.Disks.{area_of}
-use Rattle.disk.specs.Bytes.{range_at}
-use Rattle.oplog.specs.Logs.{IsOpen}
-use Rattle.oplog.specs.declared.log.Log.{Log}
 use Rattle.protocol.specs.LogSizes.{checkpoint_size, payload_size, used_size}
-use Rattle.stored_log.specs.Kept.{Takes}
+use Rattle.stored_log.specs.Kept.{HasDiskSize, Takes}
 
 payload_is : (r : Record) → payload_size r ≡ length (payload r)
 payload_is (log.Epoch epoch) = payload_len (log.Epoch epoch)
@@ -67,20 +62,6 @@ records_taken (r ∷ rest) = omega (
 end_used : (area : AreaState) → end_of area ≡ used_size area.items area.records
 end_used area = omega (arith, items_taken area.items, records_taken area.records)
 
--- an area ends behind its records
-end_within : (area : AreaState) (bytes : List ℕ) → AreaSays area bytes → end_of area < length bytes
-end_within area bytes says =
-    omega (arith, ap length (parts_of area bytes says), length-append (front_of area) (says.records.gate ∷ says.records.rest), front_len area)
-
-range_within : (d : List ℕ) (at n : ℕ) → length (range_at d at n) ≤ length d
-range_within d at n = omega (arith, length-take n (drop at d), length-drop at d)
-
-module _ {D : Type 0} (seen : D → List ℕ) (may_leave : D → List ℕ → Type 0) where
-  -- what a log that is open takes
-  pub open_takes : (log : Log D) (number : ℕ) (items records : List Record) → IsOpen seen may_leave log (record { number = number; items = items; records = records }) → Takes log.end items records
-  open_takes log number items records is_open =
-      let area : AreaState = record { number = number; items = items; records = records } in
-      let d = seen log.disk in
-      let within = end_within area (area_of log.size log.which d) is_open.says.says in
-      let all : length (area_of log.size log.which d) ≤ log.size = omega (arith, range_within d (area_at log.size log.which) (area_size log.size), is_open.says.sized) in
-      (is_open.end ∙ end_used area, omega (arith, within, all, is_open.end, is_open.small))
+-- what a log that is open takes
+pub end_taken : {D : Type 0} (log : LogState D) (used size : ℕ) → used ≡ end_of log.area → used < log.size → HasDiskSize log size → Takes used log.area.items log.area.records
+end_taken log used size is within has = (is ∙ end_used log.area, omega (arith, within, has.0.1, has.1))

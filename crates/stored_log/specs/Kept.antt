@@ -1,14 +1,14 @@
 -- A log on a disk, and what is known of it.
-use Rattle.std.specs.Prelude.{◌≡◌, ◌⊎◌, ℕ, ◌<◌, ◌≤◌, ◌^◌, false, List, [], ◌∷◌, ◌++◌, length}
+use Rattle.std.specs.Prelude.{◌≡◌, ◌⊎◌, ℕ, ◌<◌, ◌≤◌, ◌^◌, true, List, [], ◌∷◌, ◌++◌, Option, None, Some}
 use Rattle.std.specs.List.{AllByRecursion}
 use Rattle.log_records.specs.declared.record.Record.{Record}
 use Rattle.log_codec.specs.Payloads.{IsWritable}
-use Rattle.oplog.specs.Disks.{is_formatted, HasLog}
+use Rattle.oplog.specs.Disks.{HasLog}
+use Rattle.oplog.specs.Logs.{LogState}
+use Rattle.oplog.specs.Walks.{IsWalk}
+use Rattle.oplog.specs.declared.walk.Walk.{Walk}
 use Rattle.protocol.specs.Logged.{LogDisk, LogChange, AppendRecord, WriteCheckpoint}
 use Rattle.protocol.specs.LogSizes.{used_size}
-use Rattle.oplog.specs.Logs.{IsOpen}
-use Rattle.oplog.specs.declared.log.Log.{Log}
-use Rattle.oplog.specs.NewLogs.{IsLogOf}
 use Rattle.stored_log.specs.declared.standing.LogStanding.{LogStanding}
 use Rattle.stored_log.specs.declared.standing.LogStanding.TheVariants.{Open, Unread, Appending, Checkpointing}
 
@@ -43,12 +43,21 @@ HasKept items records (Checkpointing written) disk = HasLog items records disk �
 abbrev pub Leaves : {D : Type 0} (may_leave : D → List ℕ → Type 0) → D → List Record → List Record → LogStanding → Type 0
 Leaves may_leave disk items records standing = (c : List ℕ) → may_leave disk c → HasKept items records standing c
 
--- A log that is open says on its disk what is kept, for good. Of another one a stop leaves what is kept, with the change under way or without it.
-abbrev pub IsKept : {D : Type 0} (seen : D → List ℕ) (may_leave : D → List ℕ → Type 0) → Log D → List Record → List Record → LogStanding → Type 0
-IsKept seen may_leave log items records Open = (number : ℕ) × IsOpen seen may_leave log (record { number = number; items = items; records = records })
-IsKept seen may_leave log items records Unread = Leaves may_leave log.disk items records Unread
-IsKept seen may_leave log items records (Appending entry) = Leaves may_leave log.disk items records (Appending entry)
-IsKept seen may_leave log items records (Checkpointing written) = Leaves may_leave log.disk items records (Checkpointing written)
+-- A log that is to take changes is open. Of another one a stop leaves what is kept, with the change under way or without it.
+abbrev pub IsKept : {D : Type 0} (may_leave : D → List ℕ → Type 0) → LogState D → LogStanding → Type 0
+IsKept may_leave log Open = log.is_open ≡ true
+IsKept may_leave log Unread = Leaves may_leave log.disk log.area.items log.area.records Unread
+IsKept may_leave log (Appending entry) = Leaves may_leave log.disk log.area.items log.area.records (Appending entry)
+IsKept may_leave log (Checkpointing written) = Leaves may_leave log.disk log.area.items log.area.records (Checkpointing written)
+
+-- the log's items and records
+abbrev pub all_entries : {D : Type 0} → LogState D → List Record
+all_entries log = log.area.items ++ log.area.records
+
+-- a walk that is kept goes through these entries
+abbrev pub KeepsWalk : List Record → Option Walk → Type 0
+KeepsWalk all None = Unit {0}
+KeepsWalk all (Some walk) = IsWalk all walk
 
 -- these items and records take so many bytes of an area, which is a small number
 abbrev pub Takes : ℕ → List Record → List Record → Type 0
@@ -62,13 +71,6 @@ IsWritten written writing = Takes written writing [] × AllByRecursion IsWritabl
 abbrev pub IsDiskSize : ℕ → Type 0
 IsDiskSize size = (4096 ≤ size) × (size ≤ 1073741824)
 
--- the same bytes; or an empty log where none stood
-abbrev pub IsReopened : List ℕ → List ℕ → Type 0
-IsReopened old new = (new ≡ old) ⊎ ((is_formatted old ≡ false) × IsLogOf [] [] new)
-
--- One of the disks that a stop may leave has this size and this log.
-pub record IsAmong (may_leave : List ℕ → Type 0) (size : ℕ) (items records : List Record) : Type 0 where
-  pub disk : List ℕ
-  pub left : may_leave disk
-  pub sized : length disk ≡ size
-  pub log : IsLogOf items records disk
+-- the log's disk has this size, and a log's disk may have it
+abbrev pub HasDiskSize : {D : Type 0} → LogState D → ℕ → Type 0
+HasDiskSize log size = IsDiskSize size × (log.size ≡ size)

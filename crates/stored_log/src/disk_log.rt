@@ -1,23 +1,19 @@
 //! The log over its disk.
 
-ghost use Rattle.std.specs.Prelude.{◌≡◌, ◌<◌, ◌≤◌, ◌+◌, ◌*◌, ◌^◌, ◌++◌, ◌∷◌, [], ℕ, List, length, is_some, nat_le, slice_get, IfErr, IfOk, IfSome, OnOk};
-ghost use Rattle.disk.specs.Device.{Follows, Only};
-ghost use Rattle.oplog.specs.Areas.{AreaState};
-ghost use Rattle.oplog.specs.Walks.{IsWalk};
+ghost use Rattle.std.specs.Prelude.{◌≡◌, ◌<◌, ◌≤◌, ◌+◌, ◌*◌, ◌^◌, ◌++◌, ◌∷◌, [], true, List, length, is_some, nat_le, slice_get, IfErr, IfOk, IfSome, OnOk};
 ghost use Rattle.log_records.specs.declared.record.Record.{Record};
-ghost use Rattle.oplog.specs.Disks.{HasLog};
-ghost use Rattle.oplog.specs.Logs.{IsOpen};
 ghost use Rattle.oplog.specs.NewLogs.{IsLogOf};
-ghost use Rattle.oplog.specs.Opening.{area_found, IsFound, WalksThrough};
+ghost use Rattle.oplog.specs.Opening.{WalksThrough};
+ghost use Rattle.oplog.specs.Walks.{IsWalk};
 ghost use Rattle.protocol.specs.Logged.{new_log};
 ghost use Rattle.protocol.specs.LogSizes.{checkpoint_fits, checkpoint_size, payload_size, used_size};
 ghost use Rattle.operation_log.specs.Logs.{IsDecided};
 ghost use Rattle.operation_log.specs.declared.fault.OperationLogFault.TheVariants as faults;
-ghost use Rattle.stored_log.specs.Kept.{closed, IsAmong, IsDiskSize, IsReopened, Takes};
+ghost use Rattle.stored_log.specs.Kept.{all_entries, closed, HasDiskSize, IsDiskSize, KeepsWalk, Takes};
 
 use crate::entries::{entry_at, fault_of};
 use crate::standing::LogStanding;
-use disk::{DiskFault, StoppableDisk};
+use disk::StoppableDisk;
 use gfs_types::torn::Torn;
 use log_codec::{is_item, is_writable};
 use log_records::record::Record;
@@ -25,10 +21,7 @@ use operation_log::fault::OperationLogFault;
 use operation_log::log::OperationLog;
 use operation_log::sizes::used_with;
 use operation_log::stoppable::StoppableLog;
-use oplog::{
-    CountedRecords, FoundArea, Log, Opened, Walk, area_at, area_size, checkpoint, is_checkpoint,
-    open, open_disk,
-};
+use oplog::{CountedRecords, Log, LogFault, Walk, is_checkpoint};
 use std::alloc::Global;
 use std::marker::Model;
 use std::mem;
@@ -48,8 +41,6 @@ pub struct DiskLog<D: StoppableDisk> {
     alloc: Global,
     log: Log<D>,
     log_bytes: u64,
-    items: CountedRecords,
-    records: CountedRecords,
     // while the log is read after an opening: its area's bytes
     walk: Option<Walk>,
     writing: Vec<Record>,
@@ -61,31 +52,22 @@ pub struct DiskLog<D: StoppableDisk> {
 }
 
 impl<D: StoppableDisk> Model for DiskLog<D> {
-    ghost use Rattle.std.specs.Prelude.{◌++◌};
-    ghost use Rattle.oplog.specs.Opening.{WalksThrough};
-    ghost use Rattle.stored_log.specs.Kept.{changes_of, DiskLogState, IsDiskSize, IsKept, IsWritten, Takes};
+    ghost use Rattle.stored_log.specs.Kept.{all_entries, changes_of, DiskLogState, HasDiskSize, IsKept, IsWritten, KeepsWalk, Takes};
 
     ghost Value = { DiskLogState };
 
     ghost view = { λ l. record {
-      disk = record { items = l.items; records = l.records };
+      disk = record { items = l.log.area.items; records = l.log.area.records };
       under_way = changes_of l.standing;
       writing = l.writing.items;
       log_bytes = l.log_bytes;
     } };
 
-    ghost invariant = { λ l. IsKept D.seen D.may_leave l.log l.items l.records l.standing
-        × Takes l.used l.items l.records
+    ghost invariant = { λ l. IsKept D.may_leave l.log l.standing
+        × Takes l.used l.log.area.items l.log.area.records
         × IsWritten l.written l.writing.items
-        × IsDiskSize l.log_bytes
-        × WalksThrough (l.items ++ l.records) l.walk };
-}
-
-fn fault_of_disk(fault: DiskFault) -> OperationLogFault {
-    match fault {
-        DiskFault::Device => OperationLogFault::Device,
-        DiskFault::NoMemory => OperationLogFault::NoMemory,
-    }
+        × HasDiskSize l.log l.log_bytes
+        × KeepsWalk (all_entries l.log) l.walk };
 }
 
 // An open log has to be read anew; what is under way stays so.
@@ -98,51 +80,9 @@ fn closed(standing: LogStanding) -> LogStanding
     }
 }
 
-// What stands on the disk once it has begun again. It is the log of one of the disks that a stop might have left.
-fn find<D: StoppableDisk>(
-    disk: &mut D,
-    alloc: Global,
-    log_bytes: u64,
-) -> Result<FoundArea, OperationLogFault>
-    requires { IsDiskSize log_bytes }
-    ensures among { IfOk result (λ x. IsAmong (D.may_leave disk.old) log_bytes x.items x.records) }
-    ensures found { IfOk result (λ x. IsFound x (D.seen disk.new)) }
-    ensures size { OnOk result (length (D.seen disk.new) ≡ log_bytes) }
-    ensures durable { OnOk result (Only (D.seen disk.new) (D.may_leave disk.new)) }
-    ensures stops { Follows IsReopened (D.may_leave disk.old) (D.may_leave disk.new) }
-{
-    if let Err(fault) = disk.restart() {
-        return Err(fault_of_disk(fault));
-    }
-    if disk.size() as u64 != log_bytes {
-        return Err(OperationLogFault::Damaged);
-    }
-    match open_disk(disk, alloc) {
-        Ok(found) => Ok(found),
-        Err(fault) => Err(fault_of(fault)),
-    }
-}
-
-// The log is open with what was found on its disk.
-fn place<D: StoppableDisk>(log: &mut Log<D>, found: &FoundArea)
-    requires size { IsDiskSize (length (D.seen log.old.disk)) }
-    requires found { IsFound found.now (D.seen log.old.disk) }
-    requires durable { Only (D.seen log.old.disk) (D.may_leave log.old.disk) }
-    ensures open { IsOpen D.seen D.may_leave log.new (area_found found.now) }
-    ensures end { log.new.end ≡ found.now.end }
-{
-    let size = log.disk.size();
-    log.size = size;
-    log.which = found.which;
-    log.start = area_at(size, found.which);
-    log.room = area_size(size);
-    log.number = found.number;
-    log.end = found.end;
-}
-
 // The walk, where there are more entries; else its bytes are given back.
 fn if_more(walk: Walk, has_more: bool) -> Option<Walk>
-    ensures { (all : List Record) → IsWalk all walk → WalksThrough all result }
+    ensures { (all : List Record) → IsWalk all walk → KeepsWalk all result }
 {
     if has_more { Some(walk) } else { None }
 }
@@ -156,34 +96,26 @@ impl<D: StoppableDisk> DiskLog<D> {
         ensures size { IfOk result (λ l. l.log_bytes ≡ length (D.seen disk)) }
     {
         let log_bytes = disk.size() as u64;
-        match open(disk, alloc) {
-            Ok(opened) => Ok(DiskLog::of_opened(opened, log_bytes, alloc)),
+        match Log::open_with_walk(disk, alloc) {
+            Ok((log, walk)) => Ok(DiskLog::of_opened(log, walk, log_bytes, alloc)),
             Err((disk, fault)) => Err((disk, fault_of(fault))),
         }
     }
 
     // A log that was opened.
-    fn of_opened(opened: Opened<D>, log_bytes: u64, alloc: Global) -> DiskLog<D>
-        requires open { IsOpen D.seen D.may_leave opened.log (record { number = opened.log.number; items = opened.items; records = opened.records }) }
-        requires walk { WalksThrough (opened.items ++ opened.records) opened.walk }
-        requires size { IsDiskSize log_bytes }
-        ensures disk { result.disk ≡ record { items = opened.items; records = opened.records } }
+    fn of_opened(log: Log<D>, walk: Option<Walk>, log_bytes: u64, alloc: Global) -> DiskLog<D>
+        requires open { log.is_open ≡ true }
+        requires walk { WalksThrough (all_entries log) walk }
+        requires size { HasDiskSize log log_bytes }
+        ensures disk { result.disk ≡ record { items = log.area.items; records = log.area.records } }
         ensures decided { result.under_way ≡ [] }
         ensures size { result.log_bytes ≡ log_bytes }
     {
-        let Opened {
-            log,
-            items,
-            records,
-            walk,
-        } = opened;
-        let used = log.end as u64;
+        let used = log.used() as u64;
         DiskLog {
             alloc,
             log,
             log_bytes,
-            items,
-            records,
             walk,
             writing: Vec::new(alloc),
             used,
@@ -200,7 +132,7 @@ impl<D: StoppableDisk> DiskLog<D> {
         ensures size { IfOk result (λ l. l.log_bytes ≡ length (D.seen disk)) }
     {
         let opened = DiskLog::open(disk, alloc)?;
-        if !opened.items.is_empty() || !opened.records.is_empty() {
+        if opened.log.item_count() > 0 || opened.log.record_count() > 0 {
             return Err((opened.into_disk(), OperationLogFault::Damaged));
         }
         Ok(opened)
@@ -256,12 +188,11 @@ impl<D: StoppableDisk> OperationLog for DiskLog<D> {
         self.walk = None;
         match self.log.append(self.alloc, &record) {
             Ok(()) => {
-                self.records.push(&record);
                 drop(record);
                 self.used = used;
                 Ok(())
             }
-            Err(oplog::LogFault::NoMemory) => {
+            Err(LogFault::NoMemory) => {
                 drop(record);
                 Err(OperationLogFault::NoMemory)
             }
@@ -301,20 +232,16 @@ impl<D: StoppableDisk> OperationLog for DiskLog<D> {
         };
         let writing = mem::replace(&mut self.writing, Vec::new(self.alloc));
         let written = mem::replace(&mut self.written, HEAD);
-        let items = CountedRecords::of(&writing);
-        let records = CountedRecords::new();
         self.walk = None;
-        match checkpoint(&mut self.log, self.alloc, &writing) {
+        match self.log.checkpoint(self.alloc, &writing) {
             Ok(()) => {
-                self.items = items;
-                self.records = records;
                 self.used = written;
                 Ok(())
             }
-            Err(oplog::LogFault::NoMemory) => Err(OperationLogFault::NoMemory),
-            Err(oplog::LogFault::Full) => Err(OperationLogFault::Full),
+            Err(LogFault::NoMemory) => Err(OperationLogFault::NoMemory),
+            Err(LogFault::Full) => Err(OperationLogFault::Full),
             Err(_) => {
-                self.standing = LogStanding::Checkpointing(items);
+                self.standing = LogStanding::Checkpointing(CountedRecords::of(&writing));
                 Err(OperationLogFault::Device)
             }
         }
@@ -322,25 +249,27 @@ impl<D: StoppableDisk> OperationLog for DiskLog<D> {
 
     // The disk begins again and is read. It says what it said before the change that was under way, or after it.
     fn reopen(&mut self) -> Result<(), OperationLogFault> {
+        let _is_open = self.log.is_open();
         self.standing = closed(mem::replace(&mut self.standing, LogStanding::Unread));
         self.walk = None;
-        let found = find(&mut self.log.disk, self.alloc, self.log_bytes)?;
-        place(&mut self.log, &found);
-        self.used = found.end as u64;
-        self.items = found.items;
-        self.records = found.records;
-        self.walk = found.walk;
-        self.standing = LogStanding::Open;
-        Ok(())
+        match self.log.reopen(self.alloc) {
+            Ok(walk) => {
+                self.used = self.log.used() as u64;
+                self.walk = walk;
+                self.standing = LogStanding::Open;
+                Ok(())
+            }
+            Err(fault) => Err(fault_of(fault)),
+        }
     }
 
     #[tactic(auto, using(operation_log::proofs::Growth::count_within, operation_log::proofs::Growth::count_is))]
     fn len(&self) -> u64 {
-        self.items.len() as u64 + self.records.len() as u64
+        self.log.item_count() as u64 + self.log.record_count() as u64
     }
 
     fn entry(&mut self, place: u64) -> Result<Option<Record>, OperationLogFault> {
-        let count = self.items.len() as u64 + self.records.len() as u64;
+        let count = self.log.item_count() as u64 + self.log.record_count() as u64;
         if place >= count {
             return Ok(None);
         }
@@ -356,10 +285,10 @@ impl<D: StoppableDisk> OperationLog for DiskLog<D> {
 
 impl<D: StoppableDisk> StoppableLog for DiskLog<D> {
     fn stop_after(&mut self, calls: u64, torn: Torn) {
-        self.log.disk.stop_after(calls, torn);
+        self.log.stop_after(calls, torn);
     }
 
     fn stop_after_restart(&mut self, calls: u64, torn: Torn) {
-        self.log.disk.stop_after_restart(calls, torn);
+        self.log.stop_after_restart(calls, torn);
     }
 }

@@ -1,24 +1,23 @@
 //! What stands at a place of a log that is open.
 
-ghost use Rattle.std.specs.Prelude.{◌≡◌, ◌<◌, ◌≤◌, ◌++◌, List, length, slice_get, IfOk};
+ghost use Rattle.std.specs.Prelude.{◌≡◌, ◌<◌, ◌≤◌, true, List, length, slice_get, IfOk};
 ghost use Rattle.log_records.specs.declared.record.Record.{Record};
-ghost use Rattle.oplog.specs.Areas.{AreaState};
-ghost use Rattle.oplog.specs.Walks.{IsWalk};
-ghost use Rattle.oplog.specs.Logs.{IsOpen};
-ghost use Rattle.oplog.specs.Opening.{WalksThrough};
+ghost use Rattle.oplog.specs.Logs.{SameButDisk};
+ghost use Rattle.oplog.specs.Walks.{IsWalk, passed};
+ghost use Rattle.stored_log.specs.Kept.{all_entries, KeepsWalk};
 
 use disk::Disk;
 use log_codec::DecodeFault;
 use log_records::record::Record;
 use operation_log::fault::OperationLogFault;
-use oplog::{Log, Walk, read_again};
+use oplog::{Log, LogFault, Walk};
 use std::alloc::Global;
 
-pub(crate) fn fault_of(fault: oplog::LogFault) -> OperationLogFault {
+pub(crate) fn fault_of(fault: LogFault) -> OperationLogFault {
     match fault {
-        oplog::LogFault::Full | oplog::LogFault::Damaged => OperationLogFault::Damaged,
-        oplog::LogFault::Device => OperationLogFault::Device,
-        oplog::LogFault::NoMemory => OperationLogFault::NoMemory,
+        LogFault::Full | LogFault::Damaged => OperationLogFault::Damaged,
+        LogFault::Device => OperationLogFault::Device,
+        LogFault::NoMemory => OperationLogFault::NoMemory,
     }
 }
 
@@ -36,17 +35,18 @@ fn walk_before<D: Disk>(
     walk: Option<Walk>,
     place: u64,
 ) -> Result<Walk, OperationLogFault>
-    requires { (area : AreaState) × IsOpen D.seen D.may_leave log.old area }
-    ensures walk { (area : AreaState) → IsOpen D.seen D.may_leave log.old area → WalksThrough (area.items ++ area.records) walk → IfOk result (λ w. IsWalk (area.items ++ area.records) w) }
-    ensures place { IfOk result (λ w. w.place ≤ place) }
-    ensures open { (area : AreaState) → IsOpen D.seen D.may_leave log.old area → IsOpen D.seen D.may_leave log.new area }
+    requires open { log.old.is_open ≡ true }
+    requires walk { KeepsWalk (all_entries log.old) walk }
+    ensures walk { IfOk result (λ w. IsWalk (all_entries log.old) w) }
+    ensures place { IfOk result (λ w. passed w ≤ place) }
+    ensures same { SameButDisk log.old log.new }
 {
     if let Some(walk) = walk {
-        if walk.place <= place {
+        if walk.place() <= place {
             return Ok(walk);
         }
     }
-    match read_again(log, alloc) {
+    match log.walk(alloc) {
         Ok(walk) => Ok(walk),
         Err(fault) => Err(fault_of(fault)),
     }
@@ -55,7 +55,7 @@ fn walk_before<D: Disk>(
 // The entry at a place, which the walk then has passed.
 fn walk_to(walk: &mut Walk, place: u64, alloc: Global) -> Result<Option<Record>, DecodeFault>
     requires there { (all : List Record) × IsWalk all walk.old × (place < length all) }
-    requires ahead { walk.old.place ≤ place }
+    requires ahead { passed walk.old ≤ place }
     ensures entry { (all : List Record) → IsWalk all walk.old → IfOk result (λ o. o ≡ slice_get all place) }
     ensures walk { (all : List Record) → IsWalk all walk.old → IsWalk all walk.new }
 {
@@ -70,9 +70,12 @@ pub(crate) fn entry_at<D: Disk>(
     walk: Option<Walk>,
     place: u64,
 ) -> Result<(Option<Record>, Walk), OperationLogFault>
-    requires { (area : AreaState) × IsOpen D.seen D.may_leave log.old area × WalksThrough (area.items ++ area.records) walk × (place < length (area.items ++ area.records)) }
-    ensures entry { (area : AreaState) → IsOpen D.seen D.may_leave log.old area → WalksThrough (area.items ++ area.records) walk → IfOk result (λ x. (x.0 ≡ slice_get (area.items ++ area.records) place) × IsWalk (area.items ++ area.records) x.1) }
-    ensures open { (area : AreaState) → IsOpen D.seen D.may_leave log.old area → IsOpen D.seen D.may_leave log.new area }
+    requires open { log.old.is_open ≡ true }
+    requires walk { KeepsWalk (all_entries log.old) walk }
+    requires there { place < length (all_entries log.old) }
+    ensures entry { IfOk result (λ x. x.0 ≡ slice_get (all_entries log.old) place) }
+    ensures walk { IfOk result (λ x. IsWalk (all_entries log.old) x.1) }
+    ensures same { SameButDisk log.old log.new }
 {
     let mut walk = walk_before(log, alloc, walk, place)?;
     match walk_to(&mut walk, place, alloc) {

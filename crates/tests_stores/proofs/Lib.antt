@@ -1,2 +1,1 @@
-pub mod LogsGoing
 pub mod ChunksGoing

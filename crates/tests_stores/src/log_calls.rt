@@ -1,7 +1,5 @@
 //! Calls of a log on a disk of 4,096 bytes, each of which opens it.
 
-ghost use Rattle.std.specs.Prelude.{◌≡◌};
-
 use disk::Disk;
 use gfs_types::ids::{ClientId, FileId};
 use gfs_types::lists::Text;
@@ -9,7 +7,7 @@ use gfs_types::no_memory::NoMemory;
 use gfs_types::torn::Torn;
 use log_codec::{is_item, is_writable};
 use log_records::record::Record;
-use oplog::{Log, LogFault, Opened, open};
+use oplog::{Log, LogFault};
 use std::alloc::Global;
 
 pub(crate) const SIZE: usize = 4_096;
@@ -47,25 +45,39 @@ fn failed(fault: LogFault) -> Ran {
     }
 }
 
-// The log, and how many items and records it has.
-fn counted<D: Disk>(opened: Opened<D>) -> (Log<D>, usize)
-    ensures { result.0 ≡ opened.log }
-{
-    let count = opened.items.len().saturating_add(opened.records.len());
-    (opened.log, count)
-}
-
 /// Opens the log, and appends a record.
 pub(crate) fn append<D: Disk + Drop>(disk: D, alloc: Global, record: &Record) -> (D, Ran) {
     if disk.size() != SIZE || !is_writable(record) || is_item(record) {
         return (disk, failed(LogFault::Damaged));
     }
-    match open(disk, alloc) {
-        Ok(opened) => {
-            let (mut log, found) = counted(opened);
+    match Log::open(disk, alloc) {
+        Ok((mut log, entries)) => {
+            let found = entries.len();
+            drop(entries);
             let fault = log.append(alloc, record).err();
             (log.into_disk(), Ran { found, fault })
         }
         Err((disk, fault)) => (disk, failed(fault)),
+    }
+}
+
+/// Opens the log, arms its disk to fail, and appends a record: whether that is answered Device and closes the log.
+pub(crate) fn is_closed_by_device<D: Disk + Drop>(
+    disk: D,
+    alloc: Global,
+    record: &Record,
+) -> (D, bool) {
+    if disk.size() != SIZE || !is_writable(record) || is_item(record) {
+        return (disk, false);
+    }
+    match Log::open(disk, alloc) {
+        Ok((mut log, entries)) => {
+            drop(entries);
+            log.arm(0);
+            let fault = log.append(alloc, record).err();
+            let is_closed = fault == Some(LogFault::Device) && !log.is_open();
+            (log.into_disk(), is_closed)
+        }
+        Err((disk, _)) => (disk, false),
     }
 }

@@ -1,10 +1,11 @@
 //! A log whose disk fails in one call and goes on.
 
-use crate::log_calls::SIZE;
+use crate::log_calls::{SIZE, create, is_closed_by_device};
 use crate::log_stops::{CALLS, OPENING_CALLS, found_on, is_after, stopped};
 use crate::plan::{STEPS, StopPlan, find, run};
-use disk::{Disk, FaultDisk, MemDisk};
+use disk::{Disk, FaultDisk, FuseDisk, MemDisk};
 use gfs_types::torn::Torn;
+use log_records::record::Record;
 use oplog::LogFault;
 use std::alloc::{AllocError, Global};
 use std::test::Fail;
@@ -75,5 +76,22 @@ fn a_failed_opening_is_done_again(rt: HostRuntime) -> Result<(), Fail> {
         }
     }
     drop(plan);
+    Ok(())
+}
+
+fn is_closed(alloc: Global, record: &Record) -> Result<bool, AllocError> {
+    let disk = FuseDisk::new(MemDisk::new(alloc, SIZE)?);
+    let (disk, is_closed) = is_closed_by_device(disk, alloc, record);
+    drop(disk);
+    Ok(is_closed)
+}
+
+#[test]
+fn a_failed_disk_closes_the_log(rt: HostRuntime) -> Result<(), Fail> {
+    let alloc = rt.alloc();
+    let record = create(alloc)?;
+    let is_closed = is_closed(alloc, &record);
+    drop(record);
+    assert!(rt; is_closed?);
     Ok(())
 }

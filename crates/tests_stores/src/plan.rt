@@ -2,21 +2,16 @@
 
 ghost use Rattle.std.specs.Prelude.{◌≡◌, true, List, OnOk};
 ghost use Rattle.std.specs.List.{AllByRecursion};
-ghost use Rattle.oplog.specs.Areas.{AreaState};
 ghost use Rattle.log_codec.specs.Payloads.{IsWritable};
-ghost use Rattle.oplog.specs.Walks.{IsWalk};
-ghost use Rattle.log_records.specs.declared.record.Record.{Record};
-ghost use Rattle.oplog.specs.Logs.{IsOpen};
-ghost use Rattle.oplog.specs.Opening.{WalksThrough};
 
 use crate::log_calls::{SIZE, create};
 use disk::Disk;
 use gfs_types::ids::{FileId, Handle};
 use gfs_types::lists::Text;
 use gfs_types::no_memory::NoMemory;
-use log_codec::{DecodeFault, is_item, is_writable};
+use log_codec::{is_item, is_writable};
 use log_records::record::Record;
-use oplog::{Log, LogFault, Opened, Walk, checkpoint, is_checkpoint, open};
+use oplog::{Log, LogFault, is_checkpoint};
 use std::alloc::Global;
 
 /// How many changes there are.
@@ -95,8 +90,8 @@ impl StopPlan {
 }
 
 fn append_one<D: Disk>(log: &mut Log<D>, alloc: Global, logged: &Record) -> Result<(), LogFault>
-    requires { (area : AreaState) × IsOpen D.seen D.may_leave log.old area }
-    ensures { OnOk result ((area : AreaState) × IsOpen D.seen D.may_leave log.new area) }
+    requires { log.old.is_open ≡ true }
+    ensures { OnOk result (log.new.is_open ≡ true) }
 {
     if !is_writable(logged) || is_item(logged) {
         return Err(LogFault::Damaged);
@@ -110,8 +105,8 @@ fn append_first<D: Disk>(
     alloc: Global,
     records: &[Record],
 ) -> Result<(), LogFault>
-    requires { (area : AreaState) × IsOpen D.seen D.may_leave log.old area }
-    ensures { OnOk result ((area : AreaState) × IsOpen D.seen D.may_leave log.new area) }
+    requires { log.old.is_open ≡ true }
+    ensures { OnOk result (log.new.is_open ≡ true) }
 {
     match records {
         [logged, ..] => append_one(log, alloc, logged),
@@ -131,13 +126,13 @@ fn are_writable(items: &[Record]) -> bool
 }
 
 fn write_items<D: Disk>(log: &mut Log<D>, alloc: Global, items: &[Record]) -> Result<(), LogFault>
-    requires { (area : AreaState) × IsOpen D.seen D.may_leave log.old area }
-    ensures { OnOk result ((area : AreaState) × IsOpen D.seen D.may_leave log.new area) }
+    requires { log.old.is_open ≡ true }
+    ensures { OnOk result (log.new.is_open ≡ true) }
 {
     if !are_writable(items) || !is_checkpoint(items) {
         return Err(LogFault::Damaged);
     }
-    checkpoint(log, alloc, items)
+    log.checkpoint(alloc, items)
 }
 
 // The change of a number.
@@ -147,8 +142,8 @@ fn change<D: Disk>(
     plan: &StopPlan,
     number: usize,
 ) -> Result<(), LogFault>
-    requires { (area : AreaState) × IsOpen D.seen D.may_leave log.old area }
-    ensures { OnOk result ((area : AreaState) × IsOpen D.seen D.may_leave log.new area) }
+    requires { log.old.is_open ≡ true }
+    ensures { OnOk result (log.new.is_open ≡ true) }
 {
     match number {
         1 => write_items(log, alloc, &plan.one),
@@ -166,7 +161,7 @@ fn failed_at(count: usize, fault: LogFault) -> Made {
 }
 
 fn change_all<D: Disk>(log: &mut Log<D>, alloc: Global, plan: &StopPlan) -> Made
-    requires { (area : AreaState) × IsOpen D.seen D.may_leave log.old area }
+    requires { log.old.is_open ≡ true }
 {
     for number in 0..STEPS {
         match change(log, alloc, plan, number) {
@@ -180,20 +175,14 @@ fn change_all<D: Disk>(log: &mut Log<D>, alloc: Global, plan: &StopPlan) -> Made
     }
 }
 
-fn log_of<D: Disk>(opened: Opened<D>) -> Log<D>
-    ensures { result ≡ opened.log }
-{
-    opened.log
-}
-
 /// Opens the log, and makes all changes.
 pub(crate) fn run<D: Disk + Drop>(disk: D, alloc: Global, plan: &StopPlan) -> (D, Made) {
     if disk.size() != SIZE {
         return (disk, failed_at(0, LogFault::Damaged));
     }
-    match open(disk, alloc) {
-        Ok(opened) => {
-            let mut log = log_of(opened);
+    match Log::open(disk, alloc) {
+        Ok((mut log, entries)) => {
+            drop(entries);
             let made = change_all(&mut log, alloc, plan);
             (log.into_disk(), made)
         }
@@ -201,55 +190,13 @@ pub(crate) fn run<D: Disk + Drop>(disk: D, alloc: Global, plan: &StopPlan) -> (D
     }
 }
 
-// So many entries that come next.
-fn next_entries(walk: &mut Walk, alloc: Global, count: usize) -> Result<Vec<Record>, DecodeFault>
-    requires { (all : List Record) × IsWalk all walk.old }
-    ensures { OnOk result ((all : List Record) × IsWalk all walk.new) }
-{
-    let mut entries = Vec::new(alloc);
-    for number in 0..count {
-        let Some(entry) = walk.next(alloc)? else {
-            return Err(DecodeFault::Damaged);
-        };
-        entries.push(entry)?;
+// After how many changes a log has these entries, of which so many are items.
+fn place_of_entries(plan: &StopPlan, entries: &[Record], items: usize) -> Result<usize, LogFault> {
+    if items > entries.len() {
+        return Err(LogFault::Damaged);
     }
-    Ok(entries)
-}
-
-// After how many changes a log has so many items and records, which the walk goes through.
-fn place_of_entries(
-    plan: &StopPlan,
-    entries: Option<Walk>,
-    alloc: Global,
-    items: usize,
-    records: usize,
-) -> Result<Option<usize>, DecodeFault>
-    requires { (all : List Record) × WalksThrough all entries }
-{
-    let Some(walk) = entries else {
-        return Ok(plan.place_of(&[], &[]));
-    };
-    let mut walk = walk;
-    let items = next_entries(&mut walk, alloc, items)?;
-    let records = next_entries(&mut walk, alloc, records)?;
-    Ok(plan.place_of(&items, &records))
-}
-
-// After how many changes a log has what it has, and Damaged where there are none such.
-fn place_of_opened<D: Disk>(
-    opened: Opened<D>,
-    alloc: Global,
-    plan: &StopPlan,
-) -> (Log<D>, Result<usize, LogFault>)
-    requires { (all : List Record) × WalksThrough all opened.walk }
-{
-    let (items, records) = (opened.items.len(), opened.records.len());
-    let found = match place_of_entries(plan, opened.walk, alloc, items, records) {
-        Ok(found) => found.ok_or(LogFault::Damaged),
-        Err(DecodeFault::Damaged) => Err(LogFault::Damaged),
-        Err(DecodeFault::NoMemory) => Err(LogFault::NoMemory),
-    };
-    (opened.log, found)
+    let (items, records) = entries.split_at(items);
+    plan.place_of(items, records).ok_or(LogFault::Damaged)
 }
 
 /// Opens the log: after how many changes it has what it has, and Damaged where there are none such.
@@ -261,9 +208,10 @@ pub(crate) fn find<D: Disk + Drop>(
     if disk.size() != SIZE {
         return (disk, Err(LogFault::Damaged));
     }
-    match open(disk, alloc) {
-        Ok(opened) => {
-            let (log, found) = place_of_opened(opened, alloc, plan);
+    match Log::open(disk, alloc) {
+        Ok((log, entries)) => {
+            let found = place_of_entries(plan, &entries, log.item_count());
+            drop(entries);
             (log.into_disk(), found)
         }
         Err((disk, fault)) => (disk, Err(fault)),

@@ -9,7 +9,7 @@ use Rattle.oplog.proofs.checkpointing.checkpoint.Goals as goal
 pub returns-in_err-close_if_open-clause-any_moment : goal.returns-in_err-close_if_open-clause-any_moment
 returns-in_err-close_if_open-clause-any_moment g c area is_open =
     let disk = g.D.Disk in
-    let log = c.args.log.now in
+    let log = c.args.volume.now in
     let told = c.forget_past.ensures in
     until_closed disk.seen disk.may_leave disk.moment disk.left_since log area is_open c.args.items.now (λ f left. g.met.D.Disk.only_now log.disk f left) c.forget_past.new.self told.seen told.crash told.time
     c.area_at-start.result c.area_at-start.ensures.place c.close_if_open.new.disk c.close_if_open.ensures.any_moment
@@ -17,7 +17,7 @@ returns-in_err-close_if_open-clause-any_moment g c area is_open =
 pub returns-in_err-write_area-clause-any_moment : goal.returns-in_err-write_area-clause-any_moment
 returns-in_err-write_area-clause-any_moment g c area is_open =
     let disk = g.D.Disk in
-    let log = c.args.log.now in
+    let log = c.args.volume.now in
     let told = c.forget_past.ensures in
     let closed = c.in_ok-close_if_open.ensures in
     let number : c.in-Some.number ≡ area.number + 1 = omega (arith, c.in-Some.ensures, is_open.number) in
@@ -27,7 +27,7 @@ returns-in_err-write_area-clause-any_moment g c area is_open =
 pub returns-clause-any_moment : goal.returns-clause-any_moment
 returns-clause-any_moment g c area is_open =
     let disk = g.D.Disk in
-    let log = c.args.log.now in
+    let log = c.args.volume.now in
     let told = c.forget_past.ensures in
     let closed = c.in_ok-close_if_open.ensures in
     let number : c.in-Some.number ≡ area.number + 1 = omega (arith, c.in-Some.ensures, is_open.number) in
@@ -37,7 +37,7 @@ returns-clause-any_moment g c area is_open =
 pub returns-in_err-write_area-clause-still_open : goal.returns-in_err-write_area-clause-still_open
 returns-in_err-write_area-clause-still_open g c area is_open refused =
     let disk = g.D.Disk in
-    let log = c.args.log.now in
+    let log = c.args.volume.now in
     let told = c.forget_past.ensures in
     let closed = c.in_ok-close_if_open.ensures in
     let none = handed_on c.from_residual-in_err-write_area.result c.in_err-write_area.field-0.0 NoMemory c.from_residual-in_err-write_area.ensures.1 refused in
@@ -48,7 +48,7 @@ returns-in_err-write_area-clause-still_open g c area is_open refused =
 pub returns-clause-ok : goal.returns-clause-ok
 returns-clause-ok g c area is_open =
     let disk = g.D.Disk in
-    let log = c.args.log.now in
+    let log = c.args.volume.now in
     let told = c.forget_past.ensures in
     let closed = c.in_ok-close_if_open.ensures in
     let wrote = c.in_ok-write_area.ensures in

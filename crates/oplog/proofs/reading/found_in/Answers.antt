@@ -9,7 +9,7 @@ pub returns-clause-walk : goal.returns-clause-walk
 returns-clause-walk c =
     let area = c.in_ok-area.area in
     let says = subst (AreaSays area) c.deref.ensures.value c.in_ok-area.ensures.found in
-    rw (c.into_parts-items.ensures.items, c.into_parts-items.ensures.records) (c.in_ok-walk.ensures.walk area says)
+    rw (c.into_parts-items.ensures.items, c.into_parts-items.ensures.records) (c.in_ok-walk.ensures.walk area says, c.in_ok-walk.ensures.place)
 
 pub returns-in_err-area-clause-undamaged : goal.returns-in_err-area-clause-undamaged
 returns-in_err-area-clause-undamaged c area says damaged =

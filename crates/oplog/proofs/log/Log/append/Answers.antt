@@ -1,67 +1,106 @@
-use Rattle.std.proofs.Common.{◌≡◌, ◌+◌, ◌≤◌, true, List, ℕ, [], ◌∷◌, ◌++◌, length, sym, subst, ap, ◌∙◌, arith}
+use Rattle.std.proofs.Common.{◌≡◌, ℕ, [], ◌∷◌, ◌++◌, ap, ◌∙◌}
 use Rattle.std.specs.Prelude.{Err}
-use Rattle.disk_redo.specs.Gates.{committed, IsCommitting, IsUncommitted}
-use Rattle.disk_redo.proofs.Moments.{weaker}
-use Rattle.oplog.specs.Entries.{entry}
-use Rattle.oplog.specs.Layout.{area_size, record_fits}
-use Rattle.oplog.specs.Changes.{appended, IsBeforeOrAfter}
-use Rattle.oplog.specs.Logs.{IsOpen}
-use Rattle.oplog.proofs.Refusing.{was_refused}
-use Rattle.oplog.proofs.Appending.{after_stop, appends, stays, within}
+use Rattle.oplog.specs.Faults.{leaves_open}
+use Rattle.oplog.specs.Logs.{area_counted}
+use Rattle.oplog.specs.declared.fault.LogFault.TheVariants.{Full}
+use Rattle.oplog.proofs.Whole.{state_of}
+use Rattle.oplog.proofs.OpenLogs.{counted_after, counted_open, durable_of, few_records, more_records, renumbered, same_log, was_open}
 use Rattle.oplog.proofs.log.Log.append.Goals as goal
 
-pub write_behind-requires-clause-room : goal.write_behind-requires-clause-room
-write_behind-requires-clause-room g c =
-    let log = c.args.self.now in
-    let r = c.args.logged.now in
-    let area = c.requires.is_open.0 in
-    let is_open = c.requires.is_open.1 in
-    let has_room : record_fits (area_size log.size) area r ≡ true = grind (arith, c.fits.ensures area is_open) in
-    let written : c.deref.result.now ≡ entry r ++ 0 ∷ [] = c.deref.ensures.value ∙ c.in_ok-bytes.ensures.bytes in
-    subst (λ (l : List ℕ). log.start + log.end + 1 + length l ≤ length (g.D.Disk.seen log.disk)) (sym written)
-    (within g.D.Disk.seen g.D.Disk.may_leave log area is_open r has_room (c.in_ok-bytes.ensures.stands, c.requires.no_item))
+pub append-requires-clause-is_open : goal.append-requires-clause-is_open
+append-requires-clause-is_open g c =
+    let was = c.self.inside in
+    (area_counted was.volume was.items was.records, c.self.invariant.opened (was_open _ _ c.self.view_is c.requires.open))
 
-pub returns-clause-ok : goal.returns-clause-ok
-returns-clause-ok g c area is_open =
-    let log = c.args.self.now in
-    let r = c.args.logged.now in
-    let d = g.D.Disk.seen log.disk in
-    let has_room : record_fits (area_size log.size) area r ≡ true = grind (arith, c.fits.ensures area is_open) in
-    let written : c.deref.result.now ≡ entry r ++ 0 ∷ [] = c.deref.ensures.value ∙ c.in_ok-bytes.ensures.bytes in
-    let is : g.D.Disk.seen c.write_behind.new.disk ≡ committed d (log.start + log.end + 1) (entry r ++ 0 ∷ []) (log.start + log.end) =
-    c.in_ok-write_behind.ensures.committed ∙ ap (λ (l : List ℕ). committed d (log.start + log.end + 1) l (log.start + log.end)) written in
-    let count : length (entry r ++ 0 ∷ []) ≡ c.len.result = sym (ap length written) ∙ c.deref.ensures.len ∙ sym c.len.ensures in
-    subst (λ (k : ℕ). IsOpen g.D.Disk.seen g.D.Disk.may_leave (record log { disk = c.write_behind.new.disk; end = log.end + k }) (appended area r)) count
-    (appends g.D.Disk.seen g.D.Disk.may_leave log area is_open r has_room (c.in_ok-bytes.ensures.stands, c.requires.no_item) c.write_behind.new.disk is c.in_ok-write_behind.ensures.durable)
+pub push-requires : goal.push-requires
+push-requires g c =
+    let was = c.self.inside in
+    let is_open = c.self.invariant.opened (was_open _ _ c.self.view_is c.requires.open) in
+    few_records g.D.Disk.seen g.D.Disk.may_leave was.volume (area_counted was.volume was.items was.records) is_open
 
-pub returns-clause-any_moment : goal.returns-clause-any_moment
-returns-clause-any_moment g c area is_open =
-    let log = c.args.self.now in
-    let r = c.args.logged.now in
-    let has_room : record_fits (area_size log.size) area r ≡ true = grind (arith, c.fits.ensures area is_open) in
-    let written : c.deref.result.now ≡ entry r ++ 0 ∷ [] = c.deref.ensures.value ∙ c.in_ok-bytes.ensures.bytes in
-    weaker g.D.Disk.moment g.D.Disk.left_since log.disk c.write_behind.new.disk _ (IsBeforeOrAfter area r) c.write_behind.ensures.any_moment (λ f stop.
-    after_stop g.D.Disk.seen g.D.Disk.may_leave log area is_open r has_room (c.in_ok-bytes.ensures.stands, c.requires.no_item) f
-    (subst (λ (l : List ℕ). IsCommitting (g.D.Disk.seen log.disk) (log.start + log.end + 1) l (log.start + log.end) f) written stop))
+pub invariant_of-self : goal.invariant_of-self
+invariant_of-self g c =
+    let was = c.self.inside in
+    let disk = g.D.Disk in
+    let is_open = c.self.invariant.opened (was_open _ _ c.self.view_is c.requires.open) in
+    let done = c.in-Ok.ensures.ok (area_counted was.volume was.items was.records) is_open in
+    rw c.push.ensures (counted_open disk.seen disk.may_leave c.append.new.self was.volume.number was.items (was.records ++ c.args.logged.now ∷ []) was.is_open done)
 
-pub returns-in_err-write_behind-clause-any_moment : goal.returns-in_err-write_behind-clause-any_moment
-returns-in_err-write_behind-clause-any_moment g c area is_open =
-    let log = c.args.self.now in
-    let r = c.args.logged.now in
-    let has_room : record_fits (area_size log.size) area r ≡ true = grind (arith, c.fits.ensures area is_open) in
-    let written : c.deref.result.now ≡ entry r ++ 0 ∷ [] = c.deref.ensures.value ∙ c.in_ok-bytes.ensures.bytes in
-    weaker g.D.Disk.moment g.D.Disk.left_since log.disk c.write_behind.new.disk _ (IsBeforeOrAfter area r) c.write_behind.ensures.any_moment (λ f stop.
-    after_stop g.D.Disk.seen g.D.Disk.may_leave log area is_open r has_room (c.in_ok-bytes.ensures.stands, c.requires.no_item) f
-    (subst (λ (l : List ℕ). IsCommitting (g.D.Disk.seen log.disk) (log.start + log.end + 1) l (log.start + log.end) f) written stop))
+pub invariant_of-self-in-Err : goal.invariant_of-self-in-Err
+invariant_of-self-in-Err g c =
+    let was = c.self.inside in
+    let disk = g.D.Disk in
+    let area = area_counted was.volume was.items was.records in
+    let is_open = c.self.invariant.opened (was_open _ _ c.self.view_is c.requires.open) in
+    counted_after disk.seen disk.may_leave c.append.new.self was.volume.number was.items was.records c.in-Err.fault c.leaves_open-self-inside.result
+    (rw c.append.ensures.size c.self.invariant.large) (rw c.append.ensures.size c.self.invariant.small) c.leaves_open-self-inside.ensures
+    (λ full. rw (c.append.ensures.unchanged (c.in-Err.is ∙ ap Err full)) is_open)
+    (λ refused. c.append.ensures.still_open area is_open (c.in-Err.is ∙ ap Err refused))
+    (λ damaged. c.append.ensures.undamaged (c.in-Err.is ∙ ap Err damaged))
 
-pub returns-in_err-write_behind-clause-still_open : goal.returns-in_err-write_behind-clause-still_open
-returns-in_err-write_behind-clause-still_open g c area is_open refused =
-    let log = c.args.self.now in
-    let r = c.args.logged.now in
-    let d = g.D.Disk.seen log.disk in
-    let has_room : record_fits (area_size log.size) area r ≡ true = grind (arith, c.fits.ensures area is_open) in
-    let written : c.deref.result.now ≡ entry r ++ 0 ∷ [] = c.deref.ensures.value ∙ c.in_ok-bytes.ensures.bytes in
-    let none = was_refused c.from_residual-in_err-write_behind.result c.in_err-write_behind.field-0.0 c.from_residual-in_err-write_behind.ensures.1 refused in
-    let left = c.in_err-write_behind.ensures.refused (ap Err none) in
-    stays g.D.Disk.seen g.D.Disk.may_leave log area is_open r has_room (c.in_ok-bytes.ensures.stands, c.requires.no_item) c.write_behind.new.disk
-    (subst (λ (l : List ℕ). IsUncommitted d (log.start + log.end + 1) l (g.D.Disk.seen c.write_behind.new.disk)) written left.0) left.1
+pub returns-in-Ok-clause-ok : goal.returns-in-Ok-clause-ok
+returns-in-Ok-clause-ok g c =
+    let was = c.self.inside in
+    rw (← c.self.view_is) (more_records was.volume.number c.append.new.self.number was.items was.records c.push.new.self c.args.logged.now c.append.ensures.number c.push.ensures)
+
+pub returns-in-Ok-clause-durable : goal.returns-in-Ok-clause-durable
+returns-in-Ok-clause-durable g c =
+    let was = c.self.inside in
+    let disk = g.D.Disk in
+    let is_open = c.self.invariant.opened (was_open _ _ c.self.view_is c.requires.open) in
+    let done = c.in-Ok.ensures.ok (area_counted was.volume was.items was.records) is_open in
+    let volume = c.append.new.self in
+    let records = was.records ++ c.args.logged.now ∷ [] in
+    rw c.push.ensures (durable_of disk.seen disk.may_leave volume (area_counted volume was.items records) was.is_open
+    (renumbered disk.seen disk.may_leave volume was.volume.number was.items records done))
+
+pub returns-in-Ok-clause-open : goal.returns-in-Ok-clause-open
+returns-in-Ok-clause-open g c = was_open _ _ c.self.view_is c.requires.open
+
+pub returns-in-Ok-clause-any_moment : goal.returns-in-Ok-clause-any_moment
+returns-in-Ok-clause-any_moment g c =
+    let was = c.self.inside in
+    let is_open = c.self.invariant.opened (was_open _ _ c.self.view_is c.requires.open) in
+    rw (← c.self.view_is) (c.append.ensures.any_moment (area_counted was.volume was.items was.records) is_open)
+
+pub returns-in-Err-clause-any_moment : goal.returns-in-Err-clause-any_moment
+returns-in-Err-clause-any_moment g c =
+    let was = c.self.inside in
+    let is_open = c.self.invariant.opened (was_open _ _ c.self.view_is c.requires.open) in
+    rw (← c.self.view_is) (c.append.ensures.any_moment (area_counted was.volume was.items was.records) is_open)
+
+pub returns-in-Ok-clause-full : goal.returns-in-Ok-clause-full
+returns-in-Ok-clause-full g c =
+    let was = c.self.inside in
+    let is_open = c.self.invariant.opened (was_open _ _ c.self.view_is c.requires.open) in
+    rw (← c.self.view_is) (rw c.in-Ok.is at (c.append.ensures.full (area_counted was.volume was.items was.records) is_open))
+
+pub returns-in-Err-clause-full : goal.returns-in-Err-clause-full
+returns-in-Err-clause-full g c =
+    let was = c.self.inside in
+    let is_open = c.self.invariant.opened (was_open _ _ c.self.view_is c.requires.open) in
+    rw (← c.self.view_is) (rw c.in-Err.is at (c.append.ensures.full (area_counted was.volume was.items was.records) is_open))
+
+pub returns-in-Err-clause-err : goal.returns-in-Err-clause-err
+returns-in-Err-clause-err g c =
+    let was = c.self.inside in
+    rw (← c.self.view_is) (ap (λ (n : ℕ). state_of n was.items was.records) c.append.ensures.number)
+
+pub returns-in-Ok-clause-size : goal.returns-in-Ok-clause-size
+returns-in-Ok-clause-size g c = rw (← c.self.view_is) c.append.ensures.size
+
+pub returns-in-Err-clause-size : goal.returns-in-Err-clause-size
+returns-in-Err-clause-size g c = rw (← c.self.view_is) c.append.ensures.size
+
+pub returns-in-Err-clause-unchanged : goal.returns-in-Err-clause-unchanged
+returns-in-Err-clause-unchanged g c full =
+    let was = c.self.inside in
+    let fault : c.in-Err.fault ≡ Full = cc in
+    rw (← c.self.view_is) (same_log was.volume c.append.new.self was.items was.records was.is_open c.leaves_open-self-inside.result (c.append.ensures.unchanged (c.in-Err.is ∙ full))
+    (was_open _ _ c.self.view_is c.requires.open) (c.leaves_open-self-inside.ensures ∙ ap leaves_open fault))
+
+pub returns-in-Ok-clause-cause : goal.returns-in-Ok-clause-cause
+returns-in-Ok-clause-cause g c = rw (← c.self.view_is) (rw c.in-Ok.is at c.append.ensures.cause)
+
+pub returns-in-Err-clause-cause : goal.returns-in-Err-clause-cause
+returns-in-Err-clause-cause g c = rw (← c.self.view_is) (rw c.in-Err.is at c.append.ensures.cause)

@@ -1,22 +1,22 @@
 use Rattle.std.proofs.Common.{◌≡◌, ℕ, [], sym, ap, subst, ◌∙◌, rules}
 use Rattle.std.specs.Prelude.{Err}
+use Rattle.oplog.specs.Writing.{area_with}
 use Rattle.stored_log.specs.Kept.{Takes}
-use Rattle.stored_log.proofs.Keeping.{checkpoint_failed, checkpoint_kept, no_writing, refused_kept, same_taken}
+use Rattle.stored_log.proofs.Keeping.{area_taken, checkpoint_failed, no_writing, same_taken, still_kept}
 use Rattle.stored_log.proofs.disk_log.DiskLogOperationLog.end_checkpoint.Goals as goal
 
 pub invariant_of-self : goal.invariant_of-self
 invariant_of-self g c =
     let was = c.self.inside in
-    let items = c.of-items.result in
-    let records = c.new-records.result in
-    let taken : c.replace-writing.result.items ≡ was.writing.items = search rules in
-    let counted = c.of-items.ensures ∙ c.deref-2.ensures.value in
-    let written = counted ∙ sym c.deref-3.ensures.value in
-    let fresh : c.replace-writing.new.dest.items ≡ [] = search rules in (
-      checkpoint_kept g.D.Disk.seen g.D.Disk.may_leave was.log c.checkpoint.new.log was.items was.records c.deref-3.result.now items records was.standing c.in-Open.is c.self.invariant.0 c.in-Ok.ensures.ok written c.new-records.ensures,
-      subst (λ (n : ℕ). Takes n items records) (sym c.replace-written.ensures.value) (same_taken was.written was.writing.items [] items records (counted ∙ taken) c.new-records.ensures c.self.invariant.2.0),
+    let writing = c.deref-2.result.now in
+    let taken : writing ≡ was.writing.items = search rules in
+    let fresh : c.replace-writing.new.dest.items ≡ [] = search rules in
+    let next = was.log.area.number + 1 in (
+      still_kept g.D.Disk.may_leave c.checkpoint.new.self was.standing c.in-Open.is (c.checkpoint.ensures.open ∙ ap _ c.in-Ok.is),
+      area_taken c.replace-written.result (area_with next writing) c.checkpoint.new.self.area c.in-Ok.ensures.ok
+          (subst (λ (n : ℕ). Takes n writing []) (sym c.replace-written.ensures.value) (same_taken was.written was.writing.items [] writing [] taken refl c.self.invariant.2.0)),
       no_writing c.replace-written.new.dest c.replace-writing.new.dest.items c.replace-written.ensures.after fresh,
-      c.self.invariant.3,
+      (c.self.invariant.3.0, c.checkpoint.ensures.size ∙ c.self.invariant.3.1),
       tt,
     )
 
@@ -25,10 +25,10 @@ invariant_of-self-in-Err-NoMemory g c =
     let was = c.self.inside in
     let fresh : c.replace-writing.new.dest.items ≡ [] = search rules in
     let refused = c.in-Err-NoMemory.is ∙ ap Err c.in-Err-NoMemory.field-0-is in (
-      refused_kept g.D.Disk.seen g.D.Disk.may_leave was.log c.checkpoint.new.log was.items was.records was.standing c.in-Open.is c.self.invariant.0 (λ area open'. c.checkpoint.ensures.still_open area open' refused),
-      c.self.invariant.1,
+      still_kept g.D.Disk.may_leave c.checkpoint.new.self was.standing c.in-Open.is (rw refused at c.checkpoint.ensures.open),
+      area_taken was.used was.log.area c.checkpoint.new.self.area c.in-Err-NoMemory.ensures.err c.self.invariant.1,
       no_writing c.replace-written.new.dest c.replace-writing.new.dest.items c.replace-written.ensures.after fresh,
-      c.self.invariant.3,
+      (c.self.invariant.3.0, c.checkpoint.ensures.size ∙ c.self.invariant.3.1),
       tt,
     )
 
@@ -36,11 +36,11 @@ pub invariant_of-self-in-Err : goal.invariant_of-self-in-Err
 invariant_of-self-in-Err g c =
     let was = c.self.inside in
     let disk = g.D.Disk in
-    let written = c.of-items.ensures ∙ c.deref-2.ensures.value ∙ sym c.deref-3.ensures.value in
-    let fresh : c.replace-writing.new.dest.items ≡ [] = search rules in (
-      checkpoint_failed disk.seen disk.may_leave disk.moment disk.left_since g.met.D.Disk.counts_now was.log c.checkpoint.new.log was.items was.records c.deref-3.result.now c.of-items.result was.standing c.in-Open.is c.self.invariant.0 c.checkpoint.ensures.any_moment written,
-      c.self.invariant.1,
+    let fresh : c.replace-writing.new.dest.items ≡ [] = search rules in
+    let written : c.of.result ≡ c.deref-2.result.now = search rules in (
+      checkpoint_failed disk.may_leave disk.moment disk.left_since g.met.D.Disk.counts_now was.log c.checkpoint.new.self c.deref-2.result.now c.of.result c.in-Err.ensures.err c.checkpoint.ensures.any_moment written,
+      area_taken was.used was.log.area c.checkpoint.new.self.area c.in-Err.ensures.err c.self.invariant.1,
       no_writing c.replace-written.new.dest c.replace-writing.new.dest.items c.replace-written.ensures.after fresh,
-      c.self.invariant.3,
+      (c.self.invariant.3.0, c.checkpoint.ensures.size ∙ c.self.invariant.3.1),
       tt,
     )

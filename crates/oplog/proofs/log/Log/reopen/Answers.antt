@@ -1,0 +1,17 @@
+use Rattle.std.proofs.Common.{true}
+use Rattle.oplog.specs.Logs.{area_counted}
+use Rattle.oplog.proofs.OpenLogs.{closed_counted, counted_open}
+use Rattle.oplog.proofs.log.Log.reopen.Goals as goal
+
+pub invariant_of-self : goal.invariant_of-self
+invariant_of-self g c =
+    let was = c.self.inside in
+    closed_counted g.D.Disk.seen g.D.Disk.may_leave was.volume c.find_again.new.disk was.items was.records was.is_open c.self.invariant
+
+pub invariant_of-self-2 : goal.invariant_of-self-2
+invariant_of-self-2 g c =
+    let found = c.in_ok-found.found in
+    counted_open g.D.Disk.seen g.D.Disk.may_leave c.place.new.self found.number found.items found.records true c.place.ensures.open
+
+pub returns-clause-stops : goal.returns-clause-stops
+returns-clause-stops g c = rw (← c.self.view_is, c.place.ensures.disk) c.find_again.ensures.stops
