@@ -1,6 +1,6 @@
 -- A disk's fault, handed on as the log's.
-use Rattle.std.proofs.Common.{◌≡◌, Result, refl}
-use Rattle.std.specs.Prelude.{Err, IsErrOf}
+use Rattle.std.proofs.Common.{◌≡◌, Result, refl, subst, sym}
+use Rattle.std.specs.Prelude.{Ok, Err, IfErr, IsErrOf}
 use Rattle.std.specs.Result.{IsErrAnd}
 use Rattle.std.proofs.lemmas.Result.{err_from_is_err_and}
 use Rattle.disk.specs.declared.device.DiskFault.{DiskFault}
@@ -29,3 +29,8 @@ handed_on result fault wanted is refused =
     let told : result ≡ Err p.0 = p.1 in
     let same : p.0 ≡ fault = p.2 in
     cc
+
+-- a fault that is handed on with what goes back beside it
+pub handed_back : {T F : Type 0} (result : Result T F) (P : F → Type 0) (fault : F) → IsErrAnd result (λ e. e ≡ fault) → P fault → IfErr result P
+handed_back (Ok x) P fault is holds = absurd is
+handed_back (Err e) P fault is holds = subst P (sym is) holds
