@@ -2,6 +2,7 @@ use Rattle.std.proofs.Common.{◌≡◌, ◌+◌, ◌∷◌, ◌++◌, [], sym, 
 use Rattle.std.specs.Prelude.{Err}
 use Rattle.oplog.specs.Areas.{AreaState}
 use Rattle.oplog.specs.Changes.{appended}
+use Rattle.oplog.specs.Faults.{stays_open}
 use Rattle.protocol.specs.LogSizes.{payload_size, used_size}
 use Rattle.operation_log.proofs.Growth.{record_push}
 use Rattle.stored_log.specs.Kept.{Takes}
@@ -13,10 +14,10 @@ invariant_of-self g c =
     let was = c.self.inside in
     let area = was.log.area in
     let now_is : c.append.new.self.area ≡ appended area c.args.entry.now = search rules in
-    let used : c.in-Some.used ≡ was.used + (5 + payload_size c.args.entry.now) = search rules in
-    let taken = (used ∙ record_push was.used area.items area.records c.args.entry.now c.self.invariant.1.0, c.in-Some.ensures.small) in (
-      still_kept g.D.Disk.may_leave c.append.new.self was.standing c.in-Open.is (c.append.ensures.open ∙ ap _ c.in-Ok.is),
-      area_taken c.in-Some.used (appended area c.args.entry.now) c.append.new.self.area now_is taken,
+    let used : c.in-Some.used ≡ was.used + (5 + payload_size c.args.entry.now) = search rules in (
+      still_kept g.D.Disk.may_leave c.append.new.self was.standing c.in-Open.is (c.append.ensures.open ∙ ap stays_open c.in-Ok.is),
+      area_taken c.in-Some.used (appended area c.args.entry.now) c.append.new.self.area now_is
+          (used ∙ record_push was.used area.items area.records c.args.entry.now c.self.invariant.1.0, c.in-Some.ensures.small),
       c.self.invariant.2,
       (c.self.invariant.3.0, c.append.ensures.size ∙ c.self.invariant.3.1),
       tt,

@@ -1,5 +1,6 @@
-use Rattle.std.proofs.Common.{◌≡◌, ℕ, [], sym, ap, subst, ◌∙◌, rules}
+use Rattle.std.proofs.Common.{◌≡◌, ◌+◌, ℕ, [], refl, sym, ap, subst, ◌∙◌, rules}
 use Rattle.std.specs.Prelude.{Err}
+use Rattle.oplog.specs.Faults.{stays_open}
 use Rattle.oplog.specs.Writing.{area_with}
 use Rattle.stored_log.specs.Kept.{Takes}
 use Rattle.stored_log.proofs.Keeping.{area_taken, checkpoint_failed, no_writing, same_taken, still_kept}
@@ -12,7 +13,7 @@ invariant_of-self g c =
     let taken : writing ≡ was.writing.items = search rules in
     let fresh : c.replace-writing.new.dest.items ≡ [] = search rules in
     let next = was.log.area.number + 1 in (
-      still_kept g.D.Disk.may_leave c.checkpoint.new.self was.standing c.in-Open.is (c.checkpoint.ensures.open ∙ ap _ c.in-Ok.is),
+      still_kept g.D.Disk.may_leave c.checkpoint.new.self was.standing c.in-Open.is (c.checkpoint.ensures.open ∙ ap stays_open c.in-Ok.is),
       area_taken c.replace-written.result (area_with next writing) c.checkpoint.new.self.area c.in-Ok.ensures.ok
           (subst (λ (n : ℕ). Takes n writing []) (sym c.replace-written.ensures.value) (same_taken was.written was.writing.items [] writing [] taken refl c.self.invariant.2.0)),
       no_writing c.replace-written.new.dest c.replace-writing.new.dest.items c.replace-written.ensures.after fresh,

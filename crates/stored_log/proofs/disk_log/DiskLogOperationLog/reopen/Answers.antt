@@ -1,6 +1,6 @@
-use Rattle.std.proofs.Common.{◌≡◌, ℕ, sym, subst, ap, ◌∙◌, rules}
+use Rattle.std.proofs.Common.{◌≡◌, ℕ, is_ok, sym, subst, ap, ◌∙◌, rules}
 use Rattle.operation_log.specs.Logs.{IsDecided}
-use Rattle.stored_log.specs.Kept.{all_entries, closed, DiskLogState, IsKept}
+use Rattle.stored_log.specs.Kept.{all_entries, closed, DiskLogState, HasDiskSize, IsKept}
 use Rattle.stored_log.proofs.Keeping.{area_taken, closed_kept, closed_leaves, walk_kept}
 use Rattle.stored_log.proofs.Reopening.{found_decided, log_of, reopened_leaves}
 use Rattle.stored_log.proofs.Sizes.{end_taken}
@@ -10,8 +10,8 @@ pub invariant_of-self : goal.invariant_of-self
 invariant_of-self g c =
     let was = c.self.inside in
     let log = c.reopen.new.self in
-    let has = (c.self.invariant.3.0, c.reopen.ensures.size ∙ c.self.invariant.3.1) in (
-      c.reopen.ensures.open ∙ ap _ c.in-Ok.is,
+    let has : HasDiskSize log was.log_bytes = (c.self.invariant.3.0, c.reopen.ensures.size ∙ c.self.invariant.3.1) in (
+      c.reopen.ensures.open ∙ ap is_ok c.in-Ok.is,
       end_taken log c.used.result was.log_bytes c.used.ensures.end c.used.ensures.within has,
       c.self.invariant.2,
       has,
@@ -25,7 +25,7 @@ invariant_of-self-in-Err g c =
     let log = c.reopen.new.self in
     let is : c.closed.result ≡ closed was.standing = search rules in
     let left = reopened_leaves disk.may_leave was.log.disk log.disk was.log.area.items was.log.area.records (closed was.standing) c.reopen.ensures.stops
-    (closed_leaves disk.seen disk.may_leave was.log was.standing c.is_open-_is_open.ensures.durable c.self.invariant.0) in (
+    (closed_leaves disk.seen disk.may_leave was.log was.standing c.is_open-is_open.ensures.durable c.self.invariant.0) in (
       subst (IsKept disk.may_leave log) (sym is) (closed_kept disk.may_leave was.log log was.standing c.in-Err.ensures.err left),
       area_taken was.used was.log.area log.area c.in-Err.ensures.err c.self.invariant.1,
       c.self.invariant.2,
@@ -40,4 +40,4 @@ returns-in-Ok-clause-ok g c =
     let found = c.reopen.new.self.area in
     subst (λ (s : DiskLogState). IsDecided s.disk s.under_way (log_of found.items found.records)) c.self.view_is
     (found_decided disk.may_leave was.log.disk was.log.size was.log.area.items was.log.area.records found.items found.records was.standing (rw c.self.invariant.3.1 c.self.invariant.3.0.0) c.in-Ok.ensures.among
-    (closed_leaves disk.seen disk.may_leave was.log was.standing c.is_open-_is_open.ensures.durable c.self.invariant.0))
+    (closed_leaves disk.seen disk.may_leave was.log was.standing c.is_open-is_open.ensures.durable c.self.invariant.0))
