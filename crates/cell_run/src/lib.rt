@@ -4,6 +4,7 @@
 
 pub mod cell;
 pub mod client_stepper;
+pub mod laws;
 pub mod master_stepper;
 pub mod node_slots;
 pub mod running_client;
@@ -14,3 +15,19 @@ pub mod server_stepper;
 pub mod start_fault;
 mod step_message;
 mod threads;
+
+// What a program that runs a cell names.
+pub use bytes::Bytes;
+pub use cell::{Cell, ClientSeat};
+pub use cell_journal::journal_entry::{JournalEntry, StepCause};
+pub use cell_seats::gate::{Gate, OpenGate};
+pub use cell_seats::journal::Journal;
+pub use cell_seats::mailboxes::Policy;
+pub use gfs_types::answer::Answer;
+pub use gfs_types::call::Call;
+pub use gfs_types::config::Config;
+pub use gfs_types::ids::{Fd, Node, ServerId};
+pub use gfs_types::lists::Text;
+pub use gfs_types::refusal::Refusal;
+pub use seat_fault::SeatFault;
+pub use start_fault::StartFault;

@@ -6,13 +6,7 @@ mod one_client;
 
 use crate::one_client::reads_its_record;
 use anyhow::Result;
-use bytes::Bytes;
-use cell_run::cell::{Cell, ClientSeat};
-use cell_seats::gate::OpenGate;
-use cell_seats::journal::Journal;
-use gfs_types::answer::Answer;
-use gfs_types::config::Config;
-use gfs_types::lists::Text;
+use cell_run::{Answer, Bytes, Cell, ClientSeat, Config, Journal, OpenGate, Text};
 use std::alloc::Global;
 use std::sync::Wait;
 use std::thread;

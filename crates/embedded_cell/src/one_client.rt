@@ -1,12 +1,8 @@
 //! A client that appends a record and reads it.
 
 use anyhow::Result;
-use bytes::Bytes;
-use cell_run::cell::Cell;
-use cell_seats::gate::OpenGate;
-use cell_seats::journal::agree;
-use gfs_types::config::Config;
-use gfs_types::lists::Text;
+use cell_run::laws::agree;
+use cell_run::{Bytes, Cell, Config, OpenGate, Text};
 use std::alloc::Global;
 use std::sync::Wait;
 use std::thread::Threads;
