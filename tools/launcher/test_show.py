@@ -8,7 +8,7 @@ import xml.dom.minidom
 import command_line
 from building import TOP
 from causes import UNKNOWN, Causes
-from chart import svg_of
+from chart import LETTER, svg_of
 from show import Show, Wanted, asked_by, shown_text, wanted_by
 from test_words import answer, expected_text
 from worked_rows import WORKED, parts_of, rows_of
@@ -174,14 +174,19 @@ def charts(program):
 
 
 def svg(program):
-    """A picture has a text for each row, and is XML."""
+    """A picture has a text for each row and the names of the nodes at both ends, is XML whatever the script's letters are, and cuts no text off at its edge."""
     shows = Show(PLAIN._replace(svg='-'), {'chunk': 64}, io.BytesIO(), program)
-    for line in b'c1 create /<&|hold Named c1|start c1 open /<&|free|cut s1|twice Ask master|c1 append 1 <&'.split(b'|'):
+    for line in (b'c1 create /<&\x01|hold Named c1|start c1 open /<&\x01|free|cut s1|twice Ask master|c1 append 1 <&|join s1|c1 write 1 0 ' + b'a' * 200 + b'|c1 read 1 0 200').split(b'|'):
         shows.line(line)
     notes = {row[5] for row in shows.rows if row[0] == 'message'}
-    texts = xml.dom.minidom.parseString(svg_of(shows.lanes, shows.rows)).getElementsByTagName('text')
-    is_whole = len(texts) > len(shows.rows) and notes == {'', 'held', 'lost', 'again'}
-    return 1, [] if is_whole else [f'a chart as a picture: {len(texts)} texts of {len(shows.rows)} rows, {notes}']
+    drawn_chart = xml.dom.minidom.parseString(svg_of(shows.lanes, shows.rows)).documentElement
+    texts = drawn_chart.getElementsByTagName('text')
+    told = [text.firstChild.data for text in texts]
+    is_whole = len(texts) > len(shows.rows) and notes == {'', 'held', 'lost', 'again'} and told[:5] == told[-5:] == shows.lanes
+    edge = int(drawn_chart.getAttribute('width'))
+    cut = [words for text, words in zip(texts, told) if not text.getAttribute('text-anchor') and int(text.getAttribute('x')) + LETTER * len(words) > edge]
+    is_short = not cut and any(words.endswith('\N{HORIZONTAL ELLIPSIS}') for words in told)
+    return 1, [] if is_whole and is_short else [f'a chart as a picture: {len(texts)} texts of {len(shows.rows)} rows, {notes}, {cut}']
 
 
 def faults():
