@@ -3,12 +3,14 @@ import glob
 import io
 import os
 import re
+import subprocess
 import xml.dom.minidom
 
 import command_line
 from building import TOP
 from causes import UNKNOWN, Causes
 from chart import LETTER, svg_of
+from example import answers_of, bytes_of, path_of
 from show import Show, Wanted, asked_by, shown_text, wanted_by
 from test_words import answer, expected_text
 from worked_rows import WORKED, parts_of, rows_of
@@ -63,8 +65,8 @@ def examples(program):
     return count, faults
 
 
-def side_by_side(_program):
-    """`example` lists them, prints one beside its answers, and knows no other."""
+def side_by_side(program):
+    """`example` lists them, prints each beside its answers, and knows no other."""
     first = answer(LAUNCHER, ['example', 'pad'], '/')
     names = [line.split()[0] for line in answer(LAUNCHER, ['example'], '/')[1].decode().splitlines()]
     files = sorted(os.path.splitext(name)[0] for name in os.listdir(os.path.join(TOP, 'examples')) if not name.endswith('.out'))
@@ -73,7 +75,22 @@ def side_by_side(_program):
         faults.append(f'example pad: {first}')
     if answer(LAUNCHER, ['example', 'none'], '/')[0] != 2:
         faults.append('example none: no fault')
-    return 3, faults
+    for name in names:
+        if name + '.gfs' in os.listdir(os.path.join(TOP, 'examples')):
+            script, expected = (bytes_of(path_of(name, ending)) for ending in ('.gfs', '.out'))
+            if ''.join(line + '\n' for _, printed in answers_of(script, program) for line in printed).encode() != expected:
+                faults.append(f'example {name}: something else stands beside it')
+    return 2 + len(names), faults
+
+
+def talking(_program):
+    """Lines of a terminal go on behind a bad one."""
+    lines = b'c1 mkdir /a\nfly\n\nc2 list /\nc1 list /'
+    ran = subprocess.run([LAUNCHER, 'show', '-i'], input=lines, capture_output=True, check=False)
+    said = [line.split(b': ', 1)[1] for line in ran.stderr.splitlines()]
+    wanted = [b'line 2: bad line: no line begins with fly', b'line 4: bad line: c2: the cell has 1 client (--clients)']
+    is_well = (ran.returncode, ran.stdout, said) == (0, b'c1 done\nc1 names 2 .gone/ a/\n', wanted)
+    return 1, [] if is_well else [f'show -i: {ran}']
 
 
 def as_a_user(_program):
@@ -193,7 +210,7 @@ def faults():
     """How many things were tested, and what is wrong."""
     from translate import Program
     program = Program()
-    parts = [part(program) for part in (rows, examples, side_by_side, as_a_user, causes, charts, svg, pages, commands)]
+    parts = [part(program) for part in (rows, examples, side_by_side, talking, as_a_user, causes, charts, svg, pages, commands)]
     return sum(count for count, _ in parts), [fault for _, part in parts for fault in part]
 
 
