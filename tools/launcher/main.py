@@ -89,7 +89,7 @@ def run_program(words):
 
 def prove(words):
     if words:
-        say('bad command line')
+        say('bad command line: ./gfscell prove takes no word')
         return 2
     building.prove()
     return 0
@@ -97,6 +97,8 @@ def prove(words):
 
 def run_own(way, words):
     """The launcher's own words."""
+    if way != 'show' and words[:1] in (['--help'], ['-h']):
+        return print_text(USAGE.lstrip() + '\n')
     if way == 'prove':
         return prove(words)
     if way == 'show':

@@ -94,11 +94,13 @@ def talking(_program):
 
 
 def as_a_user(_program):
-    """The words of `show` that only the whole command has."""
+    """The words of `show`, and of others, that only the whole command has."""
     shows, faults = [['show', 'examples/first.gfs'], ['show', 'examples/pad.gfs', '--clients', '1'], ['show', 'none'], ['show', 'examples/pad.gfs', '--chunk', '63'],
-                     ['show', 'examples/pad.gfs', '--names-heap', '9'], ['show', '-i', '--clients=2'], ['show', '--help']], []
+                     ['show', 'examples/pad.gfs', '--names-heap', '9'], ['show', '-i', '--clients=2'], ['show', '--help'],
+                     ['prove', '--help'], ['soak', '-h'], ['prove', 'all']], []
     said = [(0, ''), (1, 'line 6: bad line: c2: the cell has 1 client (--clients)'), (1, 'cannot read: No such file or directory'),
-            (1, 'cannot start: --chunk: 64 to 67108864, a multiple of 16'), (2, 'bad command line: --names-heap: the definitions have no regions'), (0, ''), (0, '')]
+            (1, 'cannot start: --chunk: 64 to 67108864, a multiple of 16'), (2, 'bad command line: --names-heap: the definitions have no regions'), (0, ''), (0, ''),
+            (0, ''), (0, ''), (2, 'bad command line: ./gfscell prove takes no word')]
     for words, (status, fault) in zip(shows, said):
         found = answer(LAUNCHER, words, TOP)
         if (found[0], found[2].decode()) != (status, f'gfscell: {fault}\n' if fault else ''):
