@@ -117,46 +117,88 @@ def text_of(lanes, row):
 
 # ---- as a picture
 
-WIDTH, HEIGHT, LEFT = 130, 22, 90
+WIDTH, HEIGHT, LEFT, LETTER = 130, 22, 90, 6.7
+# the names of the nodes stand again after so many rows, above the next line of the script
+ROWS_OF_A_PAGE = 40
 COLORS = {'': '#333', 'held': '#b60', 'lost': '#c00', 'again': '#06c'}
+
+
+def svg_text(x, y, text, more=''):
+    """A text, with white round its letters where it stands on a lane; a character that XML hasn't is shown as another."""
+    shown = ''.join(it if it.isprintable() else '\N{REPLACEMENT CHARACTER}' for it in text)
+    return f'<text x="{x}" y="{y}" stroke="#fff" stroke-width="3" paint-order="stroke" {more}>{escape(shown)}</text>'
+
+
+def svg_end(tip, top, note, to_left):
+    """The sign at the end of a message that isn't delivered, and the word behind it."""
+    sign = 'm-4 -4 l8 8 m0 -8 l-8 8' if note == 'lost' else 'm-2 -5 v10 m4 -10 v10'
+    yield f'<path d="M{tip} {top} {sign}" stroke="{COLORS[note]}" stroke-width="1.5"/>'
+    yield svg_text(tip + (-8 if to_left else 8), top + 4, NOTES[note].strip(), f'fill="{COLORS[note]}" text-anchor="{"end" if to_left else "start"}"')
 
 
 def svg_message(lanes, top, number, sender, receiver, kind, note):
     start, end = (LEFT + lanes.index(name) * WIDTH + WIDTH // 2 for name in (sender, receiver))
+    is_delivered = note in ('', 'again')
     # a message that isn't delivered ends on its way
-    tip = end if note in ('', 'again') else start + (end - start) * 3 // 4
-    step = 7 if tip < start else -7
+    tip = end if is_delivered else start + (end - start) * 3 // 4
     color = COLORS[note]
     dashes = ' stroke-dasharray="5 3"' if note else ''
     yield f'<line x1="{start}" y1="{top}" x2="{tip}" y2="{top}" stroke="{color}"{dashes}/>'
-    if note in ('', 'again'):
-        yield f'<path d="M{tip} {top} l{step} -4 v8 z" fill="{color}"/>'
+    if is_delivered:
+        yield f'<path d="M{tip} {top} l{7 if tip < start else -7} -4 v8 z" fill="{color}"/>'
     else:
-        yield f'<text x="{tip}" y="{top + 4}" fill="{color}" text-anchor="middle">{"×" if note == "lost" else "‖"}</text>'
-    yield f'<text x="{(start + end) // 2}" y="{top - 3}" fill="{color}" text-anchor="middle">{kind}{NOTES[note]}</text>'
-    yield f'<text x="8" y="{top + 3}" fill="#999">#{number}</text>'
+        yield from svg_end(tip, top, note, tip < start)
+    yield svg_text((start + tip) // 2, top - 4, kind + (NOTES[note] if is_delivered else ''), f'fill="{color}" text-anchor="middle"')
+    yield svg_text(8, top + 4, f'#{number}', 'fill="#777"')
 
 
-def svg_row(lanes, top, row):
+def svg_names(lanes, top):
+    for place, name in enumerate(lanes):
+        yield svg_text(LEFT + place * WIDTH + WIDTH // 2, top + 4, name, 'font-weight="bold" fill="#000" text-anchor="middle"')
+
+
+def shortened(text, x, width):
+    """A text that begins at x, as far as it has room."""
+    letters = int((width - 8 - x) / LETTER)
+    return text if len(text) <= letters else text[:letters - 1] + '\N{HORIZONTAL ELLIPSIS}'
+
+
+def svg_row(lanes, top, width, row):
     if row[0] == 'message':
         yield from svg_message(lanes, top, *row[1:])
+    elif row[0] == 'names':
+        yield from svg_names(lanes, top)
     elif row[0] == 'moment':
-        yield f'<text x="8" y="{top}" fill="#666">{row[1]} ms</text>'
+        yield svg_text(8, top + 4, f'{row[1]} ms', 'fill="#555"')
+    elif row[0] == 'line':
+        yield svg_text(8, top + 4, shortened(f'{row[1]} ms  {row[2]}', 8, width), 'font-weight="bold" fill="#000"')
     else:
-        text = f'{row[1]} ms  {row[2]}' if row[0] == 'line' else f'⇒ {row[1]}'
-        yield f'<text x="{8 if row[0] == "line" else LEFT}" y="{top}" font-weight="bold" fill="{"#000" if row[0] == "line" else "#060"}">{escape(text)}</text>'
+        yield svg_text(LEFT, top + 4, shortened(f'\N{RIGHTWARDS DOUBLE ARROW} {row[1]}', LEFT, width), 'font-weight="bold" fill="#060"')
+
+
+def with_names(rows):
+    """The rows with the names of the nodes above, between and below them."""
+    yield ('names',)
+    since = 0
+    for row in rows:
+        if since >= ROWS_OF_A_PAGE and row[0] == 'line':
+            yield ('names',)
+            since = 0
+        yield row
+        since += 1
+    yield ('names',)
 
 
 def svg_of(lanes, rows):
     """The rows as a picture."""
-    height = HEIGHT * (len(rows) + 3)
-    width = LEFT + WIDTH * len(lanes) + 20
-    lines = [f'<svg xmlns="http://www.w3.org/2000/svg" width="{width}" height="{height}" font-family="monospace" font-size="11">',
+    rows = list(with_names(rows))
+    height = HEIGHT * (len(rows) + 1)
+    width = max(LEFT + WIDTH * len(lanes) + 20, 900)
+    lines = [f'<svg xmlns="http://www.w3.org/2000/svg" width="{width}" height="{height}" font-family="monospace" font-size="11" fill="none" xml:space="preserve">',
              f'<rect width="{width}" height="{height}" fill="#fff"/>']
-    for place, name in enumerate(lanes):
+    for place in range(len(lanes)):
         middle = LEFT + place * WIDTH + WIDTH // 2
-        lines.append(f'<text x="{middle}" y="{HEIGHT}" text-anchor="middle" font-weight="bold">{name}</text>')
-        lines.append(f'<line x1="{middle}" y1="{HEIGHT + 6}" x2="{middle}" y2="{height - 6}" stroke="#ddd"/>')
-    for place, row in enumerate(rows, 2):
-        lines += svg_row(lanes, place * HEIGHT + HEIGHT // 2, row)
+        lines.append(f'<line x1="{middle}" y1="{HEIGHT}" x2="{middle}" y2="{height - HEIGHT}" stroke="#ddd"/>')
+    for place, row in enumerate(rows, 1):
+        lines += svg_row(lanes, place * HEIGHT, width, row)
     return '\n'.join([*lines, '</svg>', ''])

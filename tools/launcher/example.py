@@ -37,13 +37,13 @@ def words_of(script):
     return [word for name, value in command_line.options_in(script).items() for word in ('--' + name.replace('_', '-'), str(value))]
 
 
-def answers_of(script):
+def answers_of(script, program=None):
     """Each line of a script with what it prints, by the definitions."""
     from cell import Cell
     from script import Simulator
     servers, clients, settings = command_line.settings_of(command_line.options_in(script))
     printed = []
-    simulator = Simulator(Cell(settings, servers, clients), printed.append)
+    simulator = Simulator(Cell(settings, servers, clients, None, program), printed.append)
     for line in script.split(b'\n'):
         simulator.line(line)
         yield line, printed[:]

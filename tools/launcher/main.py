@@ -44,9 +44,10 @@ def become(program, words):
     os.execv(program, [program, *words])
 
 
-def tell_own(is_wanted):
-    if is_wanted and sys.stderr.isatty():
-        print(USAGE, file=sys.stderr)
+def tell_own(before=''):
+    """To one who sits at a terminal, what the launcher takes too."""
+    if sys.stderr.isatty():
+        print(before + USAGE, file=sys.stderr)
 
 
 def told(fault, cause, is_explained, status=1):
@@ -66,11 +67,13 @@ def run_program(words):
         asked = command_line.parse(words)
     except command_line.Shown as shown:
         status = print_text(str(shown))
-        tell_own(str(shown) == command_line.program_help())
+        if str(shown) == command_line.program_help():
+            tell_own()
         return status
     except command_line.Bad as cause:
         status = told('bad command line', cause, is_explained, 2)
-        tell_own(not words)
+        if words in ([], ['help']):
+            tell_own('\n' + command_line.program_help())
         return status
     fault = fault_of(asked)
     if fault:
@@ -86,7 +89,7 @@ def run_program(words):
 
 def prove(words):
     if words:
-        say('bad command line')
+        say('bad command line: ./gfscell prove takes no word')
         return 2
     building.prove()
     return 0
@@ -94,6 +97,8 @@ def prove(words):
 
 def run_own(way, words):
     """The launcher's own words."""
+    if way != 'show' and words[:1] in (['--help'], ['-h']):
+        return print_text(USAGE.lstrip() + '\n')
     if way == 'prove':
         return prove(words)
     if way == 'show':

@@ -17,21 +17,20 @@ def bar(places, scale):
     return ''.join(columns.get(at, ' ') for at in range(max(columns, default=-1) + 1))
 
 
-def entry_row(entry, scale):
+def entry_row(entry):
+    """What stands before a mutation's bytes, and these by their places."""
     label = f'{"settled" if entry.is_settled else "unsettled":<9} r{entry.round} c{entry.client} call {entry.call}'
-    name = '' if entry.kind != 'Pad' else ' pad'
-    return f'  {label + name:<{MARGIN}}|{bar({entry.offset + at: shown(byte) for at, byte in enumerate(entry.content)}, scale)}'
+    return label + (' pad' if entry.kind == 'Pad' else ''), {entry.offset + at: shown(byte) for at, byte in enumerate(entry.content)}
 
 
-def replica_row(name, replica, scale):
+def replica_row(name, replica):
     places = {at: shown(byte) for at, byte in enumerate(replica.bytes)}
     places.update({at: '!' for at in replica.changed})
-    return f'  {f"{name} version {replica.version}":<{MARGIN}}|{bar(places, scale)}'
+    return f'{name} version {replica.version}', places
 
 
-def regions_row(regions, scale):
-    places = {at: 'd' if is_determined else 'u' for first, end, is_determined in regions for at in range(first, end)}
-    return f'  {"regions":<{MARGIN}}|{bar(places, scale)}'
+def regions_row(regions):
+    return 'regions', {at: 'd' if is_determined else 'u' for first, end, is_determined in regions for at in range(first, end)}
 
 
 def picture(cell, title, file, index, handle):
@@ -41,13 +40,13 @@ def picture(cell, title, file, index, handle):
     stored = [(f's{number + 1}', state.replicas(server).get(handle)) for number, server in enumerate(state.servers(cell.world)) if state.is_up(server)]
     stored = [(name, replica) for name, replica in stored if replica is not None]
     regions = cell.regions(file, index)
-    ends = [entry.offset + len(entry.content) for entry in entries] + [len(replica.bytes) for _, replica in stored] + [end for _, end, _ in regions]
-    scale = -(-max(ends, default=1) // WIDTH) or 1
+    rows = [*map(entry_row, entries), *(replica_row(name, replica) for name, replica in stored), regions_row(regions)]
+    end = max((place + 1 for _, places in rows for place in places), default=1)
+    scale = -(-end // WIDTH)
+    margin = max(MARGIN, *(len(label) for label, _ in rows))
     notes = ', a column is %d bytes' % scale if scale > 1 else ''
     yield f'  {title}, handle {handle}: its order, its replicas, and what is (d)etermined or (u)ndetermined{notes}'
-    yield from (entry_row(entry, scale) for entry in entries)
-    yield from (replica_row(name, replica, scale) for name, replica in stored)
-    yield regions_row(regions, scale)
+    yield from (f'  {label:<{margin}}|{bar(places, scale)}' for label, places in rows)
 
 
 def name_of(cell, file):

@@ -87,8 +87,8 @@ def minutes_of(words):
     """The minutes that are asked for; 5 where none are; None where the words are wrong."""
     if not words:
         return 5
-    value = words[0].removeprefix('--minutes=') if len(words) == 1 else words[1] if len(words) == 2 and words[0] == '--minutes' else ''
-    return number(value) or None
+    flag, _, value = words[0].partition('=') if len(words) == 1 else (words[0], '', words[1])
+    return number(value) or None if flag == '--minutes' and len(words) < 3 else None
 
 
 def soak(words):

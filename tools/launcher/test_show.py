@@ -3,12 +3,14 @@ import glob
 import io
 import os
 import re
+import subprocess
 import xml.dom.minidom
 
 import command_line
 from building import TOP
 from causes import UNKNOWN, Causes
-from chart import svg_of
+from chart import LETTER, svg_of
+from example import answers_of, bytes_of, path_of
 from show import Show, Wanted, asked_by, shown_text, wanted_by
 from test_words import answer, expected_text
 from worked_rows import WORKED, parts_of, rows_of
@@ -63,8 +65,8 @@ def examples(program):
     return count, faults
 
 
-def side_by_side(_program):
-    """`example` lists them, prints one beside its answers, and knows no other."""
+def side_by_side(program):
+    """`example` lists them, prints each beside its answers, and knows no other."""
     first = answer(LAUNCHER, ['example', 'pad'], '/')
     names = [line.split()[0] for line in answer(LAUNCHER, ['example'], '/')[1].decode().splitlines()]
     files = sorted(os.path.splitext(name)[0] for name in os.listdir(os.path.join(TOP, 'examples')) if not name.endswith('.out'))
@@ -73,15 +75,32 @@ def side_by_side(_program):
         faults.append(f'example pad: {first}')
     if answer(LAUNCHER, ['example', 'none'], '/')[0] != 2:
         faults.append('example none: no fault')
-    return 3, faults
+    for name in names:
+        if name + '.gfs' in os.listdir(os.path.join(TOP, 'examples')):
+            script, expected = (bytes_of(path_of(name, ending)) for ending in ('.gfs', '.out'))
+            if ''.join(line + '\n' for _, printed in answers_of(script, program) for line in printed).encode() != expected:
+                faults.append(f'example {name}: something else stands beside it')
+    return 2 + len(names), faults
+
+
+def talking(_program):
+    """Lines of a terminal go on behind a bad one."""
+    lines = b'c1 mkdir /a\nfly\n\nc2 list /\nc1 list /'
+    ran = subprocess.run([LAUNCHER, 'show', '-i'], input=lines, capture_output=True, check=False)
+    said = [line.split(b': ', 1)[1] for line in ran.stderr.splitlines()]
+    wanted = [b'line 2: bad line: no line begins with fly', b'line 4: bad line: c2: the cell has 1 client (--clients)']
+    is_well = (ran.returncode, ran.stdout, said) == (0, b'c1 done\nc1 names 2 .gone/ a/\n', wanted)
+    return 1, [] if is_well else [f'show -i: {ran}']
 
 
 def as_a_user(_program):
-    """The words of `show` that only the whole command has."""
+    """The words of `show`, and of others, that only the whole command has."""
     shows, faults = [['show', 'examples/first.gfs'], ['show', 'examples/pad.gfs', '--clients', '1'], ['show', 'none'], ['show', 'examples/pad.gfs', '--chunk', '63'],
-                     ['show', 'examples/pad.gfs', '--names-heap', '9'], ['show', '-i', '--clients=2'], ['show', '--help']], []
+                     ['show', 'examples/pad.gfs', '--names-heap', '9'], ['show', '-i', '--clients=2'], ['show', '--help'],
+                     ['prove', '--help'], ['soak', '-h'], ['prove', 'all']], []
     said = [(0, ''), (1, 'line 6: bad line: c2: the cell has 1 client (--clients)'), (1, 'cannot read: No such file or directory'),
-            (1, 'cannot start: --chunk: 64 to 67108864, a multiple of 16'), (2, 'bad command line: --names-heap: the definitions have no regions'), (0, ''), (0, '')]
+            (1, 'cannot start: --chunk: 64 to 67108864, a multiple of 16'), (2, 'bad command line: --names-heap: the definitions have no regions'), (0, ''), (0, ''),
+            (0, ''), (0, ''), (2, 'bad command line: ./gfscell prove takes no word')]
     for words, (status, fault) in zip(shows, said):
         found = answer(LAUNCHER, words, TOP)
         if (found[0], found[2].decode()) != (status, f'gfscell: {fault}\n' if fault else ''):
@@ -174,21 +193,26 @@ def charts(program):
 
 
 def svg(program):
-    """A picture has a text for each row, and is XML."""
+    """A picture has a text for each row and the names of the nodes at both ends, is XML whatever the script's letters are, and cuts no text off at its edge."""
     shows = Show(PLAIN._replace(svg='-'), {'chunk': 64}, io.BytesIO(), program)
-    for line in b'c1 create /<&|hold Named c1|start c1 open /<&|free|cut s1|twice Ask master|c1 append 1 <&'.split(b'|'):
+    for line in (b'c1 create /<&\x01|hold Named c1|start c1 open /<&\x01|free|cut s1|twice Ask master|c1 append 1 <&|join s1|c1 write 1 0 ' + b'a' * 200 + b'|c1 read 1 0 200').split(b'|'):
         shows.line(line)
     notes = {row[5] for row in shows.rows if row[0] == 'message'}
-    texts = xml.dom.minidom.parseString(svg_of(shows.lanes, shows.rows)).getElementsByTagName('text')
-    is_whole = len(texts) > len(shows.rows) and notes == {'', 'held', 'lost', 'again'}
-    return 1, [] if is_whole else [f'a chart as a picture: {len(texts)} texts of {len(shows.rows)} rows, {notes}']
+    drawn_chart = xml.dom.minidom.parseString(svg_of(shows.lanes, shows.rows)).documentElement
+    texts = drawn_chart.getElementsByTagName('text')
+    told = [text.firstChild.data for text in texts]
+    is_whole = len(texts) > len(shows.rows) and notes == {'', 'held', 'lost', 'again'} and told[:5] == told[-5:] == shows.lanes
+    edge = int(drawn_chart.getAttribute('width'))
+    cut = [words for text, words in zip(texts, told) if not text.getAttribute('text-anchor') and int(text.getAttribute('x')) + LETTER * len(words) > edge]
+    is_short = not cut and any(words.endswith('\N{HORIZONTAL ELLIPSIS}') for words in told)
+    return 1, [] if is_whole and is_short else [f'a chart as a picture: {len(texts)} texts of {len(shows.rows)} rows, {notes}, {cut}']
 
 
 def faults():
     """How many things were tested, and what is wrong."""
     from translate import Program
     program = Program()
-    parts = [part(program) for part in (rows, examples, side_by_side, as_a_user, causes, charts, svg, pages, commands)]
+    parts = [part(program) for part in (rows, examples, side_by_side, talking, as_a_user, causes, charts, svg, pages, commands)]
     return sum(count for count, _ in parts), [fault for _, part in parts for fault in part]
 
 

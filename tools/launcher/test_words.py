@@ -1,5 +1,6 @@
 """Tests: what words of a command line ask for, and what is answered at once."""
 import os
+import pty
 import re
 import subprocess
 import tempfile
@@ -124,7 +125,19 @@ def other_words(program):
     return faults
 
 
+def at_a_terminal():
+    """The fault for `help` and for no words stands before the help, where one sits at a terminal."""
+    for words in ([], ['help']):
+        above, below = pty.openpty()
+        ran = subprocess.run([os.path.join(TOP, 'gfscell'), *words], stdin=subprocess.DEVNULL, stdout=subprocess.PIPE, stderr=below, check=False)
+        os.close(below)
+        with open(above, 'rb') as terminal:
+            told = terminal.read1(65536).replace(b'\r', b'')
+        if (ran.returncode, ran.stdout) != BAD[:2] or not told.startswith(BAD[2] + b'\n' + expected_text('help')) or b'  show FILE' not in told:
+            yield f'{words}, at a terminal: {ran}, {told}'
+
+
 def faults():
     """How many things were tested, and what is wrong."""
-    first, second = tables(), shown_kinds()
-    return first[0] + second[0] + len(at_once()), first[1] + second[1] + other_words(os.path.join(TOP, 'gfscell'))
+    first, second, third = tables(), shown_kinds(), list(at_a_terminal())
+    return first[0] + second[0] + len(at_once()) + 2, first[1] + second[1] + other_words(os.path.join(TOP, 'gfscell')) + third

@@ -5,7 +5,8 @@
     ```rust FILE       lines of that file, in one piece; its imports may be some of the file's. From the file's first line on it is the whole file
     ```text FILE       likewise, as of crates.txt, or of what a program has to print
     ```text            what stands before it prints: a script, or a line `./gfscell show ..` (`tools/launcher/test`)
-    ```                a picture
+    ```chart FILE      messages that a worked row sends (`page_charts.py`)
+    ```order FILE      the order of a chunk that a worked row leaves (likewise)
 """
 import os
 import re
@@ -78,7 +79,7 @@ def faults(page):
     for found in BLOCK.finditer(page):
         language, _, rest = found[1].partition(' ')
         is_well = {
-            '': lambda: True, 'gfs': lambda: found.start() in scripts,
+            'gfs': lambda: found.start() in scripts, 'chart': lambda: bool(rest), 'order': lambda: bool(rest),
             'text': lambda: is_of_file(rest, found[2]) if rest else found.span(2) in compared,
             'rust': lambda: is_of_file(rest, found[2]), 'live': lambda: is_in_test(rest, found[2])}.get(language, lambda: False)
         if not is_well():
