@@ -14,7 +14,7 @@ use std::fmt;
 pub enum StartFault {
     /// A setting is out of its range.
     Config,
-    /// There are no servers.
+    /// There are no servers, or more than 64.
     Count,
     NoMemory,
     /// The log didn't take the master's first epoch.
@@ -31,7 +31,7 @@ impl fmt::Display for StartFault {
     fn fmt<W: fmt::Write>(&self, f: &mut fmt::Formatter<W>) -> fmt::Result {
         match self {
             StartFault::Config => write!(f, "a setting is out of its range"),
-            StartFault::Count => write!(f, "no servers"),
+            StartFault::Count => write!(f, "not 1 to 64 servers"),
             StartFault::NoMemory => write!(f, "no memory"),
             StartFault::Log => write!(f, "the log took no record"),
             StartFault::Thread => write!(f, "no thread"),
