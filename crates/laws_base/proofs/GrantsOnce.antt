@@ -5,7 +5,6 @@ use Rattle.std.specs.FinMap as table
 use Rattle.std.proofs.lemmas.Bool.{eqb-true, and_parts, cases_lt}
 use Rattle.gfs_types.specs.declared.config.Config.{Config}
 use Rattle.messages.specs.declared.message.Body.{Body}
-use Rattle.messages.specs.declared.message.Body.TheVariants as body
 use Rattle.messages.specs.declared.message.Message.{Message}
 use Rattle.messages.specs.declared.event.NodeInput.{NodeInput}
 use Rattle.log_records.specs.declared.record.Record.{Record}
@@ -29,6 +28,7 @@ use Rattle.laws_base.proofs.MasterMoves.{Core, core_of, IsDue, IsPlainOrder, Not
 use Rattle.laws_base.proofs.MasterSteps.{no_input, goes_named}
 use Rattle.laws_base.proofs.ClientMoves.{HasNoOrder}
 use Rattle.laws_base.proofs.Words.{no_order}
+use Rattle.laws_base.proofs.LeaseOrders.{grant_body}
 use Rattle.laws_base.proofs.SentReached.{no_orders, without_order, count-sent, sent_reached}
 use Rattle.laws_base.proofs.OrderNumbers.{state_of, state-appended, AllStops, stops_push, AllFound, found_same, found_stopped}
 use Rattle.laws_base.proofs.LoggedParts.{Parts, parts_of, checkpoint_parts}
@@ -251,11 +251,11 @@ ended before start c handle moment h =
 -- messages
 
 no_order_grants : (handle version : ℕ) (b : Body) → order_number b ≡ None → is_grant handle version b ≡ false
-no_order_grants handle version (body.Grant order h v end_moment members) none = none_some order (sym none)
+no_order_grants handle version (grant_body order h v end_moment members) none = none_some order (sym none)
 no_order_grants handle version other none = refl
 
 plain_grants : (handle version : ℕ) (b : Body) → IsPlainOrder b → is_grant handle version b ≡ false
-plain_grants handle version (body.Grant order h v end_moment members) plain = absurd plain
+plain_grants handle version (grant_body order h v end_moment members) plain = absurd plain
 plain_grants handle version other plain = refl
 
 one_sent : (before sent : List Message) (m : Message) (handle version : ℕ) → granted_by before (sent ++ m ∷ []) handle version ≡ granted_by before sent handle version + tally (is_grant handle version m.body)

@@ -18,6 +18,7 @@ use Rattle.protocol.specs.Logged.{Logged, LogDisk, LogChange, AppendRecord, Writ
 use Rattle.laws_base.specs.Laws.{is_grant, tells_end}
 use Rattle.laws_base.proofs.Steps.{none_some, same_some, put_cases}
 use Rattle.laws_base.proofs.Words.{is_of_lease, true_false}
+use Rattle.laws_base.proofs.LeaseOrders.{grant_body, grant_order}
 use Rattle.laws_base.proofs.Entries.{same_number}
 use Rattle.laws_base.proofs.ChunkRows.{Rows, rows_of, OwnedFrom, removed_owned, all_copied_owned, swapped_owned, expired_owned}
 use Rattle.laws_base.proofs.VersionsAhead.{changed_cases}
@@ -218,12 +219,12 @@ ends_to_log greatest past told l h handle version until is =
 -- which messages tell ends
 
 pub plain_tells : (b : Body) (o : OrderNo) → order_number b ≡ Some o → IsPlainOrder b → (handle version until : ℕ) → tells_end handle version until b ≡ false
-plain_tells (body.Grant order h v end_moment members) o is plain handle version until = absurd plain
+plain_tells (grant_body order h v end_moment members) o is plain handle version until = absurd plain
 plain_tells (body.Extend h v end_moment) o is plain handle version until = none_some o is
 plain_tells other o is plain handle version until = refl
 
 pub quiet_tells : (b : Body) → is_of_lease b ≡ false → (handle version until : ℕ) → tells_end handle version until b ≡ false
-quiet_tells (body.Grant order h v end_moment members) quiet handle version until = true_false quiet
+quiet_tells (grant_body order h v end_moment members) quiet handle version until = true_false quiet
 quiet_tells (body.Extend h v end_moment) quiet handle version until = true_false quiet
 quiet_tells other quiet handle version until = refl
 
@@ -235,7 +236,7 @@ named_end chunk number moment handle version until is =
     (eqb-true chunk handle inner.0, eqb-true number version inner.1, eqb-true moment until outer.1)
 
 pub grant_tells : (b : Body) (handle version : ℕ) → is_grant handle version b ≡ true → (until : ℕ) × (tells_end handle version until b ≡ true)
-grant_tells (body.Grant order h v end_moment members) handle version is = (end_moment.0, and_from ((h.0 == handle) && (v.0 == version)) (end_moment.0 == end_moment.0) is (same_number end_moment.0))
+grant_tells (grant_body order h v end_moment members) handle version is = (end_moment.0, and_from ((h.0 == handle) && (v.0 == version)) (end_moment.0 == end_moment.0) is (same_number end_moment.0))
 grant_tells other handle version is = true_false (sym is)
 
 -- a version that was granted has an end that was told
@@ -482,7 +483,7 @@ module _ (before : List Message) (greatest lease_ms : ℕ) (start : LogDisk) whe
       two = core_ended (core_appended c r) chunk until
 
       m : Message
-      m = message node.Master (the_server primary) (body.Grant (record { epoch = two.logged.epoch; count = suc two.order_count }) (handle_of chunk) (version_of number) (moment_of until) members)
+      m = message node.Master (the_server primary) (grant_order chunk number until members (record { epoch = two.logged.epoch; count = suc two.order_count }))
 
       told : List Message
       told = before ++ c.sent

@@ -28,6 +28,7 @@ use Rattle.replica_store.specs.Replicas.{ServerDisk, disk_changed, disk_changed_
 use Rattle.protocol.specs.Server.{ServerState, ServerDoing, started_server}
 use Rattle.protocol.specs.ServerStep.{server_goes, server_ends, server_step, server_restarts}
 use Rattle.protocol.specs.World.{stamped}
+use Rattle.laws_base.proofs.LeaseOrders.{SaysGrant}
 use Rattle.laws_base.specs.Laws.{IsSameOrLater, is_grant, grants_of, tells_end, WasEndTold, LeasesAreTold, VersionsHaveOnePrimary}
 use Rattle.laws_base.proofs.Steps.{none_some, same_some, tally, put_cases, count-cons}
 use Rattle.laws_base.proofs.Entries.{same_number}
@@ -72,7 +73,7 @@ pub record IsToldLease (sent : List Message) (n : ℕ) (d : ServerDisk) (handle 
   pub receiver : grant.receiver ≡ the_server n
   pub order : OrderNo
   pub end_moment : Moment
-  pub is : grant.body ≡ body.Grant order (handle_of handle) (version_of held.version) end_moment held.members
+  pub is : SaysGrant order (handle_of handle) (version_of held.version) end_moment held.members grant.body
   pub taken : IsStaleAt d order
   pub told : WasEndTold sent handle held.version held.until
 
@@ -124,7 +125,7 @@ module _ (sent : List Message) (n : ℕ) where
         | inr before ↦ h q p before
       ]
 
-  end_of_grant : (order : OrderNo) (handle : Handle) (version : Version) (end_moment : Moment) (members : List ℕ) (m : Message) → m.body ≡ body.Grant order handle version end_moment members
+  end_of_grant : (order : OrderNo) (handle : Handle) (version : Version) (end_moment : Moment) (members : List ℕ) (m : Message) → SaysGrant order handle version end_moment members m.body
       → tells_end handle.0 version.0 end_moment.0 m.body ≡ true
   end_of_grant order handle version end_moment members m is =
       ap (tells_end handle.0 version.0 end_moment.0) is
@@ -308,7 +309,7 @@ same_grant handle version (x ∷ sent) (suc place) (suc other) g m few at there 
     let whole = count-cons (λ (y : Message). is_grant handle version y.body) x sent in
     same_grant handle version sent place other g m (omega (arith, whole, few)) at there is also
 
-pub granting : (order : OrderNo) (handle version : ℕ) (end_moment : Moment) (members : List ℕ) (b : Body) → b ≡ body.Grant order (handle_of handle) (version_of version) end_moment members → is_grant handle version b ≡ true
+pub granting : (order : OrderNo) (handle version : ℕ) (end_moment : Moment) (members : List ℕ) (b : Body) → SaysGrant order (handle_of handle) (version_of version) end_moment members b → is_grant handle version b ≡ true
 granting order handle version end_moment members b is = ap (is_grant handle version) is ∙ and_from (handle == handle) (version == version) (same_number handle) (same_number version)
 
 pub server_numbers : (n m : ℕ) → the_server (suc n) ≡ the_server (suc m) → n ≡ m

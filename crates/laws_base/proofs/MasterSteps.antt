@@ -17,6 +17,7 @@ use Rattle.protocol.specs.MasterSnapshots.{live_snapshots}
 use Rattle.protocol.specs.Master.{MasterState, MasterDoing, VersionAttempt, master_begins, logs}
 use Rattle.protocol.specs.MasterClones.{CloneOrder, orders_clone, best_clone}
 use Rattle.protocol.specs.MasterStep.{master_ticks, is_in_time, gives_up_attempts, gives_up_lost_copies, is_lost_copy, lost_copies, expires_all, expires_old, expired_files, master_takes, master_does, master_at, master_goes}
+use Rattle.laws_base.proofs.LeaseOrders.{revoke_body, grant_body}
 use Rattle.laws_base.proofs.VersionAttempts.{IsServerNumber, AreTold, kept_told}
 use Rattle.laws_base.proofs.LeasesEnded.{AreReady, later_ready, kept_ready}
 use Rattle.laws_base.proofs.Namespace.{IsNamespace, filtered_namespace, expired_names}
@@ -78,9 +79,9 @@ module _ (Asks : Type 0) (Told : ℕ → ℕ → ℕ → Type 0) (Ended : ℕ �
   takes_keeps d m (body.LenIs number count) told bound h = h
   takes_keeps d m (body.Create order handle version) told bound h = h
   takes_keeps d m (body.SetVersion order handle version base) told bound h = h
-  takes_keeps d m (body.Grant order handle version end_moment members) told bound h = h
+  takes_keeps d m (grant_body order handle version end_moment members) told bound h = h
   takes_keeps d m (body.Extend handle version end_moment) told bound h = h
-  takes_keeps d m (body.Revoke order handle version) told bound h = h
+  takes_keeps d m (revoke_body order handle version) told bound h = h
   takes_keeps d m (body.Drop order handle version) told bound h = h
   takes_keeps d m (body.Clone order handle version source) told bound h = h
   takes_keeps d m (body.CopyAsk handle version) told bound h = h

@@ -36,6 +36,7 @@ use Rattle.laws_base.proofs.MasterChunksMoves.{AreLinesTold}
 use Rattle.laws_base.proofs.MasterSteps.{IsWordTold, IsInputTold, goes_told}
 use Rattle.laws_base.proofs.ClientMoves.{HasNoOrder}
 use Rattle.laws_base.proofs.Words.{no_order}
+use Rattle.laws_base.proofs.LeaseOrders.{SaysGrant, grant_body}
 use Rattle.laws_base.proofs.SentReached.{IsInputSent, without_order, sent_reached}
 
 -- places in lists
@@ -84,22 +85,22 @@ all_in_order P (n ∷ ns) xs all =
 
 -- the members of a grant told that they have the version
 abbrev IsGrantTold : (ℕ → ℕ → ℕ → Type 0) → Body → Type 0
-IsGrantTold Told (body.Grant order handle version end_moment members) = (n : ℕ) → has_number members n ≡ true → Told n handle.0 version.0
+IsGrantTold Told (grant_body order handle version end_moment members) = (n : ℕ) → has_number members n ≡ true → Told n handle.0 version.0
 IsGrantTold Told other = Unit {0}
 
 abbrev AreGrantsTold : (ℕ → ℕ → ℕ → Type 0) → List Message → Type 0
 AreGrantsTold Told sent = AllOf (λ m. IsGrantTold Told m.body) sent
 
 more_granted : (Told Also : ℕ → ℕ → ℕ → Type 0) → ((n h v : ℕ) → Told n h v → Also n h v) → (b : Body) → IsGrantTold Told b → IsGrantTold Also b
-more_granted Told Also also (body.Grant order handle version end_moment members) h = λ n there. also n handle.0 version.0 (h n there)
+more_granted Told Also also (grant_body order handle version end_moment members) h = λ n there. also n handle.0 version.0 (h n there)
 more_granted Told Also also other h = tt
 
 no_order_granted : (Told : ℕ → ℕ → ℕ → Type 0) (b : Body) → order_number b ≡ None → IsGrantTold Told b
-no_order_granted Told (body.Grant order handle version end_moment members) none = none_some order (sym none)
+no_order_granted Told (grant_body order handle version end_moment members) none = none_some order (sym none)
 no_order_granted Told other none = tt
 
 no_grant_granted : (Told : ℕ → ℕ → ℕ → Type 0) (b : Body) → IsPlainOrder b → IsGrantTold Told b
-no_grant_granted Told (body.Grant order handle version end_moment members) none = absurd none
+no_grant_granted Told (grant_body order handle version end_moment members) none = absurd none
 no_grant_granted Told other none = tt
 
 -- messages without an order have no grant
@@ -249,7 +250,7 @@ new_truthful : (config : Config) (servers : ℕ) → IsTruthful [] (new_master c
 new_truthful config servers = record { attempts = none_told (WasTold [] 0); grants = λ place g is. none_some g is }
 
 granted_members : (Told : ℕ → ℕ → ℕ → Type 0) (b : Body) (order : OrderNo) (handle : Handle) (version : Version) (end_moment : Moment) (members : List ℕ)
-    → b ≡ body.Grant order handle version end_moment members → IsGrantTold Told b → (n : ℕ) → has_number members n ≡ true → Told n handle.0 version.0
+    → SaysGrant order handle version end_moment members b → IsGrantTold Told b → (n : ℕ) → has_number members n ≡ true → Told n handle.0 version.0
 granted_members Told b order handle version end_moment members is h = subst (λ (x : Body). IsGrantTold Told x) is h
 
 pub members_recorded_what_is_granted : MembersRecordedWhatIsGranted

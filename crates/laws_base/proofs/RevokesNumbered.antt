@@ -16,7 +16,7 @@ use Rattle.messages.specs.declared.event.NodeInput.{NodeInput}
 use Rattle.log_records.specs.declared.record.Record.{Record}
 use Rattle.log_records.specs.declared.record.Record.TheVariants as log
 use Rattle.relaxed_file.proofs.NamesTree.{Tree}
-use Rattle.protocol.specs.Sending.{message, the_server, handle_of, version_of, moment_of, order_number}
+use Rattle.protocol.specs.Sending.{message, the_server, handle_of, order_number}
 use Rattle.protocol.specs.Choice.{Choice, Ending, Goes, Lost, Stops, in_order, decided_changes}
 use Rattle.protocol.specs.Seen.{Taken, no_step}
 use Rattle.chunk_table.specs.ChunkTable.{ChunkRow, chunk_of, row_granted}
@@ -27,6 +27,7 @@ use Rattle.protocol.specs.World.{WorldState, stamped, IsReached}
 use Rattle.laws_base.specs.Laws.{IsSameOrLater}
 use Rattle.laws_base.proofs.Steps.{on_cond, none_some, same_some}
 use Rattle.laws_base.proofs.Words.{is_of_lease, true_false}
+use Rattle.laws_base.proofs.LeaseOrders.{revoke_body, revoke_order, SaysGrant, grant_body, grant_order, named_grant}
 use Rattle.laws_base.proofs.ChunkRows.{Rows, rows_of, From, removed_from, changed_from, swapped_from}
 use Rattle.laws_base.proofs.VersionsAhead.{changed_cases}
 use Rattle.laws_base.proofs.MasterMoves.{Core, core_of, IsDue, IsPlainOrder, Nothing, NoneEnded, Keeps, core_changed, core_appended, core_ended, core_granted, core_revoked, grant_record, logs_alone}
@@ -54,7 +55,7 @@ use Rattle.laws_base.proofs.GrantsOnce.{row_below}
 -- a Grant of this chunk is of the granted version to the primary, or of an earlier one
 abbrev pub GrantFits : ℕ → ℕ → ℕ → Message → Type 0
 GrantFits handle granted primary m =
-    (order : OrderNo) (version : Version) (end_moment : Moment) (members : List ℕ) → m.body ≡ body.Grant order (handle_of handle) version end_moment members
+    (order : OrderNo) (version : Version) (end_moment : Moment) (members : List ℕ) → SaysGrant order (handle_of handle) version end_moment members m.body
     → (version.0 ≤ granted) × (version.0 ≡ granted → m.receiver ≡ the_server primary)
 
 -- a Revoke is of the granted version or an earlier one
@@ -67,7 +68,7 @@ Fits ms handle granted primary = (m : Message) → IsSent ms m → GrantFits han
 -- its handle was used
 abbrev pub IsUsed : ℕ → Message → Type 0
 IsUsed next m =
-    ((order : OrderNo) (handle : Handle) (version : Version) (end_moment : Moment) (members : List ℕ) → m.body ≡ body.Grant order handle version end_moment members → handle.0 < next)
+    ((order : OrderNo) (handle : Handle) (version : Version) (end_moment : Moment) (members : List ℕ) → SaysGrant order handle version end_moment members m.body → handle.0 < next)
     × ((order : OrderNo) (handle : Handle) (version : Version) → m.body ≡ body.Revoke order handle version → handle.0 < next)
 
 pub record Agrees (ms : List Message) (l : Logged) : Type 0 where
@@ -77,7 +78,7 @@ pub record Agrees (ms : List Message) (l : Logged) : Type 0 where
 -- a Revoke goes where the Grant of its version went, and is numbered after it
 abbrev pub IsPaired : Message → Message → Type 0
 IsPaired g r =
-    (order later : OrderNo) (handle : Handle) (version : Version) (end_moment : Moment) (members : List ℕ) → g.body ≡ body.Grant order handle version end_moment members → r.body ≡ body.Revoke later handle version
+    (order later : OrderNo) (handle : Handle) (version : Version) (end_moment : Moment) (members : List ℕ) → SaysGrant order handle version end_moment members g.body → r.body ≡ body.Revoke later handle version
     → (g.receiver ≡ r.receiver) × IsSameOrLater order.epoch order.count later.epoch later.count
 
 abbrev pub ArePaired : List Message → Type 0
@@ -202,15 +203,15 @@ paired_more ms more m one as_grant as_revoke both h g r is also =
       ]
     ]
 
-not_grant : {A : Type 0} (b : Body) (order : OrderNo) (handle : Handle) (version : Version) (end_moment : Moment) (members : List ℕ) → IsPlainOrder b → b ≡ body.Grant order handle version end_moment members → A
+not_grant : {A : Type 0} (b : Body) (order : OrderNo) (handle : Handle) (version : Version) (end_moment : Moment) (members : List ℕ) → IsPlainOrder b → SaysGrant order handle version end_moment members b → A
 not_grant b order handle version end_moment members plain is = absurd (subst (λ (x : Body). IsPlainOrder x) is plain)
 
 not_revoke : {A : Type 0} (b : Body) (order : OrderNo) (handle : Handle) (version : Version) → IsPlainOrder b → b ≡ body.Revoke order handle version → A
 not_revoke b order handle version plain is = absurd (subst (λ (x : Body). IsPlainOrder x) is plain)
 
 quiet_plain : (b : Body) → is_of_lease b ≡ false → IsPlainOrder b
-quiet_plain (body.Grant order handle version end_moment members) h = true_false h
-quiet_plain (body.Revoke order handle version) h = true_false h
+quiet_plain (grant_body order handle version end_moment members) h = true_false h
+quiet_plain (revoke_body order handle version) h = true_false h
 quiet_plain other h = tt
 
 plain_agrees : (ms more : List Message) (m : Message) (l : Logged) → IsOneMore ms m more → IsPlainOrder m.body → Agrees ms l → Agrees more l
@@ -315,7 +316,7 @@ granted before start c handle version until primary members due n h =
     order = record { epoch = two.logged.epoch; count = suc two.order_count }
 
     m : Message
-    m = message node.Master (the_server primary) (body.Grant order (handle_of handle) (version_of version) (moment_of until) members)
+    m = message node.Master (the_server primary) (grant_order handle version until members order)
 
     ms : List Message
     ms = before ++ c.sent
@@ -357,15 +358,15 @@ granted before start c handle version until primary members due n h =
 
     -- what this message says
     handle_in : Body → ℕ
-    handle_in (body.Grant o q v end_moment ns) = q.0
+    handle_in (grant_body o q v end_moment ns) = q.0
     handle_in other = 0
 
     version_in : Body → ℕ
-    version_in (body.Grant o q v end_moment ns) = v.0
+    version_in (grant_body o q v end_moment ns) = v.0
     version_in other = 0
 
     is_revoke : Body → Type 0
-    is_revoke (body.Revoke o q v) = ⊥
+    is_revoke (revoke_body o q v) = ⊥
     is_revoke other = Unit {0}
 
     no_revoke : {A : Type 0} (later : OrderNo) (q : Handle) (v : Version) → m.body ≡ body.Revoke later q v → A
@@ -425,7 +426,7 @@ revoked before start epoch count numbered c handle row at n numbers h =
     order = record { epoch = c.logged.epoch; count = suc c.order_count }
 
     m : Message
-    m = message node.Master (the_server row.primary) (body.Revoke order (handle_of handle) (version_of row.granted))
+    m = message node.Master (the_server row.primary) (revoke_order handle row order)
 
     ms : List Message
     ms = before ++ c.sent
@@ -453,22 +454,22 @@ revoked before start epoch count numbered c handle row at n numbers h =
         omega (arith, granted_is)
 
     handle_in : Body → ℕ
-    handle_in (body.Revoke o q v) = q.0
+    handle_in (revoke_body o q v) = q.0
     handle_in other = 0
 
     version_in : Body → ℕ
-    version_in (body.Revoke o q v) = v.0
+    version_in (revoke_body o q v) = v.0
     version_in other = 0
 
     number_in : Body → Option OrderNo
-    number_in (body.Revoke o q v) = Some o
+    number_in (revoke_body o q v) = Some o
     number_in other = None
 
     is_grant : Body → Type 0
-    is_grant (body.Grant o q v end_moment ns) = ⊥
+    is_grant (grant_body o q v end_moment ns) = ⊥
     is_grant other = Unit {0}
 
-    no_grant : {A : Type 0} (o : OrderNo) (q : Handle) (v : Version) (end_moment : Moment) (ns : List ℕ) → m.body ≡ body.Grant o q v end_moment ns → A
+    no_grant : {A : Type 0} (o : OrderNo) (q : Handle) (v : Version) (end_moment : Moment) (ns : List ℕ) → SaysGrant o q v end_moment ns m.body → A
     no_grant o q v end_moment ns is = absurd (subst is_grant is tt)
 
     used : (top : ℕ) → handle < top → IsUsed top m
@@ -489,7 +490,7 @@ revoked before start epoch count numbered c handle row at n numbers h =
     as_revoke g s o later q v end_moment ns grant revoke =
         let key : handle ≡ q.0 = ap handle_in revoke in
         let same : row.granted ≡ v.0 = ap version_in revoke in
-        let is : g.body ≡ body.Grant o (handle_of handle) v end_moment ns = grant ∙ ap (λ (k : ℕ). body.Grant o (handle_of k) v end_moment ns) (sym key) in
+        let is : SaysGrant o (handle_of handle) v end_moment ns g.body = named_grant grant (sym key) refl in
         let number : order ≡ later = same_some order later (ap number_in revoke) in (
           (((h.state).rows handle row at g s).0 o v end_moment ns is).1 (sym same),
           subst (λ (x : OrderNo). IsSameOrLater o.epoch o.count x.epoch x.count) number (below before start epoch count numbered c numbers g s o (ap order_number is)),
@@ -551,8 +552,8 @@ pub record AreRevokes (sent : List Message) (m : MasterState) : Type 0 where
 -- messages that are no orders
 
 quiet_plain_order : (b : Body) → order_number b ≡ None → IsPlainOrder b
-quiet_plain_order (body.Grant order handle version end_moment members) h = none_some order (sym h)
-quiet_plain_order (body.Revoke order handle version) h = none_some order (sym h)
+quiet_plain_order (grant_body order handle version end_moment members) h = none_some order (sym h)
+quiet_plain_order (revoke_body order handle version) h = none_some order (sym h)
 quiet_plain_order other h = tt
 
 all_plain : (ms : List Message) (k : ℕ) → HasNoOrder ms → (m : Message) → IsSent (stamped k ms) m → IsPlainOrder m.body

@@ -29,6 +29,7 @@ use Rattle.protocol.specs.ServerOrders.{extends_held}
 use Rattle.protocol.specs.ServerStep.{server_at, server_takes, server_goes, server_ends, server_step, server_restarts, server_restart}
 use Rattle.protocol.specs.MasterStep.{master_step, master_restart}
 use Rattle.protocol.specs.World.{WorldState, new_world, stamped, happens, after_events, IsReached}
+use Rattle.laws_base.proofs.LeaseOrders.{SaysGrant, named_grant}
 use Rattle.laws_base.specs.Laws.{is_grant, grants_of}
 use Rattle.laws_base.proofs.Steps.{on_cond, none_some, same_some, tally, put_cases, count-cons, count-append}
 use Rattle.laws_base.proofs.ServerMoves.{server_core, AreHeldFrom, lease_of, KeepsServer, same_held, server_goes_holds}
@@ -75,7 +76,7 @@ refused_stale d order none = by_tests (nat_lt d.epoch order.epoch) refl (d.epoch
 pub record IsOverAt (sent : List Message) (greatest n handle version : ℕ) (d : ServerDisk) (leases : Table SerialOrder) : Type 0 where
   pub held : (p : SerialOrder) → table.get leases handle ≡ Some p → p.held.version ≡ version → p.held.until ≤ greatest
   pub comes : (grant : Message) → IsSent sent grant → grant.receiver ≡ the_server n → (order : OrderNo) (end_moment : Moment) (members : List ℕ)
-      → grant.body ≡ body.Grant order (handle_of handle) (version_of version) end_moment members → (end_moment.0 ≤ greatest) ⊎ IsStaleAt d order
+      → SaysGrant order (handle_of handle) (version_of version) end_moment members grant.body → (end_moment.0 ≤ greatest) ⊎ IsStaleAt d order
 
 abbrev is_extend : Body → Bool
 is_extend (body.Extend handle version end_moment) = true
@@ -111,9 +112,8 @@ module _ (sent : List Message) (greatest n handle version : ℕ) where
         held = λ p at same.
             elim (put_cases leases q.0 (lease_of v end_moment members) handle p at) [
               | inl now ↦
-                  let is : (came.1).body ≡ body.Grant order (handle_of handle) (version_of version) end_moment members =
-                  came.4 ∙ ap (λ (k : ℕ). body.Grant order (handle_of k) v end_moment members) (sym now.0)
-                  ∙ ap (λ (k : ℕ). body.Grant order (handle_of handle) (version_of k) end_moment members) (ap (λ (x : SerialOrder). x.held.version) now.1 ∙ same) in
+                  let is : SaysGrant order (handle_of handle) (version_of version) end_moment members (came.1).body =
+                  named_grant came.4 (sym now.0) (ap (λ (x : SerialOrder). x.held.version) now.1 ∙ same) in
                   let end : end_moment.0 ≡ p.held.until = ap (λ (x : SerialOrder). x.held.until) now.1 in
                   elim (h.comes came.1 (came.0, came.2) came.3 order end_moment members is) [
                     | inl early ↦ omega (arith, early, end)
