@@ -28,6 +28,7 @@ use Rattle.protocol.specs.Logged.{Logged, KeptCall, log_changed_by_all}
 use Rattle.protocol.specs.Master.{MasterState, MasterDoing, PendingSnapshot}
 use Rattle.protocol.specs.MasterStep.{master_goes, master_ends, master_step}
 use Rattle.protocol.specs.World.{WorldState, IsReached, happens, stamped, after_master}
+use Rattle.laws_base.proofs.LeaseOrders.{SaysGrant}
 use Rattle.laws_base.specs.Laws.{grants_of, is_grant}
 use Rattle.laws_base.proofs.Steps.{none_some, same_some}
 use Rattle.laws_base.proofs.MembersRecorded.{all_at}
@@ -197,7 +198,7 @@ module _ (config : Config) (servers clients : ℕ) (w : WorldState) (r : IsReach
 
     -- what is granted is open
     module _ (place : ℕ) (m : Message) (order : OrderNo) (handle : Handle) (version : Version) (end_moment : Moment) (members : List ℕ) (from : length w.sent ≤ place) (at : element_at v.sent place ≡ Some m)
-        (grants : m.body ≡ body.Grant order handle version end_moment members) where
+        (grants : SaysGrant order handle version end_moment members m.body) where
       new : (x : Message) × IsSent (in_order choice.order d.sent) x × IsSameMessage x m
       new = new_one w.sent (in_order choice.order d.sent) (suc (length w.sent)) place m from
           (ap (λ (ms : List Message). element_at ms place) (sym (quiet.sent_is config servers clients w r e choice clocks ss k h moment t same)) ∙ at)

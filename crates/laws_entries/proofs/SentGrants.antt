@@ -1,6 +1,6 @@
 -- Grants among messages: counts of them, and what a step adds.
 use Rattle.std.proofs.Common.{◌≡◌, ℕ, zero, suc, ◌≤◌, ◌<◌, Bool, true, false, List, [], ◌∷◌, ◌++◌, Some, None, refl, sym, ap, subst, ◌∙◌, inl, inr, arith}
-use Rattle.std.specs.Prelude.{◌==◌, count_by}
+use Rattle.std.specs.Prelude.{◌==◌, ◌&&◌, count_by}
 use Rattle.std.proofs.lemmas.Bool.{eqb-true, and_parts, and_from}
 use Rattle.messages.specs.declared.message.Body.{Body}
 use Rattle.messages.specs.declared.message.Body.TheVariants as body
@@ -10,6 +10,7 @@ use Rattle.protocol.specs.Sending.{order_number}
 use Rattle.protocol.specs.World.{stamped}
 use Rattle.laws_base.specs.Laws.{is_grant, grants_of}
 use Rattle.laws_base.proofs.Steps.{none_some, same_some, tally, count-cons}
+use Rattle.laws_base.proofs.MasterMoves.{IsPlainOrder}
 use Rattle.laws_base.proofs.Entries.{AllOf, same_number}
 use Rattle.laws_base.proofs.MembersRecorded.{all_at}
 use Rattle.laws_base.proofs.MessagesSent.{IsSent, sent_cases, numbered_sent}
@@ -72,6 +73,26 @@ granted_above handle low version (body.Grant order h v end_moment members) is ab
     let less = above (eqb-true h.0 handle parts.0) in
     omega (arith, number, less)
 granted_above handle low version other is above = absurd (cc)
+
+-- what is no Grant
+pub no_order_grants : (handle version : ℕ) (b : Body) → order_number b ≡ None → is_grant handle version b ≡ false
+no_order_grants handle version (body.Grant order h v end_moment members) none = none_some order (sym none)
+no_order_grants handle version other none = refl
+
+pub plain_grants : (handle version : ℕ) (b : Body) → IsPlainOrder b → is_grant handle version b ≡ false
+plain_grants handle version (body.Grant order h v end_moment members) plain = absurd plain
+plain_grants handle version other plain = refl
+
+-- what is above a number is no Grant of it
+pub above_grants : (handle version : ℕ) (b : Body) → GrantsAbove handle version b → is_grant handle version b ≡ false
+above_grants handle version (body.Grant order h v end_moment members) above = by_test ((h.0 == handle) && (v.0 == version)) refl
+  where
+    by_test : (b : Bool) → (h.0 == handle) && (v.0 == version) ≡ b → b ≡ false
+    by_test false e = refl
+    by_test true e =
+        let parts = and_parts (h.0 == handle) (v.0 == version) e in
+        absurd (let low = above (eqb-true h.0 handle parts.0) in let same = eqb-true v.0 version parts.1 in omega (arith, low, same))
+above_grants handle version other above = refl
 
 pub above_counted : (handle low version : ℕ) (sent : List Message) → AreAbove handle low sent → 1 ≤ grants_of handle version sent → low < version
 above_counted handle low version sent h some = let one = some_counted (λ m. is_grant handle version m.body) sent some in granted_above handle low version (one.0).body one.2 (h one.0 one.1)

@@ -26,6 +26,7 @@ use Rattle.protocol.specs.ServerStep.{server_step, server_restart}
 use Rattle.protocol.specs.MasterStep.{master_goes, master_ends, may_end, master_bounded, master_step, master_restart}
 use Rattle.protocol.specs.ClientStep.{client_step, client_call}
 use Rattle.protocol.specs.World.{WorldState, stamped, happens, IsReached}
+use Rattle.laws_base.proofs.LeaseOrders.{SaysGrant}
 use Rattle.laws_base.specs.Laws.{HasAllReferences, is_grant, grants_of}
 use Rattle.laws_base.proofs.Steps.{on_cond, none_some, same_some, tally, count-cons}
 use Rattle.laws_base.proofs.MasterMoves.{Nothing, NoneEnded, Keeps}
@@ -297,7 +298,7 @@ pub record IsGrantOf (handle version : ℕ) (b : Body) : Type 0 where
   pub number : Version
   pub end_moment : Moment
   pub members : List ℕ
-  pub body_is : b ≡ body.Grant order named number end_moment members
+  pub body_is : SaysGrant order named number end_moment members b
   pub handle_is : named.0 ≡ handle
   pub version_is : number.0 ≡ version
 

@@ -20,7 +20,7 @@ use Rattle.laws_steps.proofs.MasterActs.{IsRowing, rowing_keeps, Waits, Acts}
 use Rattle.laws_steps.proofs.Awaited.{Attempts}
 use Rattle.laws_steps.proofs.WaitsKept.{any_input, waits_here}
 use Rattle.laws_steps.proofs.ActsOfSteps.{goes_acts}
-use Rattle.laws_versions.proofs.SharedSteps.{plain_grants}
+use Rattle.laws_entries.proofs.SentGrants.{plain_grants}
 use Rattle.laws_machine.specs.GrantedRecords.{IsGrantOf, HasGrantRecord, SentGrantsAreLogged}
 
 has_stays : (xs ys : List LogChange) (handle version : ℕ) → HasGrantRecord xs handle version → HasGrantRecord (xs ++ ys) handle version

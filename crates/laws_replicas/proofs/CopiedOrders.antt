@@ -60,7 +60,7 @@ use Rattle.laws_entries.proofs.RoundsPassed.{rounds_of_entries_were_issued}
 use Rattle.laws_entries.proofs.RisingRounds.{leased_granted, held_reached}
 use Rattle.laws_replicas.proofs.UpTo.{IsLater}
 use Rattle.laws_replicas.proofs.StillOrders.{used_still, server_later}
-use Rattle.laws_replicas.proofs.SkippedRounds.{grant_said}
+use Rattle.laws_base.proofs.LeaseOrders.{grant_parts}
 use Rattle.laws_replicas.proofs.CopiesBehind.{AreBehind, IsAlike, names_alike, IsAlikeAndFree, both_names, both_reports}
 use Rattle.laws_replicas.proofs.CopiesAsked.{ask_post, begun_plain}
 use Rattle.laws_replicas.specs.CopiedOrders.{CopiesUnderWayHaveTheirSourcesOrder, CopiesUnderWayAreNotGranted}
@@ -351,7 +351,7 @@ copies_under_way_are_not_granted config servers clients w r clocks up copy c is 
           | inl less ↦ omega (arith, less)
           | inr some ↦
               let one = some_counted (λ x. is_grant copy version x.body) w.sent some in
-              let grant = grant_said copy version (one.0).body one.2 in
+              let grant = grant_parts copy version (one.0).body one.2 in
               let until : ℕ = (grant.1).0 in
               let known = told_ends_are_the_masters config servers clients w r clocks (one.1).0 one.0 (one.1).1 copy version until
               (ap (tells_end copy version until) grant.3 ∙ and_from ((copy == copy) && (version == version)) (until == until) (and_from (copy == copy) (version == version) (same_number copy) (same_number version)) (same_number until)) in

@@ -14,7 +14,6 @@ use Rattle.gfs_types.specs.declared.mutation.Mutation.TheVariants.{Write, Append
 use Rattle.messages.specs.declared.event.Event.{Event}
 use Rattle.messages.specs.declared.event.NodeInput.{NodeInput}
 use Rattle.messages.specs.declared.event.NodeInput.TheVariants as input
-use Rattle.messages.specs.declared.message.Body.TheVariants as body
 use Rattle.messages.specs.declared.message.Message.{Message}
 use Rattle.primary_order.specs.declared.order.SerialOrder.{SerialOrder}
 use Rattle.relaxed_file.specs.Run.{Visible}
@@ -31,6 +30,7 @@ use Rattle.protocol.specs.Server.{ServerState}
 use Rattle.protocol.specs.ServerStep.{server_goes, server_ends, server_step}
 use Rattle.protocol.specs.MasterStep.{master_step}
 use Rattle.protocol.specs.World.{WorldState, IsReached}
+use Rattle.laws_base.proofs.LeaseOrders.{SaysGrant, named_grant}
 use Rattle.laws_base.specs.Laws.{is_grant, grants_of}
 use Rattle.laws_base.proofs.Steps.{on_cond, none_some, same_some}
 use Rattle.laws_base.proofs.Entries.{AllOf}
@@ -229,9 +229,9 @@ module _ (config : Config) (servers clients : ℕ) (w : WorldState) (r : IsReach
           counted : IsCounted handle version w.sent w.servers (placed_in w.observer.orders handle)
           counted = all_counted config servers clients w r handle version
 
-          body_is : ((g.came).1).body ≡ body.Grant g.order (handle_of handle) (version_of version) g.end_moment g.members
+          body_is : SaysGrant g.order (handle_of handle) (version_of version) g.end_moment g.members ((g.came).1).body
           body_is =
-              (g.came).4 ∙ (ap (λ (n : ℕ). body.Grant g.order (handle_of n) g.number g.end_moment g.members) g.chunk_is ∙ ap (λ (n : ℕ). body.Grant g.order (handle_of handle) (version_of n) g.end_moment g.members) g.number_is)
+              named_grant (g.came).4 g.chunk_is g.number_is
 
           granted : 1 ≤ grants_of handle version w.sent
           granted = counted_one (λ m. is_grant handle version m.body) w.sent (g.came).1 (g.came).0 (g.came).2 (granting g.order handle version g.end_moment g.members ((g.came).1).body body_is)

@@ -14,7 +14,6 @@ use Rattle.gfs_types.specs.Mutations.{end_of}
 use Rattle.messages.specs.declared.event.Event.{Event}
 use Rattle.messages.specs.declared.event.NodeInput.{NodeInput}
 use Rattle.messages.specs.declared.event.NodeInput.TheVariants as input
-use Rattle.messages.specs.declared.message.Body.TheVariants as body
 use Rattle.primary_order.specs.declared.order.SerialOrder.{SerialOrder}
 use Rattle.replica_store.specs.Replicas.{Replica, replica_of, rotten_replica, with_replica, with_bytes}
 use Rattle.relaxed_file.specs.Run.{Visible}
@@ -29,6 +28,7 @@ use Rattle.protocol.specs.ServerStep.{server_step, server_restarts, server_resta
 use Rattle.protocol.specs.MasterStep.{master_step}
 use Rattle.protocol.specs.ClientStep.{client_step, client_call}
 use Rattle.protocol.specs.World.{WorldState, new_world, IsReached}
+use Rattle.laws_base.proofs.LeaseOrders.{SaysGrant, named_grant}
 use Rattle.laws_base.specs.Laws.{is_grant, grants_of}
 use Rattle.laws_base.proofs.Steps.{none_some, same_some, put_cases}
 use Rattle.laws_base.proofs.Entries.{AllOf}
@@ -140,9 +140,9 @@ module _ (config : Config) (servers clients : ℕ) (w : WorldState) (r : IsReach
           counted : IsCounted handle version w.sent w.servers (placed_in w.observer.orders handle)
           counted = all_counted config servers clients w r handle version
 
-          body_is : ((g.came).1).body ≡ body.Grant g.order (handle_of handle) (version_of version) g.end_moment g.members
+          body_is : SaysGrant g.order (handle_of handle) (version_of version) g.end_moment g.members ((g.came).1).body
           body_is =
-              (g.came).4 ∙ (ap (λ (n : ℕ). body.Grant g.order (handle_of n) g.number g.end_moment g.members) g.chunk_is ∙ ap (λ (n : ℕ). body.Grant g.order (handle_of handle) (version_of n) g.end_moment g.members) g.number_is)
+              named_grant (g.came).4 g.chunk_is g.number_is
 
           granted : 1 ≤ grants_of handle version w.sent
           granted = counted_one (λ m. is_grant handle version m.body) w.sent (g.came).1 (g.came).0 (g.came).2 (granting g.order handle version g.end_moment g.members ((g.came).1).body body_is)

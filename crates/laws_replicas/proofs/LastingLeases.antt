@@ -7,11 +7,11 @@ use Rattle.gfs_types.specs.declared.config.Config.{Config}
 use Rattle.gfs_types.specs.declared.ids.Moment.{Moment}
 use Rattle.gfs_types.specs.declared.ids.OrderNo.{OrderNo}
 use Rattle.messages.specs.declared.message.Message.{Message}
-use Rattle.messages.specs.declared.message.Body.TheVariants as body
 use Rattle.protocol.specs.Tables.{element_at, first_numbers, has_number}
 use Rattle.protocol.specs.Sending.{server_number, handle_of, version_of}
 use Rattle.protocol.specs.Observer.{Placed, order_of}
 use Rattle.protocol.specs.World.{WorldState, IsReached, is_kept}
+use Rattle.laws_base.proofs.LeaseOrders.{SaysGrant}
 use Rattle.laws_base.specs.Laws.{is_grant, grants_of}
 use Rattle.laws_base.proofs.Entries.{same_number}
 use Rattle.laws_base.proofs.LeasesTold.{granting}
@@ -35,7 +35,7 @@ use Rattle.laws_replicas.proofs.SettledEnds.{marked_from}
 use Rattle.laws_replicas.proofs.SettledMembers.{IsThere, entry_numbered, number_there}
 
 module _ (config : Config) (servers clients : ℕ) (w : WorldState) (r : IsReached config servers clients w) (kept : IsTrue (is_kept w)) (handle version number : ℕ) (grant : Message) (order : OrderNo) (end_moment : Moment) (members : List ℕ)
-    (sent_at : element_at w.sent number ≡ Some grant) (grant_is : grant.body ≡ body.Grant order (handle_of handle) (version_of version) end_moment members) (lasts : IsLeaseOver w handle version → ⊥) where
+    (sent_at : element_at w.sent number ≡ Some grant) (grant_is : SaysGrant order (handle_of handle) (version_of version) end_moment members grant.body) (lasts : IsLeaseOver w handle version → ⊥) where
   clocks : IsTrue w.observer.are_clocks_kept
   clocks = (and_parts w.observer.are_clocks_kept w.observer.are_disks_kept kept).0
 

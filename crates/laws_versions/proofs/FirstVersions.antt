@@ -23,6 +23,7 @@ use Rattle.laws_base.specs.Laws.{is_grant, grants_of}
 use Rattle.laws_base.proofs.Steps.{none_some, same_some}
 use Rattle.laws_base.proofs.Entries.{AllOf}
 use Rattle.laws_base.proofs.Words.{true_false}
+use Rattle.laws_base.proofs.LeaseOrders.{grant_parts}
 use Rattle.laws_base.proofs.MembersRecorded.{all_at}
 use Rattle.laws_base.proofs.MessagesSent.{IsSent, IsSameMessage}
 use Rattle.laws_base.proofs.ClientMoves.{HasNoOrder, quiet_orders, client_quiet, call_quiet}
@@ -46,7 +47,7 @@ use Rattle.laws_versions.proofs.UsedGrants.{numbered_versions_have_used_grants}
 use Rattle.laws_steps.proofs.MasterPremises.{is_told, IsAsk, IsTold}
 use Rattle.laws_versions.proofs.MasterCauses.{is_caused, Attempts, IsRaised, Causes, step_caused}
 use Rattle.laws_versions.proofs.ExtendLaws.{restart_silent, new_one, none_before}
-use Rattle.laws_versions.proofs.RaisedVersions.{grant_parts, counted_grant, skipped}
+use Rattle.laws_versions.proofs.RaisedVersions.{counted_grant, skipped}
 use Rattle.laws_versions.specs.FirstVersions.{version_made, FirstVersionsSkipNoGrant, FirstVersionsSkipNoEntry}
 use Rattle.laws_versions.proofs.AttemptsAbove.{step_above}
 

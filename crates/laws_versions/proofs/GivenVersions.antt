@@ -31,6 +31,7 @@ use Rattle.protocol.specs.World.{WorldState, stamped, IsReached}
 use Rattle.laws_base.proofs.Steps.{on_cond, none_some, same_some, same_or_not, put_cases, gone_split, removed_cases}
 use Rattle.laws_base.proofs.Entries.{same_number}
 use Rattle.laws_base.proofs.Words.{no_order}
+use Rattle.laws_base.proofs.LeaseOrders.{SaysGrant, grant_order}
 use Rattle.laws_base.proofs.MasterMoves.{Core, core_of, NoneEnded, core_changed, core_appended, core_ended, core_granted, grant_record, IsDue, IsNoGrantRecord, IsPlainOrder, logs_alone}
 use Rattle.laws_base.proofs.MessagesSent.{IsSent, sent_before, sent_cases, none_sent, numbered_sent, step_sent}
 use Rattle.laws_base.proofs.MembersRecorded.{all_at}
@@ -87,7 +88,7 @@ module _ (handle version : ℕ) where
 
   -- a Grant of the version
   abbrev pub IsGrant : List ℕ → Body → Type 0
-  IsGrant members b = (order : OrderNo) × (end_moment : Moment) × (b ≡ body.Grant order (handle_of handle) (version_of version) end_moment members)
+  IsGrant members b = (order : OrderNo) × (end_moment : Moment) × (SaysGrant order (handle_of handle) (version_of version) end_moment members b)
 
   abbrev pub IsWord : Body → Type 0
   IsWord b = IsGiven b ⊎ ((members : List ℕ) × IsGrant members b)
@@ -400,7 +401,7 @@ module _ (handle version : ℕ) where
         d = core_ended (core_appended c r) chunk until
 
         m : Message
-        m = message node.Master (the_server primary) (body.Grant (record { epoch = d.logged.epoch; count = suc d.order_count }) (handle_of chunk) (version_of a.version) (moment_of until) members)
+        m = message node.Master (the_server primary) (grant_order chunk a.version until members (record { epoch = d.logged.epoch; count = suc d.order_count }))
 
         later : ArePassed c.logged c.disk → ArePassed d.logged d.disk
         later p = (

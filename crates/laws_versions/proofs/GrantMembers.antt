@@ -16,7 +16,7 @@ use Rattle.log_records.specs.declared.record.Record.{Record}
 use Rattle.log_records.specs.declared.record.Record.TheVariants as log
 use Rattle.relaxed_file.proofs.NamesTree.{Tree}
 use Rattle.protocol.specs.Tables.{element_at}
-use Rattle.protocol.specs.Sending.{message, the_server, handle_of, version_of, moment_of, order_number}
+use Rattle.protocol.specs.Sending.{message, the_server, handle_of, version_of, order_number}
 use Rattle.protocol.specs.Choice.{Choice, Ending, Goes, Lost, Stops, in_order, decided_changes}
 use Rattle.protocol.specs.Seen.{Taken, no_step}
 use Rattle.chunk_table.specs.ChunkTable.{ChunkRow, row_granted, changed_by}
@@ -26,6 +26,7 @@ use Rattle.protocol.specs.MasterStep.{master_at, master_goes, master_ends, maste
 use Rattle.protocol.specs.World.{WorldState, stamped, IsReached}
 use Rattle.laws_base.proofs.Steps.{on_cond, none_some, removed_cases}
 use Rattle.laws_base.proofs.Words.{is_of_lease, true_false}
+use Rattle.laws_base.proofs.LeaseOrders.{SaysGrant, grant_order, named_grant}
 use Rattle.laws_base.proofs.ChunkRows.{Rows, rows_of, removed_owned, swapped_owned}
 use Rattle.laws_base.proofs.VersionsAhead.{changed_cases}
 use Rattle.laws_base.proofs.MasterMoves.{Core, core_of, IsDue, IsPlainOrder, Nothing, NoneEnded, Keeps, core_changed, core_appended, core_ended, core_granted, grant_record, logs_alone}
@@ -55,14 +56,14 @@ use Rattle.laws_versions.specs.MasterKnowledge.{MembersAreTheRows, LeaseMembersA
 -- a Grant of this chunk is of the granted version with the row's members, or of an earlier one
 abbrev GrantFits : ℕ → ℕ → List ℕ → Message → Type 0
 GrantFits handle granted members m =
-    (order : OrderNo) (version : Version) (end_moment : Moment) (ns : List ℕ) → m.body ≡ body.Grant order (handle_of handle) version end_moment ns → (version.0 ≤ granted) × (version.0 ≡ granted → ns ≡ members)
+    (order : OrderNo) (version : Version) (end_moment : Moment) (ns : List ℕ) → SaysGrant order (handle_of handle) version end_moment ns m.body → (version.0 ≤ granted) × (version.0 ≡ granted → ns ≡ members)
 
 abbrev Fits : List Message → ℕ → ℕ → List ℕ → Type 0
 Fits ms handle granted members = (m : Message) → IsSent ms m → GrantFits handle granted members m
 
 -- its handle was used
 abbrev IsUsed : ℕ → Message → Type 0
-IsUsed next m = (order : OrderNo) (handle : Handle) (version : Version) (end_moment : Moment) (ns : List ℕ) → m.body ≡ body.Grant order handle version end_moment ns → handle.0 < next
+IsUsed next m = (order : OrderNo) (handle : Handle) (version : Version) (end_moment : Moment) (ns : List ℕ) → SaysGrant order handle version end_moment ns m.body → handle.0 < next
 
 pub record Agrees (ms : List Message) (l : Logged) : Type 0 where
   pub used : (m : Message) → IsSent ms m → IsUsed l.next_handle m
@@ -139,7 +140,7 @@ abbrev is_no_grant : Body → Type 0
 is_no_grant (body.Grant order handle version end_moment members) = ⊥
 is_no_grant other = Unit {0}
 
-not_grant : {A : Type 0} (b : Body) (order : OrderNo) (handle : Handle) (version : Version) (end_moment : Moment) (members : List ℕ) → is_no_grant b → b ≡ body.Grant order handle version end_moment members → A
+not_grant : {A : Type 0} (b : Body) (order : OrderNo) (handle : Handle) (version : Version) (end_moment : Moment) (members : List ℕ) → is_no_grant b → SaysGrant order handle version end_moment members b → A
 not_grant b order handle version end_moment members none is = absurd (subst (λ (x : Body). is_no_grant x) is none)
 
 quiet_none : (b : Body) → is_of_lease b ≡ false → is_no_grant b
@@ -236,7 +237,7 @@ granted before start c handle version until primary members due n h =
     order = record { epoch = two.logged.epoch; count = suc two.order_count }
 
     m : Message
-    m = message node.Master (the_server primary) (body.Grant order (handle_of handle) (version_of version) (moment_of until) members)
+    m = message node.Master (the_server primary) (grant_order handle version until members order)
 
     ms : List Message
     ms = before ++ c.sent
@@ -460,7 +461,7 @@ agreed_reached config servers clients w r = (sent_reached IsOfMembers members_ke
 
 -- by a row of the master, or of its log
 members_by : (w : WorldState) (l : Logged) → Agrees w.sent l → (handle : ℕ) (row : ChunkRow) → table.get (rows_of l) handle ≡ Some row → (place : ℕ) (grant : Message) (order : OrderNo) (version : Version) (end_moment : Moment) (members : List ℕ)
-    → element_at w.sent place ≡ Some grant → grant.body ≡ body.Grant order (handle_of handle) version end_moment members → version.0 ≡ row.granted → members ≡ row.members
+    → element_at w.sent place ≡ Some grant → SaysGrant order (handle_of handle) version end_moment members grant.body → version.0 ≡ row.granted → members ≡ row.members
 members_by w l agrees handle row there place grant order version end_moment members at is same = (agrees.rows handle row there grant (place, at) order version end_moment members is).1 same
 
 pub members_are_the_rows : MembersAreTheRows
@@ -475,4 +476,4 @@ members_are_the_rows config servers clients w r handle row there place grant ord
 pub lease_members_are_the_rows : LeaseMembersAreTheRows
 lease_members_are_the_rows config servers clients w r index s at handle p there row known same =
     let g = (leases_are_told config servers clients w r index s at handle p there).0 in
-    members_are_the_rows config servers clients w r handle row known g.0 g.1 g.4 g.5 p.held.members g.2 (g.6 ∙ ap (λ (v : ℕ). body.Grant g.4 (handle_of handle) (version_of v) g.5 p.held.members) same)
+    members_are_the_rows config servers clients w r handle row known g.0 g.1 g.4 g.5 p.held.members g.2 (named_grant {handle = handle} g.6 refl same)

@@ -13,6 +13,7 @@ use Rattle.protocol.specs.Sending.{the_server, server_number, order_number}
 use Rattle.protocol.specs.Logged.{Logged}
 use Rattle.protocol.specs.MasterStep.{master_step}
 use Rattle.laws_base.proofs.Words.{true_false}
+use Rattle.laws_base.proofs.LeaseOrders.{SaysGrant}
 use Rattle.laws_base.proofs.GrantedIssued.{granted_is_at_most_issued}
 use Rattle.laws_base.proofs.MembersRecorded.{all_at}
 use Rattle.laws_versions.proofs.MasterCauses.{Attempts, is_caused, Causes, step_caused}
@@ -21,7 +22,7 @@ use Rattle.laws_versions.specs.MasterRows.{GrantsGoToMembers}
 
 -- a Grant goes to one of its members
 abbrev IsToMember : Message → Type 0
-IsToMember x = (order : OrderNo) (handle : Handle) (version : Version) (end_moment : Moment) (members : List ℕ) → x.body ≡ body.Grant order handle version end_moment members → (server : ℕ) → x.receiver ≡ the_server server → has_number members server ≡ true
+IsToMember x = (order : OrderNo) (handle : Handle) (version : Version) (end_moment : Moment) (members : List ℕ) → SaysGrant order handle version end_moment members x.body → (server : ℕ) → x.receiver ≡ the_server server → has_number members server ≡ true
 
 abbrev members_of : Body → List ℕ
 members_of (body.Grant order handle version end_moment members) = members

@@ -16,6 +16,7 @@ use Rattle.chunk_table.specs.ChunkTable.{ChunkRow, new_row, chunk_of, row_grante
 use Rattle.protocol.specs.Logged.{Logged, Copy, LogDisk, LogChange, AppendRecord, WriteCheckpoint, log_changed, after_record, checkpoint_of, copies_given_up, all_copies_given_up, swapped_in}
 use Rattle.protocol.specs.Master.{VersionAttempt}
 use Rattle.laws_base.specs.Laws.{is_grant, tells_end}
+use Rattle.laws_entries.proofs.SentGrants.{no_order_grants, plain_grants}
 use Rattle.laws_base.proofs.Steps.{same_some, count-cons, count-append, same_or_not, put_cases, gone_split, removed_cases}
 use Rattle.laws_base.proofs.ChunkRows.{Rows, rows_of, OwnedFrom, all_copied_owned, swapped_owned, expired_owned}
 use Rattle.laws_base.proofs.CountsLogged.{next_grows}
@@ -30,7 +31,7 @@ use Rattle.laws_base.proofs.Words.{no_order}
 use Rattle.laws_steps.proofs.MasterActs.{IsRowing, core_checkpointed, Waits, Acts}
 use Rattle.laws_steps.proofs.Awaited.{Attempts}
 use Rattle.laws_steps.proofs.AwaitedRecords.{IsBeside}
-use Rattle.laws_versions.proofs.SharedSteps.{no_order_grants, plain_grants, given_tells, other_first, Stepping, IsDone, done_sends, over_of_done}
+use Rattle.laws_versions.proofs.SharedSteps.{given_tells, other_first, Stepping, IsDone, done_sends, over_of_done}
 
 -- a row that was there, with the same numbers and end
 abbrev pub IsSameNumbers : Rows → ℕ → ChunkRow → Type 0

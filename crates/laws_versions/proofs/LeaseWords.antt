@@ -25,6 +25,7 @@ use Rattle.protocol.specs.World.{stamped}
 use Rattle.laws_base.proofs.Steps.{on_cond, none_some, same_some}
 use Rattle.laws_base.proofs.Entries.{same_number}
 use Rattle.laws_base.proofs.Words.{is_of_lease, true_false}
+use Rattle.laws_base.proofs.LeaseOrders.{grant_order}
 use Rattle.laws_base.proofs.ChunkRows.{Rows, rows_of, From, removed_from, changed_from}
 use Rattle.laws_base.proofs.MasterMoves.{Core, core_of, IsDue, IsPlainOrder, Nothing, NoneEnded, Keeps, core_changed, core_appended, core_ended, core_granted, core_extended, grant_record, logs_alone}
 use Rattle.laws_base.proofs.MasterSteps.{no_input, goes_named}
@@ -270,7 +271,7 @@ granted before start c handle version until primary members due n h =
     order = record { epoch = two.logged.epoch; count = suc two.order_count }
 
     m : Message
-    m = message node.Master (the_server primary) (body.Grant order (handle_of handle) (version_of version) (moment_of until) members)
+    m = message node.Master (the_server primary) (grant_order handle version until members order)
 
     ms : List Message
     ms = before ++ c.sent

@@ -20,6 +20,7 @@ use Rattle.protocol.specs.Choice.{Choice}
 use Rattle.protocol.specs.Logged.{Logged, copies_given_up, after_record}
 use Rattle.protocol.specs.Master.{MasterState, MasterDoing, VersionAttempt}
 use Rattle.protocol.specs.MasterStep.{master_step}
+use Rattle.laws_base.proofs.LeaseOrders.{grant_order}
 use Rattle.laws_base.proofs.MasterMoves.{removed_other}
 use Rattle.laws_base.proofs.Steps.{none_some, put_cases, removed_cases, now_gone}
 use Rattle.laws_base.proofs.Entries.{AllOf}
@@ -49,7 +50,7 @@ pub record Causes (l : Logged) (tried : Attempts) (i : NodeInput) (W : Message �
   pub plain : (receiver : Node) (b : Body) → is_caused b ≡ false → W (message node.Master receiver b)
   pub extends : (server : ℕ) (line : LeaseLine) (until : ℕ) → IsLineTaken i server line → W (message node.Master (the_server server) (body.Extend line.handle line.version (moment_of until)))
   pub grants : (server : ℕ) (order : OrderNo) (handle version until : ℕ) (members : List ℕ) → IsTold i → has_number members server ≡ true
-      → W (message node.Master (the_server server) (body.Grant order (handle_of handle) (version_of version) (moment_of until) members))
+      → W (message node.Master (the_server server) (grant_order handle version until members order))
   pub creates : (server : ℕ) (order : OrderNo) (handle version : ℕ) → IsAsk i → IsRaised l tried handle version 0 ⊎ (l.next_handle ≤ handle)
       → W (message node.Master (the_server server) (body.Create order (handle_of handle) (version_of version)))
   pub raises : (server : ℕ) (order : OrderNo) (handle version base : ℕ) → IsAsk i → IsRaised l tried handle version base

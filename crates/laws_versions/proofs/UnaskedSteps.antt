@@ -32,6 +32,7 @@ use Rattle.protocol.specs.MasterVersions.{sends_grant, grants_to, is_complete, w
 use Rattle.protocol.specs.MasterReports.{holds_now, revoked_row, is_useless, drops_useless, learns_all, may_extend, extends_row, extends_all, hears, takes_report}
 use Rattle.protocol.specs.MasterClones.{CloneOrder, orders_clone, best_clone}
 use Rattle.protocol.specs.MasterStep.{master_ticks, gives_up_attempts, gives_up_lost_copies, lost_copies, expires_all, expires_old, expired_files, master_takes, master_does, finishes}
+use Rattle.laws_base.proofs.LeaseOrders.{revoke_order}
 use Rattle.laws_base.proofs.Steps.{on_cond, put_there}
 use Rattle.laws_base.proofs.MasterMoves.{removed_other}
 use Rattle.laws_base.proofs.VersionAttempts.{both_of}
@@ -107,8 +108,8 @@ module _ (Of : Record → Type 0) (calls : (r : Record) → IsOfCalls r → Of r
   revoked_of : (d : MasterDoing) (handle : ℕ) (o : Option ChunkRow) → P d → P (revokes_row d handle o)
   revoked_of d handle None h = h
   revoked_of d handle (Some row) h =
-      on_cond P (has_lease d.master row) (orders d row.primary (λ order. body.Revoke order (handle_of handle) (version_of row.granted))) d
-      (λ _. k.ordered d row.primary (λ order. body.Revoke order (handle_of handle) (version_of row.granted)) (λ o. refl) h) (λ _. h)
+      on_cond P (has_lease d.master row) (orders d row.primary (revoke_order handle row)) d
+      (λ _. k.ordered d row.primary (revoke_order handle row) (λ o. refl) h) (λ _. h)
 
   revoked_all : (d : MasterDoing) (handles : List ℕ) → P d → P (revokes_all d handles)
   revoked_all d [] h = h

@@ -8,7 +8,6 @@ use Rattle.gfs_types.specs.declared.ids.OrderNo.{OrderNo}
 use Rattle.messages.specs.declared.event.Event.{Event}
 use Rattle.messages.specs.declared.event.NodeInput.TheVariants as input
 use Rattle.messages.specs.declared.message.Message.{Message}
-use Rattle.messages.specs.declared.message.Body.TheVariants as body
 use Rattle.primary_order.specs.declared.order.SerialOrder.{SerialOrder}
 use Rattle.protocol.specs.Tables.{element_at}
 use Rattle.protocol.specs.Sending.{handle_of, version_of, order_number}
@@ -17,6 +16,7 @@ use Rattle.protocol.specs.Observer.{Placed}
 use Rattle.protocol.specs.Server.{ServerState, counting_primary}
 use Rattle.protocol.specs.ServerStep.{server_at}
 use Rattle.protocol.specs.World.{WorldState, new_world, happens, after_events, IsReached}
+use Rattle.laws_base.proofs.LeaseOrders.{SaysGrant, named_grant}
 use Rattle.laws_base.specs.Laws.{grants_of, is_grant}
 use Rattle.laws_base.proofs.Steps.{on_cond, none_some, same_some, tally, count-cons}
 use Rattle.laws_base.proofs.RisingOrders.{order_numbers_never_fall}
@@ -53,8 +53,8 @@ some_grant handle version (m ∷ sent) (suc place) g at is =
 -- a lease that was granted to a server by an order that it took
 module _ (config : Config) (servers clients : ℕ) (w : WorldState) (r : IsReached config servers clients w) (index : ℕ) (s : ServerState) (there : element_at w.servers index ≡ Some s) (handle version : ℕ) (p : SerialOrder) (same : p.held.version ≡ version)
     (lease : IsToldLease w.sent (suc index) s.disk handle p.held) where
-  lease_body : (lease.grant).body ≡ body.Grant lease.order (handle_of handle) (version_of version) lease.end_moment p.held.members
-  lease_body = lease.is ∙ ap (λ (v : ℕ). body.Grant lease.order (handle_of handle) (version_of v) lease.end_moment p.held.members) same
+  lease_body : SaysGrant lease.order (handle_of handle) (version_of version) lease.end_moment p.held.members (lease.grant).body
+  lease_body = named_grant lease.is refl same
 
   pub lease_used : (steps : List (Event × Choice)) → IsGrantUsed (after_events w steps) index handle version
   lease_used steps =
