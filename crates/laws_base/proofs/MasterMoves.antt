@@ -20,9 +20,9 @@ use Rattle.chunk_table.specs.ChunkTable.{ChunkRow, new_row, chunk_of, handles_of
 use Rattle.protocol.specs.LogSizes.{checkpoint_fits}
 use Rattle.protocol.specs.Logged.{Logged, Copy, LogDisk, LogChange, AppendRecord, WriteCheckpoint, log_changed, after_record, checkpoint_of, copies_for_file, copies_given_up}
 use Rattle.protocol.specs.Master.{MasterDoing, VersionAttempt, PendingSnapshot, tells, ends_at, fits, appends, writes_checkpoint, logs, logs_after_checkpoint, is_of_copy}
-use Rattle.laws_base.proofs.Steps.{on_cond, put_cases, removed_cases}
-use Rattle.laws_base.proofs.Words.{is_of_lease}
-use Rattle.laws_base.proofs.LeaseOrders.{revoke_body, revoke_order, grant_body, grant_order}
+use Rattle.laws_base.proofs.Steps.{on_cond, none_some, put_cases, removed_cases}
+use Rattle.laws_base.proofs.Words.{is_of_lease, no_order}
+use Rattle.laws_base.proofs.LeaseOrders.{revoke_body, revoke_order, grant_body, grant_order, GrantsNothing}
 use Rattle.laws_base.proofs.CopiesUnderWay.{IsUncopied, AreCopied, AreSoundCopies}
 use Rattle.relaxed_file.specs.Names.{Names, copied_entries}
 use Rattle.relaxed_file.proofs.NamesTree.{Tree}
@@ -93,6 +93,18 @@ abbrev pub IsPlainOrder : Body → Type 0
 IsPlainOrder (grant_body order handle version end_moment members) = ⊥
 IsPlainOrder (revoke_body order handle version) = ⊥
 IsPlainOrder other = Unit {0}
+
+pub plain_nothing : (b : Body) → IsPlainOrder b → GrantsNothing b
+plain_nothing (grant_body order handle version end_moment members) plain = plain
+plain_nothing other plain = tt
+
+pub unordered_plain : (b : Body) → order_number b ≡ None → IsPlainOrder b
+unordered_plain (grant_body order handle version end_moment members) none = none_some order (sym none)
+unordered_plain (revoke_body order handle version) none = none_some order (sym none)
+unordered_plain other none = tt
+
+pub quiet_plain : (b : Body) → is_of_lease b ≡ false → IsPlainOrder b
+quiet_plain b quiet = unordered_plain b (no_order b quiet)
 
 abbrev pub core_ordered : Core → ℕ → (OrderNo → Body) → Core
 core_ordered c server b =

@@ -36,7 +36,7 @@ use Rattle.laws_base.proofs.RisingOrders.{Later, same_later, then_later, risen_l
 use Rattle.laws_base.proofs.MembersRecorded.{all_at, all_in_order}
 use Rattle.laws_base.proofs.MessagesSent.{IsSent, sent_before, sent_cases, none_sent, sent_last, numbered_sent, ordered_sent}
 use Rattle.laws_base.proofs.ScenesReached.{Scene, scene_of, IsSentTo, rotten_server, IsKeptByScenes, lifted, scene_reached}
-use Rattle.laws_base.proofs.LeasesTold.{IsStaleAt, stale_later, new_not_stale, replica_later, CameTo, came_in, IsToldServer, AreTold, told_kept}
+use Rattle.laws_base.proofs.LeasesTold.{IsStaleAt, stale_later, new_not_stale, replica_later, CameTo, came_in, GrantCameTo, grant_came, IsToldServer, AreTold, told_kept}
 use Rattle.laws_base.proofs.RevokesNumbered.{ArePaired, IsOfRevokes, revokes_kept, paired}
 
 -- such a Revoke was sent to this server
@@ -97,7 +97,7 @@ module _ (sent : List Message) (n : ℕ) (pairs : ArePaired sent) (disk : Server
       }
 
   -- a Grant that is taken is of a lease that is not over
-  over_granted : (c : ServerCore) (order : OrderNo) (handle : Handle) (version : Version) (end_moment : Moment) (members : List ℕ) → CameTo sent n (body.Grant order handle version end_moment members) → is_new_order c.disk order.epoch order.count ≡ true
+  over_granted : (c : ServerCore) (order : OrderNo) (handle : Handle) (version : Version) (end_moment : Moment) (members : List ℕ) → GrantCameTo sent n order handle version end_moment members → is_new_order c.disk order.epoch order.count ≡ true
       → (q v : ℕ) (earlier : OrderNo) → IsOver sent n c.disk c.leases q v earlier → IsOver sent n (disk_changed c.disk (SetOrder order)) (table.insert c.leases handle.0 (lease_of version end_moment members)) q v earlier
   over_granted c order handle version end_moment members came new q v earlier h =
       record {
@@ -141,7 +141,7 @@ module _ (sent : List Message) (n : ℕ) (pairs : ArePaired sent) (disk : Server
         stores = λ c x is h. stays c _ refl refl (λ q v o. over_from sent n c.disk (disk_changed c.disk x) c.leases c.leases q v o (replica_later c.disk x is) (same_held c.leases)) h;
         takes = λ c order new h. stays c _ refl refl (λ q v o. over_from sent n c.disk (disk_changed c.disk (SetOrder order)) c.leases c.leases q v o (risen_later c.disk (SetOrder order) new) (same_held c.leases)) h;
         holds = λ c after from h. stays c _ refl refl (λ q v o. over_from sent n c.disk c.disk c.leases after q v o (same_later c.disk) from) h;
-        grants = λ c order handle version end_moment members came new h. stays c _ refl refl (over_granted c order handle version end_moment members came new) h;
+        grants = λ c order handle version end_moment members came new h. stays c _ refl refl (over_granted c order handle version end_moment members (grant_came sent n order handle version end_moment members came) new) h;
         extends = λ c handle version end_moment p came at same h. stays c _ refl refl (over_extended c handle end_moment p at) h;
         revokes = λ c order handle version after came new from none h.
             let e : ServerDisk = disk_changed c.disk (SetOrder order) in

@@ -25,12 +25,11 @@ use Rattle.protocol.specs.Master.{MasterState, MasterDoing, stopped_master, mast
 use Rattle.protocol.specs.MasterStep.{master_at, master_goes, master_ends, master_bounded, master_step, is_within_limits, may_end, found_log, started_master, opening, has_opened, opens_as, new_master}
 use Rattle.protocol.specs.World.{WorldState, stamped, IsReached}
 use Rattle.laws_base.specs.Laws.{IsSameOrLater}
-use Rattle.laws_base.proofs.Steps.{on_cond, none_some, same_some}
-use Rattle.laws_base.proofs.Words.{is_of_lease, true_false}
-use Rattle.laws_base.proofs.LeaseOrders.{revoke_body, revoke_order, SaysGrant, grant_body, grant_order, named_grant}
+use Rattle.laws_base.proofs.Steps.{on_cond, same_some}
+use Rattle.laws_base.proofs.LeaseOrders.{revoke_body, revoke_order, SaysGrant, moved_grant, named_grant, grant_handle, grant_version, grant_number, GrantsNothing, not_said, grant_order}
 use Rattle.laws_base.proofs.ChunkRows.{Rows, rows_of, From, removed_from, changed_from, swapped_from}
 use Rattle.laws_base.proofs.VersionsAhead.{changed_cases}
-use Rattle.laws_base.proofs.MasterMoves.{Core, core_of, IsDue, IsPlainOrder, Nothing, NoneEnded, Keeps, core_changed, core_appended, core_ended, core_granted, core_revoked, grant_record, logs_alone}
+use Rattle.laws_base.proofs.MasterMoves.{Core, core_of, IsDue, IsPlainOrder, plain_nothing, unordered_plain, quiet_plain, Nothing, NoneEnded, Keeps, core_changed, core_appended, core_ended, core_granted, core_revoked, grant_record, logs_alone}
 use Rattle.laws_base.proofs.MasterSteps.{no_input, goes_named}
 use Rattle.laws_base.proofs.MembersRecorded.{all_at}
 use Rattle.laws_base.proofs.MessagesSent.{IsSent, IsSameMessage, sent_before, sent_after, sent_cases, none_sent, sent_last, numbered_sent, step_sent, order_counted}
@@ -98,11 +97,11 @@ agrees_among ms less l among h =
       used = λ m s.
           let was = among m s in
           let old = h.used was.0 was.1 in
-          (λ order handle version end_moment members is. old.0 order handle version end_moment members (was.2.2 ∙ is), λ order handle version is. old.1 order handle version (was.2.2 ∙ is));
+          (λ order handle version end_moment members is. old.0 order handle version end_moment members (moved_grant was.2.2 is), λ order handle version is. old.1 order handle version (was.2.2 ∙ is));
       rows = λ handle row at m s.
           let was = among m s in
           let old = h.rows handle row at was.0 was.1 in (
-            λ order version end_moment members is. let fits = old.0 order version end_moment members (was.2.2 ∙ is) in (fits.0, λ same. sym was.2.1 ∙ fits.1 same),
+            λ order version end_moment members is. let fits = old.0 order version end_moment members (moved_grant was.2.2 is) in (fits.0, λ same. sym was.2.1 ∙ fits.1 same),
             λ order version is. old.1 order version (was.2.2 ∙ is),
           );
     }
@@ -111,7 +110,7 @@ paired_among : (ms less : List Message) → AreAmong less ms → ArePaired ms �
 paired_among ms less among h g r is also order later handle version end_moment members grant revoke =
     let a = among g is in
     let b = among r also in
-    let pair = h a.0 b.0 a.1 b.1 order later handle version end_moment members (a.2.2 ∙ grant) (b.2.2 ∙ revoke) in
+    let pair = h a.0 b.0 a.1 b.1 order later handle version end_moment members (moved_grant a.2.2 grant) (b.2.2 ∙ revoke) in
     (sym a.2.1 ∙ pair.0 ∙ b.2.1, pair.1)
 
 -- rows that are there still
@@ -204,15 +203,10 @@ paired_more ms more m one as_grant as_revoke both h g r is also =
     ]
 
 not_grant : {A : Type 0} (b : Body) (order : OrderNo) (handle : Handle) (version : Version) (end_moment : Moment) (members : List ℕ) → IsPlainOrder b → SaysGrant order handle version end_moment members b → A
-not_grant b order handle version end_moment members plain is = absurd (subst (λ (x : Body). IsPlainOrder x) is plain)
+not_grant b order handle version end_moment members plain is = not_said is (plain_nothing b plain)
 
 not_revoke : {A : Type 0} (b : Body) (order : OrderNo) (handle : Handle) (version : Version) → IsPlainOrder b → b ≡ body.Revoke order handle version → A
 not_revoke b order handle version plain is = absurd (subst (λ (x : Body). IsPlainOrder x) is plain)
-
-quiet_plain : (b : Body) → is_of_lease b ≡ false → IsPlainOrder b
-quiet_plain (grant_body order handle version end_moment members) h = true_false h
-quiet_plain (revoke_body order handle version) h = true_false h
-quiet_plain other h = tt
 
 plain_agrees : (ms more : List Message) (m : Message) (l : Logged) → IsOneMore ms m more → IsPlainOrder m.body → Agrees ms l → Agrees more l
 plain_agrees ms more m l one plain h =
@@ -356,30 +350,18 @@ granted before start c handle version until primary members due n h =
     to_log : IsGrantedTo (state_of two.disk) handle version primary
     to_log = subst (λ (k : Logged). IsGrantedTo k handle version primary) (sym (state-appended c.disk r)) (granted_to_after (state_of c.disk) handle version primary members)
 
-    -- what this message says
-    handle_in : Body → ℕ
-    handle_in (grant_body o q v end_moment ns) = q.0
-    handle_in other = 0
-
-    version_in : Body → ℕ
-    version_in (grant_body o q v end_moment ns) = v.0
-    version_in other = 0
-
-    is_revoke : Body → Type 0
-    is_revoke (revoke_body o q v) = ⊥
-    is_revoke other = Unit {0}
-
+    -- this message revokes nothing
     no_revoke : {A : Type 0} (later : OrderNo) (q : Handle) (v : Version) → m.body ≡ body.Revoke later q v → A
-    no_revoke later q v is = absurd (subst is_revoke is tt)
+    no_revoke later q v is = absurd (subst (λ (b : Body). GrantsNothing b) (sym is) tt)
 
     is_used : (top : ℕ) → handle < top → IsUsed top m
-    is_used top below = (λ o q v end_moment ns is. let same : handle ≡ q.0 = ap handle_in is in omega (arith, below, same), λ o q v is. no_revoke o q v is)
+    is_used top below = (λ o q v end_moment ns is. let same : handle ≡ q.0 = ap grant_handle is.says in omega (arith, below, same), λ o q v is. no_revoke o q v is)
 
     fits : (l : Logged) → IsGrantedTo l handle version primary → (q : ℕ) (row : ChunkRow) → table.get (rows_of l) q ≡ Some row → GrantFits q row.granted row.primary m × RevokeFits q row.granted m
     fits l to q row at = (
       λ o v end_moment ns is.
-          let key : handle ≡ q = ap handle_in is in
-          let same : version ≡ v.0 = ap version_in is in
+          let key : handle ≡ q = ap grant_handle is.says in
+          let same : version ≡ v.0 = ap grant_version is.says in
           let says = to row (ap (λ (k : ℕ). table.get (rows_of l) k) key ∙ at) in
           let granted_is = says.0 in
           (omega (arith, same, granted_is), λ also. ap the_server (sym says.1)),
@@ -389,8 +371,8 @@ granted before start c handle version until primary members due n h =
     -- no Revoke of this version was sent
     as_grant : (x : Message) → IsSent ms x → IsPaired m x
     as_grant x s o later q v end_moment ns grant revoke =
-        let key : handle ≡ q.0 = ap handle_in grant in
-        let same : version ≡ v.0 = ap version_in grant in
+        let key : handle ≡ q.0 = ap grant_handle grant.says in
+        let same : version ≡ v.0 = ap grant_version grant.says in
         let is : x.body ≡ body.Revoke later (handle_of handle) v = revoke ∙ ap (λ (k : ℕ). body.Revoke later (handle_of k) v) (sym key) in
         let bound = ((h.state).rows handle due.0 due.1 x s).1 later v is in
         let above = due.2 tt in
@@ -465,12 +447,8 @@ revoked before start epoch count numbered c handle row at n numbers h =
     number_in (revoke_body o q v) = Some o
     number_in other = None
 
-    is_grant : Body → Type 0
-    is_grant (grant_body o q v end_moment ns) = ⊥
-    is_grant other = Unit {0}
-
     no_grant : {A : Type 0} (o : OrderNo) (q : Handle) (v : Version) (end_moment : Moment) (ns : List ℕ) → SaysGrant o q v end_moment ns m.body → A
-    no_grant o q v end_moment ns is = absurd (subst is_grant is tt)
+    no_grant o q v end_moment ns is = not_said is tt
 
     used : (top : ℕ) → handle < top → IsUsed top m
     used top less = (λ o q v end_moment ns is. no_grant o q v end_moment ns is, λ o q v is. let same : handle ≡ q.0 = ap handle_in is in omega (arith, less, same))
@@ -493,7 +471,7 @@ revoked before start epoch count numbered c handle row at n numbers h =
         let is : SaysGrant o (handle_of handle) v end_moment ns g.body = named_grant grant (sym key) refl in
         let number : order ≡ later = same_some order later (ap number_in revoke) in (
           (((h.state).rows handle row at g s).0 o v end_moment ns is).1 (sym same),
-          subst (λ (x : OrderNo). IsSameOrLater o.epoch o.count x.epoch x.count) number (below before start epoch count numbered c numbers g s o (ap order_number is)),
+          subst (λ (x : OrderNo). IsSameOrLater o.epoch o.count x.epoch x.count) number (below before start epoch count numbered c numbers g s o (grant_number is)),
         )
 
 -- what each move keeps
@@ -551,16 +529,11 @@ pub record AreRevokes (sent : List Message) (m : MasterState) : Type 0 where
 
 -- messages that are no orders
 
-quiet_plain_order : (b : Body) → order_number b ≡ None → IsPlainOrder b
-quiet_plain_order (grant_body order handle version end_moment members) h = none_some order (sym h)
-quiet_plain_order (revoke_body order handle version) h = none_some order (sym h)
-quiet_plain_order other h = tt
-
 all_plain : (ms : List Message) (k : ℕ) → HasNoOrder ms → (m : Message) → IsSent (stamped k ms) m → IsPlainOrder m.body
 all_plain ms k quiet m s =
     let was = numbered_sent k ms s.0 m s.1 in
     let none = all_at (λ x. order_number x.body ≡ None) ms (was.1).0 was.0 (without_order ms quiet) (was.1).1 in
-    quiet_plain_order m.body (ap order_number (sym was.2.2) ∙ none)
+    unordered_plain m.body (ap order_number (sym was.2.2) ∙ none)
 
 still_agrees : (sent ms : List Message) (k : ℕ) (l : Logged) → HasNoOrder ms → Agrees sent l → Agrees (sent ++ stamped k ms) l
 still_agrees sent ms k l quiet h =

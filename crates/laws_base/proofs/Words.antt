@@ -4,7 +4,7 @@ use Rattle.messages.specs.declared.message.Body.{Body}
 use Rattle.messages.specs.declared.message.Body.TheVariants as body
 use Rattle.messages.specs.declared.message.Message.{Message}
 use Rattle.protocol.specs.Sending.{order_number}
-use Rattle.laws_base.proofs.LeaseOrders.{revoke_body, grant_body}
+use Rattle.laws_base.proofs.LeaseOrders.{revoke_body, grant_body, GrantsNothing}
 use Rattle.laws_base.proofs.Entries.{AllOf}
 
 abbrev pub is_of_lease : Body → Bool
@@ -34,3 +34,8 @@ no_order (body.Drop order handle version) h = true_false h
 no_order (body.Clone order handle version source) h = true_false h
 no_order (body.CopyLocal order handle version copy copy_version) h = true_false h
 no_order other h = refl
+
+-- one that doesn't grants nothing
+pub quiet_nothing : (b : Body) → is_of_lease b ≡ false → GrantsNothing b
+quiet_nothing (grant_body order handle version end_moment members) h = true_false h
+quiet_nothing other h = tt

@@ -37,7 +37,7 @@ use Rattle.laws_base.proofs.SentReached.{server_quiet, server_restarts_quiet, se
 use Rattle.laws_base.proofs.ClientMoves.{quiet_orders, client_quiet, call_quiet}
 use Rattle.laws_base.proofs.LeasesTold.{AreTold, IsStaleAt, stale_later, new_not_stale, IsToldLease, IsToldServer, told_kept, same_grant, granting, server_numbers, versions_have_one_primary, numbered_from}
 use Rattle.protocol.specs.Server.{started_server}
-use Rattle.laws_base.proofs.LeaseOrders.{SaysGrant, named_grant}
+use Rattle.laws_base.proofs.LeaseOrders.{SaysGrant, named_grant, grant_number}
 use Rattle.replica_store.specs.Replicas.{new_server_disk}
 use Rattle.laws_steps.proofs.Events.{IsGiven, HoldsAfter}
 use Rattle.laws_steps.proofs.MasterTalks.{restart_shown}
@@ -193,7 +193,7 @@ taken_stale config servers clients w r handle version index s at order end_momen
     same_grant handle version w.sent was.place place was.grant m (versions_are_granted_once config servers clients w r handle version) was.at there
     (granting was.order handle version was.end_moment was.members (was.grant).body was.is) (granting order handle version end_moment members m.body is) in
     let same_server : was.server ≡ index = server_numbers was.server index (sym was.receiver ∙ (ap (λ (x : Message). x.receiver) one ∙ receiver)) in
-    let same_order : was.order ≡ order = same_some was.order order (sym (ap order_number was.is) ∙ (ap (λ (x : Message). order_number x.body) one ∙ ap order_number is)) in
+    let same_order : was.order ≡ order = same_some was.order order (sym (grant_number was.is) ∙ (ap (λ (x : Message). order_number x.body) one ∙ grant_number is)) in
     subst (λ (o : OrderNo). IsStaleAt s.disk o) same_order (was.taken s (ap (λ (n : ℕ). element_at w.servers n) same_server ∙ at))
 
 abbrev AllCounted : WorldState → Type 0

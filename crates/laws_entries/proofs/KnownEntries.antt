@@ -1,5 +1,5 @@
 -- What a step shows, of a world that is reached: an entry that was placed, and entries of a serial that are settled; and it stays so.
-use Rattle.std.proofs.Common.{◌≡◌, ℕ, suc, List, [], Some, sym, subst, ◌∙◌}
+use Rattle.std.proofs.Common.{◌≡◌, ℕ, suc, List, [], Some, sym, subst}
 use Rattle.gfs_types.specs.declared.config.Config.{Config}
 use Rattle.gfs_types.specs.declared.ids.DataId.{DataId}
 use Rattle.gfs_types.specs.declared.mutation.Mutation.{Mutation}
@@ -102,7 +102,7 @@ module _ (config : Config) (servers clients : ℕ) (w : WorldState) (r : IsReach
   masters_copy : (P : SerialOrder → Type 0) (handle version : ℕ) → IsSpent P handle version w → (moment : ℕ) (i : NodeInput) (choice : Choice) (place : ℕ) (x : Seen) → element_at (master_step w.master moment i choice).seen place ≡ Some x → IsNoCopyTo handle x
   masters_copy P handle version spent moment i choice place (CopyStarted q copy) at = λ same.
       (new_copies_have_no_lease config servers clients w r moment i choice place q copy at).ungranted spent.place spent.grant spent.at spent.order (version_of version) spent.end_moment spent.members
-      (named_grant {version = version} spent.is same refl)
+      (named_grant {version = version} spent.is same refl).says
   masters_copy P handle version spent moment i choice place (Numbered q v n id m) at = tt
   masters_copy P handle version spent moment i choice place (BecameSettled q v n) at = tt
 

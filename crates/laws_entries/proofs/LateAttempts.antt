@@ -26,7 +26,7 @@ use Rattle.protocol.specs.Seen.{Taken, no_step}
 use Rattle.protocol.specs.Server.{ServerState, ServerDoing}
 use Rattle.protocol.specs.ServerStep.{server_at, server_goes, server_ends, server_step, server_restarts, server_restart}
 use Rattle.protocol.specs.World.{WorldState, stamped, after_server, IsReached}
-use Rattle.laws_base.proofs.LeaseOrders.{SaysGrant, named_grant}
+use Rattle.laws_base.proofs.LeaseOrders.{SaysGrant, named_grant, grant_number}
 use Rattle.laws_base.proofs.Steps.{on_cond, none_some, same_some, same_or_not}
 use Rattle.laws_base.proofs.GrantsOnce.{versions_are_granted_once}
 use Rattle.laws_base.proofs.LeasesTold.{IsStaleAt, new_not_stale, same_grant, granting, server_numbers, versions_have_one_primary}
@@ -119,7 +119,7 @@ module _ (config : Config) (servers clients : ℕ) (w : WorldState) (r : IsReach
       same_server = server_numbers h.spent.server index (sym h.spent.receiver ∙ ap (λ (x : Message). x.receiver) one ∙ there.2)
 
       same_order : h.spent.order ≡ order
-      same_order = same_some h.spent.order order (sym (ap order_number h.spent.is) ∙ ap (λ (x : Message). order_number x.body) one ∙ ap order_number body_is)
+      same_order = same_some h.spent.order order (sym (grant_number h.spent.is) ∙ ap (λ (x : Message). order_number x.body) one ∙ grant_number body_is)
 
   abbrev Past : ServerState → Type 0
   Past s = IsPast h.handle.0 h.version.0 h.deadline.0 s

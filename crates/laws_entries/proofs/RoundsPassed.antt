@@ -25,7 +25,7 @@ use Rattle.protocol.specs.ServerStep.{server_at, server_step}
 use Rattle.protocol.specs.MasterStep.{master_step, master_restart}
 use Rattle.protocol.specs.ClientStep.{client_step, client_call}
 use Rattle.protocol.specs.World.{WorldState, new_world, happens, after_events, IsReached}
-use Rattle.laws_base.proofs.LeaseOrders.{grant_parts}
+use Rattle.laws_base.proofs.LeaseOrders.{grant_parts, lease_grant}
 use Rattle.laws_base.specs.Laws.{is_grant}
 use Rattle.laws_base.proofs.Steps.{none_some, same_some, same_or_not, put_there, put_other, tally, count-cons}
 use Rattle.laws_base.proofs.Entries.{AllOf}
@@ -126,7 +126,7 @@ leased_passed config servers clients w r index s at handle p is =
     let told = (leases_are_told config servers clients w r index s at handle p is).0 in
     let base : IsOfRevokes w.sent w.master = (sent_reached IsOfWaits waits_kept config servers clients w r).base in
     granted_passed w.sent w.master base handle p.held.version told.1 (told.0, told.2)
-    (granting told.4 handle p.held.version told.5 p.held.members (told.1).body told.6)
+    (granting told.4 handle p.held.version told.5 p.held.members (told.1).body (lease_grant w.sent (suc index) handle p.held told))
 
 -- one event
 

@@ -47,7 +47,7 @@ use Rattle.protocol.specs.ServerStep.{server_at, server_takes, server_goes, serv
 use Rattle.protocol.specs.MasterStep.{master_step, master_restart}
 use Rattle.protocol.specs.ClientStep.{client_step, client_call}
 use Rattle.protocol.specs.World.{WorldState, stamped, after_server, happens, after_events, IsReached}
-use Rattle.laws_base.proofs.LeaseOrders.{SaysGrant, named_grant}
+use Rattle.laws_base.proofs.LeaseOrders.{SaysGrant, named_grant, grant_number}
 use Rattle.laws_base.proofs.Steps.{on_cond, none_some, same_some, gone_there}
 use Rattle.laws_base.proofs.MembersRecorded.{kept_place}
 use Rattle.laws_base.proofs.RisingOrders.{Later, element_numbered, step_goes_on, restarts_as}
@@ -260,7 +260,7 @@ module _ (P : SerialOrder → Type 0) (k : KeepsOrders P) (config : Config) (ser
         same_server = server_numbers h.server index (sym h.receiver ∙ ap (λ (x : Message). x.receiver) one ∙ there.2)
 
         same_order : h.order ≡ order
-        same_order = same_some h.order order (sym (ap order_number h.is) ∙ ap (λ (x : Message). order_number x.body) one ∙ ap order_number body_is)
+        same_order = same_some h.order order (sym (grant_number h.is) ∙ ap (λ (x : Message). order_number x.body) one ∙ grant_number body_is)
 
     ends_on : (s : ServerState) (d : ServerDoing) (choice : Choice) (e : Ending) → AreFit P handle version d.server.leases → AreFit P handle version (server_ends s d choice e).state.leases
     ends_on s d choice Goes g = g

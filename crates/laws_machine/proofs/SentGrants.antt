@@ -9,6 +9,7 @@ use Rattle.messages.specs.declared.message.Message.{Message}
 use Rattle.protocol.specs.Logged.{LogDisk, LogChange, AppendRecord, WriteCheckpoint, checkpoint_of}
 use Rattle.protocol.specs.Sending.{message}
 use Rattle.protocol.specs.Master.{MasterState}
+use Rattle.laws_base.proofs.GrantsOnce.{plain_grants}
 use Rattle.laws_base.specs.Laws.{is_grant, grants_of}
 use Rattle.laws_base.proofs.Steps.{tally, count-cons, count-append}
 use Rattle.laws_base.proofs.Words.{is_of_lease}
@@ -20,7 +21,6 @@ use Rattle.laws_steps.proofs.MasterActs.{IsRowing, rowing_keeps, Waits, Acts}
 use Rattle.laws_steps.proofs.Awaited.{Attempts}
 use Rattle.laws_steps.proofs.WaitsKept.{any_input, waits_here}
 use Rattle.laws_steps.proofs.ActsOfSteps.{goes_acts}
-use Rattle.laws_entries.proofs.SentGrants.{plain_grants}
 use Rattle.laws_machine.specs.GrantedRecords.{IsGrantOf, HasGrantRecord, SentGrantsAreLogged}
 
 has_stays : (xs ys : List LogChange) (handle version : ℕ) → HasGrantRecord xs handle version → HasGrantRecord (xs ++ ys) handle version

@@ -2,7 +2,7 @@
 use Rattle.std.proofs.Common.{◌≡◌, ℕ, suc, ◌≤◌, ◌<◌, ◌+◌, Bool, true, false, List, [], Option, Some, None, refl, sym, ap, ◌∙◌, inl, inr, arith}
 use Rattle.std.specs.Prelude.{◌==◌, ◌&&◌, max, IsTrue}
 use Rattle.std.specs.FinMap as table
-use Rattle.std.proofs.lemmas.Bool.{and_from, and_parts, eqb-true, ltb-true}
+use Rattle.std.proofs.lemmas.Bool.{and_parts, eqb-true, ltb-true}
 use Rattle.std.proofs.Math.Nat.{le-max_left, le-max_right}
 use Rattle.gfs_types.specs.declared.config.Config.{Config}
 use Rattle.leases.specs.LeaseHeld.{counts_at}
@@ -19,10 +19,9 @@ use Rattle.primary_order.specs.declared.order.SerialOrder.{SerialOrder}
 use Rattle.protocol.specs.Server.{ServerState, counting_primary}
 use Rattle.protocol.specs.ServerStep.{server_at}
 use Rattle.protocol.specs.World.{WorldState}
-use Rattle.laws_base.proofs.LeaseOrders.{SaysGrant, named_grant}
+use Rattle.laws_base.proofs.LeaseOrders.{SaysGrant, says_grant, named_grant, grant_ends}
 use Rattle.laws_base.specs.Laws.{tells_end}
 use Rattle.laws_base.proofs.Steps.{on_cond, removed_cases}
-use Rattle.laws_base.proofs.Entries.{same_number}
 use Rattle.laws_base.proofs.ChunkRows.{rows_of}
 use Rattle.laws_base.proofs.OrderNumbers.{state_of}
 use Rattle.laws_base.proofs.RisingOrders.{then_later}
@@ -38,13 +37,6 @@ use Rattle.laws_steps.specs.Versions.{IsRefusedBy, IsLeaseOver, EndedLeasesAreOv
 not_true : (b : Bool) → (b ≡ true → ⊥) → b ≡ false
 not_true true h = absurd (h refl)
 not_true false h = refl
-
--- a Grant tells its end
-grant_tells : (order : OrderNo) (handle version : ℕ) (end_moment : Moment) (members : List ℕ) (m : Message) → SaysGrant order (handle_of handle) (version_of version) end_moment members m.body
-    → tells_end handle version end_moment.0 m.body ≡ true
-grant_tells order handle version end_moment members m is =
-    ap (tells_end handle version end_moment.0) is
-    ∙ and_from ((handle == handle) && (version == version)) (end_moment.0 == end_moment.0) (and_from (handle == handle) (version == version) (same_number handle) (same_number version)) (same_number end_moment.0)
 
 module _ (w : WorldState) (h : IsOfTimes (scene_of w)) (handle version : ℕ) where
   -- where a server said that the lease is over, it has none and refuses the Grant
@@ -78,9 +70,10 @@ module _ (w : WorldState) (h : IsOfTimes (scene_of w)) (handle version : ℕ) wh
               | inr said ↦ none_held said index holds.0 p holds.1 holds.2 same
             ];
         comes = λ place grant order end_moment members at is.
-            elim (past end_moment.0 (grant, (place, at), grant_tells order handle version end_moment members grant is)) [
+            let says : SaysGrant order (handle_of handle) (version_of version) end_moment members grant.body = says_grant is in
+            elim (past end_moment.0 (grant, (place, at), grant_ends says)) [
               | inl early ↦ inl early
-              | inr said ↦ inr (refused said grant (place, at) order end_moment members is)
+              | inr said ↦ inr (refused said grant (place, at) order end_moment members says)
             ];
       }
 

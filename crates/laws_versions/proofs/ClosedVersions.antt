@@ -22,7 +22,6 @@ use Rattle.protocol.specs.MasterStep.{master_goes, master_ends, master_bounded, 
 use Rattle.protocol.specs.ServerStep.{server_step, server_restart}
 use Rattle.protocol.specs.World.{WorldState, stamped, after_events}
 use Rattle.laws_base.specs.Laws.{is_grant, grants_of}
-use Rattle.laws_entries.proofs.SentGrants.{no_order_grants, plain_grants}
 use Rattle.laws_base.proofs.Steps.{on_cond, none_some, same_some, tally, put_cases, gone_split, removed_cases, count-cons, count-append}
 use Rattle.laws_base.proofs.Entries.{AllOf}
 use Rattle.laws_base.proofs.Words.{no_order}
@@ -36,7 +35,7 @@ use Rattle.laws_base.proofs.GrantedIssued.{IsIssued}
 use Rattle.laws_base.proofs.NamesReached.{IsGood, IsUpToLog, IsLogged, opening_first, opening_naming}
 use Rattle.laws_base.proofs.RowsLogged.{IsFoundRows, IsRowedLog}
 use Rattle.laws_base.proofs.RowsKept.{rows_kept}
-use Rattle.laws_base.proofs.GrantsOnce.{row_below}
+use Rattle.laws_base.proofs.GrantsOnce.{row_below, no_order_grants, plain_grants}
 use Rattle.laws_base.proofs.LeasesTimely.{IsOfTimes, times_kept}
 use Rattle.laws_base.proofs.ScenesReached.{Scene, scene_of, IsKeptByScenes, lifted, scene_reached, IsKeptOn, goes_on}
 use Rattle.laws_steps.specs.Versions.{IsLeaseOver}

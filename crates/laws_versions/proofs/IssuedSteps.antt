@@ -16,11 +16,10 @@ use Rattle.chunk_table.specs.ChunkTable.{ChunkRow, new_row, chunk_of, row_grante
 use Rattle.protocol.specs.Logged.{Logged, Copy, LogDisk, LogChange, AppendRecord, WriteCheckpoint, log_changed, after_record, checkpoint_of, copies_given_up, all_copies_given_up, swapped_in}
 use Rattle.protocol.specs.Master.{VersionAttempt}
 use Rattle.laws_base.specs.Laws.{is_grant, tells_end}
-use Rattle.laws_entries.proofs.SentGrants.{no_order_grants, plain_grants}
 use Rattle.laws_base.proofs.Steps.{same_some, count-cons, count-append, same_or_not, put_cases, gone_split, removed_cases}
 use Rattle.laws_base.proofs.ChunkRows.{Rows, rows_of, OwnedFrom, all_copied_owned, swapped_owned, expired_owned}
 use Rattle.laws_base.proofs.CountsLogged.{next_grows}
-use Rattle.laws_base.proofs.GrantsOnce.{row_below}
+use Rattle.laws_base.proofs.GrantsOnce.{row_below, no_order_grants, plain_grants}
 use Rattle.laws_base.proofs.VersionsAhead.{changed_cases}
 use Rattle.laws_base.proofs.RowsFit.{granted_logged, same_row}
 use Rattle.laws_base.proofs.RowsKept.{given_up_same}

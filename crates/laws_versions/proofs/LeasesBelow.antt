@@ -19,6 +19,7 @@ use Rattle.protocol.specs.Logged.{Logged, log_changed_by_all}
 use Rattle.protocol.specs.Master.{VersionAttempt}
 use Rattle.protocol.specs.MasterStep.{master_step}
 use Rattle.protocol.specs.World.{WorldState, stamped, after_master, after_events, IsReached}
+use Rattle.laws_base.proofs.LeaseOrders.{ExtendsNothing, nothing_ends}
 use Rattle.laws_base.specs.Laws.{is_grant, grants_of, tells_end}
 use Rattle.laws_base.proofs.Steps.{same_some}
 use Rattle.laws_base.proofs.Entries.{same_number}
@@ -43,7 +44,7 @@ use Rattle.laws_versions.proofs.ClosedVersions.{StaysShut, stays_shut, clocks_be
 use Rattle.laws_entries.proofs.SentGrants.{counted_one}
 use Rattle.laws_entries.proofs.RisingRounds.{leased_granted}
 use Rattle.laws_steps.proofs.MasterPremises.{is_told, IsAsk}
-use Rattle.laws_versions.proofs.MasterCauses.{is_caused, Attempts, Causes, step_caused}
+use Rattle.laws_versions.proofs.MasterCauses.{is_caused, uncaused_nothing, Attempts, Causes, step_caused}
 use Rattle.laws_versions.proofs.AttemptsAbove.{step_above}
 use Rattle.laws_versions.proofs.OrderSteps.{IsOrderedNow, WasOrderedIn, was_ordered_in}
 use Rattle.laws_versions.proofs.GivenOnce.{IsNext, now_given, given_number}
@@ -76,10 +77,12 @@ same_message i x y one two = same_some x y (ap message_in (sym one ∙ two))
 abbrev TellsNone : ℕ → ℕ → ℕ → Message → Type 0
 TellsNone handle number until x = tells_end handle number until x.body ≡ false
 
+uncaused_extends : (b : Body) → is_caused b ≡ false → ExtendsNothing b
+uncaused_extends (body.Extend q v end_moment) none = true_false none
+uncaused_extends other none = tt
+
 plain_end : (handle number until : ℕ) (b : Body) → is_caused b ≡ false → tells_end handle number until b ≡ false
-plain_end handle number until (body.Grant order q v end_moment members) none = true_false none
-plain_end handle number until (body.Extend q v end_moment) none = true_false none
-plain_end handle number until other none = refl
+plain_end handle number until b none = nothing_ends b (uncaused_nothing b none) (uncaused_extends b none) handle number until
 
 asked_ends : (handle number until : ℕ) (l : Logged) (tried : Attempts) (i : NodeInput) → IsAsk i → Causes l tried i (TellsNone handle number until)
 asked_ends handle number until l tried i ask =

@@ -1,6 +1,6 @@
 -- Why a SetVersion skips no granted version: as it is sent, nothing above its base was granted, its number is the next one, and no other is attempted. So those between are shut.
 use Rattle.std.proofs.Common.{◌≡◌, ◌⊎◌, ℕ, zero, suc, ◌≤◌, ◌<◌, Bool, true, false, List, [], ◌∷◌, ◌++◌, length, Option, Some, None, refl, sym, ap, subst, ◌∙◌, inl, inr, arith}
-use Rattle.std.specs.Prelude.{◌==◌, nat_le, IsTrue}
+use Rattle.std.specs.Prelude.{nat_le, IsTrue}
 use Rattle.std.specs.FinMap as table
 use Rattle.std.proofs.lemmas.Bool.{leb-true, leb-false}
 use Rattle.gfs_types.specs.declared.config.Config.{Config}

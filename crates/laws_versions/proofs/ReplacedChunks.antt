@@ -1,6 +1,6 @@
 -- In each reached world whose clocks were kept, a chunk that was told with a granted round stands at its place still, or its file is gone, or the lease of the told round is over.
 use Rattle.std.proofs.Common.{◌≡◌, ◌⊎◌, ℕ, suc, ◌≤◌, ◌<◌, Bool, true, false, List, [], ◌∷◌, ◌++◌, length, Option, Some, None, is_some, refl, sym, ap, subst, ◌∙◌, inl, inr, arith}
-use Rattle.std.specs.Prelude.{◌==◌, ◌&&◌, nat_lt, unwrap_or, IsTrue}
+use Rattle.std.specs.Prelude.{nat_lt, unwrap_or, IsTrue}
 use Rattle.std.specs.FinMap as table
 use Rattle.std.proofs.lemmas.Bool.{ltb-true, ltb-false}
 use Rattle.gfs_types.specs.declared.config.Config.{Config}
@@ -24,7 +24,7 @@ use Rattle.laws_base.proofs.FilesNamed.{Files}
 use Rattle.laws_base.proofs.Owners.{chunks_at}
 use Rattle.laws_base.proofs.CountsLogged.{files_below}
 use Rattle.laws_base.proofs.LoggedParts.{Parts}
-use Rattle.laws_base.proofs.GrantsOnce.{row_below}
+use Rattle.laws_base.proofs.GrantsOnce.{row_below, no_order_grants}
 use Rattle.laws_base.proofs.MembersRecorded.{place_below}
 use Rattle.laws_base.proofs.ClientMoves.{HasNoOrder, quiet_orders, client_quiet, call_quiet}
 use Rattle.laws_base.proofs.SentReached.{without_order, count-sent, server_quiet, server_restarts_quiet, sent_reached}
@@ -41,7 +41,7 @@ use Rattle.laws_versions.proofs.ClosedVersions.{clocks_before}
 use Rattle.laws_steps.proofs.Histories.{IsGrown, steps_grown, SentIn, sent_in, stood_before, after_both}
 use Rattle.laws_versions.proofs.ExtendLaws.{restart_silent}
 use Rattle.laws_entries.proofs.GrantsFollow.{GrantsAbove, HasPassed, step_passed, restart_passed}
-use Rattle.laws_entries.proofs.SentGrants.{no_order_grants, above_grants}
+use Rattle.laws_entries.proofs.SentGrants.{above_grants}
 use Rattle.laws_versions.proofs.AskedSteps.{StandsAt, IsToldOf, IsNoGrant}
 use Rattle.laws_versions.proofs.CopiedSources.{IsNoStart, asked_or_not, unasked_step, asked_step, free_reached, copied_chunks_have_no_lease}
 use Rattle.laws_versions.specs.ReplacedChunks.{IsToldAt, ToldChunksStandOrAreOver, ReplacedChunksHaveNoLease}

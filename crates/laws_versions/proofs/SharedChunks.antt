@@ -23,8 +23,8 @@ use Rattle.protocol.specs.MasterStep.{master_at, master_goes, master_ends, maste
 use Rattle.protocol.specs.Observer.{new_observer}
 use Rattle.protocol.specs.ServerStep.{server_step, server_restart}
 use Rattle.protocol.specs.World.{WorldState, new_world, stamped}
+use Rattle.laws_base.proofs.GrantsOnce.{no_order_grants}
 use Rattle.laws_base.specs.Laws.{is_grant, grants_of, tells_end}
-use Rattle.laws_entries.proofs.SentGrants.{no_order_grants}
 use Rattle.laws_base.proofs.Steps.{on_cond, none_some, tally, count-cons, same_or_not, removed_cases}
 use Rattle.laws_base.proofs.Entries.{AllOf, mapped_cases}
 use Rattle.laws_base.proofs.ChunkRows.{rows_of}

@@ -17,8 +17,8 @@ use Rattle.protocol.specs.Sending.{message, the_server, handle_of, version_of, m
 use Rattle.chunk_table.specs.ChunkTable.{ChunkRow, ChunkTable, new_row, chunk_of, handles_of, row_granted}
 use Rattle.protocol.specs.Logged.{Logged, Copy, LogDisk, LogChange, AppendRecord, WriteCheckpoint, log_changed, after_record, checkpoint_of, copies_given_up, all_copies_given_up, swapped_in, with_copied_node, with_copied_nodes}
 use Rattle.protocol.specs.Master.{VersionAttempt}
+use Rattle.laws_base.proofs.GrantsOnce.{no_order_grants, plain_grants}
 use Rattle.laws_base.specs.Laws.{times_in, is_grant, grants_of, tells_end}
-use Rattle.laws_entries.proofs.SentGrants.{no_order_grants, plain_grants}
 use Rattle.laws_base.proofs.Steps.{none_some, same_some, tally, count-cons, count-append, same_or_not, put_cases, put_other, kept_cases, removed_cases}
 use Rattle.laws_base.proofs.ChunkRows.{Rows, rows_of, OwnedFrom, all_copied_owned, swapped_owned, expired_owned}
 use Rattle.laws_base.proofs.FilesNamed.{Files}
@@ -162,9 +162,10 @@ snapshot_shares l from to q named shared =
 -- messages
 
 pub given_tells : (b : Body) (x : ℕ × ℕ) → version_given b ≡ Some x → (handle version until : ℕ) → tells_end handle version until b ≡ false
-given_tells (body.Grant order h v end_moment members) x given handle version until = none_some x given
-given_tells (body.Extend h v end_moment) x given handle version until = none_some x given
-given_tells other x given handle version until = refl
+given_tells (body.Create order h v) x given handle version until = refl
+given_tells (body.SetVersion order h v base) x given handle version until = refl
+given_tells (body.CopyLocal order h v copy copy_version) x given handle version until = refl
+given_tells other x given handle version until = none_some x given
 
 -- tests of two numbers that are other
 pub other_first : (a b : ℕ) (rest : Bool) → (a ≡ b → ⊥) → (a == b) && rest ≡ false

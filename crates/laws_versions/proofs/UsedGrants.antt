@@ -16,7 +16,7 @@ use Rattle.protocol.specs.Observer.{Placed}
 use Rattle.protocol.specs.Server.{ServerState, counting_primary}
 use Rattle.protocol.specs.ServerStep.{server_at}
 use Rattle.protocol.specs.World.{WorldState, new_world, happens, after_events, IsReached}
-use Rattle.laws_base.proofs.LeaseOrders.{SaysGrant, named_grant}
+use Rattle.laws_base.proofs.LeaseOrders.{SaysGrant, named_grant, says_grant, grant_number}
 use Rattle.laws_base.specs.Laws.{grants_of, is_grant}
 use Rattle.laws_base.proofs.Steps.{on_cond, none_some, same_some, tally, count-cons}
 use Rattle.laws_base.proofs.RisingOrders.{order_numbers_never_fall}
@@ -63,8 +63,8 @@ module _ (config : Config) (servers clients : ℕ) (w : WorldState) (r : IsReach
         refused = λ place m at order end_moment members is.
             let one : lease.grant ≡ m =
             same_grant handle version v.sent lease.place place lease.grant m (versions_are_granted_once config servers clients v reached handle version) still at is_its
-            (granting order handle version end_moment members m.body is) in
-            let number : lease.order ≡ order = same_some lease.order order (sym (ap order_number lease_body) ∙ ap (λ (x : Message). order_number x.body) one ∙ ap order_number is) in (
+            (granting order handle version end_moment members m.body (says_grant is)) in
+            let number : lease.order ≡ order = same_some lease.order order (sym (grant_number lease_body) ∙ ap (λ (x : Message). order_number x.body) one ∙ ap order_number is) in (
               sym (ap (λ (x : Message). x.receiver) one) ∙ lease.receiver,
               λ t at_t. stale_refuses t order
                   (subst (λ (o : OrderNo). IsStaleAt t.disk o) number (stale_later s.disk t.disk lease.order (order_numbers_never_fall config servers clients w r steps index s t there at_t) lease.taken)),
