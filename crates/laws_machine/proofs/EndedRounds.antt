@@ -1,7 +1,7 @@
 -- Which rounds may end at an event, and that their leases are over.
 use Rattle.std.proofs.Common.{◌≡◌, ◌⊎◌, ℕ, zero, suc, ◌≤◌, Bool, true, false, List, [], ◌∷◌, ◌++◌, length, Option, Some, None, is_some, true≢false, refl, sym, ap, subst, ◌∙◌, inl, inr, arith}
 use Rattle.std.specs.Prelude.{◌==◌, ◌&&◌, IsTrue, IsFalse}
-use Rattle.std.proofs.lemmas.Bool.{and_parts, eq-eqb, eqb-true, cases_lt}
+use Rattle.std.proofs.lemmas.Bool.{eq-eqb, cases_lt}
 use Rattle.gfs_types.specs.declared.config.Config.{Config}
 use Rattle.gfs_types.specs.declared.ids.Handle.{Handle}
 use Rattle.gfs_types.specs.declared.ids.Moment.{Moment}
@@ -14,7 +14,6 @@ use Rattle.messages.specs.declared.event.NodeInput.{NodeInput}
 use Rattle.messages.specs.declared.event.NodeInput.TheVariants as input
 use Rattle.messages.specs.declared.message.Message.{Message}
 use Rattle.messages.specs.declared.message.Body.{Body}
-use Rattle.messages.specs.declared.message.Body.TheVariants as body
 use Rattle.chunk_table.specs.ChunkTable.{ChunkRow, handles_of, chunk_of}
 use Rattle.protocol.specs.Choice.{Choice, Ending, Goes, Lost, Stops}
 use Rattle.protocol.specs.Seen.{Taken, no_step}
@@ -26,7 +25,7 @@ use Rattle.protocol.specs.ServerStep.{server_step, server_restart}
 use Rattle.protocol.specs.MasterStep.{master_goes, master_ends, may_end, master_bounded, master_step, master_restart}
 use Rattle.protocol.specs.ClientStep.{client_step, client_call}
 use Rattle.protocol.specs.World.{WorldState, stamped, happens, IsReached}
-use Rattle.laws_base.proofs.LeaseOrders.{SaysGrant}
+use Rattle.laws_base.proofs.LeaseOrders.{SaysGrant, grant_parts, grant_counts, lease_grant}
 use Rattle.laws_base.specs.Laws.{HasAllReferences, is_grant, grants_of}
 use Rattle.laws_base.proofs.Steps.{on_cond, none_some, same_some, tally, count-cons}
 use Rattle.laws_base.proofs.MasterMoves.{Nothing, NoneEnded, Keeps}
@@ -77,7 +76,7 @@ pub ungranted_is_over : (config : Config) (servers clients : ℕ) (w : WorldStat
 ungranted_is_over config servers clients w r handle version none = record {
   held = λ index p holds version_is.
       let told = (leases_are_told config servers clients w r index holds.0 holds.1 handle p holds.2).0 in
-      no_grant told.0 told.1 told.2 (ap (is_grant handle version) told.6 ∙ ap (λ (v : ℕ). (handle == handle) && (v == version)) version_is ∙ its_grant handle version);
+      no_grant told.0 told.1 told.2 (subst (λ (v : ℕ). is_grant handle v (told.1).body ≡ true) version_is (grant_counts (lease_grant w.sent (suc index) handle p.held told)));
   comes = λ place grant order end_moment members at is. absurd (no_grant place grant at (ap (is_grant handle version) is ∙ its_grant handle version));
 }
   where
@@ -303,10 +302,9 @@ pub record IsGrantOf (handle version : ℕ) (b : Body) : Type 0 where
   pub version_is : number.0 ≡ version
 
 pub grant_is : (handle version : ℕ) (b : Body) → is_grant handle version b ≡ true → IsGrantOf handle version b
-grant_is handle version (body.Grant order h v end_moment members) is =
-    let parts = and_parts (h.0 == handle) (v.0 == version) is in
-    record { order = order; named = h; number = v; end_moment = end_moment; members = members; body_is = refl; handle_is = eqb-true h.0 handle parts.0; version_is = eqb-true v.0 version parts.1 }
-grant_is handle version other is = absurd (let no : false ≡ true = is in cc)
+grant_is handle version b is =
+    let parts = grant_parts handle version b is in
+    record { order = parts.0; named = handle_of handle; number = version_of version; end_moment = parts.1; members = parts.2; body_is = parts.3; handle_is = refl; version_is = refl }
 
 pub new_rounds : (w : WorldState) (e : Event) (choice : Choice) (j : ChunkSides) → SentGrantsAreOpen w (happens w e choice).world j → NewRoundsAreOpen w (happens w e choice).world j
 new_rounds w e choice j sent handle version none some =
@@ -318,7 +316,7 @@ new_rounds w e choice j sent handle version none some =
       | inr from ↦
           let g = grant_is handle version (found.1).body found.3 in
           subst (λ (n : ℕ). (s : Spot) × IsRoundOpen j n version s) g.handle_is
-          (subst (λ (v : ℕ). (s : Spot) × IsRoundOpen j g.named.0 v s) g.version_is (sent found.0 found.1 g.order g.named g.number g.end_moment g.members from found.2 g.body_is))
+          (subst (λ (v : ℕ). (s : Spot) × IsRoundOpen j g.named.0 v s) g.version_is (sent found.0 found.1 g.order g.named g.number g.end_moment g.members from found.2 (g.body_is).says))
     ]
 
 pub each_event_keeps_rounds : EachEventKeepsRounds

@@ -10,6 +10,7 @@ use Rattle.chunk_table.specs.ChunkTable.{ChunkRow, handles_of, chunk_of}
 use Rattle.protocol.specs.Choice.{Choice}
 use Rattle.protocol.specs.Tables.{element_at}
 use Rattle.protocol.specs.World.{WorldState, IsReached, happens}
+use Rattle.laws_base.proofs.LeaseOrders.{grant_counts, lease_grant}
 use Rattle.laws_base.specs.Laws.{HasAllReferences, times_in, is_grant, grants_of}
 use Rattle.laws_base.proofs.Steps.{none_some, same_some, same_or_not, gone_other, tally, count-cons}
 use Rattle.laws_base.proofs.Owners.{stands, times_gone, times_at_least, placed_stands}
@@ -43,7 +44,7 @@ ungranted_is_over : (config : Config) (servers clients : ℕ) (w : WorldState) �
 ungranted_is_over config servers clients w r handle version none = record {
   held = λ index p holds version_is.
       let told = (leases_are_told config servers clients w r index holds.0 holds.1 handle p holds.2).0 in
-      no_grant told.0 told.1 told.2 (ap (is_grant handle version) told.6 ∙ ap (λ (v : ℕ). (handle == handle) && (v == version)) version_is ∙ its_grant handle version);
+      no_grant told.0 told.1 told.2 (subst (λ (v : ℕ). is_grant handle v (told.1).body ≡ true) version_is (grant_counts (lease_grant w.sent (suc index) handle p.held told)));
   comes = λ place grant order end_moment members at is. absurd (no_grant place grant at (ap (is_grant handle version) is ∙ its_grant handle version));
 }
   where

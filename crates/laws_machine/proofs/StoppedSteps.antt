@@ -129,7 +129,7 @@ module _ (config : Config) (servers clients : ℕ) (w : WorldState) (r : IsReach
     no_grant version place m at g above =
         let named : SaysGrant g.order (handle_of handle) g.number g.end_moment g.members m.body =
         subst (λ (n : ℕ). SaysGrant g.order (handle_of n) g.number g.end_moment g.members m.body) g.handle_is g.body_is in
-        let low = (grants_agree_with_rows config servers clients stopped reached handle row (inr here) place m g.order g.number g.end_moment g.members (ap (λ (ms : List Message). element_at ms place) sent_is ∙ at) named).0 in
+        let low = (grants_agree_with_rows config servers clients stopped reached handle row (inr here) place m g.order g.number g.end_moment g.members (ap (λ (ms : List Message). element_at ms place) sent_is ∙ at) named.says).0 in
         let same = g.version_is in
         omega (arith, low, same, above)
 

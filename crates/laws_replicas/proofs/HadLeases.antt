@@ -9,7 +9,6 @@ use Rattle.gfs_types.specs.declared.ids.OrderNo.{OrderNo}
 use Rattle.leases.specs.LeaseHeld.{LeaseHeld}
 use Rattle.messages.specs.declared.event.NodeInput.{NodeInput}
 use Rattle.messages.specs.declared.message.Body.{Body}
-use Rattle.messages.specs.declared.message.Body.TheVariants as body
 use Rattle.primary_order.specs.declared.order.SerialOrder.{SerialOrder}
 use Rattle.replica_store.specs.Replicas.{disk_changed}
 use Rattle.replica_store.specs.declared.change.StoreChange.TheVariants.{SetOrder}
@@ -18,6 +17,7 @@ use Rattle.protocol.specs.Choice.{Choice, Ending, Goes, Lost, Stops}
 use Rattle.protocol.specs.Seen.{Taken, no_step}
 use Rattle.protocol.specs.Server.{ServerState, ServerDoing}
 use Rattle.protocol.specs.ServerStep.{server_goes, server_ends, server_step}
+use Rattle.laws_base.proofs.LeaseOrders.{HasGrant}
 use Rattle.laws_base.proofs.Steps.{on_cond, none_some, put_cases}
 use Rattle.laws_base.proofs.RisingOrders.{Later, same_later, then_later, risen_later}
 use Rattle.laws_base.proofs.ServerMoves.{ServerCore, KeepsServer, IsCameIn, AreHeldFrom, lease_of, until_moment, server_goes_holds}
@@ -34,7 +34,7 @@ module _ (handle version : ℕ) (Came : Body → Type 0) (s : ServerState) where
     pub number : Version
     pub end_moment : Moment
     pub members : List ℕ
-    pub came : Came (body.Grant order chunk number end_moment members)
+    pub came : HasGrant Came order chunk number end_moment members
     pub chunk_is : chunk.0 ≡ handle
     pub number_is : number.0 ≡ version
     pub new : IsStaleAt s.disk order → ⊥

@@ -35,7 +35,7 @@ use Rattle.laws_base.proofs.Entries.{AllOf}
 use Rattle.laws_base.proofs.MembersRecorded.{all_at}
 use Rattle.laws_base.proofs.SentReached.{sent_reached}
 use Rattle.laws_base.proofs.ScenesReached.{IsSentTo}
-use Rattle.laws_base.proofs.LeasesTold.{CameTo, came_in, granting, versions_have_one_primary}
+use Rattle.laws_base.proofs.LeasesTold.{CameTo, came_in, granting, versions_have_one_primary, GrantCameTo, grant_came}
 use Rattle.laws_steps.proofs.Events.{IsGiven, HoldsAfter}
 use Rattle.laws_steps.proofs.MasterTalks.{restart_shown}
 use Rattle.laws_entries.specs.ChunkOrders.{unsettled}
@@ -134,18 +134,20 @@ module _ (config : Config) (servers clients : ℕ) (w : WorldState) (r : IsReach
       -- a Grant of a round that has entries was taken before
       no_grant : (handle version place : ℕ) (x : Placed) → element_at (placed_in w.observer.orders handle) place ≡ Some x → x.entry.round ≡ version → GrantCame handle version (CameTo w.sent (suc index)) s → ⊥
       no_grant handle version place x there round g =
-          g.new (taken_stale config servers clients w r handle version index s at g.order g.end_moment g.members (g.came).1 (g.came).0 (g.came).2 (g.came).3 body_is
+          g.new (taken_stale config servers clients w r handle version index s at g.order g.end_moment g.members came.1 came.0 came.2 came.3 body_is
           (counted.taken (entry_counts version (placed_in w.observer.orders handle) place x there round counted.count counted.serials) granted))
         where
           counted : IsCounted handle version w.sent w.servers (placed_in w.observer.orders handle)
           counted = all_counted config servers clients w r handle version
 
-          body_is : SaysGrant g.order (handle_of handle) (version_of version) g.end_moment g.members ((g.came).1).body
-          body_is =
-              named_grant (g.came).4 g.chunk_is g.number_is
+          came : GrantCameTo w.sent (suc index) g.order g.chunk g.number g.end_moment g.members
+          came = grant_came w.sent (suc index) g.order g.chunk g.number g.end_moment g.members g.came
+
+          body_is : SaysGrant g.order (handle_of handle) (version_of version) g.end_moment g.members (came.1).body
+          body_is = named_grant came.4 g.chunk_is g.number_is
 
           granted : 1 ≤ grants_of handle version w.sent
-          granted = counted_one (λ m. is_grant handle version m.body) w.sent (g.came).1 (g.came).0 (g.came).2 (granting g.order handle version g.end_moment g.members ((g.came).1).body body_is)
+          granted = counted_one (λ m. is_grant handle version m.body) w.sent came.1 came.0 came.2 (granting g.order handle version g.end_moment g.members (came.1).body body_is)
 
       old_held : AreAll (IsHeldBy w.config.chunk (with_at w.servers index (server_step s moment i choice).state)) w.observer.orders
       old_held =
