@@ -24,8 +24,9 @@ use Rattle.laws_base.proofs.RowsLogged.{IsFoundRows, IsRowedLog}
 use Rattle.laws_base.proofs.RowsKept.{rows_kept}
 use Rattle.laws_base.proofs.SentReached.{sent_reached}
 use Rattle.laws_versions.proofs.LeaseLaws.{told_ends_are_the_masters}
-use Rattle.laws_machine.proofs.EndedRounds.{ungranted_is_over, some_place, grant_is}
+use Rattle.laws_machine.proofs.EndedRounds.{some_place, grant_is}
 use Rattle.headline.specs.CopiesInLog.{CopiesInTheLogAreOver}
+use Rattle.laws_machine.proofs.OpenRounds.{ungranted_is_over}
 
 -- nothing was granted of a copy under way
 abbrev AreUngranted : Logged → Type 0

@@ -33,6 +33,11 @@ pub says_grant : {order : OrderNo} {handle : Handle} {version : Version} {end_mo
     → SaysGrant order handle version end_moment members b
 says_grant is = record { says = is }
 
+-- as a law states it
+pub stated_grant : {order : OrderNo} {handle : Handle} {version : Version} {end_moment : Moment} {members : List ℕ} {b : Body} → SaysGrant order handle version end_moment members b
+    → b ≡ body.Grant order handle version end_moment members
+stated_grant is = is.says
+
 -- so is the same message
 pub moved_grant : {order : OrderNo} {handle : Handle} {version : Version} {end_moment : Moment} {members : List ℕ} {a b : Body} → a ≡ b → SaysGrant order handle version end_moment members b
     → SaysGrant order handle version end_moment members a

@@ -11,7 +11,7 @@ use Rattle.protocol.specs.Tables.{element_at, first_numbers, has_number}
 use Rattle.protocol.specs.Sending.{server_number, handle_of, version_of}
 use Rattle.protocol.specs.Observer.{Placed, order_of}
 use Rattle.protocol.specs.World.{WorldState, IsReached, is_kept}
-use Rattle.laws_base.proofs.LeaseOrders.{SaysGrant, says_grant}
+use Rattle.laws_base.proofs.LeaseOrders.{SaysGrant, says_grant, stated_grant}
 use Rattle.laws_base.specs.Laws.{is_grant, grants_of}
 use Rattle.laws_base.proofs.Entries.{same_number}
 use Rattle.laws_base.proofs.LeasesTold.{granting}
@@ -71,7 +71,7 @@ module _ (config : Config) (servers clients : ℕ) (w : WorldState) (r : IsReach
       not_over (subst (λ (n : ℕ). IsLeaseOver w handle n) same (clones_are_of_closed_versions config servers clients w r clocks (copied.1).0 copied.0 (copied.1).1 handle given copied.2).lease)
   is_member other given ps same (inr m) =
       let one =
-      members_alone_are_given_a_version config servers clients w r handle version number grant order end_moment members sent_at grant_is.says (m.1).0 m.0 (m.1).1
+      members_alone_are_given_a_version config servers clients w r handle version number grant order end_moment members sent_at (stated_grant grant_is) (m.1).0 m.0 (m.1).1
       (m.3 ∙ ap (λ (n : ℕ). Some (handle, n)) same) in
       subst (λ (n : ℕ). IsTrue (has_number members n)) (ap server_number (sym one.1 ∙ m.2)) one.2
 

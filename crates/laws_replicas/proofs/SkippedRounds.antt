@@ -19,7 +19,7 @@ use Rattle.protocol.specs.declared.seen.Seen.TheVariants.{CopyStarted}
 use Rattle.protocol.specs.Observer.{Placed, observed_moment, placed_in, order_of, orders_after_all}
 use Rattle.protocol.specs.MasterStep.{master_at, master_step}
 use Rattle.protocol.specs.World.{WorldState, happens, IsReached}
-use Rattle.laws_base.proofs.LeaseOrders.{grant_parts}
+use Rattle.laws_base.proofs.LeaseOrders.{grant_parts, stated_grant}
 use Rattle.laws_base.specs.Laws.{is_grant, grants_of}
 use Rattle.laws_base.proofs.Steps.{none_some, same_some, put_there}
 use Rattle.laws_base.proofs.MembersRecorded.{all_at, kept_place}
@@ -219,7 +219,7 @@ untaken_versions_have_no_entry config servers clients w r place m at handle vers
           let one = some_counted (λ x. is_grant handle version x.body) w.sent (subst (λ (k : ℕ). 1 ≤ grants_of handle k w.sent) same some) in
           let grant = grant_parts handle version (one.0).body one.2 in
           true≢false (sym new
-          ∙ granted_orders_are_refused config servers clients w r handle version (one.1).0 one.0 grant.0 grant.1 grant.2 (one.1).1 (grant.3).says index s s_at place m at to given order order_is order (inr (refl, omega arith)))
+          ∙ granted_orders_are_refused config servers clients w r handle version (one.1).0 one.0 grant.0 grant.1 grant.2 (one.1).1 (stated_grant grant.3) index s s_at place m at to given order order_is order (inr (refl, omega arith)))
       | inr below ↦ let less = below place m at version given in omega (arith, less, same)
     ]
 

@@ -29,7 +29,7 @@ use Rattle.protocol.specs.ServerOrders.{extends_held}
 use Rattle.protocol.specs.ServerStep.{server_at, server_takes, server_goes, server_ends, server_step, server_restarts, server_restart}
 use Rattle.protocol.specs.MasterStep.{master_step, master_restart}
 use Rattle.protocol.specs.World.{WorldState, new_world, stamped, happens, after_events, IsReached}
-use Rattle.laws_base.proofs.LeaseOrders.{SaysGrant, says_grant, named_grant}
+use Rattle.laws_base.proofs.LeaseOrders.{SaysGrant, says_grant, named_grant, stated_grant}
 use Rattle.laws_base.specs.Laws.{is_grant, grants_of}
 use Rattle.laws_base.proofs.Steps.{on_cond, none_some, same_some, tally, put_cases, count-cons, count-append}
 use Rattle.laws_base.proofs.ServerMoves.{server_core, AreHeldFrom, lease_of, KeepsServer, same_held, server_goes_holds}
@@ -340,7 +340,7 @@ over_to w handle version h index s at =
             | inr early ↦ early
           ];
       comes = λ grant is to order end_moment members so.
-          elim (h.comes is.0 grant order end_moment members is.1 so.says) [
+          elim (h.comes is.0 grant order end_moment members is.1 (stated_grant so)) [
             | inl early ↦ inl early
             | inr refused ↦ inr (refused_stale s.disk order (refused index s at to))
           ];

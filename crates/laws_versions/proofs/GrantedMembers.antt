@@ -7,11 +7,11 @@ use Rattle.gfs_types.specs.declared.ids.Version.{Version}
 use Rattle.messages.specs.declared.event.NodeInput.{NodeInput}
 use Rattle.messages.specs.declared.message.Message.{Message}
 use Rattle.protocol.specs.Tables.{has_number}
-use Rattle.protocol.specs.Sending.{the_server, server_number, order_number}
+use Rattle.protocol.specs.Sending.{the_server, server_number}
 use Rattle.protocol.specs.Logged.{Logged}
 use Rattle.protocol.specs.MasterStep.{master_step}
 use Rattle.laws_base.proofs.Words.{true_false}
-use Rattle.laws_base.proofs.LeaseOrders.{SaysGrant, says_grant, not_said, grant_members}
+use Rattle.laws_base.proofs.LeaseOrders.{SaysGrant, says_grant, not_said, grant_members, moved_grant, grant_number}
 use Rattle.laws_base.proofs.GrantedIssued.{granted_is_at_most_issued}
 use Rattle.laws_base.proofs.MembersRecorded.{all_at}
 use Rattle.laws_versions.proofs.MasterCauses.{Attempts, is_caused, Causes, step_caused}
@@ -38,10 +38,13 @@ pub grants_go_to_members : GrantsGoToMembers
 grants_go_to_members config servers clients w r place grant order handle version end_moment members at is server to =
     all_at IsToMember (master_step h.before.master n.moment n.taken n.choice).out.sent (n.said).0 n.word
     (step_caused h.before.master n.moment n.taken n.choice IsToMember (granted_is_at_most_issued config servers clients h.before h.reached) (master_members h.before.master.logged h.before.master.attempts n.taken)) (n.said).1
-    order handle version end_moment members (says_grant ((n.same).2 ∙ is)) server ((n.same).1 ∙ to)
+    order handle version end_moment members (moved_grant (n.same).2 says) server ((n.same).1 ∙ to)
   where
+    says : SaysGrant order handle version end_moment members grant.body
+    says = says_grant is
+
     h : WasOrderedIn config servers clients w place grant
-    h = was_ordered_in config servers clients w r place grant at order (ap order_number is)
+    h = was_ordered_in config servers clients w r place grant at order (grant_number says)
 
     n : IsOrderedNow h.before h.next grant
     n = h.now

@@ -1,8 +1,8 @@
 -- The leases below a version that an order gives are over: those of its chunk have ended as it is sent, and none below it is granted any more.
 use Rattle.std.proofs.Common.{◌≡◌, ◌⊎◌, ℕ, suc, ◌≤◌, ◌<◌, false, List, ◌++◌, length, Option, Some, None, refl, sym, ap, subst, ◌∙◌, inl, inr, arith}
-use Rattle.std.specs.Prelude.{◌==◌, max, IsTrue}
+use Rattle.std.specs.Prelude.{max, IsTrue}
 use Rattle.std.specs.FinMap as table
-use Rattle.std.proofs.lemmas.Bool.{and_from, cases_lt}
+use Rattle.std.proofs.lemmas.Bool.{cases_lt}
 use Rattle.std.proofs.Math.Nat.{le-max_left, le-max_right, max-le}
 use Rattle.gfs_types.specs.declared.config.Config.{Config}
 use Rattle.messages.specs.declared.event.NodeInput.{NodeInput}
@@ -13,16 +13,15 @@ use Rattle.messages.specs.declared.message.Body.TheVariants as body
 use Rattle.chunk_table.specs.ChunkTable.{ChunkRow}
 use Rattle.protocol.specs.Tables.{element_at}
 use Rattle.gfs_types.specs.declared.ids.OrderNo.{OrderNo}
-use Rattle.protocol.specs.Sending.{order_number}
+use Rattle.protocol.specs.Sending.{handle_of, version_of, order_number}
 use Rattle.protocol.specs.Choice.{Choice, decided_changes}
 use Rattle.protocol.specs.Logged.{Logged, log_changed_by_all}
 use Rattle.protocol.specs.Master.{VersionAttempt}
 use Rattle.protocol.specs.MasterStep.{master_step}
 use Rattle.protocol.specs.World.{WorldState, stamped, after_master, after_events, IsReached}
-use Rattle.laws_base.proofs.LeaseOrders.{ExtendsNothing, nothing_ends}
+use Rattle.laws_base.proofs.LeaseOrders.{ExtendsNothing, nothing_ends, SaysGrant, says_grant, grant_counts}
 use Rattle.laws_base.specs.Laws.{is_grant, grants_of, tells_end}
 use Rattle.laws_base.proofs.Steps.{same_some}
-use Rattle.laws_base.proofs.Entries.{same_number}
 use Rattle.laws_base.proofs.Words.{true_false}
 use Rattle.laws_base.proofs.ChunkRows.{rows_of}
 use Rattle.laws_base.proofs.MembersRecorded.{all_at}
@@ -52,7 +51,7 @@ use Rattle.laws_versions.specs.AskedVersions.{LeasesBelowAreOver}
 use Rattle.laws_versions.proofs.AskedOrders.{GivesFree, GivesFirst, ready_later, step_asked}
 
 -- the lease of a version that was not granted is over
-none_granted_over : (config : Config) (servers clients : ℕ) (w : WorldState) → IsReached config servers clients w → (handle number : ℕ) → grants_of handle number w.sent ≤ 0 → IsLeaseOver w handle number
+pub none_granted_over : (config : Config) (servers clients : ℕ) (w : WorldState) → IsReached config servers clients w → (handle number : ℕ) → grants_of handle number w.sent ≤ 0 → IsLeaseOver w handle number
 none_granted_over config servers clients w r handle number none =
     record {
       held = λ index p holds same.
@@ -60,9 +59,8 @@ none_granted_over config servers clients w r handle number none =
           let some = counted_one (λ x. is_grant handle number x.body) w.sent g.0 (g.1).0 (g.1).1 (ap (λ (n : ℕ). is_grant handle n (g.0).body) (sym same) ∙ g.2) in
           omega (arith, some, none);
       comes = λ place grant order end_moment members at is.
-          absurd (let some = counted_one (λ x. is_grant handle number x.body) w.sent grant place at
-          (ap (is_grant handle number) is ∙ and_from (handle == handle) (number == number) (same_number handle) (same_number number)) in
-          omega (arith, some, none));
+          let says : SaysGrant order (handle_of handle) (version_of number) end_moment members grant.body = says_grant is in
+          absurd (let some = counted_one (λ x. is_grant handle number x.body) w.sent grant place at (grant_counts says) in omega (arith, some, none));
     }
 
 -- a step on an Ask tells no end of a lease
