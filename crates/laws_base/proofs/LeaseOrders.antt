@@ -155,6 +155,41 @@ grant_order handle version until members order = body.Grant order (handle_of han
 pub order_says : (handle version until : ℕ) (members : List ℕ) (order : OrderNo) → SaysGrant order (handle_of handle) (version_of version) (moment_of until) members (grant_order handle version until members order)
 order_says handle version until members order = says_grant refl
 
+-- a message is this Revoke
+pub record SaysRevoke (order : OrderNo) (handle : Handle) (version : Version) (b : Body) : Type 0 where
+  pub says : b ≡ body.Revoke order handle version
+
+pub says_revoke : {order : OrderNo} {handle : Handle} {version : Version} {b : Body} → b ≡ body.Revoke order handle version → SaysRevoke order handle version b
+says_revoke is = record { says = is }
+
+pub moved_revoke : {order : OrderNo} {handle : Handle} {version : Version} {a b : Body} → a ≡ b → SaysRevoke order handle version b → SaysRevoke order handle version a
+moved_revoke same is = record { says = same ∙ is.says }
+
+pub named_revoke : {b : Body} {order : OrderNo} {q : Handle} {v : Version} {handle version : ℕ} → SaysRevoke order q v b → q.0 ≡ handle → v.0 ≡ version → SaysRevoke order (handle_of handle) (version_of version) b
+named_revoke {b} {order} {q} {v} {handle} {version} is key number =
+    record { says = is.says ∙ (ap (λ (k : ℕ). body.Revoke order (handle_of k) v) key ∙ ap (λ (k : ℕ). body.Revoke order (handle_of handle) (version_of k)) number) }
+
+-- such a Revoke is of those messages
+abbrev pub HasRevoke : (Body → Type 0) → OrderNo → Handle → Version → Type 0
+HasRevoke Came order handle version = (b : Body) × Came b × SaysRevoke order handle version b
+
+-- what a Revoke says, and other messages don't
+abbrev pub revoke_handle : Body → ℕ
+revoke_handle (body.Revoke order handle version) = handle.0
+revoke_handle other = 0
+
+abbrev pub revoke_version : Body → ℕ
+revoke_version (body.Revoke order handle version) = version.0
+revoke_version other = 0
+
+-- a message that revokes nothing
+abbrev pub RevokesNothing : Body → Type 0
+RevokesNothing (body.Revoke order handle version) = ⊥
+RevokesNothing other = Unit {0}
+
+pub not_revoked : {A : Type 0} {order : OrderNo} {handle : Handle} {version : Version} {b : Body} → SaysRevoke order handle version b → RevokesNothing b → A
+not_revoked is none = absurd (subst (λ (x : Body). RevokesNothing x) is.says none)
+
 -- the master's Revoke of the lease of a row
 abbrev pub revoke_order : ℕ → ChunkRow → OrderNo → Body
 revoke_order handle row order = body.Revoke order (handle_of handle) (version_of row.granted)

@@ -10,7 +10,6 @@ use Rattle.gfs_types.specs.declared.ids.Handle.{Handle}
 use Rattle.gfs_types.specs.declared.ids.Version.{Version}
 use Rattle.gfs_types.specs.declared.ids.Moment.{Moment}
 use Rattle.messages.specs.declared.message.Body.{Body}
-use Rattle.messages.specs.declared.message.Body.TheVariants as body
 use Rattle.messages.specs.declared.message.Message.{Message}
 use Rattle.messages.specs.declared.event.NodeInput.{NodeInput}
 use Rattle.log_records.specs.declared.record.Record.{Record}
@@ -26,7 +25,7 @@ use Rattle.protocol.specs.MasterStep.{master_at, master_goes, master_ends, maste
 use Rattle.protocol.specs.World.{WorldState, stamped, IsReached}
 use Rattle.laws_base.specs.Laws.{IsSameOrLater}
 use Rattle.laws_base.proofs.Steps.{on_cond, same_some}
-use Rattle.laws_base.proofs.LeaseOrders.{revoke_body, revoke_order, SaysGrant, moved_grant, named_grant, grant_handle, grant_version, grant_number, GrantsNothing, not_said, grant_order}
+use Rattle.laws_base.proofs.LeaseOrders.{revoke_order, SaysRevoke, moved_revoke, named_revoke, revoke_handle, revoke_version, not_revoked, SaysGrant, moved_grant, named_grant, grant_handle, grant_version, grant_number, not_said, grant_order}
 use Rattle.laws_base.proofs.ChunkRows.{Rows, rows_of, From, removed_from, changed_from, swapped_from}
 use Rattle.laws_base.proofs.VersionsAhead.{changed_cases}
 use Rattle.laws_base.proofs.MasterMoves.{Core, core_of, IsDue, IsPlainOrder, plain_nothing, unordered_plain, quiet_plain, Nothing, NoneEnded, Keeps, core_changed, core_appended, core_ended, core_granted, core_revoked, grant_record, logs_alone}
@@ -59,7 +58,7 @@ GrantFits handle granted primary m =
 
 -- a Revoke is of the granted version or an earlier one
 abbrev pub RevokeFits : ℕ → ℕ → Message → Type 0
-RevokeFits handle granted m = (order : OrderNo) (version : Version) → m.body ≡ body.Revoke order (handle_of handle) version → version.0 ≤ granted
+RevokeFits handle granted m = (order : OrderNo) (version : Version) → SaysRevoke order (handle_of handle) version m.body → version.0 ≤ granted
 
 abbrev pub Fits : List Message → ℕ → ℕ → ℕ → Type 0
 Fits ms handle granted primary = (m : Message) → IsSent ms m → GrantFits handle granted primary m × RevokeFits handle granted m
@@ -68,7 +67,7 @@ Fits ms handle granted primary = (m : Message) → IsSent ms m → GrantFits han
 abbrev pub IsUsed : ℕ → Message → Type 0
 IsUsed next m =
     ((order : OrderNo) (handle : Handle) (version : Version) (end_moment : Moment) (members : List ℕ) → SaysGrant order handle version end_moment members m.body → handle.0 < next)
-    × ((order : OrderNo) (handle : Handle) (version : Version) → m.body ≡ body.Revoke order handle version → handle.0 < next)
+    × ((order : OrderNo) (handle : Handle) (version : Version) → SaysRevoke order handle version m.body → handle.0 < next)
 
 pub record Agrees (ms : List Message) (l : Logged) : Type 0 where
   pub used : (m : Message) → IsSent ms m → IsUsed l.next_handle m
@@ -77,7 +76,7 @@ pub record Agrees (ms : List Message) (l : Logged) : Type 0 where
 -- a Revoke goes where the Grant of its version went, and is numbered after it
 abbrev pub IsPaired : Message → Message → Type 0
 IsPaired g r =
-    (order later : OrderNo) (handle : Handle) (version : Version) (end_moment : Moment) (members : List ℕ) → SaysGrant order handle version end_moment members g.body → r.body ≡ body.Revoke later handle version
+    (order later : OrderNo) (handle : Handle) (version : Version) (end_moment : Moment) (members : List ℕ) → SaysGrant order handle version end_moment members g.body → SaysRevoke later handle version r.body
     → (g.receiver ≡ r.receiver) × IsSameOrLater order.epoch order.count later.epoch later.count
 
 abbrev pub ArePaired : List Message → Type 0
@@ -97,12 +96,12 @@ agrees_among ms less l among h =
       used = λ m s.
           let was = among m s in
           let old = h.used was.0 was.1 in
-          (λ order handle version end_moment members is. old.0 order handle version end_moment members (moved_grant was.2.2 is), λ order handle version is. old.1 order handle version (was.2.2 ∙ is));
+          (λ order handle version end_moment members is. old.0 order handle version end_moment members (moved_grant was.2.2 is), λ order handle version is. old.1 order handle version (moved_revoke was.2.2 is));
       rows = λ handle row at m s.
           let was = among m s in
           let old = h.rows handle row at was.0 was.1 in (
             λ order version end_moment members is. let fits = old.0 order version end_moment members (moved_grant was.2.2 is) in (fits.0, λ same. sym was.2.1 ∙ fits.1 same),
-            λ order version is. old.1 order version (was.2.2 ∙ is),
+            λ order version is. old.1 order version (moved_revoke was.2.2 is),
           );
     }
 
@@ -110,7 +109,7 @@ paired_among : (ms less : List Message) → AreAmong less ms → ArePaired ms �
 paired_among ms less among h g r is also order later handle version end_moment members grant revoke =
     let a = among g is in
     let b = among r also in
-    let pair = h a.0 b.0 a.1 b.1 order later handle version end_moment members (moved_grant a.2.2 grant) (b.2.2 ∙ revoke) in
+    let pair = h a.0 b.0 a.1 b.1 order later handle version end_moment members (moved_grant a.2.2 grant) (moved_revoke b.2.2 revoke) in
     (sym a.2.1 ∙ pair.0 ∙ b.2.1, pair.1)
 
 -- rows that are there still
@@ -205,8 +204,8 @@ paired_more ms more m one as_grant as_revoke both h g r is also =
 not_grant : {A : Type 0} (b : Body) (order : OrderNo) (handle : Handle) (version : Version) (end_moment : Moment) (members : List ℕ) → IsPlainOrder b → SaysGrant order handle version end_moment members b → A
 not_grant b order handle version end_moment members plain is = not_said is (plain_nothing b plain)
 
-not_revoke : {A : Type 0} (b : Body) (order : OrderNo) (handle : Handle) (version : Version) → IsPlainOrder b → b ≡ body.Revoke order handle version → A
-not_revoke b order handle version plain is = absurd (subst (λ (x : Body). IsPlainOrder x) is plain)
+not_revoke : {A : Type 0} (b : Body) (order : OrderNo) (handle : Handle) (version : Version) → IsPlainOrder b → SaysRevoke order handle version b → A
+not_revoke b order handle version plain is = absurd (subst (λ (x : Body). IsPlainOrder x) is.says plain)
 
 plain_agrees : (ms more : List Message) (m : Message) (l : Logged) → IsOneMore ms m more → IsPlainOrder m.body → Agrees ms l → Agrees more l
 plain_agrees ms more m l one plain h =
@@ -351,8 +350,8 @@ granted before start c handle version until primary members due n h =
     to_log = subst (λ (k : Logged). IsGrantedTo k handle version primary) (sym (state-appended c.disk r)) (granted_to_after (state_of c.disk) handle version primary members)
 
     -- this message revokes nothing
-    no_revoke : {A : Type 0} (later : OrderNo) (q : Handle) (v : Version) → m.body ≡ body.Revoke later q v → A
-    no_revoke later q v is = absurd (subst (λ (b : Body). GrantsNothing b) (sym is) tt)
+    no_revoke : {A : Type 0} (later : OrderNo) (q : Handle) (v : Version) → SaysRevoke later q v m.body → A
+    no_revoke later q v is = not_revoked is tt
 
     is_used : (top : ℕ) → handle < top → IsUsed top m
     is_used top below = (λ o q v end_moment ns is. let same : handle ≡ q.0 = ap grant_handle is.says in omega (arith, below, same), λ o q v is. no_revoke o q v is)
@@ -373,7 +372,7 @@ granted before start c handle version until primary members due n h =
     as_grant x s o later q v end_moment ns grant revoke =
         let key : handle ≡ q.0 = ap grant_handle grant.says in
         let same : version ≡ v.0 = ap grant_version grant.says in
-        let is : x.body ≡ body.Revoke later (handle_of handle) v = revoke ∙ ap (λ (k : ℕ). body.Revoke later (handle_of k) v) (sym key) in
+        let is : SaysRevoke later (handle_of handle) v x.body = named_revoke revoke (sym key) refl in
         let bound = ((h.state).rows handle due.0 due.1 x s).1 later v is in
         let above = due.2 tt in
         absurd (omega (arith, bound, above, same))
@@ -435,41 +434,29 @@ revoked before start epoch count numbered c handle row at n numbers h =
         let granted_is = ap (λ (x : ChunkRow). x.granted) (same_some (without_end row) (without_end other) same) in
         omega (arith, granted_is)
 
-    handle_in : Body → ℕ
-    handle_in (revoke_body o q v) = q.0
-    handle_in other = 0
-
-    version_in : Body → ℕ
-    version_in (revoke_body o q v) = v.0
-    version_in other = 0
-
-    number_in : Body → Option OrderNo
-    number_in (revoke_body o q v) = Some o
-    number_in other = None
-
     no_grant : {A : Type 0} (o : OrderNo) (q : Handle) (v : Version) (end_moment : Moment) (ns : List ℕ) → SaysGrant o q v end_moment ns m.body → A
     no_grant o q v end_moment ns is = not_said is tt
 
     used : (top : ℕ) → handle < top → IsUsed top m
-    used top less = (λ o q v end_moment ns is. no_grant o q v end_moment ns is, λ o q v is. let same : handle ≡ q.0 = ap handle_in is in omega (arith, less, same))
+    used top less = (λ o q v end_moment ns is. no_grant o q v end_moment ns is, λ o q v is. let same : handle ≡ q.0 = ap revoke_handle is.says in omega (arith, less, same))
 
     fits : (l : Logged) → ((other : ChunkRow) → table.get (rows_of l) handle ≡ Some other → row.granted ≤ other.granted) → (q : ℕ) (other : ChunkRow) → table.get (rows_of l) q ≡ Some other
         → GrantFits q other.granted other.primary m × RevokeFits q other.granted m
     fits l bound q other is = (
       λ o v end_moment ns grant. no_grant o (handle_of q) v end_moment ns grant,
       λ o v revoke.
-          let key : handle ≡ q = ap handle_in revoke in
-          let same : row.granted ≡ v.0 = ap version_in revoke in
+          let key : handle ≡ q = ap revoke_handle revoke.says in
+          let same : row.granted ≡ v.0 = ap revoke_version revoke.says in
           let most = bound other (ap (λ (k : ℕ). table.get (rows_of l) k) key ∙ is) in
           omega (arith, same, most),
     )
 
     as_revoke : (g : Message) → IsSent ms g → IsPaired g m
     as_revoke g s o later q v end_moment ns grant revoke =
-        let key : handle ≡ q.0 = ap handle_in revoke in
-        let same : row.granted ≡ v.0 = ap version_in revoke in
+        let key : handle ≡ q.0 = ap revoke_handle revoke.says in
+        let same : row.granted ≡ v.0 = ap revoke_version revoke.says in
         let is : SaysGrant o (handle_of handle) v end_moment ns g.body = named_grant grant (sym key) refl in
-        let number : order ≡ later = same_some order later (ap number_in revoke) in (
+        let number : order ≡ later = same_some order later (ap order_number revoke.says) in (
           (((h.state).rows handle row at g s).0 o v end_moment ns is).1 (sym same),
           subst (λ (x : OrderNo). IsSameOrLater o.epoch o.count x.epoch x.count) number (below before start epoch count numbered c numbers g s o (grant_number is)),
         )
