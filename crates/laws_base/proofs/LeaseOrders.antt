@@ -152,9 +152,6 @@ untold_nothing other none = tt
 abbrev pub grant_order : ℕ → ℕ → ℕ → List ℕ → OrderNo → Body
 grant_order handle version until members order = body.Grant order (handle_of handle) (version_of version) (moment_of until) members
 
-pub order_says : (handle version until : ℕ) (members : List ℕ) (order : OrderNo) → SaysGrant order (handle_of handle) (version_of version) (moment_of until) members (grant_order handle version until members order)
-order_says handle version until members order = says_grant refl
-
 -- a message is this Revoke
 pub record SaysRevoke (order : OrderNo) (handle : Handle) (version : Version) (b : Body) : Type 0 where
   pub says : b ≡ body.Revoke order handle version
