@@ -1,5 +1,5 @@
 -- What a step shows, of a world that is reached: an entry that was placed, and entries of a serial that are settled; and it stays so.
-use Rattle.std.proofs.Common.{◌≡◌, ℕ, suc, List, [], Some, sym, subst}
+use Rattle.std.proofs.Common.{◌≡◌, ℕ, suc, List, [], Some, refl, sym, subst}
 use Rattle.gfs_types.specs.declared.config.Config.{Config}
 use Rattle.gfs_types.specs.declared.ids.DataId.{DataId}
 use Rattle.gfs_types.specs.declared.mutation.Mutation.{Mutation}
