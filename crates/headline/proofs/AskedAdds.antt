@@ -23,6 +23,7 @@ use Rattle.protocol.specs.MasterSnapshots.{revokes, revokes_row, waits_for}
 use Rattle.protocol.specs.MasterVersions.{Asker, VersionTarget, tells_holders, tells_to_wait, version_order, sends_versions, new_attempt, sends_issued, issues_to, targets_by, recorded_holders, issues_own, is_attempted, copy_order, sends_copies, copy_targets, sends_copy_started, copies_to, begins_copy, copy_for, is_copied, wants_own, wants_own_of, issues_copy, wants_copy, wants_by, wants_primary, holder_target}
 use Rattle.protocol.specs.MasterAsks.{looks_at, looks_at_row, mutates_row, mutates_at, adds_chunk, with_index, asks_to_write, asks_to_append, asks_for_last, asks_for, asks_of, takes_ask}
 use Rattle.protocol.specs.MasterStep.{master_takes, master_at}
+use Rattle.laws_base.proofs.LeaseOrders.{revoke_order}
 use Rattle.laws_base.proofs.Steps.{on_cond}
 use Rattle.laws_versions.proofs.UnaskedSteps.{IsOfNames, KeepsNames, ready}
 use Rattle.headline.specs.AskedChunks.{IsForNext, AddsNoChunk, AddNoChunk, AddOneChunk, AsksAddTheNextChunk}
@@ -63,7 +64,7 @@ module _ (Shape : List LogChange → Type 0) (more : (xs : List LogChange) (x : 
 
   revoked_of : (d : MasterDoing) (handle : ℕ) (o : Option ChunkRow) → Fine d → Fine (revokes_row d handle o)
   revoked_of d handle None h = h
-  revoked_of d handle (Some row) h = on_cond Fine (has_lease d.master row) (orders d row.primary (λ order. body.Revoke order (handle_of handle) (version_of row.granted))) d (λ _. h) (λ _. h)
+  revoked_of d handle (Some row) h = on_cond Fine (has_lease d.master row) (orders d row.primary (revoke_order handle row)) d (λ _. h) (λ _. h)
 
   versions_sent : (d : MasterDoing) (handle version : ℕ) (targets : List VersionTarget) → Fine d → Fine (sends_versions d handle version targets)
   versions_sent d handle version [] h = h

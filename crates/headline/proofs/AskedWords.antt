@@ -32,6 +32,7 @@ use Rattle.protocol.specs.Master.{MasterDoing, PendingSnapshot, HeldAt, tells, o
 use Rattle.protocol.specs.MasterSnapshots.{revokes_row, revokes, waits_for, reply_of, answers_name, settles_name, refuses_name, first_is_true, all_but_first, lets_go, takes_snapshot, takes_ready, is_ready}
 use Rattle.protocol.specs.MasterVersions.{Asker, VersionTarget, holder_line, group_of, tells_location, tells_holders, tells_to_wait, version_order, sends_versions, new_attempt, sends_issued, issues_to, targets_by, recorded_holders, issues_own, is_attempted, copy_order, sends_copies, copy_targets, sends_copy_started, copies_to, begins_copy, copy_for, is_copied, wants_own, wants_own_of, issues_copy, wants_copy, wants_by, wants_primary, holder_target}
 use Rattle.protocol.specs.MasterAsks.{looks_at_row, looks_at, mutates_row, mutates_at, adds_chunk, with_index, asks_to_write, asks_to_append, asks_for_last, asks_for, asks_of, takes_ask}
+use Rattle.laws_base.proofs.LeaseOrders.{revoke_order}
 use Rattle.laws_base.proofs.Steps.{on_cond, same_some, put_other, put_there}
 use Rattle.laws_base.proofs.Entries.{AllOf, all_joined}
 use Rattle.laws_base.proofs.ChunkRows.{rows_of, From, same_from, then_from, removed_from, all_copied_from}
@@ -309,8 +310,8 @@ module _ (start : Logged) (file : ℕ) (what : Wanted) where
     revoked : (d : MasterDoing) (index handle : ℕ) (row : ChunkRow) (revoking : ℕ) (o : Option ChunkRow) → Here index handle row d → Here index handle row (revokes_row d revoking o)
     revoked d index handle row revoking None h = h
     revoked d index handle row revoking (Some other) h =
-        on_cond (Here index handle row) (has_lease d.master other) (orders d other.primary (λ order. body.Revoke order (handle_of revoking) (version_of other.granted))) d
-        (λ _. (h.0, h.1, ordered d other.primary (λ order. body.Revoke order (handle_of revoking) (version_of other.granted)) (λ o. refl) h.2)) (λ _. h)
+        on_cond (Here index handle row) (has_lease d.master other) (orders d other.primary (revoke_order revoking other)) d
+        (λ _. (h.0, h.1, ordered d other.primary (revoke_order revoking other) (λ o. refl) h.2)) (λ _. h)
 
     at_row : (d : MasterDoing) (a : Asker) (lost : Bool) (handle : ℕ) (o : Option ChunkRow) → chunk_of d.master.logged.table handle ≡ o → IsHandleAt d.master.logged.table.files file what a.index handle → Quiet d → Fine (mutates_row d a lost handle o)
     at_row d a lost handle None at stands h = fine d h

@@ -28,6 +28,7 @@ use Rattle.protocol.specs.Logged.{Logged, KeptCall, log_changed_by_all}
 use Rattle.protocol.specs.Master.{MasterState, MasterDoing, PendingSnapshot}
 use Rattle.protocol.specs.MasterStep.{master_goes, master_ends, master_step}
 use Rattle.protocol.specs.World.{WorldState, IsReached, happens, stamped, after_master}
+use Rattle.laws_base.proofs.LeaseOrders.{SaysGrant, says_grant, moved_grant, grant_counts}
 use Rattle.laws_base.specs.Laws.{grants_of, is_grant}
 use Rattle.laws_base.proofs.Steps.{none_some, same_some}
 use Rattle.laws_base.proofs.MembersRecorded.{all_at}
@@ -58,7 +59,7 @@ use Rattle.laws_machine.specs.WholeSteps.{EndsAlong, GoesAlong, AreRoundsOpened}
 use Rattle.laws_machine.specs.OverRounds as over
 use Rattle.laws_machine.specs.Rounds.{IsEnded}
 use Rattle.laws_machine.specs.WholeWorlds.{IsBeside}
-use Rattle.laws_machine.proofs.EndedRounds.{some_grant, its_grant, ungranted_is_over, ended_before}
+use Rattle.laws_machine.proofs.EndedRounds.{ended_before}
 use Rattle.laws_machine.proofs.MasterKept.{copies_may_come_and_go}
 use Rattle.laws_machine.proofs.MasterNames.{more_end}
 use Rattle.laws_machine.proofs.OverRounds.{rounds_that_end_stay_over, open_at_end}
@@ -76,6 +77,8 @@ use Rattle.headline.proofs.Moves.{Moves, both_come, to_log, along}
 use Rattle.headline.proofs.Stops.{last_stop}
 use Rattle.headline.proofs.Steps as steps
 use Rattle.headline.proofs.Steps.{still_up, IsTaken}
+use Rattle.laws_machine.proofs.OpenRounds.{ungranted_is_over}
+use Rattle.laws_entries.proofs.SentGrants.{counted_one}
 
 told_at : (m : Machine) (requests : Requests) (ms : List Message) (place : ℕ) (x : Message) → AllByRecursion (IsTold m requests) ms → element_at ms place ≡ Some x → IsTold m requests x
 told_at m requests [] place x all at = none_some x at
@@ -197,7 +200,7 @@ module _ (config : Config) (servers clients : ℕ) (w : WorldState) (r : IsReach
 
     -- what is granted is open
     module _ (place : ℕ) (m : Message) (order : OrderNo) (handle : Handle) (version : Version) (end_moment : Moment) (members : List ℕ) (from : length w.sent ≤ place) (at : element_at v.sent place ≡ Some m)
-        (grants : m.body ≡ body.Grant order handle version end_moment members) where
+        (grants : SaysGrant order handle version end_moment members m.body) where
       new : (x : Message) × IsSent (in_order choice.order d.sent) x × IsSameMessage x m
       new = new_one w.sent (in_order choice.order d.sent) (suc (length w.sent)) place m from
           (ap (λ (ms : List Message). element_at ms place) (sym (quiet.sent_is config servers clients w r e choice clocks ss k h moment t same)) ∙ at)
@@ -206,7 +209,7 @@ module _ (config : Config) (servers clients : ℕ) (w : WorldState) (r : IsReach
       sent_there = ordered_sent choice.order d.sent new.0 new.1
 
       sent_now : 1 ≤ grants_of handle.0 version.0 d.sent
-      sent_now = some_grant handle.0 version.0 d.sent sent_there.0 new.0 sent_there.1 (ap (is_grant handle.0 version.0) ((new.2).2 ∙ grants) ∙ its_grant handle.0 version.0)
+      sent_now = counted_one (λ (x : Message). is_grant handle.0 version.0 x.body) d.sent new.0 sent_there.0 sent_there.1 (grant_counts (moved_grant (new.2).2 grants))
 
       open_then : (s : Spot) × IsRoundOpen j handle.0 version.0 s
       open_then = open_at_end j handle.0 version.0 d.changes w.master.disk end.4 (grants_are_last config servers clients w r kept up long moment i was choice.refused)
@@ -215,7 +218,7 @@ module _ (config : Config) (servers clients : ℕ) (w : WorldState) (r : IsReach
       no_copy : IsCopy d.master.logged handle.0 → ⊥
       no_copy copy =
           let none = not_granted handle.0 copy version.0 in
-          let some = some_grant handle.0 version.0 v.sent place m at (ap (is_grant handle.0 version.0) grants ∙ its_grant handle.0 version.0) in
+          let some = counted_one (λ (x : Message). is_grant handle.0 version.0 x.body) v.sent m place at (grant_counts grants) in
           omega (arith, none, some)
 
       open_back : (s : Spot) × IsRoundOpen js handle.0 version.0 s
@@ -312,7 +315,7 @@ module _ (config : Config) (servers clients : ℕ) (w : WorldState) (r : IsReach
         gone = λ handle s stood. third.gone handle s (ap (λ (f : ℕ → Option Spot). f handle) (sym shown.gone) ∙ stood);
       };
       granted = λ place m order handle version end_moment members from at grants.
-          let was_open = open_back place m order handle version end_moment members from at grants in
+          let was_open = open_back place m order handle version end_moment members from at (says_grant grants) in
           elim (shown.comes.rounds handle.0 version.0 was_open.0 was_open.1) [ inl none ↦ absurd none | inr still ↦ (was_open.0, still) ];
       named = quiet.named_there config servers clients w r e choice clocks ss k h moment t same d.master.logged d.master.snapshots taken.later named_after;
       left = after_it.1;

@@ -21,7 +21,7 @@ use Rattle.laws_machine.specs.MastersEvents.{AreCopiesOver}
 use Rattle.laws_machine.specs.WholeSteps.{EndsAlong, GoesAlong, IsLeftAt}
 use Rattle.laws_machine.specs.Rounds.{IsEnded, log_as}
 use Rattle.laws_machine.specs.WholeWorlds.{IsBeside}
-use Rattle.laws_machine.proofs.EndedRounds.{ended_before, ungranted_is_over}
+use Rattle.laws_machine.proofs.EndedRounds.{ended_before}
 use Rattle.laws_machine.proofs.MasterNames.{more_end}
 use Rattle.laws_machine.proofs.WholeLogs.{states_have_their_logs_files, opening_dues, restarts_are_taken}
 use Rattle.laws_machine.proofs.WholeSteps.{all_numbered}
@@ -47,6 +47,7 @@ use Rattle.headline.proofs.Stops.{none_under_way, given_up_alike, last_stop}
 use Rattle.headline.proofs.Quiet as quiet
 use Rattle.std.specs.FinMap as table
 use Rattle.log_records.specs.declared.record.Record.TheVariants as log
+use Rattle.laws_machine.proofs.OpenRounds.{ungranted_is_over}
 
 module _ (config : Config) (servers clients : ℕ) (w : WorldState) (r : IsReached config servers clients w) (e : Event) (choice : Choice) (clocks : IsTrue (happens w e choice).world.observer.are_clocks_kept)
     (ss : List PendingSnapshot) (k : ChunkSides) (h : IsBeside config w ss k) (moment : ℕ) (copies : AreCopiesOver w) (decided0 : List Bool)

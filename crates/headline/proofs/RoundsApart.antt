@@ -16,8 +16,9 @@ use Rattle.laws_machine.proofs.Sides.{listed, alike_at, one_handle, gone_or_ther
 use Rattle.laws_machine.specs.Rounds.{IsLogOf, IsEnded}
 use Rattle.laws_machine.specs.ServerSteps.{AreGoneOrdersAlike}
 use Rattle.laws_machine.specs.HoldersApart.{IsRoundAt, IsApart}
-use Rattle.laws_machine.proofs.EndedRounds.{ungranted_is_over, leased_chunks_stand_once, open_rounds_have_one_spot}
+use Rattle.laws_machine.proofs.EndedRounds.{leased_chunks_stand_once, open_rounds_have_one_spot}
 use Rattle.headline.specs.RoundsApart.{LoggedChunksAreApart, AreGrantsApart, RoundsStayApart}
+use Rattle.laws_machine.proofs.OpenRounds.{ungranted_is_over}
 
 pub logged_chunks_are_apart : LoggedChunksAreApart
 logged_chunks_are_apart config servers clients w r clocks k log h handle s stands version other round t at low = by_place at.place

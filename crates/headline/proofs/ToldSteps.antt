@@ -37,6 +37,7 @@ use Rattle.protocol.specs.MasterSnapshots.{revokes_row, revokes, waits_for, firs
 use Rattle.protocol.specs.MasterVersions.{Asker, VersionTarget, holder_line, group_of, tells_location, tells_holders, tells_none, tells_to_wait, version_order, sends_versions, new_attempt, sends_issued, issues_to, targets_by, recorded_holders, issues_own, is_attempted, copy_order, sends_copies, copy_targets, sends_copy_started, copies_to, begins_copy, copy_for, is_copied, wants_own, wants_own_of, issues_copy, wants_copy, wants_by, wants_primary, holder_target}
 use Rattle.protocol.specs.MasterAsks.{looks_at_row, looks_at, mutates_row, mutates_at, adds_chunk, with_index, asks_to_write, asks_to_append, asks_for_last, asks_for, asks_of, takes_ask}
 use Rattle.protocol.specs.MasterStep.{master_at}
+use Rattle.laws_base.proofs.LeaseOrders.{revoke_order}
 use Rattle.laws_base.proofs.Steps.{on_cond, same_some, put_there, put_other}
 use Rattle.laws_base.proofs.Entries.{AllOf, all_joined}
 use Rattle.laws_base.proofs.FilesNamed.{Files}
@@ -220,8 +221,8 @@ module _ (asker : Node) (asked file : ℕ) where
   revoked_post : (d : MasterDoing) (a : Asker) (handle : ℕ) (row : ChunkRow) (o : Option ChunkRow) → IsOwn a → IsStood d a handle → Silent d → Post (tells_holders (revokes_row d handle o) a handle row)
   revoked_post d a handle row None asks stood h = told_post d a handle row asks stood h
   revoked_post d a handle row (Some leased) asks stood h =
-      on_cond (λ (e : MasterDoing). Post (tells_holders e a handle row)) (has_lease d.master leased) (orders d leased.primary (λ order. body.Revoke order (handle_of handle) (version_of leased.granted))) d
-      (λ _. told_post (orders d leased.primary (λ order. body.Revoke order (handle_of handle) (version_of leased.granted))) a handle row asks stood (ordered d leased.primary (λ order. body.Revoke order (handle_of handle) (version_of leased.granted)) (λ o. refl) h))
+      on_cond (λ (e : MasterDoing). Post (tells_holders e a handle row)) (has_lease d.master leased) (orders d leased.primary (revoke_order handle leased)) d
+      (λ _. told_post (orders d leased.primary (revoke_order handle leased)) a handle row asks stood (ordered d leased.primary (revoke_order handle leased) (λ o. refl) h))
       (λ _. told_post d a handle row asks stood h)
 
   row_post : (d : MasterDoing) (a : Asker) (lost : Bool) (handle : ℕ) (o : Option ChunkRow) → IsOwn a → IsStood d a handle → Silent d → Post (mutates_row d a lost handle o)

@@ -1,7 +1,6 @@
 -- Nothing was granted of a copy that is under way in the master's log, however it is decided what of it was under way; so it has no lease.
 use Rattle.std.proofs.Common.{nat_cmp, ◌≡◌, ℕ, zero, suc, List, Option, Some, None, refl, sym, ap, subst, ◌∙◌, inl, inr, arith}
 use Rattle.std.specs.FinMap as table
-use Rattle.messages.specs.declared.message.Body.TheVariants as body
 use Rattle.log_records.specs.declared.record.Record.{Record}
 use Rattle.log_records.specs.declared.record.Record.TheVariants as log
 use Rattle.relaxed_file.specs.Names.{copied_entries}
@@ -9,6 +8,7 @@ use Rattle.chunk_table.specs.ChunkTable.{ChunkRow, new_row, grant, row_granted, 
 use Rattle.protocol.specs.Sending.{handle_of}
 use Rattle.protocol.specs.Choice.{decided_changes}
 use Rattle.protocol.specs.Logged.{Logged, Copy, log_changed_by_all, after_record, copies_for_file, swapped_in}
+use Rattle.laws_base.proofs.LeaseOrders.{SaysGrant}
 use Rattle.laws_base.specs.Laws.{grants_of}
 use Rattle.laws_base.proofs.Steps.{none_some, put_cases, put_split, gone_split, removed_cases}
 use Rattle.laws_base.proofs.ChunkRows.{rows_of, From, all_copied_from, swapped_from, expired_from}
@@ -24,8 +24,9 @@ use Rattle.laws_base.proofs.RowsLogged.{IsFoundRows, IsRowedLog}
 use Rattle.laws_base.proofs.RowsKept.{rows_kept}
 use Rattle.laws_base.proofs.SentReached.{sent_reached}
 use Rattle.laws_versions.proofs.LeaseLaws.{told_ends_are_the_masters}
-use Rattle.laws_machine.proofs.EndedRounds.{ungranted_is_over, some_place, grant_is}
+use Rattle.laws_machine.proofs.EndedRounds.{some_place, grant_is}
 use Rattle.headline.specs.CopiesInLog.{CopiesInTheLogAreOver}
+use Rattle.laws_machine.proofs.OpenRounds.{ungranted_is_over}
 
 -- nothing was granted of a copy under way
 abbrev AreUngranted : Logged → Type 0
@@ -138,8 +139,8 @@ copies_in_the_log_are_over config servers clients w r clocks decided handle copy
         let ends = grant_tells (sent.1).body handle version sent.3 in
         let from_one = (told_ends_are_the_masters config servers clients w r clocks sent.0 sent.1 sent.2 handle version ends.0 ends.1).numbered in
         let g = grant_is handle version (sent.1).body sent.3 in
-        let named : (sent.1).body ≡ body.Grant g.order (handle_of handle) g.number g.end_moment g.members =
-        subst (λ (n : ℕ). (sent.1).body ≡ body.Grant g.order (handle_of n) g.number g.end_moment g.members) g.handle_is g.body_is in
+        let named : SaysGrant g.order (handle_of handle) g.number g.end_moment g.members (sent.1).body =
+        subst (λ (n : ℕ). SaysGrant g.order (handle_of n) g.number g.end_moment g.members (sent.1).body) g.handle_is g.body_is in
         let fits = (sent_reached IsOfRevokes revokes_kept config servers clients w r).revokes.found decided in
         let low = ((fits.rows handle has.0 has.1 sent.1 (sent.0, sent.2)).0 g.order g.number g.end_moment g.members named).0 in
         let none = ungranted in

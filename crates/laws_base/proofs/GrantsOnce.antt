@@ -5,7 +5,6 @@ use Rattle.std.specs.FinMap as table
 use Rattle.std.proofs.lemmas.Bool.{eqb-true, and_parts, cases_lt}
 use Rattle.gfs_types.specs.declared.config.Config.{Config}
 use Rattle.messages.specs.declared.message.Body.{Body}
-use Rattle.messages.specs.declared.message.Body.TheVariants as body
 use Rattle.messages.specs.declared.message.Message.{Message}
 use Rattle.messages.specs.declared.event.NodeInput.{NodeInput}
 use Rattle.log_records.specs.declared.record.Record.{Record}
@@ -25,10 +24,11 @@ use Rattle.laws_base.proofs.Steps.{on_cond, none_some, same_some, tally, put_cas
 use Rattle.laws_base.proofs.Entries.{AllOf}
 use Rattle.laws_base.proofs.ChunkRows.{Rows, rows_of, From, removed_from, changed_from, all_copied_from, swapped_from, expired_from}
 use Rattle.laws_base.proofs.VersionsAhead.{changed_cases}
-use Rattle.laws_base.proofs.MasterMoves.{Core, core_of, IsDue, IsPlainOrder, Nothing, NoneEnded, Keeps, core_changed, core_appended, core_ended, core_granted, grant_record, logs_alone}
+use Rattle.laws_base.proofs.MasterMoves.{Core, core_of, IsDue, IsPlainOrder, plain_nothing, Nothing, NoneEnded, Keeps, core_changed, core_appended, core_ended, core_granted, grant_record, logs_alone}
 use Rattle.laws_base.proofs.MasterSteps.{no_input, goes_named}
 use Rattle.laws_base.proofs.ClientMoves.{HasNoOrder}
 use Rattle.laws_base.proofs.Words.{no_order}
+use Rattle.laws_base.proofs.LeaseOrders.{nothing_counts, unordered_nothing}
 use Rattle.laws_base.proofs.SentReached.{no_orders, without_order, count-sent, sent_reached}
 use Rattle.laws_base.proofs.OrderNumbers.{state_of, state-appended, AllStops, stops_push, AllFound, found_same, found_stopped}
 use Rattle.laws_base.proofs.LoggedParts.{Parts, parts_of, checkpoint_parts}
@@ -250,13 +250,11 @@ ended before start c handle moment h =
 
 -- messages
 
-no_order_grants : (handle version : ℕ) (b : Body) → order_number b ≡ None → is_grant handle version b ≡ false
-no_order_grants handle version (body.Grant order h v end_moment members) none = none_some order (sym none)
-no_order_grants handle version other none = refl
+pub no_order_grants : (handle version : ℕ) (b : Body) → order_number b ≡ None → is_grant handle version b ≡ false
+no_order_grants handle version b none = nothing_counts handle version b (unordered_nothing b none)
 
-plain_grants : (handle version : ℕ) (b : Body) → IsPlainOrder b → is_grant handle version b ≡ false
-plain_grants handle version (body.Grant order h v end_moment members) plain = absurd plain
-plain_grants handle version other plain = refl
+pub plain_grants : (handle version : ℕ) (b : Body) → IsPlainOrder b → is_grant handle version b ≡ false
+plain_grants handle version b plain = nothing_counts handle version b (plain_nothing b plain)
 
 one_sent : (before sent : List Message) (m : Message) (handle version : ℕ) → granted_by before (sent ++ m ∷ []) handle version ≡ granted_by before sent handle version + tally (is_grant handle version m.body)
 one_sent before sent m handle version =

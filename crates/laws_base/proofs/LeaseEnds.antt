@@ -2,7 +2,7 @@
 use Rattle.std.proofs.Common.{◌≡◌, ◌⊎◌, ℕ, suc, ◌+◌, ◌≤◌, ◌<◌, true, false, List, [], ◌∷◌, ◌++◌, Option, Some, refl, sym, ap, subst, ◌∙◌, inl, inr, arith}
 use Rattle.std.specs.Prelude.{◌==◌, ◌&&◌}
 use Rattle.std.specs.FinMap as table
-use Rattle.std.proofs.lemmas.Bool.{eqb-true, and_parts, and_from}
+use Rattle.std.proofs.lemmas.Bool.{eqb-true, and_parts}
 use Rattle.gfs_types.specs.declared.ids.Node.TheVariants as node
 use Rattle.gfs_types.specs.declared.ids.OrderNo.{OrderNo}
 use Rattle.messages.specs.declared.message.Body.{Body}
@@ -17,12 +17,12 @@ use Rattle.chunk_table.specs.ChunkTable.{ChunkRow, new_row, chunk_of, row_grante
 use Rattle.protocol.specs.Logged.{Logged, LogDisk, LogChange, AppendRecord, WriteCheckpoint, first_logged, log_changed, log_changed_by_all, after_record, after_records, checkpoint_of, copies_given_up, all_copies_given_up}
 use Rattle.laws_base.specs.Laws.{is_grant, tells_end}
 use Rattle.laws_base.proofs.Steps.{none_some, same_some, put_cases}
-use Rattle.laws_base.proofs.Words.{is_of_lease, true_false}
-use Rattle.laws_base.proofs.Entries.{same_number}
+use Rattle.laws_base.proofs.Words.{is_of_lease, true_false, quiet_nothing}
+use Rattle.laws_base.proofs.LeaseOrders.{grant_parts, grant_ends, ExtendsNothing, nothing_ends, grant_order}
 use Rattle.laws_base.proofs.ChunkRows.{Rows, rows_of, OwnedFrom, removed_owned, all_copied_owned, swapped_owned, expired_owned}
 use Rattle.laws_base.proofs.VersionsAhead.{changed_cases}
 use Rattle.laws_base.proofs.LeasesEnded.{HasEnded, after_grant}
-use Rattle.laws_base.proofs.MasterMoves.{Core, IsDue, IsNoGrantRecord, IsPlainOrder, IsLeft, IsLeaseFrom, core_changed, core_appended, core_ended, core_granted, core_extended, grant_record}
+use Rattle.laws_base.proofs.MasterMoves.{Core, IsDue, IsNoGrantRecord, IsPlainOrder, plain_nothing, IsLeft, IsLeaseFrom, core_changed, core_appended, core_ended, core_granted, core_extended, grant_record}
 use Rattle.laws_base.proofs.MessagesSent.{IsSent}
 use Rattle.laws_base.proofs.OrderNumbers.{state_of, state-appended, AllStops, stops_push}
 use Rattle.laws_base.proofs.LoggedParts.{Parts, checkpoint_parts}
@@ -217,15 +217,19 @@ ends_to_log greatest past told l h handle version until is =
 
 -- which messages tell ends
 
+pub ordered_extends : (b : Body) (o : OrderNo) → order_number b ≡ Some o → ExtendsNothing b
+ordered_extends (body.Extend h v end_moment) o is = none_some o is
+ordered_extends other o is = tt
+
+pub quiet_extends : (b : Body) → is_of_lease b ≡ false → ExtendsNothing b
+quiet_extends (body.Extend h v end_moment) quiet = true_false quiet
+quiet_extends other quiet = tt
+
 pub plain_tells : (b : Body) (o : OrderNo) → order_number b ≡ Some o → IsPlainOrder b → (handle version until : ℕ) → tells_end handle version until b ≡ false
-plain_tells (body.Grant order h v end_moment members) o is plain handle version until = absurd plain
-plain_tells (body.Extend h v end_moment) o is plain handle version until = none_some o is
-plain_tells other o is plain handle version until = refl
+plain_tells b o is plain = nothing_ends b (plain_nothing b plain) (ordered_extends b o is)
 
 pub quiet_tells : (b : Body) → is_of_lease b ≡ false → (handle version until : ℕ) → tells_end handle version until b ≡ false
-quiet_tells (body.Grant order h v end_moment members) quiet handle version until = true_false quiet
-quiet_tells (body.Extend h v end_moment) quiet handle version until = true_false quiet
-quiet_tells other quiet handle version until = refl
+quiet_tells b quiet = nothing_ends b (quiet_nothing b quiet) (quiet_extends b quiet)
 
 -- the three numbers of an end
 named_end : (chunk number moment handle version until : ℕ) → (chunk == handle) && (number == version) && (moment == until) ≡ true → (chunk ≡ handle) × (number ≡ version) × (moment ≡ until)
@@ -235,8 +239,7 @@ named_end chunk number moment handle version until is =
     (eqb-true chunk handle inner.0, eqb-true number version inner.1, eqb-true moment until outer.1)
 
 pub grant_tells : (b : Body) (handle version : ℕ) → is_grant handle version b ≡ true → (until : ℕ) × (tells_end handle version until b ≡ true)
-grant_tells (body.Grant order h v end_moment members) handle version is = (end_moment.0, and_from ((h.0 == handle) && (v.0 == version)) (end_moment.0 == end_moment.0) is (same_number end_moment.0))
-grant_tells other handle version is = true_false (sym is)
+grant_tells b handle version is = let parts = grant_parts handle version b is in ((parts.1).0, grant_ends parts.3)
 
 -- a version that was granted has an end that was told
 pub granted_told : (told : List Message) (handle version : ℕ) → IsVersionGranted told handle version → (until : ℕ) × IsEndTold told handle version until
@@ -482,7 +485,7 @@ module _ (before : List Message) (greatest lease_ms : ℕ) (start : LogDisk) whe
       two = core_ended (core_appended c r) chunk until
 
       m : Message
-      m = message node.Master (the_server primary) (body.Grant (record { epoch = two.logged.epoch; count = suc two.order_count }) (handle_of chunk) (version_of number) (moment_of until) members)
+      m = message node.Master (the_server primary) (grant_order chunk number until members (record { epoch = two.logged.epoch; count = suc two.order_count }))
 
       told : List Message
       told = before ++ c.sent

@@ -28,6 +28,7 @@ use Rattle.replica_store.specs.Replicas.{ServerDisk, disk_changed, disk_changed_
 use Rattle.protocol.specs.Server.{ServerState, ServerDoing, started_server}
 use Rattle.protocol.specs.ServerStep.{server_goes, server_ends, server_step, server_restarts}
 use Rattle.protocol.specs.World.{stamped}
+use Rattle.laws_base.proofs.LeaseOrders.{SaysGrant, moved_grant, was_granted, HasGrant, grant_counts, grant_ends}
 use Rattle.laws_base.specs.Laws.{IsSameOrLater, is_grant, grants_of, tells_end, WasEndTold, LeasesAreTold, VersionsHaveOnePrimary}
 use Rattle.laws_base.proofs.Steps.{none_some, same_some, tally, put_cases, count-cons}
 use Rattle.laws_base.proofs.Entries.{same_number}
@@ -72,7 +73,7 @@ pub record IsToldLease (sent : List Message) (n : ℕ) (d : ServerDisk) (handle 
   pub receiver : grant.receiver ≡ the_server n
   pub order : OrderNo
   pub end_moment : Moment
-  pub is : grant.body ≡ body.Grant order (handle_of handle) (version_of held.version) end_moment held.members
+  pub is : SaysGrant order (handle_of handle) (version_of held.version) end_moment held.members grant.body
   pub taken : IsStaleAt d order
   pub told : WasEndTold sent handle held.version held.until
 
@@ -124,11 +125,13 @@ module _ (sent : List Message) (n : ℕ) where
         | inr before ↦ h q p before
       ]
 
-  end_of_grant : (order : OrderNo) (handle : Handle) (version : Version) (end_moment : Moment) (members : List ℕ) (m : Message) → m.body ≡ body.Grant order handle version end_moment members
-      → tells_end handle.0 version.0 end_moment.0 m.body ≡ true
-  end_of_grant order handle version end_moment members m is =
-      ap (tells_end handle.0 version.0 end_moment.0) is
-      ∙ and_from ((handle.0 == handle.0) && (version.0 == version.0)) (end_moment.0 == end_moment.0) (and_from (handle.0 == handle.0) (version.0 == version.0) (same_number handle.0) (same_number version.0)) (same_number end_moment.0)
+  -- such a Grant was
+  abbrev pub GrantCameTo : OrderNo → Handle → Version → Moment → List ℕ → Type 0
+  GrantCameTo order handle version end_moment members =
+      (place : ℕ) × (m : Message) × (element_at sent place ≡ Some m) × (m.receiver ≡ the_server n) × SaysGrant order handle version end_moment members m.body
+
+  pub grant_came : (order : OrderNo) (handle : Handle) (version : Version) (end_moment : Moment) (members : List ℕ) → HasGrant CameTo order handle version end_moment members → GrantCameTo order handle version end_moment members
+  grant_came order handle version end_moment members g = ((g.1).0, (g.1).1, (g.1).2, (g.1).3, moved_grant (g.1).4 g.2)
 
   end_of_extend : (handle : Handle) (version : Version) (end_moment : Moment) (m : Message) → m.body ≡ body.Extend handle version end_moment → tells_end handle.0 version.0 end_moment.0 m.body ≡ true
   end_of_extend handle version end_moment m is =
@@ -142,7 +145,8 @@ module _ (sent : List Message) (n : ℕ) where
         stores = λ c x is h. (h.0, all_later c.disk (disk_changed c.disk x) c.leases (replica_later c.disk x is) h.1);
         takes = λ c order new h. (h.0, all_later c.disk (disk_changed c.disk (SetOrder order)) c.leases (risen_later c.disk (SetOrder order) new) h.1);
         holds = λ c leases from h. (h.0, told_from c.disk c.leases leases from h.1);
-        grants = λ c order handle version end_moment members came new h.
+        grants = λ c order handle version end_moment members has new h.
+            let came : GrantCameTo order handle version end_moment members = grant_came order handle version end_moment members has in
             let after : ServerDisk = disk_changed c.disk (SetOrder order) in (
               h.0,
               put_told after c.leases handle.0 (lease_of version end_moment members)
@@ -155,7 +159,7 @@ module _ (sent : List Message) (n : ℕ) where
                     end_moment = end_moment;
                     is = came.4;
                     taken = inr (refl, omega arith);
-                    told = (came.0, came.1, came.2, end_of_grant order handle version end_moment members came.1 came.4);
+                    told = (came.0, came.1, came.2, grant_ends came.4);
                   })
                   (all_later c.disk after c.leases (risen_later c.disk (SetOrder order) new) h.1),
             );
@@ -275,7 +279,7 @@ told_kept =
 pub leases_are_told : LeasesAreTold
 leases_are_told config servers clients w r index s at handle p is =
     let told = (scene_reached AreTold told_kept config servers clients w r index s at).told handle p is in
-    ((told.place, told.grant, told.at, told.receiver, told.order, told.end_moment, told.is), told.told)
+    (was_granted w.sent (suc index) handle p.held told.place told.grant told.at told.receiver told.order told.end_moment told.is, told.told)
 
 -- two grants of one version are one
 
@@ -308,8 +312,8 @@ same_grant handle version (x ∷ sent) (suc place) (suc other) g m few at there 
     let whole = count-cons (λ (y : Message). is_grant handle version y.body) x sent in
     same_grant handle version sent place other g m (omega (arith, whole, few)) at there is also
 
-pub granting : (order : OrderNo) (handle version : ℕ) (end_moment : Moment) (members : List ℕ) (b : Body) → b ≡ body.Grant order (handle_of handle) (version_of version) end_moment members → is_grant handle version b ≡ true
-granting order handle version end_moment members b is = ap (is_grant handle version) is ∙ and_from (handle == handle) (version == version) (same_number handle) (same_number version)
+pub granting : (order : OrderNo) (handle version : ℕ) (end_moment : Moment) (members : List ℕ) (b : Body) → SaysGrant order (handle_of handle) (version_of version) end_moment members b → is_grant handle version b ≡ true
+granting order handle version end_moment members b is = grant_counts is
 
 pub server_numbers : (n m : ℕ) → the_server (suc n) ≡ the_server (suc m) → n ≡ m
 server_numbers n m same = let number : suc n ≡ suc m = ap number_of same in omega (arith, number)

@@ -1,5 +1,6 @@
 pub mod Steps
 pub mod Entries
+pub mod LeaseOrders
 pub mod Words
 pub mod CopiesUnderWay
 pub mod ChunkRows

@@ -20,8 +20,9 @@ use Rattle.chunk_table.specs.ChunkTable.{ChunkRow, new_row, chunk_of, handles_of
 use Rattle.protocol.specs.LogSizes.{checkpoint_fits}
 use Rattle.protocol.specs.Logged.{Logged, Copy, LogDisk, LogChange, AppendRecord, WriteCheckpoint, log_changed, after_record, checkpoint_of, copies_for_file, copies_given_up}
 use Rattle.protocol.specs.Master.{MasterDoing, VersionAttempt, PendingSnapshot, tells, ends_at, fits, appends, writes_checkpoint, logs, logs_after_checkpoint, is_of_copy}
-use Rattle.laws_base.proofs.Steps.{on_cond, put_cases, removed_cases}
-use Rattle.laws_base.proofs.Words.{is_of_lease}
+use Rattle.laws_base.proofs.Steps.{on_cond, none_some, put_cases, removed_cases}
+use Rattle.laws_base.proofs.Words.{is_of_lease, no_order}
+use Rattle.laws_base.proofs.LeaseOrders.{revoke_body, revoke_order, grant_body, grant_order, GrantsNothing}
 use Rattle.laws_base.proofs.CopiesUnderWay.{IsUncopied, AreCopied, AreSoundCopies}
 use Rattle.relaxed_file.specs.Names.{Names, copied_entries}
 use Rattle.relaxed_file.proofs.NamesTree.{Tree}
@@ -89,9 +90,21 @@ core_ended c handle moment = record c { logged = record c.logged { table = set_e
 
 -- no Grant and no Revoke
 abbrev pub IsPlainOrder : Body → Type 0
-IsPlainOrder (body.Grant order handle version end_moment members) = ⊥
-IsPlainOrder (body.Revoke order handle version) = ⊥
+IsPlainOrder (grant_body order handle version end_moment members) = ⊥
+IsPlainOrder (revoke_body order handle version) = ⊥
 IsPlainOrder other = Unit {0}
+
+pub plain_nothing : (b : Body) → IsPlainOrder b → GrantsNothing b
+plain_nothing (grant_body order handle version end_moment members) plain = plain
+plain_nothing other plain = tt
+
+pub unordered_plain : (b : Body) → order_number b ≡ None → IsPlainOrder b
+unordered_plain (grant_body order handle version end_moment members) none = none_some order (sym none)
+unordered_plain (revoke_body order handle version) none = none_some order (sym none)
+unordered_plain other none = tt
+
+pub quiet_plain : (b : Body) → is_of_lease b ≡ false → IsPlainOrder b
+quiet_plain b quiet = unordered_plain b (no_order b quiet)
 
 abbrev pub core_ordered : Core → ℕ → (OrderNo → Body) → Core
 core_ordered c server b =
@@ -103,7 +116,7 @@ grant_record handle version primary members = log.Grant (handle_of handle) (vers
 -- a grant: its record, then the end of its lease, then the order
 abbrev pub core_granted : Core → ℕ → ℕ → ℕ → ℕ → List ℕ → Core
 core_granted c handle version until primary members =
-    core_ordered (core_ended (core_appended c (grant_record handle version primary members)) handle until) primary (λ order. body.Grant order (handle_of handle) (version_of version) (moment_of until) members)
+    core_ordered (core_ended (core_appended c (grant_record handle version primary members)) handle until) primary (grant_order handle version until members)
 
 -- a lease that the master lets last longer: its end, and the word to its primary
 abbrev pub core_extended : Core → ℕ → ℕ → ℕ → ℕ → Core
@@ -111,7 +124,7 @@ core_extended c handle version until primary =
     record (core_ended c handle until) { sent = c.sent ++ message node.Master (the_server primary) (body.Extend (handle_of handle) (version_of version) (moment_of until)) ∷ [] }
 
 abbrev pub core_revoked : Core → ℕ → ChunkRow → Core
-core_revoked c handle row = core_ordered c row.primary (λ order. body.Revoke order (handle_of handle) (version_of row.granted))
+core_revoked c handle row = core_ordered c row.primary (revoke_order handle row)
 
 -- the chunk was granted, and its lease has not ended
 abbrev pub IsLeft : ℕ → ChunkRow → Type 0

@@ -16,12 +16,13 @@ use Rattle.log_records.specs.declared.record.Record.TheVariants as log
 use Rattle.relaxed_file.specs.NameStep.{needs_room, outcome_by}
 use Rattle.gfs_types.specs.Counters.{counter_limit}
 use Rattle.protocol.specs.Tables.{has_number}
-use Rattle.protocol.specs.Sending.{the_client, client_id, file_id, handle_of, version_of, moment_of, order_number}
+use Rattle.protocol.specs.Sending.{the_client, client_id, file_id, moment_of, order_number}
 use Rattle.chunk_table.specs.ChunkTable.{ChunkRow, chunk_of}
 use Rattle.protocol.specs.Logged.{KeptCall}
 use Rattle.protocol.specs.Master.{MasterDoing, PendingSnapshot, tells, orders, has_lease, gives_up_copies, without_attempts}
 use Rattle.protocol.specs.MasterSnapshots.{revokes_row, revokes, revokes_all, takes_locks, begins_snapshot, snapshot_handles, snapshot_files, copies_for_files, reply_of, answers_name, settles_name, refuses_name, changes_names, first_is_true, all_but_first, lets_go, is_same_snapshot, takes_snapshot, takes_ready, is_ready}
 use Rattle.protocol.specs.MasterNames.{master_refusal, reply_by, takes_look, performs, names_by, is_waiting_call, names_anew, names_kept, takes_name}
+use Rattle.laws_base.proofs.LeaseOrders.{revoke_order}
 use Rattle.laws_base.proofs.Steps.{on_cond}
 use Rattle.laws_base.proofs.Entries.{AllOf}
 use Rattle.laws_base.proofs.Words.{is_of_lease}
@@ -62,7 +63,7 @@ module _ (Asks : Type 0) (Told : ℕ → ℕ → ℕ → Type 0) (Ended : ℕ �
   revoked_keeps : (d : MasterDoing) (handle : ℕ) (o : Option ChunkRow) → chunk_of d.master.logged.table handle ≡ o → At Asks Told Ended P k d → At Asks Told Ended P k (revokes_row d handle o)
   revoked_keeps d handle None is h = h
   revoked_keeps d handle (Some row) is h =
-      on_cond (At Asks Told Ended P k) (has_lease d.master row) (orders d row.primary (λ order. body.Revoke order (handle_of handle) (version_of row.granted))) d
+      on_cond (At Asks Told Ended P k) (has_lease d.master row) (orders d row.primary (revoke_order handle row)) d
       (λ _. (k.revokes (core_of d) handle row is h.0, h.1, h.2, h.3)) (λ _. h)
 
   pub revokes_keeps : (d : MasterDoing) (handle : ℕ) → At Asks Told Ended P k d → At Asks Told Ended P k (revokes d handle)

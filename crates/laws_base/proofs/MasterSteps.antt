@@ -59,33 +59,8 @@ module _ (Asks : Type 0) (Told : ℕ → ℕ → ℕ → Type 0) (Ended : ℕ �
   takes_keeps d m (body.Ask number file wanted deadline lost) told bound h = ask_keeps Asks Told Ended P k d m.sender number file.0 wanted deadline.0 lost h
   takes_keeps d m (body.Recorded handle version) told bound h = takes_recorded_keeps Asks Told Ended P k d (server_number m.sender) handle.0 version.0 told h
   takes_keeps d m (body.Revoked handle version) told bound h = takes_revoked_keeps Asks Told Ended P k d (server_number m.sender) handle.0 version.0 told h
-  takes_keeps d m (body.Cloned handle version) told bound h = h
   takes_keeps d m (body.Report replicas leases) told bound h = report_keeps Asks Told Ended P k d (server_number m.sender) replicas leases told h
-  takes_keeps d m (body.Named number reply) told bound h = h
-  takes_keeps d m (body.Told number location) told bound h = h
-  takes_keeps d m (body.Wait number) told bound h = h
-  takes_keeps d m (body.Refused number refusal) told bound h = h
-  takes_keeps d m (body.Push id bytes rest) told bound h = h
-  takes_keeps d m (body.Pushed id) told bound h = h
-  takes_keeps d m (body.Mutate id handle version target deadline) told bound h = h
-  takes_keeps d m (body.Done id place) told bound h = h
-  takes_keeps d m (body.Forward handle version serial id change) told bound h = h
-  takes_keeps d m (body.Acked handle version serial) told bound h = h
-  takes_keeps d m (body.Nacked handle version serial refusal) told bound h = h
-  takes_keeps d m (body.Read number handle version offset count) told bound h = h
-  takes_keeps d m (body.Len number handle version) told bound h = h
-  takes_keeps d m (body.Bytes number bytes) told bound h = h
-  takes_keeps d m (body.LenIs number count) told bound h = h
-  takes_keeps d m (body.Create order handle version) told bound h = h
-  takes_keeps d m (body.SetVersion order handle version base) told bound h = h
-  takes_keeps d m (body.Grant order handle version end_moment members) told bound h = h
-  takes_keeps d m (body.Extend handle version end_moment) told bound h = h
-  takes_keeps d m (body.Revoke order handle version) told bound h = h
-  takes_keeps d m (body.Drop order handle version) told bound h = h
-  takes_keeps d m (body.Clone order handle version source) told bound h = h
-  takes_keeps d m (body.CopyAsk handle version) told bound h = h
-  takes_keeps d m (body.Image handle version serial bytes) told bound h = h
-  takes_keeps d m (body.CopyLocal order handle version copy copy_version) told bound h = h
+  takes_keeps d m other told bound h = h
 
   does_keeps : (d : MasterDoing) (i : NodeInput) → IsInputTold Told Ended i → (Asks → d.master.logged.next_file ≤ counter_limit) → At Asks Told Ended P k d → At Asks Told Ended P k (master_does d i)
   does_keeps d (input.Deliver m) told bound h = takes_keeps d m m.body told bound h

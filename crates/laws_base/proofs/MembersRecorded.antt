@@ -1,5 +1,5 @@
 -- Before a version is granted, each member has told that it has it.
-use Rattle.std.proofs.Common.{◌≡◌, ◌⊎◌, ℕ, zero, suc, ◌≤◌, ◌<◌, true, List, [], ◌∷◌, ◌++◌, length, Option, Some, None, refl, sym, ap, subst, ◌∙◌, inl, inr, arith}
+use Rattle.std.proofs.Common.{◌≡◌, ◌⊎◌, ℕ, zero, suc, ◌≤◌, ◌<◌, true, List, [], ◌∷◌, ◌++◌, length, Option, Some, None, refl, ap, subst, ◌∙◌, inl, inr, arith}
 use Rattle.std.specs.Prelude.{◌==◌, ◌&&◌, not}
 use Rattle.std.specs.List.{list_any}
 use Rattle.std.proofs.lemmas.Bool.{and_from, or_left, or_right}
@@ -31,11 +31,12 @@ use Rattle.laws_base.specs.Laws.{tells_version, WasTold, MembersRecordedWhatIsGr
 use Rattle.laws_base.proofs.Steps.{on_cond, none_some, same_some}
 use Rattle.laws_base.proofs.Entries.{AllOf, all_joined, same_number}
 use Rattle.laws_base.proofs.VersionAttempts.{IsServerNumber, AreTold, more_told, none_told, fewer_told}
-use Rattle.laws_base.proofs.MasterMoves.{IsPlainOrder, NoneEnded, Keeps}
+use Rattle.laws_base.proofs.MasterMoves.{IsPlainOrder, plain_nothing, NoneEnded, Keeps}
 use Rattle.laws_base.proofs.MasterChunksMoves.{AreLinesTold}
 use Rattle.laws_base.proofs.MasterSteps.{IsWordTold, IsInputTold, goes_told}
 use Rattle.laws_base.proofs.ClientMoves.{HasNoOrder}
 use Rattle.laws_base.proofs.Words.{no_order}
+use Rattle.laws_base.proofs.LeaseOrders.{says_grant, unordered_nothing, OfGrant, of_grant, to_grant, of_nothing}
 use Rattle.laws_base.proofs.SentReached.{IsInputSent, without_order, sent_reached}
 
 -- places in lists
@@ -83,24 +84,24 @@ all_in_order P (n ∷ ns) xs all =
 -- grants
 
 -- the members of a grant told that they have the version
+abbrev AreMembersTold : (ℕ → ℕ → ℕ → Type 0) → OrderNo → Handle → Version → Moment → List ℕ → Type 0
+AreMembersTold Told order handle version end_moment members = (n : ℕ) → has_number members n ≡ true → Told n handle.0 version.0
+
 abbrev IsGrantTold : (ℕ → ℕ → ℕ → Type 0) → Body → Type 0
-IsGrantTold Told (body.Grant order handle version end_moment members) = (n : ℕ) → has_number members n ≡ true → Told n handle.0 version.0
-IsGrantTold Told other = Unit {0}
+IsGrantTold Told b = OfGrant (AreMembersTold Told) b
 
 abbrev AreGrantsTold : (ℕ → ℕ → ℕ → Type 0) → List Message → Type 0
 AreGrantsTold Told sent = AllOf (λ m. IsGrantTold Told m.body) sent
 
 more_granted : (Told Also : ℕ → ℕ → ℕ → Type 0) → ((n h v : ℕ) → Told n h v → Also n h v) → (b : Body) → IsGrantTold Told b → IsGrantTold Also b
-more_granted Told Also also (body.Grant order handle version end_moment members) h = λ n there. also n handle.0 version.0 (h n there)
-more_granted Told Also also other h = tt
+more_granted Told Also also b h =
+    to_grant (AreMembersTold Also) b (λ order handle version end_moment members is n there. also n handle.0 version.0 (of_grant (AreMembersTold Told) is h n there))
 
 no_order_granted : (Told : ℕ → ℕ → ℕ → Type 0) (b : Body) → order_number b ≡ None → IsGrantTold Told b
-no_order_granted Told (body.Grant order handle version end_moment members) none = none_some order (sym none)
-no_order_granted Told other none = tt
+no_order_granted Told b none = of_nothing (AreMembersTold Told) b (unordered_nothing b none)
 
 no_grant_granted : (Told : ℕ → ℕ → ℕ → Type 0) (b : Body) → IsPlainOrder b → IsGrantTold Told b
-no_grant_granted Told (body.Grant order handle version end_moment members) none = absurd none
-no_grant_granted Told other none = tt
+no_grant_granted Told b plain = of_nothing (AreMembersTold Told) b (plain_nothing b plain)
 
 -- messages without an order have no grant
 quiet_granted : (Told : ℕ → ℕ → ℕ → Type 0) (ms : List Message) → AllOf (λ m. order_number m.body ≡ None) ms → AreGrantsTold Told ms
@@ -248,13 +249,9 @@ opens_truthful sent k old moment choice Goes h =
 new_truthful : (config : Config) (servers : ℕ) → IsTruthful [] (new_master config servers)
 new_truthful config servers = record { attempts = none_told (WasTold [] 0); grants = λ place g is. none_some g is }
 
-granted_members : (Told : ℕ → ℕ → ℕ → Type 0) (b : Body) (order : OrderNo) (handle : Handle) (version : Version) (end_moment : Moment) (members : List ℕ)
-    → b ≡ body.Grant order handle version end_moment members → IsGrantTold Told b → (n : ℕ) → has_number members n ≡ true → Told n handle.0 version.0
-granted_members Told b order handle version end_moment members is h = subst (λ (x : Body). IsGrantTold Told x) is h
-
 pub members_recorded_what_is_granted : MembersRecordedWhatIsGranted
 members_recorded_what_is_granted config servers clients w r place grant order handle version end_moment members there is member within =
-    granted_members (WasTold w.sent place) grant.body order handle version end_moment members is
+    of_grant (AreMembersTold (WasTold w.sent place)) (says_grant is)
     ((sent_reached IsTruthful
     (record { new = new_truthful; quiet = quiet_truthful; steps = step_truthful; restarts = λ sent k m moment choice h. opens_truthful sent k m moment choice choice.ending h })
     config servers clients w r).grants place grant there)

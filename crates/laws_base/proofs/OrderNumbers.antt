@@ -22,6 +22,7 @@ use Rattle.laws_base.proofs.Steps.{tally, count-append}
 use Rattle.laws_base.proofs.MasterMoves.{Core, IsDue, Nothing, NoneEnded, Keeps, core_changed, core_appended, core_ended, grant_record}
 use Rattle.laws_base.proofs.ClientMoves.{one_more}
 use Rattle.laws_base.proofs.Words.{no_order}
+use Rattle.laws_base.proofs.LeaseOrders.{revoke_order, grant_order}
 
 -- the state that a log leads to, before copies are given up
 abbrev pub state_of : LogDisk → Logged
@@ -170,10 +171,10 @@ numbers_keep start epoch before =
     record {
       tells = λ c receiver b quiet h. told c receiver b (no_order b quiet) h;
       orders = λ c server b is plain h. ordered c server b is h;
-      revokes = λ c handle row is h. ordered c row.primary (λ order. body.Revoke order (handle_of handle) (version_of row.granted)) (λ o. refl) h;
+      revokes = λ c handle row is h. ordered c row.primary (revoke_order handle row) (λ o. refl) h;
       grants = λ c handle version until primary members told due names from idle h.
           let r : Record = grant_record handle version primary members in
-          ordered (core_ended (core_appended c r) handle until) primary (λ order. body.Grant order (handle_of handle) (version_of version) (moment_of until) members) (λ o. refl) (ended (core_appended c r) handle until (appended c r due h));
+          ordered (core_ended (core_appended c r) handle until) primary (grant_order handle version until members) (λ o. refl) (ended (core_appended c r) handle until (appended c r due h));
       appends = λ c r due plain names h. appended c r due h;
       checkpoint = λ c tree h. checkpointed c h;
       sound = λ asks. absurd asks;

@@ -26,6 +26,7 @@ use Rattle.protocol.specs.ServerStep.{server_goes, server_ends, server_step, ser
 use Rattle.protocol.specs.Master.{MasterState, MasterDoing}
 use Rattle.protocol.specs.MasterStep.{master_goes, master_ends, master_bounded, master_step, master_restart, is_within_limits, may_end, found_log, started_master, opening, has_opened, opens_as}
 use Rattle.protocol.specs.World.{WorldState, stamped, IsReached}
+use Rattle.laws_base.proofs.LeaseOrders.{SaysRevoke, moved_revoke, named_revoke}
 use Rattle.laws_base.proofs.Steps.{on_cond, none_some, same_some, put_cases}
 use Rattle.laws_base.proofs.Words.{is_of_lease, true_false}
 use Rattle.laws_base.proofs.Entries.{AllOf, all_joined}
@@ -36,7 +37,7 @@ use Rattle.laws_base.proofs.RisingOrders.{Later, same_later, then_later, risen_l
 use Rattle.laws_base.proofs.MembersRecorded.{all_at, all_in_order}
 use Rattle.laws_base.proofs.MessagesSent.{IsSent, sent_before, sent_cases, none_sent, sent_last, numbered_sent, ordered_sent}
 use Rattle.laws_base.proofs.ScenesReached.{Scene, scene_of, IsSentTo, rotten_server, IsKeptByScenes, lifted, scene_reached}
-use Rattle.laws_base.proofs.LeasesTold.{IsStaleAt, stale_later, new_not_stale, replica_later, CameTo, came_in, IsToldServer, AreTold, told_kept}
+use Rattle.laws_base.proofs.LeasesTold.{IsStaleAt, stale_later, new_not_stale, replica_later, CameTo, came_in, GrantCameTo, grant_came, IsToldServer, AreTold, told_kept}
 use Rattle.laws_base.proofs.RevokesNumbered.{ArePaired, IsOfRevokes, revokes_kept, paired}
 
 -- such a Revoke was sent to this server
@@ -44,7 +45,7 @@ pub record WasSentRevoke (sent : List Message) (n handle version : ℕ) (order :
   pub revoke : Message
   pub is_sent : IsSent sent revoke
   pub receiver : revoke.receiver ≡ the_server n
-  pub is : revoke.body ≡ body.Revoke order (handle_of handle) (version_of version)
+  pub is : SaysRevoke order (handle_of handle) (version_of version) revoke.body
 
 -- it took the Revoke, and has no such lease
 pub record IsOver (sent : List Message) (n : ℕ) (d : ServerDisk) (leases : Table SerialOrder) (handle version : ℕ) (order : OrderNo) : Type 0 where
@@ -97,7 +98,7 @@ module _ (sent : List Message) (n : ℕ) (pairs : ArePaired sent) (disk : Server
       }
 
   -- a Grant that is taken is of a lease that is not over
-  over_granted : (c : ServerCore) (order : OrderNo) (handle : Handle) (version : Version) (end_moment : Moment) (members : List ℕ) → CameTo sent n (body.Grant order handle version end_moment members) → is_new_order c.disk order.epoch order.count ≡ true
+  over_granted : (c : ServerCore) (order : OrderNo) (handle : Handle) (version : Version) (end_moment : Moment) (members : List ℕ) → GrantCameTo sent n order handle version end_moment members → is_new_order c.disk order.epoch order.count ≡ true
       → (q v : ℕ) (earlier : OrderNo) → IsOver sent n c.disk c.leases q v earlier → IsOver sent n (disk_changed c.disk (SetOrder order)) (table.insert c.leases handle.0 (lease_of version end_moment members)) q v earlier
   over_granted c order handle version end_moment members came new q v earlier h =
       record {
@@ -113,7 +114,7 @@ module _ (sent : List Message) (n : ℕ) (pairs : ArePaired sent) (disk : Server
       refused : q ≡ handle.0 → version.0 ≡ v → ⊥
       refused key same =
           let word : WasSentRevoke sent n q v earlier = h.word in
-          let revoke : (word.revoke).body ≡ body.Revoke earlier handle version = word.is ∙ ap (λ (k : ℕ). body.Revoke earlier (handle_of k) (version_of v)) key ∙ ap (λ (k : ℕ). body.Revoke earlier handle (version_of k)) (sym same) in
+          let revoke : SaysRevoke earlier handle version (word.revoke).body = named_revoke word.is key (sym same) in
           let pair = pairs came.1 word.revoke (came.0, came.2) word.is_sent order earlier handle version end_moment members came.4 revoke in
           new_not_stale c.disk order new
           (then_later (record { block = 0; epoch = order.epoch; count = order.count; replicas = table.empty }) (record { block = 0; epoch = earlier.epoch; count = earlier.count; replicas = table.empty }) c.disk pair.1 h.taken)
@@ -141,13 +142,14 @@ module _ (sent : List Message) (n : ℕ) (pairs : ArePaired sent) (disk : Server
         stores = λ c x is h. stays c _ refl refl (λ q v o. over_from sent n c.disk (disk_changed c.disk x) c.leases c.leases q v o (replica_later c.disk x is) (same_held c.leases)) h;
         takes = λ c order new h. stays c _ refl refl (λ q v o. over_from sent n c.disk (disk_changed c.disk (SetOrder order)) c.leases c.leases q v o (risen_later c.disk (SetOrder order) new) (same_held c.leases)) h;
         holds = λ c after from h. stays c _ refl refl (λ q v o. over_from sent n c.disk c.disk c.leases after q v o (same_later c.disk) from) h;
-        grants = λ c order handle version end_moment members came new h. stays c _ refl refl (over_granted c order handle version end_moment members came new) h;
+        grants = λ c order handle version end_moment members came new h. stays c _ refl refl (over_granted c order handle version end_moment members (grant_came sent n order handle version end_moment members came) new) h;
         extends = λ c handle version end_moment p came at same h. stays c _ refl refl (over_extended c handle end_moment p at) h;
-        revokes = λ c order handle version after came new from none h.
+        revokes = λ c order handle version after has new from none h.
+            let came : CameTo sent n has.0 = has.1 in
             let e : ServerDisk = disk_changed c.disk (SetOrder order) in
             let d : ServerCore = record c { disk = e; changes = c.changes ++ SetOrder order ∷ []; leases = after } in
             let over : IsOver sent n e after handle.0 version.0 order =
-            record { word = record { revoke = came.1; is_sent = (came.0, came.2); receiver = came.3; is = came.4 }; taken = inr (refl, omega arith); none = none } in
+            record { word = record { revoke = came.1; is_sent = (came.0, came.2); receiver = came.3; is = moved_revoke came.4 has.2 }; taken = inr (refl, omega arith); none = none } in
             more d (message (the_server c.id) Master (body.Revoked handle version))
             (λ q v says. (order, subst (λ (k : Handle). IsOver sent n e after k.0 v.0 order) (ap handle_in says) (subst (λ (k : Version). IsOver sent n e after handle.0 k.0 order) (ap version_in says) over)))
             (stays c d refl refl (λ q v o. over_from sent n c.disk e c.leases after q v o (risen_later c.disk (SetOrder order) new) from) h);

@@ -10,13 +10,12 @@ use Rattle.gfs_types.specs.declared.ids.Handle.{Handle}
 use Rattle.gfs_types.specs.declared.ids.Version.{Version}
 use Rattle.gfs_types.specs.declared.ids.Moment.{Moment}
 use Rattle.messages.specs.declared.message.Body.{Body}
-use Rattle.messages.specs.declared.message.Body.TheVariants as body
 use Rattle.messages.specs.declared.message.Message.{Message}
 use Rattle.messages.specs.declared.event.NodeInput.{NodeInput}
 use Rattle.log_records.specs.declared.record.Record.{Record}
 use Rattle.log_records.specs.declared.record.Record.TheVariants as log
 use Rattle.relaxed_file.proofs.NamesTree.{Tree}
-use Rattle.protocol.specs.Sending.{message, the_server, handle_of, version_of, moment_of, order_number}
+use Rattle.protocol.specs.Sending.{message, the_server, handle_of, order_number}
 use Rattle.protocol.specs.Choice.{Choice, Ending, Goes, Lost, Stops, in_order, decided_changes}
 use Rattle.protocol.specs.Seen.{Taken, no_step}
 use Rattle.chunk_table.specs.ChunkTable.{ChunkRow, chunk_of, row_granted}
@@ -25,11 +24,11 @@ use Rattle.protocol.specs.Master.{MasterState, MasterDoing, stopped_master, mast
 use Rattle.protocol.specs.MasterStep.{master_at, master_goes, master_ends, master_bounded, master_step, is_within_limits, may_end, found_log, started_master, opening, has_opened, opens_as, new_master}
 use Rattle.protocol.specs.World.{WorldState, stamped, IsReached}
 use Rattle.laws_base.specs.Laws.{IsSameOrLater}
-use Rattle.laws_base.proofs.Steps.{on_cond, none_some, same_some}
-use Rattle.laws_base.proofs.Words.{is_of_lease, true_false}
+use Rattle.laws_base.proofs.Steps.{on_cond, same_some}
+use Rattle.laws_base.proofs.LeaseOrders.{revoke_order, SaysRevoke, moved_revoke, named_revoke, revoke_handle, revoke_version, not_revoked, SaysGrant, moved_grant, named_grant, grant_handle, grant_version, grant_number, not_said, grant_order}
 use Rattle.laws_base.proofs.ChunkRows.{Rows, rows_of, From, removed_from, changed_from, swapped_from}
 use Rattle.laws_base.proofs.VersionsAhead.{changed_cases}
-use Rattle.laws_base.proofs.MasterMoves.{Core, core_of, IsDue, IsPlainOrder, Nothing, NoneEnded, Keeps, core_changed, core_appended, core_ended, core_granted, core_revoked, grant_record, logs_alone}
+use Rattle.laws_base.proofs.MasterMoves.{Core, core_of, IsDue, IsPlainOrder, plain_nothing, unordered_plain, quiet_plain, Nothing, NoneEnded, Keeps, core_changed, core_appended, core_ended, core_granted, core_revoked, grant_record, logs_alone}
 use Rattle.laws_base.proofs.MasterSteps.{no_input, goes_named}
 use Rattle.laws_base.proofs.MembersRecorded.{all_at}
 use Rattle.laws_base.proofs.MessagesSent.{IsSent, IsSameMessage, sent_before, sent_after, sent_cases, none_sent, sent_last, numbered_sent, step_sent, order_counted}
@@ -54,12 +53,12 @@ use Rattle.laws_base.proofs.GrantsOnce.{row_below}
 -- a Grant of this chunk is of the granted version to the primary, or of an earlier one
 abbrev pub GrantFits : ℕ → ℕ → ℕ → Message → Type 0
 GrantFits handle granted primary m =
-    (order : OrderNo) (version : Version) (end_moment : Moment) (members : List ℕ) → m.body ≡ body.Grant order (handle_of handle) version end_moment members
+    (order : OrderNo) (version : Version) (end_moment : Moment) (members : List ℕ) → SaysGrant order (handle_of handle) version end_moment members m.body
     → (version.0 ≤ granted) × (version.0 ≡ granted → m.receiver ≡ the_server primary)
 
 -- a Revoke is of the granted version or an earlier one
 abbrev pub RevokeFits : ℕ → ℕ → Message → Type 0
-RevokeFits handle granted m = (order : OrderNo) (version : Version) → m.body ≡ body.Revoke order (handle_of handle) version → version.0 ≤ granted
+RevokeFits handle granted m = (order : OrderNo) (version : Version) → SaysRevoke order (handle_of handle) version m.body → version.0 ≤ granted
 
 abbrev pub Fits : List Message → ℕ → ℕ → ℕ → Type 0
 Fits ms handle granted primary = (m : Message) → IsSent ms m → GrantFits handle granted primary m × RevokeFits handle granted m
@@ -67,8 +66,8 @@ Fits ms handle granted primary = (m : Message) → IsSent ms m → GrantFits han
 -- its handle was used
 abbrev pub IsUsed : ℕ → Message → Type 0
 IsUsed next m =
-    ((order : OrderNo) (handle : Handle) (version : Version) (end_moment : Moment) (members : List ℕ) → m.body ≡ body.Grant order handle version end_moment members → handle.0 < next)
-    × ((order : OrderNo) (handle : Handle) (version : Version) → m.body ≡ body.Revoke order handle version → handle.0 < next)
+    ((order : OrderNo) (handle : Handle) (version : Version) (end_moment : Moment) (members : List ℕ) → SaysGrant order handle version end_moment members m.body → handle.0 < next)
+    × ((order : OrderNo) (handle : Handle) (version : Version) → SaysRevoke order handle version m.body → handle.0 < next)
 
 pub record Agrees (ms : List Message) (l : Logged) : Type 0 where
   pub used : (m : Message) → IsSent ms m → IsUsed l.next_handle m
@@ -77,7 +76,7 @@ pub record Agrees (ms : List Message) (l : Logged) : Type 0 where
 -- a Revoke goes where the Grant of its version went, and is numbered after it
 abbrev pub IsPaired : Message → Message → Type 0
 IsPaired g r =
-    (order later : OrderNo) (handle : Handle) (version : Version) (end_moment : Moment) (members : List ℕ) → g.body ≡ body.Grant order handle version end_moment members → r.body ≡ body.Revoke later handle version
+    (order later : OrderNo) (handle : Handle) (version : Version) (end_moment : Moment) (members : List ℕ) → SaysGrant order handle version end_moment members g.body → SaysRevoke later handle version r.body
     → (g.receiver ≡ r.receiver) × IsSameOrLater order.epoch order.count later.epoch later.count
 
 abbrev pub ArePaired : List Message → Type 0
@@ -97,12 +96,12 @@ agrees_among ms less l among h =
       used = λ m s.
           let was = among m s in
           let old = h.used was.0 was.1 in
-          (λ order handle version end_moment members is. old.0 order handle version end_moment members (was.2.2 ∙ is), λ order handle version is. old.1 order handle version (was.2.2 ∙ is));
+          (λ order handle version end_moment members is. old.0 order handle version end_moment members (moved_grant was.2.2 is), λ order handle version is. old.1 order handle version (moved_revoke was.2.2 is));
       rows = λ handle row at m s.
           let was = among m s in
           let old = h.rows handle row at was.0 was.1 in (
-            λ order version end_moment members is. let fits = old.0 order version end_moment members (was.2.2 ∙ is) in (fits.0, λ same. sym was.2.1 ∙ fits.1 same),
-            λ order version is. old.1 order version (was.2.2 ∙ is),
+            λ order version end_moment members is. let fits = old.0 order version end_moment members (moved_grant was.2.2 is) in (fits.0, λ same. sym was.2.1 ∙ fits.1 same),
+            λ order version is. old.1 order version (moved_revoke was.2.2 is),
           );
     }
 
@@ -110,7 +109,7 @@ paired_among : (ms less : List Message) → AreAmong less ms → ArePaired ms �
 paired_among ms less among h g r is also order later handle version end_moment members grant revoke =
     let a = among g is in
     let b = among r also in
-    let pair = h a.0 b.0 a.1 b.1 order later handle version end_moment members (a.2.2 ∙ grant) (b.2.2 ∙ revoke) in
+    let pair = h a.0 b.0 a.1 b.1 order later handle version end_moment members (moved_grant a.2.2 grant) (moved_revoke b.2.2 revoke) in
     (sym a.2.1 ∙ pair.0 ∙ b.2.1, pair.1)
 
 -- rows that are there still
@@ -202,16 +201,11 @@ paired_more ms more m one as_grant as_revoke both h g r is also =
       ]
     ]
 
-not_grant : {A : Type 0} (b : Body) (order : OrderNo) (handle : Handle) (version : Version) (end_moment : Moment) (members : List ℕ) → IsPlainOrder b → b ≡ body.Grant order handle version end_moment members → A
-not_grant b order handle version end_moment members plain is = absurd (subst (λ (x : Body). IsPlainOrder x) is plain)
+not_grant : {A : Type 0} (b : Body) (order : OrderNo) (handle : Handle) (version : Version) (end_moment : Moment) (members : List ℕ) → IsPlainOrder b → SaysGrant order handle version end_moment members b → A
+not_grant b order handle version end_moment members plain is = not_said is (plain_nothing b plain)
 
-not_revoke : {A : Type 0} (b : Body) (order : OrderNo) (handle : Handle) (version : Version) → IsPlainOrder b → b ≡ body.Revoke order handle version → A
-not_revoke b order handle version plain is = absurd (subst (λ (x : Body). IsPlainOrder x) is plain)
-
-quiet_plain : (b : Body) → is_of_lease b ≡ false → IsPlainOrder b
-quiet_plain (body.Grant order handle version end_moment members) h = true_false h
-quiet_plain (body.Revoke order handle version) h = true_false h
-quiet_plain other h = tt
+not_revoke : {A : Type 0} (b : Body) (order : OrderNo) (handle : Handle) (version : Version) → IsPlainOrder b → SaysRevoke order handle version b → A
+not_revoke b order handle version plain is = absurd (subst (λ (x : Body). IsPlainOrder x) is.says plain)
 
 plain_agrees : (ms more : List Message) (m : Message) (l : Logged) → IsOneMore ms m more → IsPlainOrder m.body → Agrees ms l → Agrees more l
 plain_agrees ms more m l one plain h =
@@ -315,7 +309,7 @@ granted before start c handle version until primary members due n h =
     order = record { epoch = two.logged.epoch; count = suc two.order_count }
 
     m : Message
-    m = message node.Master (the_server primary) (body.Grant order (handle_of handle) (version_of version) (moment_of until) members)
+    m = message node.Master (the_server primary) (grant_order handle version until members order)
 
     ms : List Message
     ms = before ++ c.sent
@@ -355,30 +349,18 @@ granted before start c handle version until primary members due n h =
     to_log : IsGrantedTo (state_of two.disk) handle version primary
     to_log = subst (λ (k : Logged). IsGrantedTo k handle version primary) (sym (state-appended c.disk r)) (granted_to_after (state_of c.disk) handle version primary members)
 
-    -- what this message says
-    handle_in : Body → ℕ
-    handle_in (body.Grant o q v end_moment ns) = q.0
-    handle_in other = 0
-
-    version_in : Body → ℕ
-    version_in (body.Grant o q v end_moment ns) = v.0
-    version_in other = 0
-
-    is_revoke : Body → Type 0
-    is_revoke (body.Revoke o q v) = ⊥
-    is_revoke other = Unit {0}
-
-    no_revoke : {A : Type 0} (later : OrderNo) (q : Handle) (v : Version) → m.body ≡ body.Revoke later q v → A
-    no_revoke later q v is = absurd (subst is_revoke is tt)
+    -- this message revokes nothing
+    no_revoke : {A : Type 0} (later : OrderNo) (q : Handle) (v : Version) → SaysRevoke later q v m.body → A
+    no_revoke later q v is = not_revoked is tt
 
     is_used : (top : ℕ) → handle < top → IsUsed top m
-    is_used top below = (λ o q v end_moment ns is. let same : handle ≡ q.0 = ap handle_in is in omega (arith, below, same), λ o q v is. no_revoke o q v is)
+    is_used top below = (λ o q v end_moment ns is. let same : handle ≡ q.0 = ap grant_handle is.says in omega (arith, below, same), λ o q v is. no_revoke o q v is)
 
     fits : (l : Logged) → IsGrantedTo l handle version primary → (q : ℕ) (row : ChunkRow) → table.get (rows_of l) q ≡ Some row → GrantFits q row.granted row.primary m × RevokeFits q row.granted m
     fits l to q row at = (
       λ o v end_moment ns is.
-          let key : handle ≡ q = ap handle_in is in
-          let same : version ≡ v.0 = ap version_in is in
+          let key : handle ≡ q = ap grant_handle is.says in
+          let same : version ≡ v.0 = ap grant_version is.says in
           let says = to row (ap (λ (k : ℕ). table.get (rows_of l) k) key ∙ at) in
           let granted_is = says.0 in
           (omega (arith, same, granted_is), λ also. ap the_server (sym says.1)),
@@ -388,9 +370,9 @@ granted before start c handle version until primary members due n h =
     -- no Revoke of this version was sent
     as_grant : (x : Message) → IsSent ms x → IsPaired m x
     as_grant x s o later q v end_moment ns grant revoke =
-        let key : handle ≡ q.0 = ap handle_in grant in
-        let same : version ≡ v.0 = ap version_in grant in
-        let is : x.body ≡ body.Revoke later (handle_of handle) v = revoke ∙ ap (λ (k : ℕ). body.Revoke later (handle_of k) v) (sym key) in
+        let key : handle ≡ q.0 = ap grant_handle grant.says in
+        let same : version ≡ v.0 = ap grant_version grant.says in
+        let is : SaysRevoke later (handle_of handle) v x.body = named_revoke revoke (sym key) refl in
         let bound = ((h.state).rows handle due.0 due.1 x s).1 later v is in
         let above = due.2 tt in
         absurd (omega (arith, bound, above, same))
@@ -425,7 +407,7 @@ revoked before start epoch count numbered c handle row at n numbers h =
     order = record { epoch = c.logged.epoch; count = suc c.order_count }
 
     m : Message
-    m = message node.Master (the_server row.primary) (body.Revoke order (handle_of handle) (version_of row.granted))
+    m = message node.Master (the_server row.primary) (revoke_order handle row order)
 
     ms : List Message
     ms = before ++ c.sent
@@ -452,47 +434,31 @@ revoked before start epoch count numbered c handle row at n numbers h =
         let granted_is = ap (λ (x : ChunkRow). x.granted) (same_some (without_end row) (without_end other) same) in
         omega (arith, granted_is)
 
-    handle_in : Body → ℕ
-    handle_in (body.Revoke o q v) = q.0
-    handle_in other = 0
-
-    version_in : Body → ℕ
-    version_in (body.Revoke o q v) = v.0
-    version_in other = 0
-
-    number_in : Body → Option OrderNo
-    number_in (body.Revoke o q v) = Some o
-    number_in other = None
-
-    is_grant : Body → Type 0
-    is_grant (body.Grant o q v end_moment ns) = ⊥
-    is_grant other = Unit {0}
-
-    no_grant : {A : Type 0} (o : OrderNo) (q : Handle) (v : Version) (end_moment : Moment) (ns : List ℕ) → m.body ≡ body.Grant o q v end_moment ns → A
-    no_grant o q v end_moment ns is = absurd (subst is_grant is tt)
+    no_grant : {A : Type 0} (o : OrderNo) (q : Handle) (v : Version) (end_moment : Moment) (ns : List ℕ) → SaysGrant o q v end_moment ns m.body → A
+    no_grant o q v end_moment ns is = not_said is tt
 
     used : (top : ℕ) → handle < top → IsUsed top m
-    used top less = (λ o q v end_moment ns is. no_grant o q v end_moment ns is, λ o q v is. let same : handle ≡ q.0 = ap handle_in is in omega (arith, less, same))
+    used top less = (λ o q v end_moment ns is. no_grant o q v end_moment ns is, λ o q v is. let same : handle ≡ q.0 = ap revoke_handle is.says in omega (arith, less, same))
 
     fits : (l : Logged) → ((other : ChunkRow) → table.get (rows_of l) handle ≡ Some other → row.granted ≤ other.granted) → (q : ℕ) (other : ChunkRow) → table.get (rows_of l) q ≡ Some other
         → GrantFits q other.granted other.primary m × RevokeFits q other.granted m
     fits l bound q other is = (
       λ o v end_moment ns grant. no_grant o (handle_of q) v end_moment ns grant,
       λ o v revoke.
-          let key : handle ≡ q = ap handle_in revoke in
-          let same : row.granted ≡ v.0 = ap version_in revoke in
+          let key : handle ≡ q = ap revoke_handle revoke.says in
+          let same : row.granted ≡ v.0 = ap revoke_version revoke.says in
           let most = bound other (ap (λ (k : ℕ). table.get (rows_of l) k) key ∙ is) in
           omega (arith, same, most),
     )
 
     as_revoke : (g : Message) → IsSent ms g → IsPaired g m
     as_revoke g s o later q v end_moment ns grant revoke =
-        let key : handle ≡ q.0 = ap handle_in revoke in
-        let same : row.granted ≡ v.0 = ap version_in revoke in
-        let is : g.body ≡ body.Grant o (handle_of handle) v end_moment ns = grant ∙ ap (λ (k : ℕ). body.Grant o (handle_of k) v end_moment ns) (sym key) in
-        let number : order ≡ later = same_some order later (ap number_in revoke) in (
+        let key : handle ≡ q.0 = ap revoke_handle revoke.says in
+        let same : row.granted ≡ v.0 = ap revoke_version revoke.says in
+        let is : SaysGrant o (handle_of handle) v end_moment ns g.body = named_grant grant (sym key) refl in
+        let number : order ≡ later = same_some order later (ap order_number revoke.says) in (
           (((h.state).rows handle row at g s).0 o v end_moment ns is).1 (sym same),
-          subst (λ (x : OrderNo). IsSameOrLater o.epoch o.count x.epoch x.count) number (below before start epoch count numbered c numbers g s o (ap order_number is)),
+          subst (λ (x : OrderNo). IsSameOrLater o.epoch o.count x.epoch x.count) number (below before start epoch count numbered c numbers g s o (grant_number is)),
         )
 
 -- what each move keeps
@@ -550,16 +516,11 @@ pub record AreRevokes (sent : List Message) (m : MasterState) : Type 0 where
 
 -- messages that are no orders
 
-quiet_plain_order : (b : Body) → order_number b ≡ None → IsPlainOrder b
-quiet_plain_order (body.Grant order handle version end_moment members) h = none_some order (sym h)
-quiet_plain_order (body.Revoke order handle version) h = none_some order (sym h)
-quiet_plain_order other h = tt
-
 all_plain : (ms : List Message) (k : ℕ) → HasNoOrder ms → (m : Message) → IsSent (stamped k ms) m → IsPlainOrder m.body
 all_plain ms k quiet m s =
     let was = numbered_sent k ms s.0 m s.1 in
     let none = all_at (λ x. order_number x.body ≡ None) ms (was.1).0 was.0 (without_order ms quiet) (was.1).1 in
-    quiet_plain_order m.body (ap order_number (sym was.2.2) ∙ none)
+    unordered_plain m.body (ap order_number (sym was.2.2) ∙ none)
 
 still_agrees : (sent ms : List Message) (k : ℕ) (l : Logged) → HasNoOrder ms → Agrees sent l → Agrees (sent ++ stamped k ms) l
 still_agrees sent ms k l quiet h =

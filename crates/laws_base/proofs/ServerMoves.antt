@@ -37,6 +37,7 @@ use Rattle.protocol.specs.ServerStep.{replica_line, lease_line, asks_no_more, co
 use Rattle.laws_base.proofs.Steps.{on_cond, none_some, put_cases, put_there, kept_cases, gone_there}
 use Rattle.laws_base.proofs.Entries.{kept_where_cases, mapped_cases}
 use Rattle.laws_base.proofs.Words.{is_of_lease}
+use Rattle.laws_base.proofs.LeaseOrders.{HasGrant, HasRevoke}
 use Rattle.laws_base.proofs.ServerWalk.{Attempting, Numbering, Storing, Extending, Revoking, Held, IsStoredAs, IsNewOrder, Outcomes, with_order, with_pushed, number_of, installed, until_later, primary_there, server_comes_to}
 use Rattle.leases.specs.LeaseHeld.{LeaseHeld, counts_at}
 use Rattle.gfs_types.specs.declared.ids.Handle.{Handle}
@@ -105,13 +106,13 @@ pub record KeepsServer (Came : Body → Type 0) (P : ServerCore → Type 0) : Ty
   -- leases that were there
   pub holds : (c : ServerCore) (leases : Table SerialOrder) → AreHeldFrom c.leases leases → P c → P (record c { leases = leases })
   -- a lease that was granted
-  pub grants : (c : ServerCore) (order : OrderNo) (handle : Handle) (version : VersionId) (end_moment : Moment) (members : List ℕ) → Came (body.Grant order handle version end_moment members)
+  pub grants : (c : ServerCore) (order : OrderNo) (handle : Handle) (version : VersionId) (end_moment : Moment) (members : List ℕ) → HasGrant Came order handle version end_moment members
       → is_new_order c.disk order.epoch order.count ≡ true → P c → P (record (store_changed c (SetOrder order)) { leases = table.insert c.leases handle.0 (lease_of version end_moment members) })
   -- a later end of a lease
   pub extends : (c : ServerCore) (handle : Handle) (version : VersionId) (end_moment : Moment) (p : SerialOrder) → Came (body.Extend handle version end_moment) → table.get c.leases handle.0 ≡ Some p → p.held.version ≡ version.0 → P c
       → P (record c { leases = table.insert c.leases handle.0 (until_moment p end_moment) })
   -- a lease that is revoked
-  pub revokes : (c : ServerCore) (order : OrderNo) (handle : Handle) (version : VersionId) (leases : Table SerialOrder) → Came (body.Revoke order handle version) → is_new_order c.disk order.epoch order.count ≡ true
+  pub revokes : (c : ServerCore) (order : OrderNo) (handle : Handle) (version : VersionId) (leases : Table SerialOrder) → HasRevoke Came order handle version → is_new_order c.disk order.epoch order.count ≡ true
       → AreHeldFrom c.leases leases → HasNoLease leases handle.0 version.0 → P c
       → P (record (store_changed c (SetOrder order)) { leases = leases; sent = c.sent ++ message (the_server c.id) Master (body.Revoked handle version) ∷ [] })
 
@@ -284,7 +285,7 @@ module _ (Came : Body → Type 0) (P : ServerCore → Type 0) (k : KeepsServer C
 
     ended_holds : (c : Revoking i) (leases : Table SerialOrder) → IsNewOrder s c.order → AreHeldFrom s.leases leases → HasNoLease leases c.handle.0 c.version.0
         → P (record (store_changed (server_core (server_begins s)) (SetOrder c.order)) { leases = leases; sent = [] ++ message (the_server s.id) Master (body.Revoked c.handle c.version) ∷ [] })
-    ended_holds c leases new from none = k.revokes (server_core (server_begins s)) c.order c.handle c.version leases (subst Came c.is (came_now c.m c.came)) new from none h
+    ended_holds c leases new from none = k.revokes (server_core (server_begins s)) c.order c.handle c.version leases (c.m.body, came_now c.m c.came, c.is) new from none h
 
     outcomes : Outcomes s i Holds
     outcomes =
@@ -332,7 +333,7 @@ module _ (Came : Body → Type 0) (P : ServerCore → Type 0) (k : KeepsServer C
               let d : ServerDoing = stores (with_order s c.order) (Raise (handle_of c.handle.0) (version_of c.version.0)) in
               records_holds (without_lease d c.handle.0) c.handle.0 c.version.0
               (less_holds d c.handle.0 (stores_holds (with_order s c.order) (Raise (handle_of c.handle.0) (version_of c.version.0)) tt (ordered c.order new)));
-          grants = λ c new holds. k.grants (server_core (server_begins s)) c.order c.handle c.version c.end_moment c.members (subst Came c.is (came_now c.m c.came)) new h;
+          grants = λ c new holds. k.grants (server_core (server_begins s)) c.order c.handle c.version c.end_moment c.members (c.m.body, came_now c.m c.came, c.is) new h;
           revokes = λ c q new same.
               ended_holds c (table.remove s.leases c.handle.0) new (removed_held s.leases c.handle.0) (λ p is. none_some p (sym (gone_there s.leases c.handle.0 c.handle.0 refl) ∙ is));
           revoked = λ c new apart. ended_holds c s.leases new (same_held s.leases) apart;

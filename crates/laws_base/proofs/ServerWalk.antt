@@ -52,6 +52,7 @@ use Rattle.protocol.specs.ServerReads.{answers_bytes, reads_from, measures, send
 use Rattle.protocol.specs.ServerWrites.{passes_on, refuses_attempt, answers_settled, denies, acknowledges, primary_applies, places, appends_as, mutates_with, mutates_new, mutates_as, mutates_under, nacks, member_stores, member_applies, applies_data, applies_change, forwarded_to, acked_under, refuses_waiting, nacked_under}
 use Rattle.protocol.specs.ServerOrders.{on_order, records, can_take, takes_create, raises, takes_set_version, holds_version, takes_grant, extends_held, ends_held, takes_revoke, drops_old, takes_drop, is_pending_clone, takes_clone, takes_image, copies_locally, takes_copy_local}
 use Rattle.protocol.specs.ServerStep.{server_ticks, server_takes, server_does, server_at, server_goes}
+use Rattle.laws_base.proofs.LeaseOrders.{revoke_body, SaysGrant, says_grant, grant_number, grant_body, SaysRevoke, says_revoke}
 use Rattle.laws_base.proofs.Steps.{on_cond, none_some, same_some}
 
 -- Messages that a step takes, by the names of their parts
@@ -156,7 +157,7 @@ pub record Granting (i : NodeInput) : Type 0 where
   pub version : VersionId
   pub end_moment : Moment
   pub members : List ℕ
-  pub is : m.body ≡ body.Grant order handle version end_moment members
+  pub is : SaysGrant order handle version end_moment members m.body
 
 pub record Revoking (i : NodeInput) : Type 0 where
   pub m : Message
@@ -164,7 +165,7 @@ pub record Revoking (i : NodeInput) : Type 0 where
   pub order : OrderNo
   pub handle : Handle
   pub version : VersionId
-  pub is : m.body ≡ body.Revoke order handle version
+  pub is : SaysRevoke order handle version m.body
 
 pub record Dropping (i : NodeInput) : Type 0 where
   pub m : Message
@@ -614,7 +615,7 @@ module _ (s : ServerState) (i : NodeInput) (P : ServerDoing → Type 0) (k : Out
 
   grant_comes : (c : Granting i) → IsNewOrder s c.order → P (takes_grant (with_order s c.order) c.handle.0 c.version.0 c.end_moment.0 c.members)
   grant_comes c new =
-      on_cond P (holds_version c.version.0 (row_at s.disk c.handle.0)) _ (with_order s c.order) (λ holds. k.grants c new holds) (λ _. alone c.m c.order c.came (ap order_number c.is) new)
+      on_cond P (holds_version c.version.0 (row_at s.disk c.handle.0)) _ (with_order s c.order) (λ holds. k.grants c new holds) (λ _. alone c.m c.order c.came (grant_number c.is) new)
 
   end_comes : (c : Revoking i) (o : Option SerialOrder) → table.get s.leases c.handle.0 ≡ o → IsNewOrder s c.order
       → P (sends (ends_held (with_order s c.order) c.handle.0 c.version.0 o) Master (body.Revoked (handle_of c.handle.0) (version_of c.version.0)))
@@ -677,12 +678,12 @@ module _ (s : ServerState) (i : NodeInput) (P : ServerDoing → Type 0) (k : Out
   takes_comes m (body.SetVersion order handle version base) came is =
       order_comes order (λ e. takes_set_version e handle.0 version.0 base.0)
       (raise_comes (record { m = m; came = came; order = order; handle = handle; version = version; base = base; is = is }) (row_at s.disk handle.0) refl)
-  takes_comes m (body.Grant order handle version end_moment members) came is =
+  takes_comes m (grant_body order handle version end_moment members) came is =
       order_comes order (λ e. takes_grant e handle.0 version.0 end_moment.0 members)
-      (grant_comes (record { m = m; came = came; order = order; handle = handle; version = version; end_moment = end_moment; members = members; is = is }))
-  takes_comes m (body.Revoke order handle version) came is =
+      (grant_comes (record { m = m; came = came; order = order; handle = handle; version = version; end_moment = end_moment; members = members; is = says_grant is }))
+  takes_comes m (revoke_body order handle version) came is =
       order_comes order (λ e. takes_revoke e handle.0 version.0)
-      (end_comes (record { m = m; came = came; order = order; handle = handle; version = version; is = is }) (table.get s.leases handle.0) refl)
+      (end_comes (record { m = m; came = came; order = order; handle = handle; version = version; is = says_revoke is }) (table.get s.leases handle.0) refl)
   takes_comes m (body.Drop order handle version) came is =
       order_comes order (λ e. takes_drop e handle.0 version.0) (drop_comes (record { m = m; came = came; order = order; handle = handle; version = version; is = is }) (row_at s.disk handle.0) refl)
   takes_comes m (body.Clone order handle version source) came is =

@@ -1,11 +1,12 @@
 -- No lease is granted of a chunk's version 0.
-use Rattle.std.proofs.Common.{◌≡◌, ℕ, ◌≤◌, ◌<◌, true, false, List, [], ◌∷◌, ◌++◌, refl, sym, subst, ◌∙◌, inl, inr, arith}
-use Rattle.std.specs.Prelude.{◌==◌, ◌&&◌}
-use Rattle.std.proofs.lemmas.Bool.{and_parts, and_from, eqb-true}
+use Rattle.std.proofs.Common.{◌≡◌, ℕ, ◌≤◌, ◌<◌, true, false, List, [], ◌∷◌, ◌++◌, refl, subst, inl, inr, arith}
 use Rattle.gfs_types.specs.declared.config.Config.{Config}
+use Rattle.gfs_types.specs.declared.ids.Handle.{Handle}
+use Rattle.gfs_types.specs.declared.ids.Version.{Version}
+use Rattle.gfs_types.specs.declared.ids.Moment.{Moment}
+use Rattle.gfs_types.specs.declared.ids.OrderNo.{OrderNo}
 use Rattle.messages.specs.declared.event.NodeInput.{NodeInput}
 use Rattle.messages.specs.declared.message.Body.{Body}
-use Rattle.messages.specs.declared.message.Body.TheVariants as body
 use Rattle.messages.specs.declared.message.Message.{Message}
 use Rattle.protocol.specs.Choice.{Choice, Ending, Goes, Lost, Stops}
 use Rattle.protocol.specs.Seen.{Taken, no_step}
@@ -14,11 +15,12 @@ use Rattle.protocol.specs.Master.{MasterState, MasterDoing}
 use Rattle.protocol.specs.MasterStep.{master_goes, master_ends, master_bounded, master_step, may_end, master_restart}
 use Rattle.protocol.specs.ServerStep.{server_step, server_restart}
 use Rattle.protocol.specs.World.{WorldState, IsReached, stamped}
+use Rattle.laws_base.proofs.LeaseOrders.{grant_parts, OfGrant, of_grant, of_nothing, untold_nothing}
 use Rattle.laws_base.specs.Laws.{is_grant, grants_of}
 use Rattle.laws_base.proofs.Steps.{on_cond}
-use Rattle.laws_base.proofs.Entries.{AllOf, all_joined, same_number}
-use Rattle.laws_base.proofs.Words.{is_of_lease, true_false}
-use Rattle.laws_base.proofs.MasterMoves.{Core, IsPlainOrder, Nothing, NoneEnded, Keeps}
+use Rattle.laws_base.proofs.Entries.{AllOf, all_joined}
+use Rattle.laws_base.proofs.Words.{is_of_lease, quiet_nothing}
+use Rattle.laws_base.proofs.MasterMoves.{Core, IsPlainOrder, Nothing, NoneEnded, Keeps, plain_nothing}
 use Rattle.laws_base.proofs.MasterSteps.{no_input, goes_named}
 use Rattle.laws_base.proofs.MembersRecorded.{all_at, all_in_order}
 use Rattle.laws_base.proofs.MessagesSent.{IsSent, sent_cases, none_sent, numbered_sent}
@@ -32,26 +34,24 @@ use Rattle.laws_base.proofs.ScenesReached.{Scene, IsKeptByScenes, scene_reached}
 use Rattle.laws_entries.proofs.RisingRounds.{restart_silent}
 use Rattle.laws_entries.proofs.SentGrants.{some_counted}
 
+abbrev HasNumber : OrderNo → Handle → Version → Moment → List ℕ → Type 0
+HasNumber order handle version end_moment members = 1 ≤ version.0
+
 abbrev IsFromOne : Body → Type 0
-IsFromOne (body.Grant order handle version end_moment members) = 1 ≤ version.0
-IsFromOne other = Unit {0}
+IsFromOne b = OfGrant HasNumber b
 
 abbrev AreFromOne : List Message → Type 0
 AreFromOne ms = AllOf (λ m. IsFromOne m.body) ms
 
 plain_one : (b : Body) → IsPlainOrder b → IsFromOne b
-plain_one (body.Grant order handle version end_moment members) plain = absurd plain
-plain_one other plain = tt
+plain_one b plain = of_nothing HasNumber b (plain_nothing b plain)
 
 quiet_one : (b : Body) → is_of_lease b ≡ false → IsFromOne b
-quiet_one (body.Grant order handle version end_moment members) h = true_false h
-quiet_one other h = tt
+quiet_one b quiet = of_nothing HasNumber b (quiet_nothing b quiet)
 
 -- one that tells no end
 untold_one : (b : Body) → TellsNoEnd b → IsFromOne b
-untold_one (body.Grant order h v e members) none =
-    true_false (sym (and_from ((h.0 == h.0) && (v.0 == v.0)) (e.0 == e.0) (and_from (h.0 == h.0) (v.0 == v.0) (same_number h.0) (same_number v.0)) (same_number e.0)) ∙ none h.0 v.0 e.0)
-untold_one other none = tt
+untold_one b none = of_nothing HasNumber b (untold_nothing b none)
 
 untold_all : (ms : List Message) → TellNoEnds ms → AreFromOne ms
 untold_all [] none = tt
@@ -139,9 +139,7 @@ grants_kept =
     }
 
 from_one : (handle version : ℕ) (b : Body) → is_grant handle version b ≡ true → IsFromOne b → 1 ≤ version
-from_one handle version (body.Grant order h v end_moment members) is low =
-    let number : v.0 ≡ version = eqb-true v.0 version (and_parts (h.0 == handle) (v.0 == version) is).1 in omega (arith, number, low)
-from_one handle version other is low = absurd (cc)
+from_one handle version b is low = of_grant HasNumber (grant_parts handle version b is).3 low
 
 -- a version that was granted is 1 at least
 pub granted_from_one : (config : Config) (servers clients : ℕ) (w : WorldState) → IsReached config servers clients w → (handle version : ℕ) → 1 ≤ grants_of handle version w.sent → 1 ≤ version

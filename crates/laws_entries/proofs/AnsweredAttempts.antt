@@ -37,6 +37,7 @@ use Rattle.protocol.specs.ServerWrites.{mutates_under}
 use Rattle.protocol.specs.ServerStep.{server_at, server_takes, server_goes, server_ends, server_step, server_restart}
 use Rattle.protocol.specs.MasterStep.{master_step, master_restart}
 use Rattle.protocol.specs.World.{WorldState, Happened, new_world, stamped, after_master, after_server, after_client, happens, after_events, IsReached}
+use Rattle.laws_base.proofs.LeaseOrders.{SaysGrant, moved_grant, not_said}
 use Rattle.laws_base.proofs.Steps.{on_cond, none_some, same_some}
 use Rattle.laws_base.proofs.Entries.{AllOf, same_number}
 use Rattle.laws_base.proofs.RisingOrders.{set_cases}
@@ -241,12 +242,10 @@ knowing config servers clients w r index moment s i choice at up came G m id han
     body_in (input.Deliver x) = Some x.body
     body_in input.Tick = None
 
-    none_granted : (x : Message) (order : OrderNo) (q : Handle) (v : Version) (end_moment : Moment) (members : List ℕ) → i ≡ input.Deliver x → x.body ≡ body.Grant order q v end_moment members → is_new_order (server_at s moment).disk order.epoch order.count ≡ true
+    none_granted : (x : Message) (order : OrderNo) (q : Handle) (v : Version) (end_moment : Moment) (members : List ℕ) → i ≡ input.Deliver x → SaysGrant order q v end_moment members x.body → is_new_order (server_at s moment).disk order.epoch order.count ≡ true
         → q.0 ≡ handle.0 → v.0 ≡ version.0 → ⊥
     none_granted x order q v end_moment members same granted fresh same_handle same_version =
-        let both : body.Mutate id handle version t deadline ≡ body.Grant order q v end_moment members =
-        sym asked ∙ same_some m.body x.body (ap body_in (sym is ∙ same)) ∙ granted in
-        absurd (cc)
+        not_said (moved_grant (sym asked ∙ same_some m.body x.body (ap body_in (sym is ∙ same))) granted) tt
 
 -- worlds
 

@@ -12,7 +12,6 @@ use Rattle.messages.specs.declared.event.Event.{Event}
 use Rattle.messages.specs.declared.event.Event.TheVariants as event
 use Rattle.messages.specs.declared.event.NodeInput.{NodeInput}
 use Rattle.messages.specs.declared.event.NodeInput.TheVariants as input
-use Rattle.messages.specs.declared.message.Body.TheVariants as body
 use Rattle.messages.specs.declared.message.Message.{Message}
 use Rattle.replica_store.specs.Replicas.{is_new_order}
 use Rattle.relaxed_file.specs.Run.{Visible}
@@ -38,6 +37,7 @@ use Rattle.laws_base.proofs.SentReached.{server_quiet, server_restarts_quiet, se
 use Rattle.laws_base.proofs.ClientMoves.{quiet_orders, client_quiet, call_quiet}
 use Rattle.laws_base.proofs.LeasesTold.{AreTold, IsStaleAt, stale_later, new_not_stale, IsToldLease, IsToldServer, told_kept, same_grant, granting, server_numbers, versions_have_one_primary, numbered_from}
 use Rattle.protocol.specs.Server.{started_server}
+use Rattle.laws_base.proofs.LeaseOrders.{SaysGrant, named_grant, grant_number}
 use Rattle.replica_store.specs.Replicas.{new_server_disk}
 use Rattle.laws_steps.proofs.Events.{IsGiven, HoldsAfter}
 use Rattle.laws_steps.proofs.MasterTalks.{restart_shown}
@@ -98,7 +98,7 @@ module _ (handle version : ℕ) where
     pub members : List ℕ
     pub at : element_at sent place ≡ Some grant
     pub receiver : grant.receiver ≡ the_server (suc server)
-    pub is : grant.body ≡ body.Grant order (handle_of handle) (version_of version) end_moment members
+    pub is : SaysGrant order (handle_of handle) (version_of version) end_moment members grant.body
     pub taken : (s : ServerState) → element_at servers server ≡ Some s → IsStaleAt s.disk order
 
   -- The serials of the round are counted; its lease, if a server has it, has as many; and where there is one, its Grant was taken, if it was sent.
@@ -186,14 +186,14 @@ module _ (handle version : ℕ) where
 
 -- a server that took the Grant of a version refuses it
 pub taken_stale : (config : Config) (servers clients : ℕ) (w : WorldState) → IsReached config servers clients w → (handle version index : ℕ) (s : ServerState) → element_at w.servers index ≡ Some s
-    → (order : OrderNo) (end_moment : Moment) (members : List ℕ) (m : Message) (place : ℕ) → element_at w.sent place ≡ Some m → m.receiver ≡ the_server (suc index) → m.body ≡ body.Grant order (handle_of handle) (version_of version) end_moment members
+    → (order : OrderNo) (end_moment : Moment) (members : List ℕ) (m : Message) (place : ℕ) → element_at w.sent place ≡ Some m → m.receiver ≡ the_server (suc index) → SaysGrant order (handle_of handle) (version_of version) end_moment members m.body
     → WasTaken handle version w.sent w.servers → IsStaleAt s.disk order
 taken_stale config servers clients w r handle version index s at order end_moment members m place there receiver is was =
     let one : was.grant ≡ m =
     same_grant handle version w.sent was.place place was.grant m (versions_are_granted_once config servers clients w r handle version) was.at there
     (granting was.order handle version was.end_moment was.members (was.grant).body was.is) (granting order handle version end_moment members m.body is) in
     let same_server : was.server ≡ index = server_numbers was.server index (sym was.receiver ∙ (ap (λ (x : Message). x.receiver) one ∙ receiver)) in
-    let same_order : was.order ≡ order = same_some was.order order (sym (ap order_number was.is) ∙ (ap (λ (x : Message). order_number x.body) one ∙ ap order_number is)) in
+    let same_order : was.order ≡ order = same_some was.order order (sym (grant_number was.is) ∙ (ap (λ (x : Message). order_number x.body) one ∙ grant_number is)) in
     subst (λ (o : OrderNo). IsStaleAt s.disk o) same_order (was.taken s (ap (λ (n : ℕ). element_at w.servers n) same_server ∙ at))
 
 abbrev AllCounted : WorldState → Type 0
@@ -267,15 +267,15 @@ module _ (config : Config) (servers clients : ℕ) (w : WorldState) (r : IsReach
 
   module _ (e : Event) (index moment : ℕ) (s : ServerState) (i : NodeInput) (choice : Choice) (at : element_at w.servers index ≡ Some s) (given : IsGiven w e (the_server (suc index)) moment i) (handle version : ℕ) where
     -- a Grant of this version that comes under a new number is the first word of it
-    first_grant : (m : Message) (order : OrderNo) (q : Handle) (v : Version) (end_moment : Moment) (members : List ℕ) → i ≡ input.Deliver m → m.body ≡ body.Grant order q v end_moment members → is_new_order s.disk order.epoch order.count ≡ true
+    first_grant : (m : Message) (order : OrderNo) (q : Handle) (v : Version) (end_moment : Moment) (members : List ℕ) → i ≡ input.Deliver m → SaysGrant order q v end_moment members m.body → is_new_order s.disk order.epoch order.count ≡ true
         → q.0 ≡ handle → v.0 ≡ version → (h handle version).count ≡ 0
     first_grant m order q v end_moment members came is new key number = by_count (h handle version).count (h handle version).taken
       where
         there : (place : ℕ) × (element_at w.sent place ≡ Some m) × (m.receiver ≡ the_server (suc index))
         there = comes_in w e (suc index) moment i given m came
 
-        body_is : m.body ≡ body.Grant order (handle_of handle) (version_of version) end_moment members
-        body_is = is ∙ (ap (λ (k : ℕ). body.Grant order (handle_of k) v end_moment members) key ∙ ap (λ (k : ℕ). body.Grant order (handle_of handle) (version_of k) end_moment members) number)
+        body_is : SaysGrant order (handle_of handle) (version_of version) end_moment members m.body
+        body_is = named_grant is key number
 
         granted : 1 ≤ grants_of handle version w.sent
         granted = counted_one (λ x. is_grant handle version x.body) w.sent m there.0 there.1 (granting order handle version end_moment members m.body body_is)
@@ -338,7 +338,7 @@ module _ (config : Config) (servers clients : ℕ) (w : WorldState) (r : IsReach
             members = (by.lease).held.members;
             at = lease.at;
             receiver = lease.receiver;
-            is = lease.is ∙ ap (λ (v : ℕ). body.Grant lease.order (handle_of handle) (version_of v) lease.end_moment (by.lease).held.members) number;
+            is = named_grant lease.is refl number;
             taken = λ x is. subst (λ (y : ServerState). IsStaleAt y.disk lease.order) (same_some s x (sym at ∙ is)) lease.taken;
           });
         }

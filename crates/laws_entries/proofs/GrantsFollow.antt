@@ -4,9 +4,12 @@ use Rattle.std.specs.Prelude.{◌&&◌, IsTrue}
 use Rattle.std.specs.Ordering.{nat_cmp}
 use Rattle.std.specs.FinMap as table
 use Rattle.gfs_types.specs.declared.config.Config.{Config}
+use Rattle.gfs_types.specs.declared.ids.Handle.{Handle}
+use Rattle.gfs_types.specs.declared.ids.Version.{Version}
+use Rattle.gfs_types.specs.declared.ids.Moment.{Moment}
+use Rattle.gfs_types.specs.declared.ids.OrderNo.{OrderNo}
 use Rattle.messages.specs.declared.event.NodeInput.{NodeInput}
 use Rattle.messages.specs.declared.message.Body.{Body}
-use Rattle.messages.specs.declared.message.Body.TheVariants as body
 use Rattle.messages.specs.declared.message.Message.{Message}
 use Rattle.log_records.specs.declared.record.Record.{Record}
 use Rattle.log_records.specs.declared.record.Record.TheVariants as log
@@ -22,11 +25,12 @@ use Rattle.protocol.specs.MasterStep.{master_goes, master_ends, master_bounded, 
 use Rattle.laws_base.proofs.Steps.{on_cond, none_some, put_cases, gone_split, removed_cases}
 use Rattle.laws_base.proofs.Entries.{AllOf, all_joined}
 use Rattle.laws_base.proofs.Words.{no_order}
+use Rattle.laws_base.proofs.LeaseOrders.{OfGrant, of_nothing, unordered_nothing}
 use Rattle.laws_base.proofs.ChunkRows.{rows_of}
 use Rattle.laws_base.proofs.VersionsAhead.{changed_cases}
 use Rattle.laws_base.proofs.RowsFit.{IsFitRecord, fit_after}
 use Rattle.laws_base.proofs.MembersRecorded.{all_in_order}
-use Rattle.laws_base.proofs.MasterMoves.{Core, core_of, NoneEnded, core_changed, core_appended, core_ended, core_granted, grant_record, IsDue, IsNoGrantRecord, IsPlainOrder, logs_alone}
+use Rattle.laws_base.proofs.MasterMoves.{Core, core_of, NoneEnded, core_changed, core_appended, core_ended, core_granted, grant_record, IsDue, IsNoGrantRecord, IsPlainOrder, plain_nothing, logs_alone}
 use Rattle.laws_base.proofs.OrderNumbers.{state_of, state-appended, AllStops, stops_push, AllFound, found_same, found_stopped}
 use Rattle.laws_base.proofs.GrantedIssued.{IsIssued}
 use Rattle.laws_base.proofs.NamesReached.{IsGood, IsUpToLog, IsLogged, opening_first, opening_naming}
@@ -39,9 +43,11 @@ use Rattle.laws_steps.proofs.ActsOfSteps.{goes_acts}
 use Rattle.laws_steps.proofs.IssuedNumbers.{IsPassed, IsLogPassed, passed_after, passed_grant, passed_ended, passed_less, passed_checkpoint, started_passed}
 
 -- a Grant of this chunk is of a number above that one
+abbrev pub IsVersionAbove : ℕ → ℕ → OrderNo → Handle → Version → Moment → List ℕ → Type 0
+IsVersionAbove handle version order h v end_moment members = h.0 ≡ handle → version < v.0
+
 abbrev pub GrantsAbove : ℕ → ℕ → Body → Type 0
-GrantsAbove handle version (body.Grant order h v end_moment members) = h.0 ≡ handle → version < v.0
-GrantsAbove handle version other = Unit {0}
+GrantsAbove handle version b = OfGrant (IsVersionAbove handle version) b
 
 -- while the chunk is there, its attempt is of a number above that one
 abbrev pub IsTriedAbove : ℕ → ℕ → Logged → Attempts → Type 0
@@ -78,12 +84,10 @@ module _ (handle version : ℕ) (Left : LogDisk → Type 0) (left : (d : LogDisk
   -- messages
 
   no_order_grants : (b : Body) → order_number b ≡ None → GrantsAbove handle version b
-  no_order_grants (body.Grant order h v end_moment members) none = none_some order (sym none)
-  no_order_grants other none = tt
+  no_order_grants b none = of_nothing (IsVersionAbove handle version) b (unordered_nothing b none)
 
   plain_grants : (b : Body) → IsPlainOrder b → GrantsAbove handle version b
-  plain_grants (body.Grant order h v end_moment members) plain = absurd plain
-  plain_grants other plain = tt
+  plain_grants b plain = of_nothing (IsVersionAbove handle version) b (plain_nothing b plain)
 
   pub sends : (start : LogDisk) (c : Core) (attempts : Attempts) (m : Message) (count : ℕ) → GrantsAbove handle version m.body → IsBeyond start c attempts → IsBeyond start (record c { sent = c.sent ++ m ∷ []; order_count = count }) attempts
   sends start c attempts m count fits h =

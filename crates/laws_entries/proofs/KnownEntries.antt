@@ -1,12 +1,11 @@
 -- What a step shows, of a world that is reached: an entry that was placed, and entries of a serial that are settled; and it stays so.
-use Rattle.std.proofs.Common.{◌≡◌, ℕ, suc, List, [], Some, sym, ap, subst, ◌∙◌}
+use Rattle.std.proofs.Common.{◌≡◌, ℕ, suc, List, [], Some, refl, sym, subst}
 use Rattle.gfs_types.specs.declared.config.Config.{Config}
 use Rattle.gfs_types.specs.declared.ids.DataId.{DataId}
 use Rattle.gfs_types.specs.declared.mutation.Mutation.{Mutation}
 use Rattle.messages.specs.declared.event.Event.{Event}
 use Rattle.messages.specs.declared.event.NodeInput.{NodeInput}
 use Rattle.messages.specs.declared.event.NodeInput.TheVariants as input
-use Rattle.messages.specs.declared.message.Body.TheVariants as body
 use Rattle.messages.specs.declared.message.Message.{Message}
 use Rattle.primary_order.specs.declared.order.SerialOrder.{SerialOrder}
 use Rattle.protocol.specs.Tables.{Table, element_at}
@@ -20,6 +19,7 @@ use Rattle.protocol.specs.Server.{ServerState}
 use Rattle.protocol.specs.ServerStep.{server_at, server_step, server_restart}
 use Rattle.protocol.specs.MasterStep.{master_step, master_restart}
 use Rattle.protocol.specs.World.{WorldState, Happened, IsReached}
+use Rattle.laws_base.proofs.LeaseOrders.{named_grant, stated_grant}
 use Rattle.laws_base.proofs.Entries.{AllOf}
 use Rattle.laws_base.proofs.MembersRecorded.{all_at}
 use Rattle.laws_steps.proofs.Events.{HoldsAfter}
@@ -102,7 +102,7 @@ module _ (config : Config) (servers clients : ℕ) (w : WorldState) (r : IsReach
   masters_copy : (P : SerialOrder → Type 0) (handle version : ℕ) → IsSpent P handle version w → (moment : ℕ) (i : NodeInput) (choice : Choice) (place : ℕ) (x : Seen) → element_at (master_step w.master moment i choice).seen place ≡ Some x → IsNoCopyTo handle x
   masters_copy P handle version spent moment i choice place (CopyStarted q copy) at = λ same.
       (new_copies_have_no_lease config servers clients w r moment i choice place q copy at).ungranted spent.place spent.grant spent.at spent.order (version_of version) spent.end_moment spent.members
-      (spent.is ∙ ap (λ (n : ℕ). body.Grant spent.order (handle_of n) (version_of version) spent.end_moment spent.members) same)
+      (stated_grant (named_grant {version = version} spent.is same refl))
   masters_copy P handle version spent moment i choice place (Numbered q v n id m) at = tt
   masters_copy P handle version spent moment i choice place (BecameSettled q v n) at = tt
 

@@ -26,6 +26,7 @@ use Rattle.protocol.specs.Seen.{Taken, no_step}
 use Rattle.protocol.specs.Server.{ServerState, ServerDoing}
 use Rattle.protocol.specs.ServerStep.{server_at, server_goes, server_ends, server_step, server_restarts, server_restart}
 use Rattle.protocol.specs.World.{WorldState, stamped, after_server, IsReached}
+use Rattle.laws_base.proofs.LeaseOrders.{SaysGrant, named_grant, grant_number}
 use Rattle.laws_base.proofs.Steps.{on_cond, none_some, same_some, same_or_not}
 use Rattle.laws_base.proofs.GrantsOnce.{versions_are_granted_once}
 use Rattle.laws_base.proofs.LeasesTold.{IsStaleAt, new_not_stale, same_grant, granting, server_numbers, versions_have_one_primary}
@@ -98,7 +99,7 @@ module _ (handle version deadline : ℕ) (s : ServerState) (moment : ℕ) where
 -- the version of a late attempt is granted to no server anew
 module _ (config : Config) (servers clients : ℕ) (w : WorldState) (r : IsReached config servers clients w) (id : DataId) (h : IsLate w id) where
   none_granted : (e : Event) (index moment : ℕ) (s : ServerState) (i : NodeInput) → element_at w.servers index ≡ Some s → IsGiven w e (the_server (suc index)) moment i
-      → (m : Message) (order : OrderNo) (q : Handle) (v : Version) (end_moment : Moment) (members : List ℕ) → i ≡ input.Deliver m → m.body ≡ body.Grant order q v end_moment members → is_new_order s.disk order.epoch order.count ≡ true
+      → (m : Message) (order : OrderNo) (q : Handle) (v : Version) (end_moment : Moment) (members : List ℕ) → i ≡ input.Deliver m → SaysGrant order q v end_moment members m.body → is_new_order s.disk order.epoch order.count ≡ true
       → q.0 ≡ h.handle.0 → v.0 ≡ h.version.0 → ⊥
   none_granted e index moment s i at given m order q v end_moment members came is new same_handle same_version =
       new_not_stale s.disk order new (subst (λ (o : OrderNo). IsStaleAt s.disk o) same_order (h.spent.taken s (ap (λ (n : ℕ). element_at w.servers n) same_server ∙ at)))
@@ -106,8 +107,8 @@ module _ (config : Config) (servers clients : ℕ) (w : WorldState) (r : IsReach
       there : (place : ℕ) × (element_at w.sent place ≡ Some m) × (m.receiver ≡ the_server (suc index))
       there = comes_in w e (suc index) moment i given m came
 
-      body_is : m.body ≡ body.Grant order (handle_of h.handle.0) (version_of h.version.0) end_moment members
-      body_is = is ∙ ap (λ (k : ℕ). body.Grant order (handle_of k) v end_moment members) same_handle ∙ ap (λ (k : ℕ). body.Grant order (handle_of h.handle.0) (version_of k) end_moment members) same_version
+      body_is : SaysGrant order (handle_of h.handle.0) (version_of h.version.0) end_moment members m.body
+      body_is = named_grant is same_handle same_version
 
       one : h.spent.grant ≡ m
       one =
@@ -118,7 +119,7 @@ module _ (config : Config) (servers clients : ℕ) (w : WorldState) (r : IsReach
       same_server = server_numbers h.spent.server index (sym h.spent.receiver ∙ ap (λ (x : Message). x.receiver) one ∙ there.2)
 
       same_order : h.spent.order ≡ order
-      same_order = same_some h.spent.order order (sym (ap order_number h.spent.is) ∙ ap (λ (x : Message). order_number x.body) one ∙ ap order_number body_is)
+      same_order = same_some h.spent.order order (sym (grant_number h.spent.is) ∙ ap (λ (x : Message). order_number x.body) one ∙ grant_number body_is)
 
   abbrev Past : ServerState → Type 0
   Past s = IsPast h.handle.0 h.version.0 h.deadline.0 s

@@ -12,7 +12,6 @@ use Rattle.gfs_types.specs.declared.ids.OrderNo.{OrderNo}
 use Rattle.gfs_types.specs.declared.refusal.Refusal.{Refusal}
 use Rattle.gfs_types.specs.declared.refusal.Refusal.TheVariants.{NoData, ServerTooLong, ChunkFull}
 use Rattle.gfs_types.specs.declared.mutation.Mutation.{Mutation}
-use Rattle.messages.specs.declared.message.Body.TheVariants as body
 use Rattle.messages.specs.declared.message.Message.{Message}
 use Rattle.messages.specs.declared.event.NodeInput.{NodeInput}
 use Rattle.messages.specs.declared.event.NodeInput.TheVariants as input
@@ -32,6 +31,7 @@ use Rattle.protocol.specs.declared.seen.Seen.TheVariants.{Numbered, BecameSettle
 use Rattle.protocol.specs.Server.{ServerState, ServerDoing, server_begins, stores, shows, with_primary, takes_data, drops_corrupt, primary_of}
 use Rattle.protocol.specs.ServerWrites.{answers_settled, forwards, settles, acknowledges, change_of, stored_as, primary_applies}
 use Rattle.protocol.specs.ServerStep.{server_at, asks_no_more, counting_leases, server_ticks, server_goes, server_ends, server_step}
+use Rattle.laws_base.proofs.LeaseOrders.{SaysGrant}
 use Rattle.laws_base.proofs.Steps.{on_cond, none_some, put_split, kept_cases, tally, count-cons, count-append}
 use Rattle.laws_base.proofs.Entries.{mapped_cases, kept_where_cases, same_number}
 use Rattle.laws_entries.proofs.RoundsPassed.{primary_there}
@@ -148,7 +148,7 @@ module _ (handle version base : ℕ) where
 
   -- A server s that takes an input, which gives a lease of this version anew only where none was numbered under it.
   module _ (s : ServerState) (i : NodeInput)
-      (none : (m : Message) (order : OrderNo) (q : Handle) (v : VersionId) (end_moment : Moment) (members : List ℕ) → i ≡ input.Deliver m → m.body ≡ body.Grant order q v end_moment members → is_new_order s.disk order.epoch order.count ≡ true
+      (none : (m : Message) (order : OrderNo) (q : Handle) (v : VersionId) (end_moment : Moment) (members : List ℕ) → i ≡ input.Deliver m → SaysGrant order q v end_moment members m.body → is_new_order s.disk order.epoch order.count ≡ true
       → q.0 ≡ handle → v.0 ≡ version → base ≡ 0) where
     module _ (h : HaveSerial handle version (base + numbered_in handle version []) s.leases) where
       fit_counting : (q v : ℕ) (p : SerialOrder) → primary_of s q v ≡ Some p → IsFit (server_begins s) q p
@@ -247,7 +247,7 @@ module _ (handle version base : ℕ) where
 
   -- after a step of a server
   pub step_counts : (s : ServerState) (moment : ℕ) (i : NodeInput) (choice : Choice)
-      → ((m : Message) (order : OrderNo) (q : Handle) (v : VersionId) (end_moment : Moment) (members : List ℕ) → i ≡ input.Deliver m → m.body ≡ body.Grant order q v end_moment members → is_new_order s.disk order.epoch order.count ≡ true
+      → ((m : Message) (order : OrderNo) (q : Handle) (v : VersionId) (end_moment : Moment) (members : List ℕ) → i ≡ input.Deliver m → SaysGrant order q v end_moment members m.body → is_new_order s.disk order.epoch order.count ≡ true
       → q.0 ≡ handle → v.0 ≡ version → base ≡ 0)
       → HaveSerial handle version base s.leases → HaveSerial handle version (base + numbered_in handle version (server_step s moment i choice).seen) (server_step s moment i choice).state.leases
   step_counts s moment i choice none h =

@@ -9,7 +9,6 @@ use Rattle.gfs_types.specs.declared.ids.Moment.{Moment}
 use Rattle.gfs_types.specs.declared.ids.OrderNo.{OrderNo}
 use Rattle.gfs_types.specs.declared.refusal.Refusal.{Refusal}
 use Rattle.gfs_types.specs.declared.refusal.Refusal.TheVariants.{NoData, ChunkFull, ServerTooLong}
-use Rattle.messages.specs.declared.message.Body.TheVariants as body
 use Rattle.messages.specs.declared.message.Message.{Message}
 use Rattle.messages.specs.declared.event.NodeInput.{NodeInput}
 use Rattle.messages.specs.declared.event.NodeInput.TheVariants as input
@@ -26,6 +25,7 @@ use Rattle.protocol.specs.Sending.{server_number}
 use Rattle.protocol.specs.Server.{ServerState, ServerDoing, server_begins, stores, with_primary, primary_of}
 use Rattle.protocol.specs.ServerWrites.{answers_settled, forwards, settles, acknowledges, change_of, stored_as, primary_applies}
 use Rattle.protocol.specs.ServerStep.{asks_no_more, counting_leases, server_does}
+use Rattle.laws_base.proofs.LeaseOrders.{SaysGrant}
 use Rattle.laws_base.proofs.Steps.{on_cond, same_some, put_cases, put_there, kept_cases}
 use Rattle.laws_base.proofs.Entries.{mapped_cases, kept_where_cases}
 use Rattle.laws_base.proofs.ServerWalk.{Attempting, Numbering, Outcomes, number_of, until_later, primary_there, does_comes}
@@ -86,7 +86,7 @@ module _ (P : SerialOrder → Type 0) (k : KeepsOrders P) (handle version : ℕ)
 
   -- A server s that takes an input, which gives no lease of this version anew.
   module _ (s : ServerState) (i : NodeInput)
-      (none : (m : Message) (order : OrderNo) (q : Handle) (v : VersionId) (end_moment : Moment) (members : List ℕ) → i ≡ input.Deliver m → m.body ≡ body.Grant order q v end_moment members → is_new_order s.disk order.epoch order.count ≡ true
+      (none : (m : Message) (order : OrderNo) (q : Handle) (v : VersionId) (end_moment : Moment) (members : List ℕ) → i ≡ input.Deliver m → SaysGrant order q v end_moment members m.body → is_new_order s.disk order.epoch order.count ≡ true
       → q.0 ≡ handle → v.0 ≡ version → ⊥) where
     module _ (h : AreFit P handle version s.leases) where
       fit_primary : (q v : ℕ) (p : SerialOrder) → primary_of s q v ≡ Some p → IsFit q p

@@ -1,9 +1,9 @@
 -- The round of each entry was granted, or lies below what was; so the rounds of an order never fall.
 use Rattle.std.proofs.Common.{◌≡◌, ◌⊎◌, ℕ, suc, ◌+◌, ◌≤◌, ◌<◌, true, List, [], ◌∷◌, ◌++◌, length, Option, Some, None, refl, sym, ap, subst, ◌∙◌, inl, inr, arith}
-use Rattle.std.specs.Prelude.{◌==◌, ◌&&◌, nat_le, unwrap_or, IsTrue}
+use Rattle.std.specs.Prelude.{◌&&◌, nat_le, unwrap_or, IsTrue}
 use Rattle.std.specs.Ordering.{nat_cmp}
 use Rattle.std.specs.FinMap as table
-use Rattle.std.proofs.lemmas.Bool.{and_parts, and_from, cases_lt}
+use Rattle.std.proofs.lemmas.Bool.{and_parts, cases_lt}
 use Rattle.gfs_types.specs.declared.config.Config.{Config}
 use Rattle.gfs_types.specs.declared.answer.Answer.{Answer}
 use Rattle.gfs_types.specs.declared.ids.DataId.{DataId}
@@ -31,9 +31,10 @@ use Rattle.protocol.specs.ClientStep.{client_step, client_call}
 use Rattle.protocol.specs.World.{WorldState, new_world, stamped, happens, after_events, IsReached}
 use Rattle.laws_base.specs.Laws.{is_grant, grants_of}
 use Rattle.laws_base.proofs.Steps.{on_cond, none_some, same_or_not, put_there, put_other}
-use Rattle.laws_base.proofs.Entries.{AllOf, same_number}
+use Rattle.laws_base.proofs.Entries.{AllOf}
 use Rattle.laws_base.proofs.MembersRecorded.{all_at}
 use Rattle.laws_base.proofs.MessagesSent.{IsSent, sent_before}
+use Rattle.laws_base.proofs.LeaseOrders.{lease_grant, grant_counts}
 use Rattle.laws_base.proofs.LeasesTold.{leases_are_told}
 use Rattle.laws_base.proofs.LeasesTimely.{IsOfTimes, times_kept}
 use Rattle.laws_base.proofs.ScenesReached.{scene_of, scene_reached}
@@ -82,7 +83,7 @@ leased_granted config servers clients w r index s at handle p is =
     let told = (leases_are_told config servers clients w r index s at handle p is).0 in (
       told.1,
       (told.0, told.2),
-      ap (is_grant handle p.held.version) told.6 ∙ and_from (handle == handle) (p.held.version == p.held.version) (same_number handle) (same_number p.held.version),
+      grant_counts (lease_grant w.sent (suc index) handle p.held told),
     )
 
 -- what a server numbers it numbers under a lease that it holds and that counts

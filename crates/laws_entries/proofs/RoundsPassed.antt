@@ -3,14 +3,12 @@ use Rattle.std.proofs.Common.{◌≡◌, ℕ, zero, suc, ◌≤◌, Bool, true, 
 use Rattle.std.specs.Prelude.{◌==◌, ◌&&◌, unwrap_or, count_by, IsTrue}
 use Rattle.std.specs.Ordering.{nat_cmp}
 use Rattle.std.specs.FinMap as table
-use Rattle.std.proofs.lemmas.Bool.{eqb-true, and_parts, and_from}
+use Rattle.std.proofs.lemmas.Bool.{eqb-true, and_parts}
 use Rattle.gfs_types.specs.declared.config.Config.{Config}
 use Rattle.gfs_types.specs.declared.ids.DataId.{DataId}
 use Rattle.messages.specs.declared.event.Event.{Event}
 use Rattle.messages.specs.declared.event.NodeInput.{NodeInput}
 use Rattle.messages.specs.declared.event.NodeInput.TheVariants as input
-use Rattle.messages.specs.declared.message.Body.{Body}
-use Rattle.messages.specs.declared.message.Body.TheVariants as body
 use Rattle.messages.specs.declared.message.Message.{Message}
 use Rattle.leases.specs.LeaseHeld.{counts_at}
 use Rattle.primary_order.specs.declared.order.SerialOrder.{SerialOrder}
@@ -27,12 +25,13 @@ use Rattle.protocol.specs.ServerStep.{server_at, server_step}
 use Rattle.protocol.specs.MasterStep.{master_step, master_restart}
 use Rattle.protocol.specs.ClientStep.{client_step, client_call}
 use Rattle.protocol.specs.World.{WorldState, new_world, happens, after_events, IsReached}
+use Rattle.laws_base.proofs.LeaseOrders.{grant_parts, lease_grant}
 use Rattle.laws_base.specs.Laws.{is_grant}
 use Rattle.laws_base.proofs.Steps.{none_some, same_some, same_or_not, put_there, put_other, tally, count-cons}
-use Rattle.laws_base.proofs.Entries.{AllOf, same_number}
+use Rattle.laws_base.proofs.Entries.{AllOf}
 use Rattle.laws_base.proofs.MembersRecorded.{all_at}
 use Rattle.laws_base.proofs.MessagesSent.{IsSent}
-use Rattle.laws_base.proofs.LeasesTold.{leases_are_told}
+use Rattle.laws_base.proofs.LeasesTold.{granting, leases_are_told}
 use Rattle.laws_base.proofs.SentReached.{sent_reached}
 use Rattle.laws_base.proofs.RevokesNumbered.{IsOfRevokes}
 use Rattle.laws_steps.proofs.Events.{HoldsAfter, holds_after}
@@ -91,38 +90,34 @@ primary_there s version (Some q) p is = by_test ((q.held.version == version) && 
 
 -- what was granted is passed
 
-pub granted_passed : (sent : List Message) (m : MasterState) → IsOfRevokes sent m → (handle version : ℕ) (grant : Message) → IsSent sent grant → (b : Body) → grant.body ≡ b → is_grant handle version b ≡ true → HasPassed handle version m
-granted_passed sent m h handle version grant is (body.Grant order q v end_moment members) same granted =
-    let parts = and_parts (q.0 == handle) (v.0 == version) granted in
-    let key : q.0 ≡ handle = eqb-true q.0 handle parts.0 in
-    let number : v.0 ≡ version = eqb-true v.0 version parts.1 in
-    let said : grant.body ≡ body.Grant order (handle_of handle) v end_moment members = same ∙ ap (λ (n : ℕ). body.Grant order (handle_of n) v end_moment members) key in
+pub granted_passed : (sent : List Message) (m : MasterState) → IsOfRevokes sent m → (handle version : ℕ) (grant : Message) → IsSent sent grant → is_grant handle version grant.body ≡ true → HasPassed handle version m
+granted_passed sent m h handle version grant is granted =
+    let parts = grant_parts handle version grant.body granted in
     record {
       found = λ decided.
           let agrees = h.revokes.found decided in (
-            (agrees.used grant is).0 order (handle_of handle) v end_moment members said,
+            (agrees.used grant is).0 parts.0 (handle_of handle) (version_of version) parts.1 parts.2 parts.3,
             λ row at.
-                let low = ((agrees.rows handle row at grant is).0 order v end_moment members said).0 in
+                let low : version ≤ row.granted = ((agrees.rows handle row at grant is).0 parts.0 (version_of version) parts.1 parts.2 parts.3).0 in
                 let high = h.issued.found decided handle row at in
-                omega (arith, low, high, number),
+                omega (arith, low, high),
           );
       up = λ up.
           let agrees = h.revokes.up up in
           let ready = (h.logged.up up).ready in (
             (
-              (agrees.used grant is).0 order (handle_of handle) v end_moment members said,
+              (agrees.used grant is).0 parts.0 (handle_of handle) (version_of version) parts.1 parts.2 parts.3,
               λ row at.
-                  let low = ((agrees.rows handle row at grant is).0 order v end_moment members said).0 in
+                  let low : version ≤ row.granted = ((agrees.rows handle row at grant is).0 parts.0 (version_of version) parts.1 parts.2 parts.3).0 in
                   let high = ready.ahead.issued handle row at in
-                  omega (arith, low, high, number),
+                  omega (arith, low, high),
             ),
             λ row at a there.
-                let low = ((agrees.rows handle row at grant is).0 order v end_moment members said).0 in
+                let low : version ≤ row.granted = ((agrees.rows handle row at grant is).0 parts.0 (version_of version) parts.1 parts.2 parts.3).0 in
                 let high = (ready.ahead.ahead handle a there).1 row at in
-                omega (arith, low, high, number),
+                omega (arith, low, high),
           );
     }
-granted_passed sent m h handle version grant is other same granted = absurd (cc)
 
 -- a lease of a server was granted
 leased_passed : (config : Config) (servers clients : ℕ) (w : WorldState) → IsReached config servers clients w → (index : ℕ) (s : ServerState) → element_at w.servers index ≡ Some s → (handle : ℕ) (p : SerialOrder) → table.get s.leases handle ≡ Some p
@@ -130,9 +125,8 @@ leased_passed : (config : Config) (servers clients : ℕ) (w : WorldState) → I
 leased_passed config servers clients w r index s at handle p is =
     let told = (leases_are_told config servers clients w r index s at handle p is).0 in
     let base : IsOfRevokes w.sent w.master = (sent_reached IsOfWaits waits_kept config servers clients w r).base in
-    let said = told.6 in
-    granted_passed w.sent w.master base handle p.held.version told.1 (told.0, told.2) (body.Grant told.4 (handle_of handle) (version_of p.held.version) told.5 p.held.members) said
-    (and_from (handle == handle) (p.held.version == p.held.version) (same_number handle) (same_number p.held.version))
+    granted_passed w.sent w.master base handle p.held.version told.1 (told.0, told.2)
+    (granting told.4 handle p.held.version told.5 p.held.members (told.1).body (lease_grant w.sent (suc index) handle p.held told))
 
 -- one event
 
@@ -250,7 +244,7 @@ pub unused_is_new : (config : Config) (servers clients : ℕ) (w : WorldState) �
 unused_is_new config servers clients w r up handle new =
     record {
       granted = λ version. none_counted (λ m. is_grant handle version m.body) w.sent
-          (λ place m at is. unused version (granted_passed w.sent w.master (sent_reached IsOfWaits waits_kept config servers clients w r).base handle version m (place, at) m.body refl is));
+          (λ place m at is. unused version (granted_passed w.sent w.master (sent_reached IsOfWaits waits_kept config servers clients w r).base handle version m (place, at) is));
       leased = λ index s at. no_lease (table.get s.leases handle) (λ p is. unused p.held.version (leased_passed config servers clients w r index s at handle p is));
       empty = no_entry (placed_in w.observer.orders handle) (λ p at. unused p.entry.round (rounds_passed config servers clients w r handle zero p at));
     }

@@ -1,21 +1,20 @@
 -- Grants among messages: counts of them, and what a step adds.
-use Rattle.std.proofs.Common.{◌≡◌, ℕ, zero, suc, ◌≤◌, ◌<◌, Bool, true, false, List, [], ◌∷◌, ◌++◌, Some, None, refl, sym, ap, subst, ◌∙◌, inl, inr, arith}
-use Rattle.std.specs.Prelude.{◌==◌, count_by}
-use Rattle.std.proofs.lemmas.Bool.{eqb-true, and_parts, and_from}
+use Rattle.std.proofs.Common.{◌≡◌, ℕ, zero, suc, ◌≤◌, ◌<◌, Bool, true, false, List, [], ◌∷◌, ◌++◌, Some, None, refl, ap, subst, ◌∙◌, inl, inr, arith}
+use Rattle.std.specs.Prelude.{count_by}
 use Rattle.messages.specs.declared.message.Body.{Body}
-use Rattle.messages.specs.declared.message.Body.TheVariants as body
 use Rattle.messages.specs.declared.message.Message.{Message}
 use Rattle.protocol.specs.Tables.{element_at}
 use Rattle.protocol.specs.Sending.{order_number}
 use Rattle.protocol.specs.World.{stamped}
 use Rattle.laws_base.specs.Laws.{is_grant, grants_of}
 use Rattle.laws_base.proofs.Steps.{none_some, same_some, tally, count-cons}
-use Rattle.laws_base.proofs.Entries.{AllOf, same_number}
+use Rattle.laws_base.proofs.LeaseOrders.{grant_parts, grant_counts, of_grant, to_grant, of_nothing, unordered_nothing}
+use Rattle.laws_base.proofs.Entries.{AllOf}
 use Rattle.laws_base.proofs.MembersRecorded.{all_at}
 use Rattle.laws_base.proofs.MessagesSent.{IsSent, sent_cases, numbered_sent}
 use Rattle.laws_base.proofs.ClientMoves.{HasNoOrder}
 use Rattle.laws_base.proofs.SentReached.{without_order}
-use Rattle.laws_entries.proofs.GrantsFollow.{GrantsAbove}
+use Rattle.laws_entries.proofs.GrantsFollow.{IsVersionAbove, GrantsAbove}
 
 -- a message that passes is counted
 pub counted_one : (f : Message → Bool) (ms : List Message) (m : Message) (place : ℕ) → element_at ms place ≡ Some m → f m ≡ true → 1 ≤ count_by f ms
@@ -53,8 +52,7 @@ above_more handle version k sent ms all h m is =
     ]
 
 no_order_above : (handle version : ℕ) (b : Body) → order_number b ≡ None → GrantsAbove handle version b
-no_order_above handle version (body.Grant order h v end_moment members) none = none_some order (sym none)
-no_order_above handle version other none = tt
+no_order_above handle version b none = of_nothing (IsVersionAbove handle version) b (unordered_nothing b none)
 
 none_above : (handle version : ℕ) (ms : List Message) → AllOf (λ m. order_number m.body ≡ None) ms → AllOf (λ m. GrantsAbove handle version m.body) ms
 none_above handle version [] all = tt
@@ -66,23 +64,23 @@ quiet_above handle version ms quiet = none_above handle version ms (without_orde
 
 -- what is counted as a Grant is above
 pub granted_above : (handle low version : ℕ) (b : Body) → is_grant handle version b ≡ true → GrantsAbove handle low b → low < version
-granted_above handle low version (body.Grant order h v end_moment members) is above =
-    let parts = and_parts (h.0 == handle) (v.0 == version) is in
-    let number : v.0 ≡ version = eqb-true v.0 version parts.1 in
-    let less = above (eqb-true h.0 handle parts.0) in
-    omega (arith, number, less)
-granted_above handle low version other is above = absurd (cc)
+granted_above handle low version b is above = of_grant (IsVersionAbove handle low) (grant_parts handle version b is).3 above refl
+
+-- what is above a number is no Grant of it
+pub above_grants : (handle version : ℕ) (b : Body) → GrantsAbove handle version b → is_grant handle version b ≡ false
+above_grants handle version b above = by_test (is_grant handle version b) refl
+  where
+    by_test : (test : Bool) → is_grant handle version b ≡ test → is_grant handle version b ≡ false
+    by_test false e = e
+    by_test true e = absurd (let low : version < version = granted_above handle version version b e above in omega (arith, low))
 
 pub above_counted : (handle low version : ℕ) (sent : List Message) → AreAbove handle low sent → 1 ≤ grants_of handle version sent → low < version
 above_counted handle low version sent h some = let one = some_counted (λ m. is_grant handle version m.body) sent some in granted_above handle low version (one.0).body one.2 (h one.0 one.1)
 
 -- where none was granted, all are above
 pub none_granted : (handle low : ℕ) (sent : List Message) → ((version : ℕ) → grants_of handle version sent ≡ 0) → AreAbove handle low sent
-none_granted handle low sent none m is = by_body m.body refl
-  where
-    by_body : (b : Body) → m.body ≡ b → GrantsAbove handle low b
-    by_body (body.Grant order h v end_moment members) same = λ key.
-        absurd (let no = none v.0 in
-        let one = counted_one (λ x. is_grant handle v.0 x.body) sent m is.0 is.1 (ap (is_grant handle v.0) same ∙ and_from (h.0 == handle) (v.0 == v.0) (subst (λ (n : ℕ). (h.0 == n) ≡ true) key (same_number h.0)) (same_number v.0)) in
-        omega (arith, no, one))
-    by_body other same = tt
+none_granted handle low sent none m is =
+    to_grant (IsVersionAbove handle low) m.body (λ order h v end_moment members says key.
+    absurd (let no = none v.0 in
+    let one = counted_one (λ x. is_grant handle v.0 x.body) sent m is.0 is.1 (subst (λ (q : ℕ). is_grant q v.0 m.body ≡ true) key (grant_counts says)) in
+    omega (arith, no, one)))

@@ -15,6 +15,7 @@ use Rattle.protocol.specs.Master.{MasterDoing, orders, with_attempt, has_lease}
 use Rattle.protocol.specs.MasterSnapshots.{revokes_row, revokes, takes_ready}
 use Rattle.protocol.specs.MasterVersions.{Asker, VersionTarget, version_order, sends_versions, new_attempt, sends_issued, issues_to}
 use Rattle.protocol.specs.MasterStep.{master_ticks, master_takes}
+use Rattle.laws_base.proofs.LeaseOrders.{revoke_order}
 use Rattle.laws_base.proofs.Steps.{on_cond}
 use Rattle.laws_steps.proofs.MasterPremises.{IsAsk, AnyDoing, any_kept, StepEffects, NameKeeps, MasterKeeps}
 use Rattle.laws_steps.proofs.MasterWalk.{logged_here, ready_here, ticks_here, takes_here}
@@ -62,7 +63,7 @@ module _ (shown : List Seen) where
 
   revoked_of : (d : MasterDoing) (handle : ℕ) (o : Option ChunkRow) → Shows d → Shows (revokes_row d handle o)
   revoked_of d handle None h = h
-  revoked_of d handle (Some row) h = on_cond Shows (has_lease d.master row) (orders d row.primary (λ order. body.Revoke order (handle_of handle) (version_of row.granted))) d (λ _. h) (λ _. h)
+  revoked_of d handle (Some row) h = on_cond Shows (has_lease d.master row) (orders d row.primary (revoke_order handle row)) d (λ _. h) (λ _. h)
 
   pub revoked : (d : MasterDoing) (handle : ℕ) → Shows d → Shows (revokes d handle)
   revoked d handle h = revoked_of d handle (chunk_of d.master.logged.table handle) h

@@ -47,6 +47,7 @@ use Rattle.protocol.specs.ServerStep.{server_at, server_takes, server_goes, serv
 use Rattle.protocol.specs.MasterStep.{master_step, master_restart}
 use Rattle.protocol.specs.ClientStep.{client_step, client_call}
 use Rattle.protocol.specs.World.{WorldState, stamped, after_server, happens, after_events, IsReached}
+use Rattle.laws_base.proofs.LeaseOrders.{SaysGrant, named_grant, grant_number}
 use Rattle.laws_base.proofs.Steps.{on_cond, none_some, same_some, gone_there}
 use Rattle.laws_base.proofs.MembersRecorded.{kept_place}
 use Rattle.laws_base.proofs.RisingOrders.{Later, element_numbered, step_goes_on, restarts_as}
@@ -166,7 +167,7 @@ pub record IsSpent (P : SerialOrder → Type 0) (handle version : ℕ) (w : Worl
   pub members : List ℕ
   pub at : element_at w.sent place ≡ Some grant
   pub receiver : grant.receiver ≡ the_server (suc server)
-  pub is : grant.body ≡ body.Grant order (handle_of handle) (version_of version) end_moment members
+  pub is : SaysGrant order (handle_of handle) (version_of version) end_moment members grant.body
   pub taken : (s : ServerState) → element_at w.servers server ≡ Some s → IsStaleAt s.disk order
   pub fit : (index : ℕ) (s : ServerState) → element_at w.servers index ≡ Some s → AreFit P handle version s.leases
 
@@ -239,7 +240,7 @@ module _ (P : SerialOrder → Type 0) (k : KeepsOrders P) (config : Config) (ser
 
     -- the version is granted to no server anew
     none_granted : (e : Event) (index moment : ℕ) (s : ServerState) (i : NodeInput) → element_at w.servers index ≡ Some s → IsGiven w e (the_server (suc index)) moment i
-        → (m : Message) (order : OrderNo) (q : Handle) (v : Version) (end_moment : Moment) (members : List ℕ) → i ≡ input.Deliver m → m.body ≡ body.Grant order q v end_moment members → is_new_order s.disk order.epoch order.count ≡ true
+        → (m : Message) (order : OrderNo) (q : Handle) (v : Version) (end_moment : Moment) (members : List ℕ) → i ≡ input.Deliver m → SaysGrant order q v end_moment members m.body → is_new_order s.disk order.epoch order.count ≡ true
         → q.0 ≡ handle → v.0 ≡ version → ⊥
     none_granted e index moment s i at given m order q v end_moment members came is new same_handle same_version =
         new_not_stale s.disk order new (subst (λ (o : OrderNo). IsStaleAt s.disk o) same_order (h.taken s (ap (λ (n : ℕ). element_at w.servers n) same_server ∙ at)))
@@ -247,8 +248,8 @@ module _ (P : SerialOrder → Type 0) (k : KeepsOrders P) (config : Config) (ser
         there : (place : ℕ) × (element_at w.sent place ≡ Some m) × (m.receiver ≡ the_server (suc index))
         there = comes_in w e (suc index) moment i given m came
 
-        body_is : m.body ≡ body.Grant order (handle_of handle) (version_of version) end_moment members
-        body_is = is ∙ ap (λ (k : ℕ). body.Grant order (handle_of k) v end_moment members) same_handle ∙ ap (λ (k : ℕ). body.Grant order (handle_of handle) (version_of k) end_moment members) same_version
+        body_is : SaysGrant order (handle_of handle) (version_of version) end_moment members m.body
+        body_is = named_grant is same_handle same_version
 
         one : h.grant ≡ m
         one =
@@ -259,7 +260,7 @@ module _ (P : SerialOrder → Type 0) (k : KeepsOrders P) (config : Config) (ser
         same_server = server_numbers h.server index (sym h.receiver ∙ ap (λ (x : Message). x.receiver) one ∙ there.2)
 
         same_order : h.order ≡ order
-        same_order = same_some h.order order (sym (ap order_number h.is) ∙ ap (λ (x : Message). order_number x.body) one ∙ ap order_number body_is)
+        same_order = same_some h.order order (sym (grant_number h.is) ∙ ap (λ (x : Message). order_number x.body) one ∙ grant_number body_is)
 
     ends_on : (s : ServerState) (d : ServerDoing) (choice : Choice) (e : Ending) → AreFit P handle version d.server.leases → AreFit P handle version (server_ends s d choice e).state.leases
     ends_on s d choice Goes g = g
@@ -332,7 +333,7 @@ first_spent P config servers clients w r index moment s i choice is handle versi
       members = p.held.members;
       at = kept_place w.sent (stamped (suc (length w.sent)) (server_step s moment i choice).out.sent) lease.place lease.grant lease.at;
       receiver = lease.receiver;
-      is = lease.is ∙ ap (λ (v : ℕ). body.Grant lease.order (handle_of handle) (version_of v) lease.end_moment p.held.members) of_version;
+      is = named_grant lease.is refl of_version;
       taken = λ x at. elim (set_split w.servers index t index x at) [
         | inl both ↦ subst (λ (y : ServerState). IsStaleAt y.disk lease.order) (sym both.1) (stale_later s.disk t.disk lease.order (step_goes_on s moment i choice told.sound).later lease.taken)
         | inr other ↦ absurd (other.0 refl)

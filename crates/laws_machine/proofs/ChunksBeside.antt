@@ -39,12 +39,13 @@ use Rattle.laws_machine.specs.ShownChunks.{AreShownStanding}
 use Rattle.protocol_invariant.specs.Actions.{Spot}
 use Rattle.relaxed_file.specs.Order.{Entry}
 use Rattle.laws_machine.specs.ChunksBeside.{AreChunksBeside, NewChunksAreBeside, SameFilesKeepChunksBeside, IsMastersEvent, OtherEventsKeepChunksBeside, MastersEventsKeepChunksBeside}
-use Rattle.laws_machine.proofs.EndedRounds.{ungranted_is_over, other_events_keep_rounds, rounds_go, new_rounds}
+use Rattle.laws_machine.proofs.EndedRounds.{other_events_keep_rounds, rounds_go, new_rounds}
 use Rattle.laws_machine.proofs.HoldersOn.{holders_go_on}
 use Rattle.laws_machine.proofs.MasterHolders.{masters_events_keep_holders}
 use Rattle.laws_machine.proofs.ServerSteps.{other_events_are_taken}
 use Rattle.laws_machine.proofs.ShownChunks.{shown_goes_on, masters_events_keep_shown}
 use Rattle.laws_machine.proofs.ToldRounds.{no_round_is_told_at_first, told_rounds_go_on}
+use Rattle.laws_machine.proofs.OpenRounds.{ungranted_is_over}
 
 -- an event that isn't the master's leaves the master
 

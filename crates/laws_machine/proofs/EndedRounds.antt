@@ -1,7 +1,7 @@
 -- Which rounds may end at an event, and that their leases are over.
 use Rattle.std.proofs.Common.{◌≡◌, ◌⊎◌, ℕ, zero, suc, ◌≤◌, Bool, true, false, List, [], ◌∷◌, ◌++◌, length, Option, Some, None, is_some, true≢false, refl, sym, ap, subst, ◌∙◌, inl, inr, arith}
-use Rattle.std.specs.Prelude.{◌==◌, ◌&&◌, IsTrue, IsFalse}
-use Rattle.std.proofs.lemmas.Bool.{and_parts, eq-eqb, eqb-true, cases_lt}
+use Rattle.std.specs.Prelude.{IsTrue, IsFalse}
+use Rattle.std.proofs.lemmas.Bool.{cases_lt}
 use Rattle.gfs_types.specs.declared.config.Config.{Config}
 use Rattle.gfs_types.specs.declared.ids.Handle.{Handle}
 use Rattle.gfs_types.specs.declared.ids.Moment.{Moment}
@@ -14,7 +14,6 @@ use Rattle.messages.specs.declared.event.NodeInput.{NodeInput}
 use Rattle.messages.specs.declared.event.NodeInput.TheVariants as input
 use Rattle.messages.specs.declared.message.Message.{Message}
 use Rattle.messages.specs.declared.message.Body.{Body}
-use Rattle.messages.specs.declared.message.Body.TheVariants as body
 use Rattle.chunk_table.specs.ChunkTable.{ChunkRow, handles_of, chunk_of}
 use Rattle.protocol.specs.Choice.{Choice, Ending, Goes, Lost, Stops}
 use Rattle.protocol.specs.Seen.{Taken, no_step}
@@ -26,13 +25,13 @@ use Rattle.protocol.specs.ServerStep.{server_step, server_restart}
 use Rattle.protocol.specs.MasterStep.{master_goes, master_ends, may_end, master_bounded, master_step, master_restart}
 use Rattle.protocol.specs.ClientStep.{client_step, client_call}
 use Rattle.protocol.specs.World.{WorldState, stamped, happens, IsReached}
+use Rattle.laws_base.proofs.LeaseOrders.{SaysGrant, grant_parts, stated_grant}
 use Rattle.laws_base.specs.Laws.{HasAllReferences, is_grant, grants_of}
 use Rattle.laws_base.proofs.Steps.{on_cond, none_some, same_some, tally, count-cons}
 use Rattle.laws_base.proofs.MasterMoves.{Nothing, NoneEnded, Keeps}
 use Rattle.laws_base.proofs.MasterSteps.{goes_keeps}
 use Rattle.laws_base.proofs.ClientMoves.{HasNoOrder, quiet_orders, client_quiet, call_quiet}
 use Rattle.laws_base.proofs.SentReached.{server_quiet, server_restarts_quiet}
-use Rattle.laws_base.proofs.LeasesTold.{leases_are_told}
 use Rattle.laws_base.proofs.NamesLogged.{references_are_counted}
 use Rattle.laws_base.proofs.Owners.{placed_stands, times_at_least}
 use Rattle.laws_steps.specs.Versions.{IsLeaseOver, AreLeasesOver}
@@ -52,36 +51,10 @@ use Rattle.laws_machine.specs.ChunksAlike.{ChunkSides, StandsAt, StoodAt, IsRoun
 use Rattle.laws_machine.specs.EntrySteps.{StandsNowhereElse}
 use Rattle.laws_machine.specs.OpenRounds.{NewRoundsAreOpen}
 use Rattle.laws_machine.proofs.Sides.{gone_or_there}
-use Rattle.laws_machine.proofs.OpenRounds.{chunks_of_one_owner_stand_once}
+use Rattle.laws_machine.proofs.OpenRounds.{chunks_of_one_owner_stand_once, ungranted_is_over}
 use Rattle.laws_machine.specs.Rounds.{IsLogOf, IsMastersStep, IsTried, IsCopied, IsCopy, IsBegun, IsShared, IsEnded, SentGrantsAreOpen, EachEventKeepsRounds, OtherEventsKeepRounds, SharedChunksInEachLogHaveNoLease, LeasedChunksStandOnce, OpenRoundsHaveOneSpot, EndedRoundsAreOver}
 use Rattle.laws_machine.proofs.Decided.{decided_world, over_in, counted_in_each}
-
--- what was never granted is over
-
-pub some_grant : (handle version : ℕ) (sent : List Message) (place : ℕ) (g : Message) → element_at sent place ≡ Some g → is_grant handle version g.body ≡ true → 1 ≤ grants_of handle version sent
-some_grant handle version [] place g at is = none_some g at
-some_grant handle version (m ∷ sent) zero g at is =
-    let whole = count-cons (λ (x : Message). is_grant handle version x.body) m sent in
-    let one = ap tally (ap (λ (x : Message). is_grant handle version x.body) (same_some m g at) ∙ is) in
-    omega (arith, whole, one)
-some_grant handle version (m ∷ sent) (suc place) g at is =
-    let whole = count-cons (λ (x : Message). is_grant handle version x.body) m sent in
-    let more = some_grant handle version sent place g at is in
-    omega (arith, whole, more)
-
-pub its_grant : (handle version : ℕ) → (handle == handle) && (version == version) ≡ true
-its_grant handle version = ap (λ (b : Bool). b && (version == version)) (eq-eqb handle handle refl) ∙ eq-eqb version version refl
-
-pub ungranted_is_over : (config : Config) (servers clients : ℕ) (w : WorldState) → IsReached config servers clients w → (handle version : ℕ) → grants_of handle version w.sent ≡ 0 → IsLeaseOver w handle version
-ungranted_is_over config servers clients w r handle version none = record {
-  held = λ index p holds version_is.
-      let told = (leases_are_told config servers clients w r index holds.0 holds.1 handle p holds.2).0 in
-      no_grant told.0 told.1 told.2 (ap (is_grant handle version) told.6 ∙ ap (λ (v : ℕ). (handle == handle) && (v == version)) version_is ∙ its_grant handle version);
-  comes = λ place grant order end_moment members at is. absurd (no_grant place grant at (ap (is_grant handle version) is ∙ its_grant handle version));
-}
-  where
-    no_grant : (place : ℕ) (g : Message) → element_at w.sent place ≡ Some g → is_grant handle version g.body ≡ true → ⊥
-    no_grant place g at is = let some = some_grant handle version w.sent place g at is in omega (arith, some, none)
+use Rattle.laws_entries.proofs.SentGrants.{counted_one}
 
 -- shared chunks, in each log
 
@@ -297,27 +270,26 @@ pub record IsGrantOf (handle version : ℕ) (b : Body) : Type 0 where
   pub number : Version
   pub end_moment : Moment
   pub members : List ℕ
-  pub body_is : b ≡ body.Grant order named number end_moment members
+  pub body_is : SaysGrant order named number end_moment members b
   pub handle_is : named.0 ≡ handle
   pub version_is : number.0 ≡ version
 
 pub grant_is : (handle version : ℕ) (b : Body) → is_grant handle version b ≡ true → IsGrantOf handle version b
-grant_is handle version (body.Grant order h v end_moment members) is =
-    let parts = and_parts (h.0 == handle) (v.0 == version) is in
-    record { order = order; named = h; number = v; end_moment = end_moment; members = members; body_is = refl; handle_is = eqb-true h.0 handle parts.0; version_is = eqb-true v.0 version parts.1 }
-grant_is handle version other is = absurd (let no : false ≡ true = is in cc)
+grant_is handle version b is =
+    let parts = grant_parts handle version b is in
+    record { order = parts.0; named = handle_of handle; number = version_of version; end_moment = parts.1; members = parts.2; body_is = parts.3; handle_is = refl; version_is = refl }
 
 pub new_rounds : (w : WorldState) (e : Event) (choice : Choice) (j : ChunkSides) → SentGrantsAreOpen w (happens w e choice).world j → NewRoundsAreOpen w (happens w e choice).world j
 new_rounds w e choice j sent handle version none some =
     let found = some_place handle version (happens w e choice).world.sent some in
     elim (cases_lt found.0 (length w.sent)) [
       | inl early ↦
-          let before = some_grant handle version w.sent found.0 found.1 (stood_before w.sent (happens w e choice).world.sent found.0 found.1 (step_grown w e choice) early found.2) found.3 in
+          let before = counted_one (λ (x : Message). is_grant handle version x.body) w.sent found.1 found.0 (stood_before w.sent (happens w e choice).world.sent found.0 found.1 (step_grown w e choice) early found.2) found.3 in
           absurd (omega (arith, before, none))
       | inr from ↦
           let g = grant_is handle version (found.1).body found.3 in
           subst (λ (n : ℕ). (s : Spot) × IsRoundOpen j n version s) g.handle_is
-          (subst (λ (v : ℕ). (s : Spot) × IsRoundOpen j g.named.0 v s) g.version_is (sent found.0 found.1 g.order g.named g.number g.end_moment g.members from found.2 g.body_is))
+          (subst (λ (v : ℕ). (s : Spot) × IsRoundOpen j g.named.0 v s) g.version_is (sent found.0 found.1 g.order g.named g.number g.end_moment g.members from found.2 (stated_grant g.body_is)))
     ]
 
 pub each_event_keeps_rounds : EachEventKeepsRounds

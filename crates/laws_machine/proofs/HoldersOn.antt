@@ -36,7 +36,8 @@ use Rattle.laws_machine.specs.ChunksAlike.{ChunkSides}
 use Rattle.laws_machine.specs.Rounds.{IsMastersStep}
 use Rattle.laws_machine.specs.HoldersApart.{KeepsStanding}
 use Rattle.laws_machine.specs.ToldHolders.{IsStandingFor, IsToldLocation, AreHoldersTold}
-use Rattle.laws_machine.proofs.EndedRounds.{ungranted_is_over, masters_input, GrantsNoMore, none_granted}
+use Rattle.laws_machine.proofs.EndedRounds.{masters_input, GrantsNoMore, none_granted}
+use Rattle.laws_machine.proofs.OpenRounds.{ungranted_is_over}
 
 -- who tells no location
 

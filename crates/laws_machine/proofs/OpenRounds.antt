@@ -1,19 +1,16 @@
 -- Open rounds go with the leases from one world to the next.
-use Rattle.std.proofs.Common.{◌≡◌, ◌⊎◌, ℕ, zero, suc, ◌≤◌, Bool, true, List, [], ◌∷◌, Option, Some, refl, sym, ap, subst, ◌∙◌, inl, inr, arith}
-use Rattle.std.specs.Prelude.{◌==◌, ◌&&◌, unwrap_or, IsTrue}
+use Rattle.std.proofs.Common.{◌≡◌, ◌⊎◌, ℕ, zero, suc, ◌≤◌, List, [], ◌∷◌, Option, Some, refl, sym, ap, subst, ◌∙◌, inl, inr, arith}
+use Rattle.std.specs.Prelude.{unwrap_or, IsTrue}
 use Rattle.std.specs.FinMap as table
-use Rattle.std.proofs.lemmas.Bool.{eq-eqb}
 use Rattle.gfs_types.specs.declared.config.Config.{Config}
 use Rattle.messages.specs.declared.event.Event.{Event}
-use Rattle.messages.specs.declared.message.Message.{Message}
 use Rattle.chunk_table.specs.ChunkTable.{ChunkRow, handles_of, chunk_of}
 use Rattle.protocol.specs.Choice.{Choice}
 use Rattle.protocol.specs.Tables.{element_at}
 use Rattle.protocol.specs.World.{WorldState, IsReached, happens}
-use Rattle.laws_base.specs.Laws.{HasAllReferences, times_in, is_grant, grants_of}
-use Rattle.laws_base.proofs.Steps.{none_some, same_some, same_or_not, gone_other, tally, count-cons}
+use Rattle.laws_base.specs.Laws.{HasAllReferences, times_in, grants_of}
+use Rattle.laws_base.proofs.Steps.{none_some, same_or_not, gone_other}
 use Rattle.laws_base.proofs.Owners.{stands, times_gone, times_at_least, placed_stands}
-use Rattle.laws_base.proofs.LeasesTold.{leases_are_told}
 use Rattle.laws_steps.specs.Versions.{IsLeaseOver, AreLeasesOver}
 use Rattle.laws_steps.proofs.LeasesStayOver.{reached_later, leases_stay_over}
 use Rattle.laws_steps.proofs.EndedLeases.{over_leases_number_nothing}
@@ -23,32 +20,11 @@ use Rattle.laws_machine.specs.EntrySteps.{StandsNowhereElse}
 use Rattle.laws_machine.specs.OpenRounds.{NewRoundsAreOpen, RoundsGoWithLeases, CountingRoundsAreOpen, ChunksOfOneOwnerStandOnce, RoundsAreOpenAtTheirPlace}
 use Rattle.laws_machine.proofs.Sides.{gone_or_there, same_spot}
 use Rattle.laws_machine.proofs.Rows.{one_place}
-
-some_grant : (handle version : ℕ) (sent : List Message) (place : ℕ) (g : Message) → element_at sent place ≡ Some g → is_grant handle version g.body ≡ true → 1 ≤ grants_of handle version sent
-some_grant handle version [] place g at is = none_some g at
-some_grant handle version (m ∷ sent) zero g at is =
-    let whole = count-cons (λ (x : Message). is_grant handle version x.body) m sent in
-    let one = ap tally (ap (λ (x : Message). is_grant handle version x.body) (same_some m g at) ∙ is) in
-    omega (arith, whole, one)
-some_grant handle version (m ∷ sent) (suc place) g at is =
-    let whole = count-cons (λ (x : Message). is_grant handle version x.body) m sent in
-    let more = some_grant handle version sent place g at is in
-    omega (arith, whole, more)
-
-its_grant : (handle version : ℕ) → (handle == handle) && (version == version) ≡ true
-its_grant handle version = ap (λ (b : Bool). b && (version == version)) (eq-eqb handle handle refl) ∙ eq-eqb version version refl
+use Rattle.laws_versions.proofs.LeasesBelow.{none_granted_over}
 
 -- what was never granted is over
-ungranted_is_over : (config : Config) (servers clients : ℕ) (w : WorldState) → IsReached config servers clients w → (handle version : ℕ) → grants_of handle version w.sent ≡ 0 → IsLeaseOver w handle version
-ungranted_is_over config servers clients w r handle version none = record {
-  held = λ index p holds version_is.
-      let told = (leases_are_told config servers clients w r index holds.0 holds.1 handle p holds.2).0 in
-      no_grant told.0 told.1 told.2 (ap (is_grant handle version) told.6 ∙ ap (λ (v : ℕ). (handle == handle) && (v == version)) version_is ∙ its_grant handle version);
-  comes = λ place grant order end_moment members at is. absurd (no_grant place grant at (ap (is_grant handle version) is ∙ its_grant handle version));
-}
-  where
-    no_grant : (place : ℕ) (g : Message) → element_at w.sent place ≡ Some g → is_grant handle version g.body ≡ true → ⊥
-    no_grant place g at is = let some = some_grant handle version w.sent place g at is in omega (arith, some, none)
+pub ungranted_is_over : (config : Config) (servers clients : ℕ) (w : WorldState) → IsReached config servers clients w → (handle version : ℕ) → grants_of handle version w.sent ≡ 0 → IsLeaseOver w handle version
+ungranted_is_over config servers clients w r handle version none = none_granted_over config servers clients w r handle version (omega (arith, none))
 
 module _ (config : Config) (servers clients : ℕ) (w : WorldState) (r : IsReached config servers clients w) (e : Event) (choice : Choice) (kept : IsTrue (happens w e choice).world.observer.are_clocks_kept)
     (k j : ChunkSides) (has : HasRounds (IsLeaseOver w) k) (keeps : KeepsRounds (λ handle. AreLeasesOver w handle ⊎ AreLeasesOver (happens w e choice).world handle) k j)

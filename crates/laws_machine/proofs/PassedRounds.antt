@@ -1,12 +1,9 @@
 -- A round that was told was granted before, so that no Grant of it follows: its lease stays over once it is.
-use Rattle.std.proofs.Common.{◌≡◌, ℕ, suc, ◌≤◌, Bool, true, false, List, [], ◌∷◌, ◌++◌, length, Option, Some, None, refl, sym, ap, subst, ◌∙◌, arith}
-use Rattle.std.specs.Prelude.{◌==◌, ◌&&◌, IsTrue}
+use Rattle.std.proofs.Common.{◌≡◌, ℕ, suc, ◌≤◌, List, [], ◌∷◌, ◌++◌, length, Option, Some, None, refl, sym, ap, subst, ◌∙◌, arith}
+use Rattle.std.specs.Prelude.{IsTrue}
 use Rattle.std.specs.FinMap as table
-use Rattle.std.proofs.lemmas.Bool.{and_parts, eqb-true}
 use Rattle.gfs_types.specs.declared.config.Config.{Config}
 use Rattle.messages.specs.declared.event.Event.{Event}
-use Rattle.messages.specs.declared.message.Body.{Body}
-use Rattle.messages.specs.declared.message.Body.TheVariants as body
 use Rattle.messages.specs.declared.message.Message.{Message}
 use Rattle.messages.specs.declared.message.Location.{Location}
 use Rattle.chunk_table.specs.ChunkTable.{ChunkRow}
@@ -33,6 +30,7 @@ use Rattle.laws_steps.proofs.LeasesStayOver.{reached_later, over_later}
 use Rattle.laws_steps.proofs.WaitsKept.{IsOfWaits, waits_kept}
 use Rattle.laws_steps.proofs.IssuedNumbers.{IsPassed, IsLogPassed, passed_same}
 use Rattle.laws_entries.proofs.GrantsFollow.{GrantsAbove, HasPassed, step_passed, restart_passed}
+use Rattle.laws_entries.proofs.SentGrants.{above_grants}
 use Rattle.laws_versions.proofs.ClosedVersions.{clocks_before}
 use Rattle.laws_versions.proofs.ExtendLaws.{restart_silent}
 use Rattle.laws_versions.proofs.SharedChunks.{quiet_sent}
@@ -43,21 +41,11 @@ use Rattle.laws_versions.proofs.ToldAnswers.{WasToldIn, was_told_in}
 -- of a number that the master has passed no Grant is sent
 
 module _ (handle version : ℕ) where
-  above_grants : (b : Body) → GrantsAbove handle version b → is_grant handle version b ≡ false
-  above_grants (body.Grant order h v end_moment members) above = by_test ((h.0 == handle) && (v.0 == version)) refl
-    where
-      by_test : (b : Bool) → (h.0 == handle) && (v.0 == version) ≡ b → b ≡ false
-      by_test false e = refl
-      by_test true e =
-          let parts = and_parts (h.0 == handle) (v.0 == version) e in
-          absurd (let low = above (eqb-true h.0 handle parts.0) in let same = eqb-true v.0 version parts.1 in omega (arith, low, same))
-  above_grants other above = refl
-
   none_granted : (ms : List Message) → AllOf (λ m. GrantsAbove handle version m.body) ms → grants_of handle version ms ≡ 0
   none_granted [] all = refl
   none_granted (m ∷ ms) all =
       let whole = count-cons (λ (x : Message). is_grant handle version x.body) m ms in
-      let one = ap tally (above_grants m.body all.0) in
+      let one = ap tally (above_grants handle version m.body all.0) in
       let rest = none_granted ms all.1 in
       omega (arith, whole, one, rest)
 

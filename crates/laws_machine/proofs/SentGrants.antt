@@ -1,17 +1,18 @@
 -- Each Grant that a step of the master sends has its record among the step's changes.
 use Rattle.std.proofs.Common.{◌≡◌, ℕ, ◌≤◌, Bool, true, false, List, [], ◌∷◌, ◌++◌, refl, ap, ◌∙◌, inl, inr, arith}
 use Rattle.std.specs.Prelude.{◌==◌, ◌&&◌}
-use Rattle.std.proofs.lemmas.Bool.{true≢false, and_parts, eqb-true}
+use Rattle.std.proofs.lemmas.Bool.{and_parts, eqb-true}
 use Rattle.gfs_types.specs.declared.ids.Node.TheVariants as node
 use Rattle.messages.specs.declared.message.Body.{Body}
-use Rattle.messages.specs.declared.message.Body.TheVariants as body
 use Rattle.messages.specs.declared.message.Message.{Message}
 use Rattle.protocol.specs.Logged.{LogDisk, LogChange, AppendRecord, WriteCheckpoint, checkpoint_of}
 use Rattle.protocol.specs.Sending.{message}
 use Rattle.protocol.specs.Master.{MasterState}
+use Rattle.laws_base.proofs.LeaseOrders.{nothing_counts}
+use Rattle.laws_base.proofs.GrantsOnce.{plain_grants}
 use Rattle.laws_base.specs.Laws.{is_grant, grants_of}
 use Rattle.laws_base.proofs.Steps.{tally, count-cons, count-append}
-use Rattle.laws_base.proofs.Words.{is_of_lease}
+use Rattle.laws_base.proofs.Words.{is_of_lease, quiet_nothing}
 use Rattle.laws_base.proofs.RowsLogged.{IsFoundRows, IsRowedLog}
 use Rattle.laws_base.proofs.RowsKept.{rows_kept}
 use Rattle.laws_base.proofs.NamesReached.{IsUpToLog, logged_here}
@@ -20,7 +21,6 @@ use Rattle.laws_steps.proofs.MasterActs.{IsRowing, rowing_keeps, Waits, Acts}
 use Rattle.laws_steps.proofs.Awaited.{Attempts}
 use Rattle.laws_steps.proofs.WaitsKept.{any_input, waits_here}
 use Rattle.laws_steps.proofs.ActsOfSteps.{goes_acts}
-use Rattle.laws_versions.proofs.SharedSteps.{plain_grants}
 use Rattle.laws_machine.specs.GrantedRecords.{IsGrantOf, HasGrantRecord, SentGrantsAreLogged}
 
 has_stays : (xs ys : List LogChange) (handle version : ℕ) → HasGrantRecord xs handle version → HasGrantRecord (xs ++ ys) handle version
@@ -41,8 +41,7 @@ sent_before sent m handle version plain some =
     omega (arith, some, whole, one, none)
 
 of_no_lease : (handle version : ℕ) (b : Body) → is_of_lease b ≡ false → is_grant handle version b ≡ false
-of_no_lease handle version (body.Grant order h v end_moment members) quiet = absurd (true≢false quiet)
-of_no_lease handle version other quiet = refl
+of_no_lease handle version b quiet = nothing_counts handle version b (quiet_nothing b quiet)
 
 abbrev AreRecorded : Core → Attempts → Waits → Type 0
 AreRecorded c attempts ss = (handle version : ℕ) → 1 ≤ grants_of handle version c.sent → HasGrantRecord c.changes handle version

@@ -29,10 +29,11 @@ use Rattle.laws_machine.specs.ChunksBeside.{IsMastersEvent}
 use Rattle.laws_machine.specs.HoldersApart.{IsRoundAt, IsApart, KeepsStanding}
 use Rattle.laws_machine.specs.ToldHolders.{AreHoldersTold, HoldersMayGoOn}
 use Rattle.laws_machine.specs.ShownChunks.{AreShownStanding}
-use Rattle.laws_machine.proofs.EndedRounds.{ungranted_is_over, GrantsNoMore, none_granted, leased_chunks_stand_once, open_rounds_have_one_spot}
+use Rattle.laws_machine.proofs.EndedRounds.{GrantsNoMore, none_granted, leased_chunks_stand_once, open_rounds_have_one_spot}
 use Rattle.laws_machine.proofs.HoldersOn as on
 use Rattle.laws_machine.proofs.MasterHolders as master
 use Rattle.laws_machine.proofs.ToldStanding.{stands_for_itself}
+use Rattle.laws_machine.proofs.OpenRounds.{ungranted_is_over}
 
 -- while the master is up, its files are shown
 

@@ -10,7 +10,6 @@ use Rattle.messages.specs.declared.event.Event.TheVariants as event
 use Rattle.messages.specs.declared.event.NodeInput.{NodeInput}
 use Rattle.messages.specs.declared.event.NodeInput.TheVariants as input
 use Rattle.messages.specs.declared.message.Message.{Message}
-use Rattle.messages.specs.declared.message.Body.TheVariants as body
 use Rattle.chunk_table.specs.ChunkTable.{ChunkRow, chunk_of}
 use Rattle.protocol.specs.Tables.{moment_limit, element_at}
 use Rattle.protocol.specs.Sending.{handle_of}
@@ -21,6 +20,7 @@ use Rattle.protocol.specs.MasterStep.{master_goes, master_ends, master_bounded, 
 use Rattle.protocol.specs.Seen.{Taken, no_step}
 use Rattle.protocol.specs.Server.{ServerState}
 use Rattle.protocol.specs.World.{WorldState, Happened, stamped, nothing_happens, after_master, master_moves, moves, delivered, at_moment, happens, IsReached}
+use Rattle.laws_base.proofs.LeaseOrders.{SaysGrant, stated_grant}
 use Rattle.laws_base.specs.Laws.{grants_of}
 use Rattle.laws_base.proofs.GrantsOnce.{versions_are_granted_once}
 use Rattle.laws_base.proofs.ScenesReached.{Scene, scene_of}
@@ -127,9 +127,9 @@ module _ (config : Config) (servers clients : ℕ) (w : WorldState) (r : IsReach
 
     no_grant : (version place : ℕ) (m : Message) → element_at w.sent place ≡ Some m → IsGrantOf handle version m.body → row.granted < version → ⊥
     no_grant version place m at g above =
-        let named : m.body ≡ body.Grant g.order (handle_of handle) g.number g.end_moment g.members =
-        subst (λ (n : ℕ). m.body ≡ body.Grant g.order (handle_of n) g.number g.end_moment g.members) g.handle_is g.body_is in
-        let low = (grants_agree_with_rows config servers clients stopped reached handle row (inr here) place m g.order g.number g.end_moment g.members (ap (λ (ms : List Message). element_at ms place) sent_is ∙ at) named).0 in
+        let named : SaysGrant g.order (handle_of handle) g.number g.end_moment g.members m.body =
+        subst (λ (n : ℕ). SaysGrant g.order (handle_of n) g.number g.end_moment g.members m.body) g.handle_is g.body_is in
+        let low = (grants_agree_with_rows config servers clients stopped reached handle row (inr here) place m g.order g.number g.end_moment g.members (ap (λ (ms : List Message). element_at ms place) sent_is ∙ at) (stated_grant named)).0 in
         let same = g.version_is in
         omega (arith, low, same, above)
 

@@ -39,10 +39,10 @@ use Rattle.laws_calls.specs.ToldIndexes.{IsAskOf}
 use Rattle.laws_calls.proofs.Answerers.{locations_answer_their_ask}
 use Rattle.protocol_invariant.specs.Actions.{Spot}
 use Rattle.laws_machine.specs.ChunksAlike.{ChunkSides, StandsAt, IsRoundOpen, AreChunksAlike, KeepsRounds, HasRounds}
-use Rattle.laws_machine.proofs.OpenRounds.{rounds_are_open_at_their_place}
+use Rattle.laws_machine.proofs.OpenRounds.{rounds_are_open_at_their_place, ungranted_is_over}
 use Rattle.laws_machine.specs.Rounds.{IsLogOf, IsEnded}
 use Rattle.laws_machine.specs.ToldRounds.{IsToldRound, AreToldRounds, NoRoundIsToldAtFirst, ToldRoundsStayOver, ToldRoundsGoOn, CountingRoundsAreOpenWhereTold}
-use Rattle.laws_machine.proofs.EndedRounds.{ungranted_is_over, leased_chunks_stand_once, open_rounds_have_one_spot}
+use Rattle.laws_machine.proofs.EndedRounds.{leased_chunks_stand_once, open_rounds_have_one_spot}
 use Rattle.laws_machine.proofs.PassedRounds.{passed_on, passed_over, tells_passed, told_passed}
 
 pub no_round_is_told_at_first : NoRoundIsToldAtFirst

@@ -23,13 +23,14 @@ use Rattle.relaxed_file.proofs.Tables.{from_some}
 use Rattle.chunk_table.specs.ChunkTable.{ChunkRow, chunk_of}
 use Rattle.protocol.specs.Tables.{Table}
 use Rattle.protocol.specs.LogSizes.{checkpoint_fits}
-use Rattle.protocol.specs.Sending.{client_id, client_number, file_id, handle_of, version_of, moment_of}
+use Rattle.protocol.specs.Sending.{client_id, client_number, file_id, moment_of}
 use Rattle.protocol.specs.Logged.{Logged, KeptCall, LogDisk, LogChange, AppendRecord, WriteCheckpoint, log_changed, log_changed_by_all, after_record, checkpoint_of, copies_given_up, all_copies_given_up}
 use Rattle.protocol.specs.Master.{MasterDoing, PendingSnapshot, orders, without_attempts, gives_up_copies, fits, appends, writes_checkpoint, logs, logs_after_checkpoint, is_of_copy, has_lease}
 use Rattle.protocol.specs.MasterNames.{master_refusal, performs, names_by, is_waiting_call, names_anew, names_kept}
 use Rattle.protocol.specs.MasterSnapshots.{answers_name, settles_name, refuses_name, first_is_true, all_but_first, changes_names, takes_locks, begins_snapshot, snapshot_handles, snapshot_files, copies_for_files, revokes_row, revokes, revokes_all, is_same_snapshot, lets_go, takes_snapshot, takes_ready, is_ready}
 use Rattle.protocol.specs.MasterClones.{CloneOrder, best_clone, orders_clone}
 use Rattle.protocol.specs.MasterStep.{master_takes, master_does, gives_up_attempts, gives_up_lost_copies, lost_copies, expired_files, expires_all, expires_old}
+use Rattle.laws_base.proofs.LeaseOrders.{revoke_order}
 use Rattle.laws_base.proofs.OrderNumbers.{state_of, state-appended, AllStops, stops_push, changed-push}
 use Rattle.laws_base.proofs.LoggedParts.{Parts, parts_of, parts_are_after, same_after, checkpoint_parts}
 use Rattle.laws_base.proofs.CountsLogged.{IsFoundCounts, IsCountedLog}
@@ -194,7 +195,7 @@ module _ (Asked : ℕ → ℕ → Type 0) where
 
     revokes_row_at : (d : MasterDoing) (handle : ℕ) (o : Option ChunkRow) → At d → At (revokes_row d handle o)
     revokes_row_at d handle None h = h
-    revokes_row_at d handle (Some row) h = on_test At (has_lease d.master row) (orders d row.primary (λ order. body.Revoke order (handle_of handle) (version_of row.granted))) d h h
+    revokes_row_at d handle (Some row) h = on_test At (has_lease d.master row) (orders d row.primary (revoke_order handle row)) d h h
 
     revokes_all_at : (d : MasterDoing) (handles : List ℕ) → At d → At (revokes_all d handles)
     revokes_all_at d [] h = h

@@ -29,6 +29,7 @@ use Rattle.protocol.specs.declared.seen.Seen.TheVariants.{CopyStarted}
 use Rattle.protocol.specs.MasterAsks.{looks_at_row, looks_at, mutates_row, mutates_at, adds_chunk, with_index, asks_to_write, asks_to_append, asks_for_last, asks_for, asks_of, takes_ask}
 use Rattle.protocol.specs.MasterReports.{revoked_row, is_useless, drops_useless, learns_all, may_extend, extends_row, extends_all, hears, takes_report}
 use Rattle.protocol.specs.MasterStep.{master_takes}
+use Rattle.laws_base.proofs.LeaseOrders.{revoke_order, grant_order}
 use Rattle.laws_names.specs.NameSteps.{IsOfChunks}
 use Rattle.laws_names.specs.ChunkSteps.{AreCopiesOfFiles, IsAboutChunks}
 use Rattle.laws_names.proofs.ChunkRecords.{HasFile, AreSameFiles, Leaves, less_copied, adds, issues, starts, grants}
@@ -178,8 +179,8 @@ module _ (P : List PendingSnapshot → Logged → LogDisk → List LogChange →
   revokes_row_here : (d : MasterDoing) (handle : ℕ) (o : Option ChunkRow) → Here d → Here (revokes_row d handle o)
   revokes_row_here d handle None h = h
   revokes_row_here d handle (Some row) h =
-      on_test Here (has_lease d.master row) (orders d row.primary (λ order. body.Revoke order (handle_of handle) (version_of row.granted))) d
-      (orders_here d row.primary (λ order. body.Revoke order (handle_of handle) (version_of row.granted)) (λ o. tt) h) h
+      on_test Here (has_lease d.master row) (orders d row.primary (revoke_order handle row)) d
+      (orders_here d row.primary (revoke_order handle row) (λ o. tt) h) h
 
   revoked_for : (d : MasterDoing) (lost : Bool) (handle : ℕ) → Here d → Here (cond lost (revokes d handle) d)
   revoked_for d lost handle h = on_test Here lost (revokes d handle) d (revokes_row_here d handle (chunk_of d.master.logged.table handle) h) h
@@ -244,7 +245,7 @@ module _ (P : List PendingSnapshot → Logged → LogDisk → List LogChange →
   sends_grant_here : (d : MasterDoing) (handle version primary : ℕ) (members : List ℕ) → Here d → Here (sends_grant d handle version primary members)
   sends_grant_here d handle version primary members h =
       let until : ℕ = d.master.now + d.master.config.lease_ms in
-      orders_here (ends_at (without_attempt d handle) handle until) primary (λ order. body.Grant order (handle_of handle) (version_of version) (moment_of until) members) (λ o. tt) (ends_here (without_attempt d handle) handle until h)
+      orders_here (ends_at (without_attempt d handle) handle until) primary (grant_order handle version until members) (λ o. tt) (ends_here (without_attempt d handle) handle until h)
 
   grants_here : (d : MasterDoing) (handle : ℕ) (a : VersionAttempt) (servers : List ℕ) → Here d → Here (grants_to d handle a servers)
   grants_here d handle a [] h = h

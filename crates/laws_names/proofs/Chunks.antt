@@ -1,4 +1,5 @@
 -- What a message about chunks leaves of the names and of the snapshots that wait: all.
+use Rattle.laws_base.proofs.LeaseOrders.{revoke_order}
 use Rattle.std.proofs.Common.{◌≡◌, ℕ, zero, suc, ◌+◌, Bool, true, false, cond, List, [], ◌∷◌, length, map, Option, Some, None, refl, sym, subst, ◌∙◌, ◌++◌}
 use Rattle.std.specs.Prelude.{◌==◌, ◌&&◌, not, nat_lt, nat_le}
 use Rattle.std.specs.FinMap as table
@@ -21,7 +22,7 @@ use Rattle.protocol.specs.Logged.{Logged, Copy, after_record, checkpoint_of, swa
 use Rattle.protocol.specs.Master.{MasterDoing, VersionAttempt, PendingSnapshot, HeldAt, tells, orders, ends_at, with_attempt, gives_up_copy, fits, appends, writes_checkpoint, logs, logs_after_checkpoint, is_of_copy, has_lease, holders_where}
 use Rattle.protocol.specs.MasterClones.{CloneOrder, orders_clone}
 use Rattle.protocol.specs.MasterSnapshots.{waits_for, revokes, revokes_row, revokes_all}
-use Rattle.protocol.specs.MasterVersions.{Asker, VersionTarget, tells_location, tells_holders, tells_to_wait, version_order, sends_versions, new_attempt, sends_issued, issues_to, targets_by, recorded_holders, issues_own, is_attempted, copy_order, sends_copies, copy_targets, sends_copy_started, copies_to, begins_copy, copy_for, is_copied, wants_own, wants_own_of, issues_copy, wants_copy, wants_by, wants_primary, holder_target, sends_grant, grants_to, is_complete, with_recorded, learns_attempt, learns}
+use Rattle.protocol.specs.MasterVersions.{Asker, VersionTarget, tells_holders, tells_to_wait, version_order, sends_versions, new_attempt, sends_issued, issues_to, targets_by, recorded_holders, issues_own, is_attempted, copy_order, sends_copies, copy_targets, sends_copy_started, copies_to, begins_copy, copy_for, is_copied, wants_own, wants_own_of, issues_copy, wants_copy, wants_by, wants_primary, holder_target, sends_grant, grants_to, is_complete, with_recorded, learns_attempt, learns}
 use Rattle.protocol.specs.declared.seen.Seen.TheVariants.{CopyStarted}
 use Rattle.protocol.specs.MasterAsks.{looks_at_row, looks_at, mutates_row, mutates_at, adds_chunk, with_index, asks_to_write, asks_to_append, asks_for_last, asks_for, asks_of, takes_ask}
 use Rattle.protocol.specs.MasterReports.{revoked_row, is_useless, drops_useless, learns_all, may_extend, extends_row, extends_all, hears, takes_report}
@@ -50,7 +51,7 @@ module _ (G : Names → List PendingSnapshot → Type 0) where
 
   revokes_row_holds : (d : MasterDoing) (handle : ℕ) (o : Option ChunkRow) → Holds d → Holds (revokes_row d handle o)
   revokes_row_holds d handle None h = h
-  revokes_row_holds d handle (Some row) h = either (has_lease d.master row) (orders d row.primary (λ order. body.Revoke order (handle_of handle) (version_of row.granted))) d h h
+  revokes_row_holds d handle (Some row) h = either (has_lease d.master row) (orders d row.primary (revoke_order handle row)) d h h
 
   revokes_holds : (d : MasterDoing) (handle : ℕ) → Holds d → Holds (revokes d handle)
   revokes_holds d handle h = revokes_row_holds d handle (chunk_of d.master.logged.table handle) h

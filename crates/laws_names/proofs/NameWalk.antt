@@ -1,4 +1,5 @@
 -- A Name and a Look in a step of the master: the machine comes to a state beside what the step has become.
+use Rattle.laws_base.proofs.LeaseOrders.{revoke_order}
 use Rattle.std.proofs.Common.{◌≡◌, ℕ, ◌≤◌, ◌<◌, Bool, true, false, cond, List, [], ◌∷◌, ◌++◌, Option, Some, None, refl, sym, ap, subst, ◌∙◌, inl, inr, arith}
 use Rattle.std.specs.Prelude.{◌==◌, nat_le, nat_lt, Contains}
 use Rattle.std.proofs.lemmas.Option.{none-some}
@@ -22,7 +23,7 @@ use Rattle.relaxed_file.specs.NameStep.{is_look, is_refused, needs_room, refusal
 use Rattle.relaxed_file.specs.Run.{Step, FindBusy, Lock, Allows, after}
 use Rattle.relaxed_file.proofs.Tables.{from_some}
 use Rattle.chunk_table.specs.ChunkTable.{ChunkRow, chunk_of}
-use Rattle.protocol.specs.Sending.{message, the_client, client_id, client_number, handle_of, version_of}
+use Rattle.protocol.specs.Sending.{message, the_client, client_id, client_number}
 use Rattle.protocol.specs.Logged.{Logged, KeptCall, LogDisk, LogChange}
 use Rattle.protocol.specs.Master.{MasterState, MasterDoing, PendingSnapshot, tells, orders, without_attempts, gives_up_copies, has_lease}
 use Rattle.protocol.specs.MasterNames.{snapshot_call, master_refusal, reply_by, takes_look, performs, names_by, is_waiting_call, names_anew, names_kept, takes_name}
@@ -119,7 +120,7 @@ module _ (requests : Requests) (P : Machine → Logged → LogDisk → List LogC
   revokes_row_at : (m : Machine) (d : MasterDoing) (handle : ℕ) (o : Option ChunkRow) → At requests P k m d → At requests P k m (revokes_row d handle o)
   revokes_row_at m d handle None h = h
   revokes_row_at m d handle (Some row) h =
-      on_test (λ (x : MasterDoing). At requests P k m x) (has_lease d.master row) (orders d row.primary (λ order. body.Revoke order (handle_of handle) (version_of row.granted))) d
+      on_test (λ (x : MasterDoing). At requests P k m x) (has_lease d.master row) (orders d row.primary (revoke_order handle row)) d
       (λ _. k.tells m d.master.logged d.master.disk d.changes d.sent d.master.snapshots _ tt h) (λ _. h)
 
   revokes_all_at : (m : Machine) (d : MasterDoing) (handles : List ℕ) → At requests P k m d → At requests P k m (revokes_all d handles)

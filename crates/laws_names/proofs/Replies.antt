@@ -1,4 +1,5 @@
 -- A step of the master answers name calls only where this is known of the client and the number: of the request that came, and of each snapshot that waits.
+use Rattle.laws_base.proofs.LeaseOrders.{revoke_order}
 use Rattle.std.proofs.Common.{ℕ, Bool, true, false, cond, List, [], ◌∷◌, ◌++◌, Option, Some, None}
 use Rattle.std.specs.Prelude.{◌==◌, ◌&&◌, nat_lt, nat_le, not, filter}
 use Rattle.std.specs.List.{AllByRecursion}
@@ -20,7 +21,7 @@ use Rattle.log_records.specs.declared.record.Record.TheVariants as log
 use Rattle.relaxed_file.specs.NameStep.{needs_room, outcome_by}
 use Rattle.chunk_table.specs.ChunkTable.{ChunkRow, chunk_of}
 use Rattle.protocol.specs.LogSizes.{checkpoint_fits}
-use Rattle.protocol.specs.Sending.{message, the_server, the_client, client_id, client_number, file_id, handle_of, version_of, moment_of}
+use Rattle.protocol.specs.Sending.{message, the_server, the_client, client_id, client_number, file_id, moment_of}
 use Rattle.protocol.specs.Logged.{Logged, KeptCall, LogDisk, LogChange, checkpoint_of}
 use Rattle.protocol.specs.Master.{MasterDoing, PendingSnapshot, orders, without_attempts, gives_up_copies, fits, appends, writes_checkpoint, logs, logs_after_checkpoint, is_of_copy, has_lease}
 use Rattle.protocol.specs.MasterNames.{master_refusal, reply_by, performs, names_by, is_waiting_call, names_anew, names_kept}
@@ -104,7 +105,7 @@ module _ (Asked : ℕ → ℕ → Type 0) where
   revokes_row_at : (d : MasterDoing) (handle : ℕ) (o : Option ChunkRow) → At d → At (revokes_row d handle o)
   revokes_row_at d handle None h = h
   revokes_row_at d handle (Some row) h =
-      on_test At (has_lease d.master row) (orders d row.primary (λ order. body.Revoke order (handle_of handle) (version_of row.granted))) d (says_at d (the_server row.primary) (body.Revoke _ (handle_of handle) (version_of row.granted)) tt h, h.1) h
+      on_test At (has_lease d.master row) (orders d row.primary (revoke_order handle row)) d (says_at d (the_server row.primary) (revoke_order handle row _) tt h, h.1) h
 
   revokes_all_at : (d : MasterDoing) (handles : List ℕ) → At d → At (revokes_all d handles)
   revokes_all_at d [] h = h

@@ -1,10 +1,10 @@
 -- In each reached world whose clocks were kept, a copy that is under way at a master that is up was not granted, and its order is its source's.
 use Rattle.std.proofs.Common.{◌≡◌, ◌⊎◌, ℕ, suc, ◌≤◌, ◌<◌, Bool, true, false, List, [], ◌∷◌, Option, Some, None, refl, sym, ap, subst, ◌∙◌, inl, inr, arith}
-use Rattle.std.specs.Prelude.{◌+◌, ◌==◌, ◌&&◌, max, nat_le, unwrap_or, IsTrue}
+use Rattle.std.specs.Prelude.{◌+◌, ◌&&◌, max, nat_le, unwrap_or, IsTrue}
 use Rattle.std.specs.Ordering.{nat_cmp}
 use Rattle.std.specs.FinMap as table
 use Rattle.std.proofs.Math.Nat.{le-max_left}
-use Rattle.std.proofs.lemmas.Bool.{and_parts, and_from, cases_lt}
+use Rattle.std.proofs.lemmas.Bool.{and_parts, cases_lt}
 use Rattle.gfs_types.specs.declared.config.Config.{Config}
 use Rattle.gfs_types.specs.declared.answer.Answer.{Answer}
 use Rattle.messages.specs.declared.event.NodeInput.{NodeInput}
@@ -29,9 +29,9 @@ use Rattle.protocol.specs.Server.{ServerState}
 use Rattle.protocol.specs.ServerStep.{server_step}
 use Rattle.protocol.specs.ClientStep.{client_step, client_call}
 use Rattle.protocol.specs.World.{WorldState, new_world, IsReached}
-use Rattle.laws_base.specs.Laws.{is_grant, grants_of, tells_end, times_in}
+use Rattle.laws_base.specs.Laws.{is_grant, grants_of, times_in}
 use Rattle.laws_base.proofs.Steps.{on_cond, none_some, removed_cases, same_or_not, put_there, put_other}
-use Rattle.laws_base.proofs.Entries.{AllOf, same_number}
+use Rattle.laws_base.proofs.Entries.{AllOf}
 use Rattle.laws_base.proofs.CopiesUnderWay.{no_copies}
 use Rattle.laws_base.proofs.ChunkRows.{rows_of}
 use Rattle.laws_base.proofs.CountsLogged.{apart_here}
@@ -60,7 +60,7 @@ use Rattle.laws_entries.proofs.RoundsPassed.{rounds_of_entries_were_issued}
 use Rattle.laws_entries.proofs.RisingRounds.{leased_granted, held_reached}
 use Rattle.laws_replicas.proofs.UpTo.{IsLater}
 use Rattle.laws_replicas.proofs.StillOrders.{used_still, server_later}
-use Rattle.laws_replicas.proofs.SkippedRounds.{grant_said}
+use Rattle.laws_base.proofs.LeaseOrders.{grant_parts, grant_ends}
 use Rattle.laws_replicas.proofs.CopiesBehind.{AreBehind, IsAlike, names_alike, IsAlikeAndFree, both_names, both_reports}
 use Rattle.laws_replicas.proofs.CopiesAsked.{ask_post, begun_plain}
 use Rattle.laws_replicas.specs.CopiedOrders.{CopiesUnderWayHaveTheirSourcesOrder, CopiesUnderWayAreNotGranted}
@@ -351,10 +351,10 @@ copies_under_way_are_not_granted config servers clients w r clocks up copy c is 
           | inl less ↦ omega (arith, less)
           | inr some ↦
               let one = some_counted (λ x. is_grant copy version x.body) w.sent some in
-              let grant = grant_said copy version (one.0).body one.2 in
+              let grant = grant_parts copy version (one.0).body one.2 in
               let until : ℕ = (grant.1).0 in
               let known = told_ends_are_the_masters config servers clients w r clocks (one.1).0 one.0 (one.1).1 copy version until
-              (ap (tells_end copy version until) grant.3 ∙ and_from ((copy == copy) && (version == version)) (until == until) (and_from (copy == copy) (version == version) (same_number copy) (same_number version)) (same_number until)) in
+              (grant_ends grant.3) in
               let from_one = known.numbered in
               let most = (known.counted up row.0 row.1).0 in
               let none = behind.0 in

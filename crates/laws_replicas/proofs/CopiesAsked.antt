@@ -22,6 +22,7 @@ use Rattle.protocol.specs.Master.{MasterDoing, HeldAt, tells, orders, logs, logs
 use Rattle.protocol.specs.MasterSnapshots.{revokes_row, revokes, waits_for}
 use Rattle.protocol.specs.MasterVersions.{Asker, VersionTarget, tells_holders, tells_to_wait, version_order, sends_versions, new_attempt, sends_issued, issues_to, targets_by, recorded_holders, issues_own, is_attempted, copy_order, sends_copies, copy_targets, sends_copy_started, copies_to, begins_copy, copy_for, is_copied, wants_own, wants_own_of, issues_copy, wants_copy, wants_by, wants_primary, holder_target}
 use Rattle.protocol.specs.MasterAsks.{looks_at_row, looks_at, mutates_row, mutates_at, adds_chunk, with_index, asks_to_write, asks_to_append, asks_for_last, asks_for, asks_of, takes_ask}
+use Rattle.laws_base.proofs.LeaseOrders.{revoke_order}
 use Rattle.laws_base.proofs.Steps.{on_cond, same_some, put_cases, removed_cases}
 use Rattle.laws_base.proofs.ChunkRows.{rows_of}
 use Rattle.laws_base.proofs.CopiesUnderWay.{IsFoundCopy, found_for}
@@ -216,7 +217,7 @@ module _ (l : Logged) (below : (q : ℕ) (row : ChunkRow) → table.get (rows_of
   revoked_plain : (d : MasterDoing) (handle : ℕ) (o : Option ChunkRow) → IsPlain d → IsPlain (revokes_row d handle o)
   revoked_plain d handle None h = h
   revoked_plain d handle (Some row) h =
-      on_cond IsPlain (has_lease d.master row) (orders d row.primary (λ order. body.Revoke order (handle_of handle) (version_of row.granted))) d
+      on_cond IsPlain (has_lease d.master row) (orders d row.primary (revoke_order handle row)) d
       (λ _. record { seen = h.seen; next = h.next; used = h.used; rows = h.rows; copies = h.copies }) (λ _. h)
 
   row_post : (d : MasterDoing) (a : Asker) (lost : Bool) (handle : ℕ) (o : Option ChunkRow) → chunk_of d.master.logged.table handle ≡ o → IsPlain d → Post (mutates_row d a lost handle o)

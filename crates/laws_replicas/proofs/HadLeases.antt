@@ -1,5 +1,5 @@
 -- A server that has a lease after a step had one of this version before it, or took its Grant in the step, which it had not taken before.
-use Rattle.std.proofs.Common.{◌≡◌, ◌⊎◌, ℕ, List, Some, sym, ap, ◌∙◌, inl, inr}
+use Rattle.std.proofs.Common.{◌≡◌, ◌⊎◌, ℕ, suc, ◌≤◌, List, Some, sym, ap, ◌∙◌, inl, inr}
 use Rattle.std.specs.Ordering.{nat_cmp}
 use Rattle.std.specs.FinMap as table
 use Rattle.gfs_types.specs.declared.ids.Handle.{Handle}
@@ -9,19 +9,27 @@ use Rattle.gfs_types.specs.declared.ids.OrderNo.{OrderNo}
 use Rattle.leases.specs.LeaseHeld.{LeaseHeld}
 use Rattle.messages.specs.declared.event.NodeInput.{NodeInput}
 use Rattle.messages.specs.declared.message.Body.{Body}
-use Rattle.messages.specs.declared.message.Body.TheVariants as body
 use Rattle.primary_order.specs.declared.order.SerialOrder.{SerialOrder}
 use Rattle.replica_store.specs.Replicas.{disk_changed}
 use Rattle.replica_store.specs.declared.change.StoreChange.TheVariants.{SetOrder}
-use Rattle.protocol.specs.Tables.{Table}
+use Rattle.protocol.specs.Tables.{Table, element_at}
 use Rattle.protocol.specs.Choice.{Choice, Ending, Goes, Lost, Stops}
 use Rattle.protocol.specs.Seen.{Taken, no_step}
 use Rattle.protocol.specs.Server.{ServerState, ServerDoing}
 use Rattle.protocol.specs.ServerStep.{server_goes, server_ends, server_step}
+use Rattle.laws_base.proofs.LeaseOrders.{HasGrant, SaysGrant, named_grant}
 use Rattle.laws_base.proofs.Steps.{on_cond, none_some, put_cases}
 use Rattle.laws_base.proofs.RisingOrders.{Later, same_later, then_later, risen_later}
 use Rattle.laws_base.proofs.ServerMoves.{ServerCore, KeepsServer, IsCameIn, AreHeldFrom, lease_of, until_moment, server_goes_holds}
-use Rattle.laws_base.proofs.LeasesTold.{IsStaleAt, stale_later, new_not_stale, replica_later}
+use Rattle.laws_base.proofs.LeasesTold.{IsStaleAt, stale_later, new_not_stale, replica_later, CameTo, GrantCameTo, grant_came, granting}
+use Rattle.gfs_types.specs.declared.config.Config.{Config}
+use Rattle.protocol.specs.Sending.{handle_of, version_of}
+use Rattle.protocol.specs.Observer.{Placed, placed_in}
+use Rattle.protocol.specs.World.{WorldState, IsReached}
+use Rattle.laws_base.specs.Laws.{is_grant, grants_of}
+use Rattle.laws_entries.proofs.SentGrants.{counted_one}
+use Rattle.laws_entries.proofs.RoundSerials.{entry_counts}
+use Rattle.laws_entries.proofs.CountedRounds.{IsCounted, taken_stale, all_counted}
 
 module _ (handle version : ℕ) (Came : Body → Type 0) (s : ServerState) where
   abbrev pub HadLease : Type 0
@@ -34,7 +42,7 @@ module _ (handle version : ℕ) (Came : Body → Type 0) (s : ServerState) where
     pub number : Version
     pub end_moment : Moment
     pub members : List ℕ
-    pub came : Came (body.Grant order chunk number end_moment members)
+    pub came : HasGrant Came order chunk number end_moment members
     pub chunk_is : chunk.0 ≡ handle
     pub number_is : number.0 ≡ version
     pub new : IsStaleAt s.disk order → ⊥
@@ -97,3 +105,22 @@ module _ (handle version : ℕ) (Came : Body → Type 0) (s : ServerState) where
   step_known moment i choice came =
       on_cond (λ (t : Taken ServerState). AreKnown t.state.leases) s.up (server_ends s (server_goes s moment i) choice choice.ending) (no_step s)
       (λ _. ends_known (server_goes s moment i) choice choice.ending (server_goes_holds Came Fine fine_kept s moment i came (same_later s.disk, λ p is same. inl (p, is, same))).1) (λ _. λ p is same. inl (p, is, same))
+
+-- a Grant of a round that has entries was taken before
+pub no_new_grant : (config : Config) (servers clients : ℕ) (w : WorldState) → IsReached config servers clients w → (index : ℕ) (s : ServerState) → element_at w.servers index ≡ Some s
+    → (handle version place : ℕ) (x : Placed) → element_at (placed_in w.observer.orders handle) place ≡ Some x → x.entry.round ≡ version → GrantCame handle version (CameTo w.sent (suc index)) s → ⊥
+no_new_grant config servers clients w r index s at handle version place x there round g =
+    g.new (taken_stale config servers clients w r handle version index s at g.order g.end_moment g.members came.1 came.0 came.2 came.3 body_is
+    (counted.taken (entry_counts version (placed_in w.observer.orders handle) place x there round counted.count counted.serials) granted))
+  where
+    counted : IsCounted handle version w.sent w.servers (placed_in w.observer.orders handle)
+    counted = all_counted config servers clients w r handle version
+
+    came : GrantCameTo w.sent (suc index) g.order g.chunk g.number g.end_moment g.members
+    came = grant_came w.sent (suc index) g.order g.chunk g.number g.end_moment g.members g.came
+
+    body_is : SaysGrant g.order (handle_of handle) (version_of version) g.end_moment g.members (came.1).body
+    body_is = named_grant came.4 g.chunk_is g.number_is
+
+    granted : 1 ≤ grants_of handle version w.sent
+    granted = counted_one (λ m. is_grant handle version m.body) w.sent came.1 came.0 came.2 (granting g.order handle version g.end_moment g.members (came.1).body body_is)

@@ -1,5 +1,5 @@
 -- Each entry of the round of a lease that a server holds is among those that its replica has applied: what a server is ordered, numbers and shows keeps it.
-use Rattle.std.proofs.Common.{◌≡◌, ◌⊎◌, ℕ, suc, ◌≤◌, true, List, [], ◌∷◌, ◌++◌, Some, refl, sym, ap, subst, ◌∙◌, inl, inr, arith}
+use Rattle.std.proofs.Common.{◌≡◌, ◌⊎◌, ℕ, suc, true, List, [], ◌∷◌, ◌++◌, Some, refl, sym, ap, subst, ◌∙◌, inl, inr, arith}
 use Rattle.std.specs.Ordering.{nat_cmp}
 use Rattle.std.specs.FinMap as table
 use Rattle.std.proofs.lemmas.Bool.{true≢false}
@@ -14,14 +14,13 @@ use Rattle.gfs_types.specs.declared.mutation.Mutation.TheVariants.{Write, Append
 use Rattle.messages.specs.declared.event.Event.{Event}
 use Rattle.messages.specs.declared.event.NodeInput.{NodeInput}
 use Rattle.messages.specs.declared.event.NodeInput.TheVariants as input
-use Rattle.messages.specs.declared.message.Body.TheVariants as body
 use Rattle.messages.specs.declared.message.Message.{Message}
 use Rattle.primary_order.specs.declared.order.SerialOrder.{SerialOrder}
 use Rattle.relaxed_file.specs.Run.{Visible}
 use Rattle.replica_store.specs.declared.change.StoreChange.{StoreChange}
 use Rattle.replica_store.specs.Replicas.{Replica, ServerDisk, replica_of, disk_changed_by_all, is_new_order}
 use Rattle.protocol.specs.Tables.{Table, element_at, with_at}
-use Rattle.protocol.specs.Sending.{the_server, handle_of, version_of, order_number}
+use Rattle.protocol.specs.Sending.{the_server, order_number}
 use Rattle.protocol.specs.Choice.{Choice, Ending, Goes, Lost, Stops, decided_changes}
 use Rattle.protocol.specs.Seen.{Taken, no_step}
 use Rattle.protocol.specs.declared.seen.Seen.{Seen}
@@ -31,14 +30,13 @@ use Rattle.protocol.specs.Server.{ServerState}
 use Rattle.protocol.specs.ServerStep.{server_goes, server_ends, server_step}
 use Rattle.protocol.specs.MasterStep.{master_step}
 use Rattle.protocol.specs.World.{WorldState, IsReached}
-use Rattle.laws_base.specs.Laws.{is_grant, grants_of}
 use Rattle.laws_base.proofs.Steps.{on_cond, none_some, same_some}
 use Rattle.laws_base.proofs.Entries.{AllOf}
 use Rattle.laws_base.proofs.MembersRecorded.{kept_place, all_at}
 use Rattle.laws_base.proofs.MessagesSent.{IsSent, sent_before}
 use Rattle.laws_base.proofs.SentReached.{sent_reached}
 use Rattle.laws_base.proofs.ScenesReached.{IsSentTo}
-use Rattle.laws_base.proofs.LeasesTold.{CameTo, came_in, granting, versions_have_one_primary}
+use Rattle.laws_base.proofs.LeasesTold.{CameTo, came_in, versions_have_one_primary}
 use Rattle.laws_steps.proofs.Events.{IsGiven}
 use Rattle.laws_steps.specs.Given.{version_given}
 use Rattle.laws_steps.proofs.WaitsKept.{IsOfWaits, waits_kept}
@@ -49,11 +47,9 @@ use Rattle.laws_steps.proofs.Placings.{mutations_are_placed_by_replicas}
 use Rattle.laws_steps.proofs.Applied.{primaries_apply_what_they_number}
 use Rattle.laws_entries.proofs.CopiesBegun.{step_shows}
 use Rattle.laws_entries.proofs.RoundsPassed.{IsOfServers, server_shown, unused_is_new}
-use Rattle.laws_entries.proofs.SentGrants.{counted_one}
 use Rattle.laws_entries.proofs.RisingRounds.{put_all}
-use Rattle.laws_entries.proofs.RoundSerials.{entry_counts}
-use Rattle.laws_entries.proofs.CountedRounds.{set_split, comes_in, IsCounted, taken_stale, all_counted}
-use Rattle.laws_replicas.proofs.HadLeases.{GrantCame, step_known}
+use Rattle.laws_entries.proofs.CountedRounds.{set_split, comes_in}
+use Rattle.laws_replicas.proofs.HadLeases.{step_known, no_new_grant}
 use Rattle.laws_versions.specs.TakenOrders.{WasTaken}
 use Rattle.laws_versions.proofs.TakenOrders.{replicas_are_of_taken_orders}
 use Rattle.laws_versions.proofs.RefusedOrders.{taken_refused}
@@ -220,22 +216,6 @@ module _ (config : Config) (servers clients : ℕ) (w : WorldState) (r : IsReach
       abbrev After : Table (List Placed)
       After = orders_after_all trace w.observer.orders (server_step s moment i choice).seen
 
-      -- a Grant of a round that has entries was taken before
-      no_grant : (handle version place : ℕ) (x : Placed) → element_at (placed_in w.observer.orders handle) place ≡ Some x → x.entry.round ≡ version → GrantCame handle version (CameTo w.sent (suc index)) s → ⊥
-      no_grant handle version place x there round g =
-          g.new (taken_stale config servers clients w r handle version index s at g.order g.end_moment g.members (g.came).1 (g.came).0 (g.came).2 (g.came).3 body_is
-          (counted.taken (entry_counts version (placed_in w.observer.orders handle) place x there round counted.count counted.serials) granted))
-        where
-          counted : IsCounted handle version w.sent w.servers (placed_in w.observer.orders handle)
-          counted = all_counted config servers clients w r handle version
-
-          body_is : ((g.came).1).body ≡ body.Grant g.order (handle_of handle) (version_of version) g.end_moment g.members
-          body_is =
-              (g.came).4 ∙ (ap (λ (n : ℕ). body.Grant g.order (handle_of n) g.number g.end_moment g.members) g.chunk_is ∙ ap (λ (n : ℕ). body.Grant g.order (handle_of handle) (version_of n) g.end_moment g.members) g.number_is)
-
-          granted : 1 ≤ grants_of handle version w.sent
-          granted = counted_one (λ m. is_grant handle version m.body) w.sent (g.came).1 (g.came).0 (g.came).2 (granting g.order handle version g.end_moment g.members ((g.came).1).body body_is)
-
       -- The server itself: what it numbers is the last entry that its replica has applied.
       module _ (idle : s.under_way ≡ []) (handle : ℕ) (x : Replica) (found : IsFound (server_step s moment i choice).state handle x) (ps : List Placed) (last : (x.serial ≡ 0) ⊎ HasEntry ps x.version x.serial)
           (has : HasRounds w.servers w.observer.orders index handle x.version ps) (p : SerialOrder) (held : table.get (server_step s moment i choice).state.leases handle ≡ Some p) (same : p.held.version ≡ x.version) where
@@ -243,7 +223,7 @@ module _ (config : Config) (servers clients : ℕ) (w : WorldState) (r : IsReach
         old_round place y there round =
             elim (step_known handle x.version (CameTo w.sent (suc index)) s moment i choice (came_in w.sent (suc index) i (sent_to w e (suc index) moment i given)) p held same) [
               | inl had ↦ has s at had.0 had.1 had.2 place y there round
-              | inr grant ↦ absurd (no_grant handle x.version place y there round grant)
+              | inr grant ↦ absurd (no_new_grant config servers clients w r index s at handle x.version place y there round grant)
             ]
 
         there_now : replica_of t.disk handle ≡ Some x

@@ -14,12 +14,11 @@ use Rattle.gfs_types.specs.Mutations.{end_of}
 use Rattle.messages.specs.declared.event.Event.{Event}
 use Rattle.messages.specs.declared.event.NodeInput.{NodeInput}
 use Rattle.messages.specs.declared.event.NodeInput.TheVariants as input
-use Rattle.messages.specs.declared.message.Body.TheVariants as body
 use Rattle.primary_order.specs.declared.order.SerialOrder.{SerialOrder}
 use Rattle.replica_store.specs.Replicas.{Replica, replica_of, rotten_replica, with_replica, with_bytes}
 use Rattle.relaxed_file.specs.Run.{Visible}
 use Rattle.protocol.specs.Tables.{Table, element_at, with_at}
-use Rattle.protocol.specs.Sending.{the_server, handle_of, version_of}
+use Rattle.protocol.specs.Sending.{the_server}
 use Rattle.protocol.specs.Choice.{Choice, Ending, Goes, Lost, Stops}
 use Rattle.protocol.specs.declared.seen.Seen.{Seen}
 use Rattle.protocol.specs.declared.seen.Seen.TheVariants.{Numbered, BecameSettled, CopyStarted}
@@ -29,13 +28,12 @@ use Rattle.protocol.specs.ServerStep.{server_step, server_restarts, server_resta
 use Rattle.protocol.specs.MasterStep.{master_step}
 use Rattle.protocol.specs.ClientStep.{client_step, client_call}
 use Rattle.protocol.specs.World.{WorldState, new_world, IsReached}
-use Rattle.laws_base.specs.Laws.{is_grant, grants_of}
 use Rattle.laws_base.proofs.Steps.{none_some, same_some, put_cases}
 use Rattle.laws_base.proofs.Entries.{AllOf}
 use Rattle.laws_base.proofs.MembersRecorded.{all_at}
 use Rattle.laws_base.proofs.SentReached.{sent_reached}
 use Rattle.laws_base.proofs.ScenesReached.{IsSentTo}
-use Rattle.laws_base.proofs.LeasesTold.{CameTo, came_in, granting, versions_have_one_primary}
+use Rattle.laws_base.proofs.LeasesTold.{CameTo, came_in, versions_have_one_primary}
 use Rattle.laws_steps.proofs.Events.{IsGiven, HoldsAfter}
 use Rattle.laws_steps.proofs.MasterTalks.{restart_shown}
 use Rattle.laws_entries.specs.ChunkOrders.{unsettled}
@@ -50,12 +48,10 @@ use Rattle.laws_steps.proofs.Changes.{replicas_change_in_serial_order}
 use Rattle.laws_steps.proofs.WaitsKept.{IsOfWaits, waits_kept}
 use Rattle.laws_entries.proofs.CopiesBegun.{step_shows}
 use Rattle.laws_entries.proofs.RoundsPassed.{IsOfServers, server_shown, unused_is_new}
-use Rattle.laws_entries.proofs.SentGrants.{counted_one}
 use Rattle.laws_entries.proofs.RisingRounds.{put_all, held_reached}
-use Rattle.laws_entries.proofs.RoundSerials.{entry_counts}
-use Rattle.laws_entries.proofs.CountedRounds.{set_split, comes_in, IsCounted, taken_stale, all_counted}
+use Rattle.laws_entries.proofs.CountedRounds.{set_split, comes_in}
 use Rattle.laws_replicas.specs.HeldRounds.{ComesBehind, HeldRoundsAreApplied, RecordsComeBehindTheirRound}
-use Rattle.laws_replicas.proofs.HadLeases.{GrantCame, step_known}
+use Rattle.laws_replicas.proofs.HadLeases.{step_known, no_new_grant}
 
 -- bytes that are written end within the bytes
 
@@ -131,22 +127,6 @@ module _ (config : Config) (servers clients : ℕ) (w : WorldState) (r : IsReach
       abbrev t : ServerState
       t = (server_step s moment i choice).state
 
-      -- a Grant of a round that has entries was taken before
-      no_grant : (handle version place : ℕ) (x : Placed) → element_at (placed_in w.observer.orders handle) place ≡ Some x → x.entry.round ≡ version → GrantCame handle version (CameTo w.sent (suc index)) s → ⊥
-      no_grant handle version place x there round g =
-          g.new (taken_stale config servers clients w r handle version index s at g.order g.end_moment g.members (g.came).1 (g.came).0 (g.came).2 (g.came).3 body_is
-          (counted.taken (entry_counts version (placed_in w.observer.orders handle) place x there round counted.count counted.serials) granted))
-        where
-          counted : IsCounted handle version w.sent w.servers (placed_in w.observer.orders handle)
-          counted = all_counted config servers clients w r handle version
-
-          body_is : ((g.came).1).body ≡ body.Grant g.order (handle_of handle) (version_of version) g.end_moment g.members
-          body_is =
-              (g.came).4 ∙ (ap (λ (n : ℕ). body.Grant g.order (handle_of n) g.number g.end_moment g.members) g.chunk_is ∙ ap (λ (n : ℕ). body.Grant g.order (handle_of handle) (version_of n) g.end_moment g.members) g.number_is)
-
-          granted : 1 ≤ grants_of handle version w.sent
-          granted = counted_one (λ m. is_grant handle version m.body) w.sent (g.came).1 (g.came).0 (g.came).2 (granting g.order handle version g.end_moment g.members ((g.came).1).body body_is)
-
       old_held : AreAll (IsHeldBy w.config.chunk (with_at w.servers index (server_step s moment i choice).state)) w.observer.orders
       old_held =
           one_server index s (server_step s moment i choice).state at
@@ -157,7 +137,7 @@ module _ (config : Config) (servers clients : ℕ) (w : WorldState) (r : IsReach
                 let long = (replicas_change_in_serial_order s moment i choice handle before.0 now before.1 replica).0 in
                 let low = was index s at had.0 had.1 (round ∙ sym had.2) before.0 before.1 in
                 omega (arith, long, low)
-            | inr came ↦ absurd (no_grant handle p.held.version place x there round came)
+            | inr came ↦ absurd (no_new_grant config servers clients w r index s at handle p.held.version place x there round came)
           ])
 
       -- what it numbers it applies, or it has no lease

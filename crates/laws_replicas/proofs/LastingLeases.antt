@@ -7,11 +7,11 @@ use Rattle.gfs_types.specs.declared.config.Config.{Config}
 use Rattle.gfs_types.specs.declared.ids.Moment.{Moment}
 use Rattle.gfs_types.specs.declared.ids.OrderNo.{OrderNo}
 use Rattle.messages.specs.declared.message.Message.{Message}
-use Rattle.messages.specs.declared.message.Body.TheVariants as body
 use Rattle.protocol.specs.Tables.{element_at, first_numbers, has_number}
 use Rattle.protocol.specs.Sending.{server_number, handle_of, version_of}
 use Rattle.protocol.specs.Observer.{Placed, order_of}
 use Rattle.protocol.specs.World.{WorldState, IsReached, is_kept}
+use Rattle.laws_base.proofs.LeaseOrders.{SaysGrant, says_grant, stated_grant}
 use Rattle.laws_base.specs.Laws.{is_grant, grants_of}
 use Rattle.laws_base.proofs.Entries.{same_number}
 use Rattle.laws_base.proofs.LeasesTold.{granting}
@@ -35,7 +35,7 @@ use Rattle.laws_replicas.proofs.SettledEnds.{marked_from}
 use Rattle.laws_replicas.proofs.SettledMembers.{IsThere, entry_numbered, number_there}
 
 module _ (config : Config) (servers clients : ℕ) (w : WorldState) (r : IsReached config servers clients w) (kept : IsTrue (is_kept w)) (handle version number : ℕ) (grant : Message) (order : OrderNo) (end_moment : Moment) (members : List ℕ)
-    (sent_at : element_at w.sent number ≡ Some grant) (grant_is : grant.body ≡ body.Grant order (handle_of handle) (version_of version) end_moment members) (lasts : IsLeaseOver w handle version → ⊥) where
+    (sent_at : element_at w.sent number ≡ Some grant) (grant_is : SaysGrant order (handle_of handle) (version_of version) end_moment members grant.body) (lasts : IsLeaseOver w handle version → ⊥) where
   clocks : IsTrue w.observer.are_clocks_kept
   clocks = (and_parts w.observer.are_clocks_kept w.observer.are_disks_kept kept).0
 
@@ -71,7 +71,7 @@ module _ (config : Config) (servers clients : ℕ) (w : WorldState) (r : IsReach
       not_over (subst (λ (n : ℕ). IsLeaseOver w handle n) same (clones_are_of_closed_versions config servers clients w r clocks (copied.1).0 copied.0 (copied.1).1 handle given copied.2).lease)
   is_member other given ps same (inr m) =
       let one =
-      members_alone_are_given_a_version config servers clients w r handle version number grant order end_moment members sent_at grant_is (m.1).0 m.0 (m.1).1
+      members_alone_are_given_a_version config servers clients w r handle version number grant order end_moment members sent_at (stated_grant grant_is) (m.1).0 m.0 (m.1).1
       (m.3 ∙ ap (λ (n : ℕ). Some (handle, n)) same) in
       subst (λ (n : ℕ). IsTrue (has_number members n)) (ap server_number (sym one.1 ∙ m.2)) one.2
 
@@ -87,7 +87,8 @@ module _ (config : Config) (servers clients : ℕ) (w : WorldState) (r : IsReach
       }
 
 pub leases_that_are_not_over_are_the_last : LeasesThatAreNotOverAreTheLast
-leases_that_are_not_over_are_the_last = last_version
+leases_that_are_not_over_are_the_last config servers clients w r kept handle version place grant order end_moment members at is lasts =
+    last_version config servers clients w r kept handle version place grant order end_moment members at (says_grant is) lasts
 
 -- serials
 

@@ -7,7 +7,6 @@ use Rattle.std.proofs.Math.Nat.{le-max_right}
 use Rattle.gfs_types.specs.declared.config.Config.{Config}
 use Rattle.messages.specs.declared.event.NodeInput.{NodeInput}
 use Rattle.messages.specs.declared.event.NodeInput.TheVariants as input
-use Rattle.messages.specs.declared.message.Body.TheVariants as body
 use Rattle.messages.specs.declared.message.Message.{Message}
 use Rattle.leases.specs.LeaseHeld.{LeaseHeld, counts_at}
 use Rattle.primary_order.specs.declared.order.SerialOrder.{SerialOrder}
@@ -19,6 +18,7 @@ use Rattle.protocol.specs.Observer.{Placed, observed_moment, order_of}
 use Rattle.protocol.specs.Server.{ServerState, counting_primary}
 use Rattle.protocol.specs.ServerStep.{server_at, server_step}
 use Rattle.protocol.specs.World.{WorldState, Happened, stamped, after_server, IsReached, is_kept}
+use Rattle.laws_base.proofs.LeaseOrders.{named_grant, lease_grant, stated_grant}
 use Rattle.laws_base.specs.Laws.{WasGranted, HoldsLastingLease}
 use Rattle.laws_base.proofs.Steps.{on_cond, none_some, same_some}
 use Rattle.laws_base.proofs.ScenesReached.{scene_of, now_passed, scene_reached}
@@ -134,7 +134,7 @@ module _ (config : Config) (servers clients : ℕ) (w : WorldState) (r : IsReach
   is_member other m sent receiver given =
       let one =
       members_alone_are_given_a_version config servers clients v later handle version granted.0 granted.1 granted.4 granted.5 acked.lease.held.members (kept_place w.sent more granted.0 granted.1 granted.2)
-      (granted.6 ∙ ap (λ (n : ℕ). body.Grant granted.4 (handle_of handle) (version_of n) granted.5 acked.lease.held.members) leased.1) sent.0 m sent.1 given in
+      (stated_grant (named_grant {handle = handle} (lease_grant w.sent (suc index) handle acked.lease.held granted) refl leased.1)) sent.0 m sent.1 given in
       subst (λ (n : ℕ). IsTrue (has_number acked.lease.held.members n)) (ap server_number (sym one.1 ∙ receiver)) one.2
 
   -- What a replica of this version has applied, of which what is carried holds, has the entry.

@@ -1,12 +1,11 @@
 -- As an order that gives a version is sent, no entry of its chunk lies between its versions; and none comes, since the leases below its version are over.
-use Rattle.std.proofs.Common.{◌≡◌, ℕ, ◌≤◌, ◌<◌, true, List, [], ◌∷◌, Option, Some, refl, sym, ap, subst, ◌∙◌, inl, inr, arith}
-use Rattle.std.specs.Prelude.{◌==◌, unwrap_or, IsTrue}
-use Rattle.std.proofs.lemmas.Bool.{cases_lt, eqb-true, le-leb, and_parts, true≢false}
+use Rattle.std.proofs.Common.{◌≡◌, ℕ, ◌≤◌, ◌<◌, List, [], ◌∷◌, Option, Some, refl, sym, ap, subst, ◌∙◌, inl, inr, arith}
+use Rattle.std.specs.Prelude.{unwrap_or, IsTrue}
+use Rattle.std.proofs.lemmas.Bool.{cases_lt, le-leb, true≢false}
 use Rattle.gfs_types.specs.declared.config.Config.{Config}
 use Rattle.gfs_types.specs.declared.ids.Handle.{Handle}
 use Rattle.gfs_types.specs.declared.ids.Version.{Version}
 use Rattle.gfs_types.specs.declared.ids.OrderNo.{OrderNo}
-use Rattle.gfs_types.specs.declared.ids.Moment.{Moment}
 use Rattle.messages.specs.declared.event.Event.{Event}
 use Rattle.messages.specs.declared.message.Body.{Body}
 use Rattle.messages.specs.declared.message.Body.TheVariants as body
@@ -20,6 +19,7 @@ use Rattle.protocol.specs.declared.seen.Seen.TheVariants.{CopyStarted}
 use Rattle.protocol.specs.Observer.{Placed, observed_moment, placed_in, order_of, orders_after_all}
 use Rattle.protocol.specs.MasterStep.{master_at, master_step}
 use Rattle.protocol.specs.World.{WorldState, happens, IsReached}
+use Rattle.laws_base.proofs.LeaseOrders.{grant_parts, stated_grant}
 use Rattle.laws_base.specs.Laws.{is_grant, grants_of}
 use Rattle.laws_base.proofs.Steps.{none_some, same_some, put_there}
 use Rattle.laws_base.proofs.MembersRecorded.{all_at, kept_place}
@@ -49,17 +49,6 @@ use Rattle.laws_replicas.proofs.Ungranted.{ungranted_chunks_have_no_entry}
 use Rattle.laws_replicas.specs.SkippedRounds.{IsNotSkipped, up_to, OrdersSkipNoEntry, UntakenVersionsHaveNoEntry, CopiesHaveTheirSourcesOrder}
 use Rattle.laws_replicas.proofs.UpTo.{same_element}
 use Rattle.laws_replicas.proofs.StillOrders.{used_still, still_on}
-
--- a message that counts as a Grant is one
-pub grant_said : (handle version : ℕ) (b : Body) → is_grant handle version b ≡ true → (order : OrderNo) × (until : Moment) × (members : List ℕ) × (b ≡ body.Grant order (handle_of handle) (version_of version) until members)
-grant_said handle version (body.Grant order q v until members) granted =
-    let parts = and_parts (q.0 == handle) (v.0 == version) granted in (
-      order,
-      until,
-      members,
-      ap (λ (n : ℕ). body.Grant order (handle_of n) v until members) (eqb-true q.0 handle parts.0) ∙ ap (λ (n : ℕ). body.Grant order (handle_of handle) (version_of n) until members) (eqb-true v.0 version parts.1),
-    )
-grant_said handle version other granted = absurd (cc)
 
 -- as an order that gives a version is sent
 
@@ -127,7 +116,7 @@ module _ (config : Config) (servers clients : ℕ) (w : WorldState) (r : IsReach
       elim (entries_lie_below_given_versions config servers clients h.before h.reached q other p there) [
         | inl some ↦
             let one = some_counted (λ x. is_grant q p.entry.round x.body) h.before.sent some in
-            let grant = grant_said q p.entry.round (one.0).body one.2 in
+            let grant = grant_parts q p.entry.round (one.0).body one.2 in
             let low = (((base.revokes.up n.up).rows q source.row source.there one.0 one.1).0 grant.0 (version_of p.entry.round) grant.1 grant.2 grant.3).0 in
             let current = source.current in
             omega (arith, low, current)
@@ -228,9 +217,9 @@ untaken_versions_have_no_entry config servers clients w r place m at handle vers
     elim (entries_lie_below_given_versions config servers clients w r handle other p there) [
       | inl some ↦
           let one = some_counted (λ x. is_grant handle version x.body) w.sent (subst (λ (k : ℕ). 1 ≤ grants_of handle k w.sent) same some) in
-          let grant = grant_said handle version (one.0).body one.2 in
+          let grant = grant_parts handle version (one.0).body one.2 in
           true≢false (sym new
-          ∙ granted_orders_are_refused config servers clients w r handle version (one.1).0 one.0 grant.0 grant.1 grant.2 (one.1).1 grant.3 index s s_at place m at to given order order_is order (inr (refl, omega arith)))
+          ∙ granted_orders_are_refused config servers clients w r handle version (one.1).0 one.0 grant.0 grant.1 grant.2 (one.1).1 (stated_grant grant.3) index s s_at place m at to given order order_is order (inr (refl, omega arith)))
       | inr below ↦ let less = below place m at version given in omega (arith, less, same)
     ]
 

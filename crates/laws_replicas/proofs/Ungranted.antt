@@ -1,9 +1,8 @@
 -- In each reached world the chunk of each entry was granted, or is a copy under way, while its row is there.
 use Rattle.std.proofs.Common.{◌≡◌, ℕ, zero, suc, ◌≤◌, true, List, [], ◌∷◌, Option, Some, refl, sym, ap, subst, ◌∙◌, inl, inr, arith}
-use Rattle.std.specs.Prelude.{◌==◌, unwrap_or}
+use Rattle.std.specs.Prelude.{unwrap_or}
 use Rattle.std.specs.Ordering.{nat_cmp}
 use Rattle.std.specs.FinMap as table
-use Rattle.std.proofs.lemmas.Bool.{eqb-true, and_parts}
 use Rattle.gfs_types.specs.declared.config.Config.{Config}
 use Rattle.gfs_types.specs.declared.ids.OrderNo.{OrderNo}
 use Rattle.messages.specs.declared.event.NodeInput.{NodeInput}
@@ -15,7 +14,7 @@ use Rattle.primary_order.specs.declared.order.SerialOrder.{SerialOrder}
 use Rattle.relaxed_file.specs.Run.{Visible}
 use Rattle.replica_store.specs.Replicas.{Replica, replica_of}
 use Rattle.protocol.specs.Tables.{Table, element_at}
-use Rattle.protocol.specs.Sending.{handle_of, order_number}
+use Rattle.protocol.specs.Sending.{handle_of, version_of, order_number}
 use Rattle.protocol.specs.Choice.{Choice}
 use Rattle.protocol.specs.declared.seen.Seen.{Seen}
 use Rattle.protocol.specs.declared.seen.Seen.TheVariants.{Numbered, BecameSettled, CopyStarted}
@@ -26,6 +25,7 @@ use Rattle.protocol.specs.ServerStep.{server_step}
 use Rattle.protocol.specs.MasterStep.{master_at, master_step, master_restart}
 use Rattle.protocol.specs.ClientStep.{client_step, client_call}
 use Rattle.protocol.specs.World.{WorldState, new_world, IsReached}
+use Rattle.laws_base.proofs.LeaseOrders.{grant_parts}
 use Rattle.laws_base.specs.Laws.{is_grant}
 use Rattle.laws_base.proofs.Steps.{none_some, same_some, same_or_not, put_there, put_other}
 use Rattle.laws_base.proofs.Entries.{AllOf}
@@ -85,30 +85,26 @@ given_some config servers clients w r handle version g =
 
 -- what was granted has begun
 
-granted_begun : (sent : List Message) (m : MasterState) → IsOfRevokes sent m → (handle version : ℕ) → 1 ≤ version → (grant : Message) → IsSent sent grant → (b : Body) → grant.body ≡ b → is_grant handle version b ≡ true → HasBegun handle m
-granted_begun sent m h handle version some grant is (body.Grant order q v end_moment members) same granted =
-    let parts = and_parts (q.0 == handle) (v.0 == version) granted in
-    let key : q.0 ≡ handle = eqb-true q.0 handle parts.0 in
-    let number : v.0 ≡ version = eqb-true v.0 version parts.1 in
-    let said : grant.body ≡ body.Grant order (handle_of handle) v end_moment members = same ∙ ap (λ (n : ℕ). body.Grant order (handle_of n) v end_moment members) key in
+granted_begun : (sent : List Message) (m : MasterState) → IsOfRevokes sent m → (handle version : ℕ) → 1 ≤ version → (grant : Message) → IsSent sent grant → is_grant handle version grant.body ≡ true → HasBegun handle m
+granted_begun sent m h handle version some grant is granted =
+    let parts = grant_parts handle version grant.body granted in
     record {
       found = λ decided.
           let agrees = h.revokes.found decided in (
-            (agrees.used grant is).0 order (handle_of handle) v end_moment members said,
-            λ row at. let low = ((agrees.rows handle row at grant is).0 order v end_moment members said).0 in inl (omega (arith, low, number, some)),
+            (agrees.used grant is).0 parts.0 (handle_of handle) (version_of version) parts.1 parts.2 parts.3,
+            λ row at. let low : version ≤ row.granted = ((agrees.rows handle row at grant is).0 parts.0 (version_of version) parts.1 parts.2 parts.3).0 in inl (omega (arith, low, some)),
           );
       up = λ up.
           let agrees = h.revokes.up up in (
-            (agrees.used grant is).0 order (handle_of handle) v end_moment members said,
-            λ row at. let low = ((agrees.rows handle row at grant is).0 order v end_moment members said).0 in inl (omega (arith, low, number, some)),
+            (agrees.used grant is).0 parts.0 (handle_of handle) (version_of version) parts.1 parts.2 parts.3,
+            λ row at. let low : version ≤ row.granted = ((agrees.rows handle row at grant is).0 parts.0 (version_of version) parts.1 parts.2 parts.3).0 in inl (omega (arith, low, some)),
           );
     }
-granted_begun sent m h handle version some grant is other same granted = absurd (cc)
 
 -- so has the chunk of a lease
 leased_begun : (config : Config) (servers clients : ℕ) (w : WorldState) → IsReached config servers clients w → (index : ℕ) (s : ServerState) → element_at w.servers index ≡ Some s → (handle : ℕ) (p : SerialOrder) → table.get s.leases handle ≡ Some p → HasBegun handle w.master
 leased_begun config servers clients w r index s at handle p is =
-    granted_begun w.sent w.master (sent_reached IsOfWaits waits_kept config servers clients w r).base handle p.held.version some granted.0 granted.1 (granted.0).body refl granted.2
+    granted_begun w.sent w.master (sent_reached IsOfWaits waits_kept config servers clients w r).base handle p.held.version some granted.0 granted.1 granted.2
   where
     granted : (m : Message) × IsSent w.sent m × (is_grant handle p.held.version m.body ≡ true)
     granted = leased_granted config servers clients w r index s at handle p is

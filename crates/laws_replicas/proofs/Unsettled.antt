@@ -12,7 +12,6 @@ use Rattle.gfs_types.specs.declared.refusal.Refusal.{Refusal}
 use Rattle.messages.specs.declared.event.Event.{Event}
 use Rattle.messages.specs.declared.event.NodeInput.{NodeInput}
 use Rattle.messages.specs.declared.event.NodeInput.TheVariants as input
-use Rattle.messages.specs.declared.message.Body.TheVariants as body
 use Rattle.messages.specs.declared.message.Message.{Message}
 use Rattle.primary_order.specs.declared.waiting.Waiting.{Waiting}
 use Rattle.primary_order.specs.declared.order.SerialOrder.{SerialOrder}
@@ -32,6 +31,7 @@ use Rattle.protocol.specs.ServerStep.{server_at, server_goes, server_ends, serve
 use Rattle.protocol.specs.MasterStep.{master_step, master_restart}
 use Rattle.protocol.specs.ClientStep.{client_step, client_call}
 use Rattle.protocol.specs.World.{WorldState, new_world, IsReached}
+use Rattle.laws_base.proofs.LeaseOrders.{SaysGrant, named_grant}
 use Rattle.laws_base.specs.Laws.{is_grant, grants_of}
 use Rattle.laws_base.proofs.Steps.{on_cond, none_some, same_some, put_cases, kept_cases}
 use Rattle.laws_base.proofs.SentReached.{sent_reached}
@@ -139,13 +139,13 @@ module _ (config : Config) (servers clients : ℕ) (w : WorldState) (r : IsReach
 
       -- a round that has an entry is granted to no server anew
       none_granted : (place : ℕ) (q : Placed) → element_at (order_of w.observer handle) place ≡ Some q → q.entry.round ≡ version
-          → (m : Message) (order : OrderNo) (k : Handle) (v : Version) (end_moment : Moment) (members : List ℕ) → i ≡ input.Deliver m → m.body ≡ body.Grant order k v end_moment members → is_new_order s.disk order.epoch order.count ≡ true → k.0 ≡ handle
+          → (m : Message) (order : OrderNo) (k : Handle) (v : Version) (end_moment : Moment) (members : List ℕ) → i ≡ input.Deliver m → SaysGrant order k v end_moment members m.body → is_new_order s.disk order.epoch order.count ≡ true → k.0 ≡ handle
           → v.0 ≡ version → ⊥
       none_granted place q there round m order k v end_moment members is asked new key number =
           let sent = comes_in w e (suc index) moment i given m is in
           let counted : IsCounted handle version w.sent w.servers (placed_in w.observer.orders handle) = all_counted config servers clients w r handle version in
-          let body_is : m.body ≡ body.Grant order (handle_of handle) (version_of version) end_moment members =
-          asked ∙ (ap (λ (x : ℕ). body.Grant order (handle_of x) v end_moment members) key ∙ ap (λ (x : ℕ). body.Grant order (handle_of handle) (version_of x) end_moment members) number) in
+          let body_is : SaysGrant order (handle_of handle) (version_of version) end_moment members m.body =
+          named_grant asked key number in
           let granted : 1 ≤ grants_of handle version w.sent = counted_one (λ x. is_grant handle version x.body) w.sent m sent.0 sent.1 (granting order handle version end_moment members m.body body_is) in
           let some : 1 ≤ counted.count = entry_counts version (placed_in w.observer.orders handle) place q there round counted.count counted.serials in
           new_not_stale s.disk order new (taken_stale config servers clients w r handle version index s at order end_moment members m sent.0 sent.1 sent.2 body_is (counted.taken some granted))

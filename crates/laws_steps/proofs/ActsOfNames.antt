@@ -16,12 +16,13 @@ use Rattle.log_records.specs.declared.record.Record.TheVariants as log
 use Rattle.relaxed_file.specs.NameStep.{needs_room, outcome_by}
 use Rattle.gfs_types.specs.Counters.{counter_limit}
 use Rattle.protocol.specs.Tables.{has_number, removed_all}
-use Rattle.protocol.specs.Sending.{the_client, client_id, file_id, handle_of, version_of, moment_of}
+use Rattle.protocol.specs.Sending.{the_client, client_id, file_id, moment_of}
 use Rattle.chunk_table.specs.ChunkTable.{ChunkRow, chunk_of}
 use Rattle.protocol.specs.Logged.{KeptCall, LogDisk}
 use Rattle.protocol.specs.Master.{MasterDoing, PendingSnapshot, orders, has_lease, gives_up_copies, without_attempts}
 use Rattle.protocol.specs.MasterSnapshots.{revokes_row, revokes, revokes_all, takes_locks, begins_snapshot, snapshot_handles, snapshot_files, copies_for_files, reply_of, answers_name, settles_name, refuses_name, changes_names, first_is_true, all_but_first, lets_go, is_same_snapshot, takes_snapshot, takes_ready, is_ready, row_has_ended}
 use Rattle.protocol.specs.MasterNames.{master_refusal, reply_by, takes_look, performs, names_by, is_waiting_call, names_anew, names_kept, takes_name}
+use Rattle.laws_base.proofs.LeaseOrders.{revoke_order}
 use Rattle.laws_base.proofs.Steps.{on_cond, none_some, same_some, removed_cases}
 use Rattle.laws_base.proofs.Entries.{AllOf}
 use Rattle.laws_base.proofs.VersionAttempts.{fewer_told}
@@ -64,7 +65,7 @@ module _ (start : LogDisk) (Ended : ℕ → ℕ → Type 0) (P : Core → Type 0
   revoked_acts : (d : MasterDoing) (handle : ℕ) (o : Option ChunkRow) → chunk_of d.master.logged.table handle ≡ o → Now d → Now (revokes_row d handle o)
   revoked_acts d handle None is h = h
   revoked_acts d handle (Some row) is h =
-      on_cond (Now) (has_lease d.master row) (orders d row.primary (λ order. body.Revoke order (handle_of handle) (version_of row.granted))) d
+      on_cond (Now) (has_lease d.master row) (orders d row.primary (revoke_order handle row)) d
       (λ _. ((keeps.revokes (core_of d) handle row is h.0.0, h.0.1, h.0.2, h.0.3), h.1, acts.revokes (core_of d) d.master.attempts d.master.snapshots handle row is h.2)) (λ _. h)
 
   pub revokes_acts : (d : MasterDoing) (handle : ℕ) → Now d → Now (revokes d handle)

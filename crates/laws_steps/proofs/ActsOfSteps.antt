@@ -67,33 +67,8 @@ module _ (start : LogDisk) (Ended : ℕ → ℕ → Type 0) (P : Core → Type 0
   takes_acts d m (body.Ask number file wanted deadline lost) said bound h = ask_acts start Ended P keeps rowing Q acts d m.sender number file.0 wanted deadline.0 lost h
   takes_acts d m (body.Recorded handle version) said bound h = takes_recorded_acts start Ended P keeps rowing Q acts d (server_number m.sender) handle.0 version.0 h
   takes_acts d m (body.Revoked handle version) said bound h = takes_revoked_acts start Ended P keeps rowing Q acts d (server_number m.sender) handle.0 version.0 said h
-  takes_acts d m (body.Cloned handle version) said bound h = h
   takes_acts d m (body.Report replicas leases) said bound h = report_acts start Ended P keeps rowing Q acts d (server_number m.sender) replicas leases h
-  takes_acts d m (body.Named number reply) said bound h = h
-  takes_acts d m (body.Told number location) said bound h = h
-  takes_acts d m (body.Wait number) said bound h = h
-  takes_acts d m (body.Refused number refusal) said bound h = h
-  takes_acts d m (body.Push id bytes rest) said bound h = h
-  takes_acts d m (body.Pushed id) said bound h = h
-  takes_acts d m (body.Mutate id handle version target deadline) said bound h = h
-  takes_acts d m (body.Done id place) said bound h = h
-  takes_acts d m (body.Forward handle version serial id change) said bound h = h
-  takes_acts d m (body.Acked handle version serial) said bound h = h
-  takes_acts d m (body.Nacked handle version serial refusal) said bound h = h
-  takes_acts d m (body.Read number handle version offset count) said bound h = h
-  takes_acts d m (body.Len number handle version) said bound h = h
-  takes_acts d m (body.Bytes number bytes) said bound h = h
-  takes_acts d m (body.LenIs number count) said bound h = h
-  takes_acts d m (body.Create order handle version) said bound h = h
-  takes_acts d m (body.SetVersion order handle version base) said bound h = h
-  takes_acts d m (body.Grant order handle version end_moment members) said bound h = h
-  takes_acts d m (body.Extend handle version end_moment) said bound h = h
-  takes_acts d m (body.Revoke order handle version) said bound h = h
-  takes_acts d m (body.Drop order handle version) said bound h = h
-  takes_acts d m (body.Clone order handle version source) said bound h = h
-  takes_acts d m (body.CopyAsk handle version) said bound h = h
-  takes_acts d m (body.Image handle version serial bytes) said bound h = h
-  takes_acts d m (body.CopyLocal order handle version copy copy_version) said bound h = h
+  takes_acts d m other said bound h = h
 
   does_acts : (d : MasterDoing) (i : NodeInput) → IsInputSaid Ended i → (Unit {0} → d.master.logged.next_file ≤ counter_limit) → Now d → Now (master_does d i)
   does_acts d (input.Deliver m) said bound h = takes_acts d m m.body said bound h

@@ -2,7 +2,7 @@
 use Rattle.std.proofs.Common.{◌≡◌, ℕ, suc, ◌≤◌, ◌<◌, ◌+◌, Bool, true, false, List, [], Option, Some, None, refl, sym, ap, ◌∙◌, inl, inr, arith}
 use Rattle.std.specs.Prelude.{◌==◌, ◌&&◌, max, IsTrue}
 use Rattle.std.specs.FinMap as table
-use Rattle.std.proofs.lemmas.Bool.{and_from, and_parts, eqb-true, ltb-true}
+use Rattle.std.proofs.lemmas.Bool.{and_parts, eqb-true, ltb-true}
 use Rattle.std.proofs.Math.Nat.{le-max_left, le-max_right}
 use Rattle.gfs_types.specs.declared.config.Config.{Config}
 use Rattle.leases.specs.LeaseHeld.{counts_at}
@@ -10,7 +10,6 @@ use Rattle.laws_base.proofs.ServerSettings.{AreSet, settings_kept}
 use Rattle.gfs_types.specs.declared.ids.OrderNo.{OrderNo}
 use Rattle.gfs_types.specs.declared.ids.Moment.{Moment}
 use Rattle.messages.specs.declared.message.Message.{Message}
-use Rattle.messages.specs.declared.message.Body.TheVariants as body
 use Rattle.protocol.specs.Tables.{element_at}
 use Rattle.protocol.specs.Sending.{handle_of, version_of}
 use Rattle.chunk_table.specs.ChunkTable.{ChunkRow}
@@ -20,9 +19,9 @@ use Rattle.primary_order.specs.declared.order.SerialOrder.{SerialOrder}
 use Rattle.protocol.specs.Server.{ServerState, counting_primary}
 use Rattle.protocol.specs.ServerStep.{server_at}
 use Rattle.protocol.specs.World.{WorldState}
+use Rattle.laws_base.proofs.LeaseOrders.{SaysGrant, says_grant, named_grant, grant_ends}
 use Rattle.laws_base.specs.Laws.{tells_end}
 use Rattle.laws_base.proofs.Steps.{on_cond, removed_cases}
-use Rattle.laws_base.proofs.Entries.{same_number}
 use Rattle.laws_base.proofs.ChunkRows.{rows_of}
 use Rattle.laws_base.proofs.OrderNumbers.{state_of}
 use Rattle.laws_base.proofs.RisingOrders.{then_later}
@@ -39,17 +38,10 @@ not_true : (b : Bool) → (b ≡ true → ⊥) → b ≡ false
 not_true true h = absurd (h refl)
 not_true false h = refl
 
--- a Grant tells its end
-grant_tells : (order : OrderNo) (handle version : ℕ) (end_moment : Moment) (members : List ℕ) (m : Message) → m.body ≡ body.Grant order (handle_of handle) (version_of version) end_moment members
-    → tells_end handle version end_moment.0 m.body ≡ true
-grant_tells order handle version end_moment members m is =
-    ap (tells_end handle version end_moment.0) is
-    ∙ and_from ((handle == handle) && (version == version)) (end_moment.0 == end_moment.0) (and_from (handle == handle) (version == version) (same_number handle) (same_number version)) (same_number end_moment.0)
-
 module _ (w : WorldState) (h : IsOfTimes (scene_of w)) (handle version : ℕ) where
   -- where a server said that the lease is over, it has none and refuses the Grant
   refused : WasSaidOver w.sent handle version → (grant : Message) → IsSent w.sent grant → (order : OrderNo) (end_moment : Moment) (members : List ℕ)
-      → grant.body ≡ body.Grant order (handle_of handle) (version_of version) end_moment members → IsRefusedBy w.servers grant.receiver order
+      → SaysGrant order (handle_of handle) (version_of version) end_moment members grant.body → IsRefusedBy w.servers grant.receiver order
   refused said grant sent order end_moment members is index s at to =
       let was : WasRevoked w.sent w.servers handle version = h.base.revoked said.0 said.1 (handle_of handle) (version_of version) said.2 in
       let pair = paired w.sent w.master h.base.sent grant (was.word).revoke sent (was.word).is_sent order was.order (handle_of handle) (version_of version) end_moment members is (was.word).is in
@@ -62,7 +54,7 @@ module _ (w : WorldState) (h : IsOfTimes (scene_of w)) (handle version : ℕ) wh
   none_held said index s p at is same =
       let told : IsToldLease w.sent (suc index) s.disk handle p.held = (h.base.told index s at).told handle p is in
       let was : WasRevoked w.sent w.servers handle version = h.base.revoked said.0 said.1 (handle_of handle) (version_of version) said.2 in
-      let granted : (told.grant).body ≡ body.Grant told.order (handle_of handle) (version_of version) told.end_moment p.held.members = told.is ∙ ap (λ (v : ℕ). body.Grant told.order (handle_of handle) (version_of v) told.end_moment p.held.members) same in
+      let granted : SaysGrant told.order (handle_of handle) (version_of version) told.end_moment p.held.members (told.grant).body = named_grant told.is refl same in
       let pair = paired w.sent w.master h.base.sent told.grant (was.word).revoke (told.place, told.at) (was.word).is_sent told.order was.order (handle_of handle) (version_of version) told.end_moment p.held.members granted (was.word).is in
       let here : index ≡ was.index = server_numbers index was.index (sym told.receiver ∙ pair.0 ∙ (was.word).receiver) in
       (was.over s (ap (λ (k : ℕ). element_at w.servers k) (sym here) ∙ at)).none p is same
@@ -78,9 +70,10 @@ module _ (w : WorldState) (h : IsOfTimes (scene_of w)) (handle version : ℕ) wh
               | inr said ↦ none_held said index holds.0 p holds.1 holds.2 same
             ];
         comes = λ place grant order end_moment members at is.
-            elim (past end_moment.0 (grant, (place, at), grant_tells order handle version end_moment members grant is)) [
+            let says : SaysGrant order (handle_of handle) (version_of version) end_moment members grant.body = says_grant is in
+            elim (past end_moment.0 (grant, (place, at), grant_ends says)) [
               | inl early ↦ inl early
-              | inr said ↦ inr (refused said grant (place, at) order end_moment members is)
+              | inr said ↦ inr (refused said grant (place, at) order end_moment members says)
             ];
       }
 

@@ -29,12 +29,13 @@ use Rattle.protocol.specs.ServerOrders.{extends_held}
 use Rattle.protocol.specs.ServerStep.{server_at, server_takes, server_goes, server_ends, server_step, server_restarts, server_restart}
 use Rattle.protocol.specs.MasterStep.{master_step, master_restart}
 use Rattle.protocol.specs.World.{WorldState, new_world, stamped, happens, after_events, IsReached}
+use Rattle.laws_base.proofs.LeaseOrders.{SaysGrant, says_grant, named_grant, stated_grant}
 use Rattle.laws_base.specs.Laws.{is_grant, grants_of}
 use Rattle.laws_base.proofs.Steps.{on_cond, none_some, same_some, tally, put_cases, count-cons, count-append}
 use Rattle.laws_base.proofs.ServerMoves.{server_core, AreHeldFrom, lease_of, KeepsServer, same_held, server_goes_holds}
 use Rattle.laws_base.proofs.RisingOrders.{Later, same_later, risen_later, HasOneRisingChange, step_goes_on, restarts_as, set_cases}
 use Rattle.laws_base.proofs.MessagesSent.{IsSent, sent_cases}
-use Rattle.laws_base.proofs.LeasesTold.{IsStaleAt, stale_later, new_not_stale, replica_later, CameTo, came_in, AreTold, told_kept, granting}
+use Rattle.laws_base.proofs.LeasesTold.{IsStaleAt, stale_later, new_not_stale, replica_later, CameTo, came_in, GrantCameTo, grant_came, AreTold, told_kept, granting}
 use Rattle.laws_base.proofs.ServerSettings.{AreSet, settings_kept}
 use Rattle.laws_base.proofs.GrantsOnce.{versions_are_granted_once}
 use Rattle.laws_base.proofs.ScenesReached.{Scene, scene_of, IsNow, IsSentTo, rotten_server, scene_reached, IsKeptOn, goes_on, kept_on}
@@ -75,7 +76,7 @@ refused_stale d order none = by_tests (nat_lt d.epoch order.epoch) refl (d.epoch
 pub record IsOverAt (sent : List Message) (greatest n handle version : ℕ) (d : ServerDisk) (leases : Table SerialOrder) : Type 0 where
   pub held : (p : SerialOrder) → table.get leases handle ≡ Some p → p.held.version ≡ version → p.held.until ≤ greatest
   pub comes : (grant : Message) → IsSent sent grant → grant.receiver ≡ the_server n → (order : OrderNo) (end_moment : Moment) (members : List ℕ)
-      → grant.body ≡ body.Grant order (handle_of handle) (version_of version) end_moment members → (end_moment.0 ≤ greatest) ⊎ IsStaleAt d order
+      → SaysGrant order (handle_of handle) (version_of version) end_moment members grant.body → (end_moment.0 ≤ greatest) ⊎ IsStaleAt d order
 
 abbrev is_extend : Body → Bool
 is_extend (body.Extend handle version end_moment) = true
@@ -104,16 +105,15 @@ module _ (sent : List Message) (greatest n handle version : ℕ) where
   abbrev Came : Body → Type 0
   Came b = CameTo sent n b × (is_extend b ≡ false)
 
-  over_granted : (d : ServerDisk) (leases : Table SerialOrder) (order : OrderNo) (q : Handle) (v : Version) (end_moment : Moment) (members : List ℕ) → CameTo sent n (body.Grant order q v end_moment members)
+  over_granted : (d : ServerDisk) (leases : Table SerialOrder) (order : OrderNo) (q : Handle) (v : Version) (end_moment : Moment) (members : List ℕ) → GrantCameTo sent n order q v end_moment members
       → is_new_order d order.epoch order.count ≡ true → OverAt d leases → OverAt (disk_changed d (SetOrder order)) (table.insert leases q.0 (lease_of v end_moment members))
   over_granted d leases order q v end_moment members came new h =
       record {
         held = λ p at same.
             elim (put_cases leases q.0 (lease_of v end_moment members) handle p at) [
               | inl now ↦
-                  let is : (came.1).body ≡ body.Grant order (handle_of handle) (version_of version) end_moment members =
-                  came.4 ∙ ap (λ (k : ℕ). body.Grant order (handle_of k) v end_moment members) (sym now.0)
-                  ∙ ap (λ (k : ℕ). body.Grant order (handle_of handle) (version_of k) end_moment members) (ap (λ (x : SerialOrder). x.held.version) now.1 ∙ same) in
+                  let is : SaysGrant order (handle_of handle) (version_of version) end_moment members (came.1).body =
+                  named_grant came.4 (sym now.0) (ap (λ (x : SerialOrder). x.held.version) now.1 ∙ same) in
                   let end : end_moment.0 ≡ p.held.until = ap (λ (x : SerialOrder). x.held.until) now.1 in
                   elim (h.comes came.1 (came.0, came.2) came.3 order end_moment members is) [
                     | inl early ↦ omega (arith, early, end)
@@ -132,7 +132,7 @@ module _ (sent : List Message) (greatest n handle version : ℕ) where
         stores = λ c x is h. over_from c.disk (disk_changed c.disk x) c.leases c.leases (replica_later c.disk x is) (same_held c.leases) h;
         takes = λ c order new h. over_from c.disk (disk_changed c.disk (SetOrder order)) c.leases c.leases (risen_later c.disk (SetOrder order) new) (same_held c.leases) h;
         holds = λ c leases from h. over_from c.disk c.disk c.leases leases (same_later c.disk) from h;
-        grants = λ c order q v end_moment members came new h. over_granted c.disk c.leases order q v end_moment members came.0 new h;
+        grants = λ c order q v end_moment members came new h. over_granted c.disk c.leases order q v end_moment members (grant_came sent n order q v end_moment members (came.0, (came.1).0, came.2)) new h;
         extends = λ c q v end_moment p came at same h. absurd (let both : true ≡ false = came.1 in cc);
         revokes = λ c order q v leases came new from none h. over_from c.disk (disk_changed c.disk (SetOrder order)) c.leases leases (risen_later c.disk (SetOrder order) new) from h;
       }
@@ -340,7 +340,7 @@ over_to w handle version h index s at =
             | inr early ↦ early
           ];
       comes = λ grant is to order end_moment members so.
-          elim (h.comes is.0 grant order end_moment members is.1 so) [
+          elim (h.comes is.0 grant order end_moment members is.1 (stated_grant so)) [
             | inl early ↦ inl early
             | inr refused ↦ inr (refused_stale s.disk order (refused index s at to))
           ];
@@ -353,7 +353,7 @@ over_of w handle version h =
       comes = λ place grant order end_moment members at so.
           elim (cases_lt w.observer.greatest end_moment.0) [
             | inr early ↦ inl early
-            | inl lasts ↦ inr (λ index s there to. stale_refused s.disk order (by_server lasts ((h index s there).comes grant (place, at) to order end_moment members so)))
+            | inl lasts ↦ inr (λ index s there to. stale_refused s.disk order (by_server lasts ((h index s there).comes grant (place, at) to order end_moment members (says_grant so))))
           ];
     }
   where

@@ -15,6 +15,7 @@ use Rattle.protocol.specs.declared.seen.Seen.TheVariants.{CopyStarted}
 use Rattle.protocol.specs.Logged.{Logged}
 use Rattle.protocol.specs.Master.{MasterState}
 use Rattle.protocol.specs.MasterStep.{master_step, master_restart}
+use Rattle.laws_base.proofs.LeaseOrders.{revoke_body, grant_body}
 use Rattle.laws_base.proofs.Entries.{AllOf}
 use Rattle.laws_steps.specs.Words.{HoldAtLeast, AreCurrent}
 use Rattle.laws_steps.proofs.MasterPremises.{AreHeld, IsAnswer, IsOrder, AnyDoing, any_kept, MasterSays}
@@ -28,9 +29,9 @@ is_masters (body.Wait number) = true
 is_masters (body.Refused number refusal) = true
 is_masters (body.Create order handle version) = true
 is_masters (body.SetVersion order handle version base) = true
-is_masters (body.Grant order handle version end_moment members) = true
+is_masters (grant_body order handle version end_moment members) = true
 is_masters (body.Extend handle version end_moment) = true
-is_masters (body.Revoke order handle version) = true
+is_masters (revoke_body order handle version) = true
 is_masters (body.Drop order handle version) = true
 is_masters (body.Clone order handle version source) = true
 is_masters (body.CopyLocal order handle version copy copy_version) = true
@@ -55,8 +56,8 @@ module _ (l : Logged) (i : NodeInput) where
   order_is : (server : ℕ) (b : Body) → IsOrder i AnyDoing server b → is_masters b ≡ true
   order_is server (body.Create order handle version) is = refl
   order_is server (body.SetVersion order handle version base) is = refl
-  order_is server (body.Grant order handle version end_moment members) is = refl
-  order_is server (body.Revoke order handle version) is = refl
+  order_is server (grant_body order handle version end_moment members) is = refl
+  order_is server (revoke_body order handle version) is = refl
   order_is server (body.Clone order handle version source) is = refl
   order_is server (body.CopyLocal order handle version copy copy_version) is = refl
   order_is server other is = absurd is

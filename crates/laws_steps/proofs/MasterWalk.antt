@@ -54,6 +54,7 @@ use Rattle.protocol.specs.MasterStep.{master_ticks, gives_up_attempts, gives_up_
 use Rattle.protocol.specs.MasterStep.{master_at, master_goes, may_end, master_bounded, master_ends, master_step}
 use Rattle.protocol.specs.MasterStep.{started_master, found_log, opening, opens_as, has_opened, is_within_limits, master_restart}
 use Rattle.laws_base.proofs.Words.{true_false}
+use Rattle.laws_base.proofs.LeaseOrders.{revoke_order, grant_order}
 use Rattle.laws_base.proofs.Steps.{on_cond}
 use Rattle.laws_base.proofs.Entries.{AllOf, all_filtered, same_number}
 use Rattle.laws_base.proofs.MembersRecorded.{all_in_order}
@@ -241,8 +242,8 @@ module _ (l : Logged) (i : NodeInput) (A : MasterDoing → Type 0) (P : StepEffe
   revoked_of : (d : MasterDoing) (handle : ℕ) (o : Option ChunkRow) → Here d → Here (revokes_row d handle o)
   revoked_of d handle None h = h
   revoked_of d handle (Some row) h =
-      on_cond Here (has_lease d.master row) (orders d row.primary (λ order. body.Revoke order (handle_of handle) (version_of row.granted))) d
-      (λ _. ordered d row.primary (λ order. body.Revoke order (handle_of handle) (version_of row.granted)) (λ o. tt) h) (λ _. h)
+      on_cond Here (has_lease d.master row) (orders d row.primary (revoke_order handle row)) d
+      (λ _. ordered d row.primary (revoke_order handle row) (λ o. tt) h) (λ _. h)
 
   pub revoked_here : (d : MasterDoing) (handle : ℕ) → Here d → Here (revokes d handle)
   revoked_here d handle h = revoked_of d handle (chunk_of d.master.logged.table handle) h
@@ -291,7 +292,7 @@ module _ (l : Logged) (i : NodeInput) (A : MasterDoing → Type 0) (P : StepEffe
     grant_sent handle version primary members has d h =
         let until : ℕ = d.master.now + d.master.config.lease_ms in
         let ended : MasterDoing = ends_at (without_attempt d handle) handle until in
-        ordered ended primary (λ order. body.Grant order (handle_of handle) (version_of version) (moment_of until) members) (λ o. (told, has)) h
+        ordered ended primary (grant_order handle version until members) (λ o. (told, has)) h
 
     grants_said : (d : MasterDoing) (handle : ℕ) (a : VersionAttempt) (servers : List ℕ) → Here d → Here (grants_to d handle a servers)
     grants_said d handle a [] h = h
@@ -544,8 +545,8 @@ module _ (l : Logged) (i : NodeInput) (A : MasterDoing → Type 0) (P : StepEffe
     revoked_found : (d : MasterDoing) (handle : ℕ) (o : Option ChunkRow) → A d → A (revokes_row d handle o)
     revoked_found d handle None found = found
     revoked_found d handle (Some row) found =
-        on_cond A (has_lease d.master row) (orders d row.primary (λ order. body.Revoke order (handle_of handle) (version_of row.granted))) d
-        (λ _. f.ordered d row.primary (λ order. body.Revoke order (handle_of handle) (version_of row.granted)) found) (λ _. found)
+        on_cond A (has_lease d.master row) (orders d row.primary (revoke_order handle row)) d
+        (λ _. f.ordered d row.primary (revoke_order handle row) found) (λ _. found)
 
     row_said : (d : MasterDoing) (a : Asker) (lost : Bool) (handle : ℕ) (o : Option ChunkRow) → IsAskedAt a → A d → chunk_of d.master.logged.table handle ≡ o → Here d
         → Here (mutates_row d a lost handle o)

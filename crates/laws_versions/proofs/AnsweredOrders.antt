@@ -27,6 +27,7 @@ use Rattle.protocol.specs.Server.{ServerState, ServerDoing, server_begins, store
 use Rattle.protocol.specs.ServerOrders.{records, can_take, takes_create, raises, takes_set_version, copies_locally, takes_copy_local}
 use Rattle.protocol.specs.ServerStep.{lease_line, counting_leases, server_takes, server_at, server_goes, server_ends, server_step}
 use Rattle.protocol.specs.World.{WorldState, IsReached}
+use Rattle.laws_base.proofs.LeaseOrders.{lease_grant}
 use Rattle.laws_base.specs.Laws.{is_grant, WasGranted}
 use Rattle.laws_base.proofs.Steps.{on_cond, none_some, same_some}
 use Rattle.laws_base.proofs.Entries.{AllOf, IsFound, all_found, kept_where_cases}
@@ -77,7 +78,7 @@ module _ (sent : List Message) (server : ℕ) where
   line_granted (e ∷ es) all zero line at =
       let g = all.0 in
       subst (λ (x : LeaseLine). WasGrantedTo sent server x.handle.0 x.version.0) (same_some (lease_line e) line at)
-      (g.0, g.1, g.2, g.3, granting g.4 e.0 e.1.held.version g.5 e.1.held.members (g.1).body g.6)
+      (g.0, g.1, g.2, g.3, granting g.4 e.0 e.1.held.version g.5 e.1.held.members (g.1).body (lease_grant sent server e.0 e.1.held g))
   line_granted (e ∷ es) all (suc place) line at = line_granted es all.1 place line at
 
   lines_granted : (es : List (ℕ × SerialOrder)) → AllOf (λ e. WasGranted sent server e.0 e.1.held) es → (handle version : ℕ) → IsLeaseReported (map lease_line es) handle version → WasGrantedTo sent server handle version

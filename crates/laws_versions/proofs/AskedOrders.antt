@@ -35,6 +35,7 @@ use Rattle.protocol.specs.MasterSnapshots.{revokes_row, revokes, takes_ready, wa
 use Rattle.protocol.specs.MasterVersions.{Asker, VersionTarget, holder_line, group_of, tells_location, tells_holders, tells_none, tells_to_wait, version_order, sends_versions, new_attempt, sends_issued, issues_to, targets_by, recorded_holders, issues_own, is_attempted, copy_order, sends_copies, copy_targets, sends_copy_started, copies_to, begins_copy, copy_for, is_copied, wants_own, wants_own_of, issues_copy, wants_copy, wants_by, wants_primary, holder_target}
 use Rattle.protocol.specs.MasterAsks.{looks_at_row, looks_at, mutates_row, mutates_at, adds_chunk, with_index, asks_to_write, asks_to_append, asks_for_last, asks_for, asks_of, takes_ask}
 use Rattle.protocol.specs.MasterStep.{master_takes, master_at, master_goes, may_end, master_bounded, master_ends, master_step}
+use Rattle.laws_base.proofs.LeaseOrders.{revoke_order}
 use Rattle.laws_base.proofs.Steps.{on_cond, none_some, same_some, put_cases, removed_cases}
 use Rattle.laws_base.proofs.ChunkRows.{rows_of}
 use Rattle.laws_base.proofs.CopiesUnderWay.{found_for}
@@ -97,8 +98,8 @@ module _ (X : Message → Type 0) (quiet : (receiver : Node) (b : Body) → vers
   revoked_of : (d : MasterDoing) (handle : ℕ) (o : Option ChunkRow) → Fine d → Fine (revokes_row d handle o)
   revoked_of d handle None h = h
   revoked_of d handle (Some row) h =
-      on_cond Fine (has_lease d.master row) (orders d row.primary (λ order. body.Revoke order (handle_of handle) (version_of row.granted))) d
-      (λ _. ordered d row.primary (λ order. body.Revoke order (handle_of handle) (version_of row.granted)) (λ o. refl) h) (λ _. h)
+      on_cond Fine (has_lease d.master row) (orders d row.primary (revoke_order handle row)) d
+      (λ _. ordered d row.primary (revoke_order handle row) (λ o. refl) h) (λ _. h)
 
   -- a version is sent to each target
 

@@ -30,6 +30,7 @@ use Rattle.protocol.specs.Master.{MasterDoing, VersionAttempt, HeldAt, tells, or
 use Rattle.protocol.specs.MasterSnapshots.{revokes_row, revokes, waits_for}
 use Rattle.protocol.specs.MasterVersions.{Asker, VersionTarget, holder_line, group_of, tells_location, tells_holders, tells_none, tells_to_wait, version_order, sends_versions, new_attempt, sends_issued, issues_to, targets_by, recorded_holders, issues_own, is_attempted, copy_order, sends_copies, copy_targets, sends_copy_started, copies_to, begins_copy, copy_for, is_copied, wants_own, wants_own_of, issues_copy, wants_copy, wants_by, wants_primary, holder_target}
 use Rattle.protocol.specs.MasterAsks.{looks_at_row, looks_at, mutates_row, mutates_at, adds_chunk, with_index, asks_to_write, asks_to_append, asks_for_last, asks_for, asks_of, takes_ask}
+use Rattle.laws_base.proofs.LeaseOrders.{revoke_order}
 use Rattle.laws_base.proofs.Steps.{on_cond, none_some, same_some, put_cases, removed_cases}
 use Rattle.laws_base.proofs.Entries.{AllOf, all_joined, same_number}
 use Rattle.laws_base.proofs.ChunkRows.{rows_of}
@@ -408,8 +409,8 @@ module _ (l : Logged) (tried : Attempts) (now : ℕ) (asker : Node) (asked file 
   revoked_here : (d : MasterDoing) (handle : ℕ) (o : Option ChunkRow) → Here d → Here (revokes_row d handle o)
   revoked_here d handle None h = h
   revoked_here d handle (Some row) h =
-      on_cond Here (has_lease d.master row) (orders d row.primary (λ order. body.Revoke order (handle_of handle) (version_of row.granted))) d
-      (λ _. (h.0, ordered d row.primary (λ order. body.Revoke order (handle_of handle) (version_of row.granted)) (λ o. refl) h.1)) (λ _. h)
+      on_cond Here (has_lease d.master row) (orders d row.primary (revoke_order handle row)) d
+      (λ _. (h.0, ordered d row.primary (revoke_order handle row) (λ o. refl) h.1)) (λ _. h)
 
   told_post : (d : MasterDoing) (a : Asker) (handle : ℕ) (row : ChunkRow) → IsOwn a → IsStood a.index handle → IsOldRow handle row ⊎ IsNewRow handle row → Here d → Post (tells_holders d a handle row)
   told_post d a handle row asks stood was h = here_post (tells_holders d a handle row) (h.0, location_fine d a handle row (map holder_line (current_holders d.master handle row)) asks stood was h.1)

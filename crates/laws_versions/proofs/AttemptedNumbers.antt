@@ -30,6 +30,7 @@ use Rattle.protocol.specs.MasterVersions.{Asker, VersionTarget, tells_holders, t
 use Rattle.protocol.specs.MasterAsks.{looks_at_row, looks_at, mutates_row, mutates_at, adds_chunk, with_index, asks_to_write, asks_to_append, asks_for_last, asks_for, asks_of, takes_ask}
 use Rattle.protocol.specs.MasterStep.{is_in_time, master_does, master_takes, master_at, master_goes, may_end, master_bounded, master_ends, master_step, is_within_limits, found_log, started_master, opening, has_opened, opens_as, master_restart}
 use Rattle.protocol.specs.World.{WorldState, new_world, IsReached}
+use Rattle.laws_base.proofs.LeaseOrders.{revoke_order}
 use Rattle.laws_base.proofs.Steps.{on_cond, none_some, put_split, gone_split, removed_cases}
 use Rattle.laws_base.proofs.Entries.{kept_where_cases}
 use Rattle.laws_base.proofs.ChunkRows.{rows_of, From, same_from, then_from, changed_from, from_owned, removed_owned, all_copied_owned, swapped_owned, expired_owned}
@@ -320,7 +321,7 @@ primary_last d a handle row at h =
 
 revoked_last : (d : MasterDoing) (handle : ℕ) (o : Option ChunkRow) → IsLast d → IsLast (revokes_row d handle o)
 revoked_last d handle None h = h
-revoked_last d handle (Some row) h = on_cond IsLast (has_lease d.master row) (orders d row.primary (λ order. body.Revoke order (handle_of handle) (version_of row.granted))) d (λ _. h) (λ _. h)
+revoked_last d handle (Some row) h = on_cond IsLast (has_lease d.master row) (orders d row.primary (revoke_order handle row)) d (λ _. h) (λ _. h)
 
 row_last : (d : MasterDoing) (a : Asker) (lost : Bool) (handle : ℕ) (o : Option ChunkRow) → chunk_of d.master.logged.table handle ≡ o → IsLast d → IsLast (mutates_row d a lost handle o)
 row_last d a lost handle None at h = h

@@ -120,9 +120,9 @@ module _ (w : WorldState) (moment : ℕ) where
 
   -- its words end no lease
   tick_word : (C : ℕ → ℕ → Type 0) (b : Body) (handle version until : ℕ) → IsTickWord C b → tells_end handle version until b ≡ false
-  tick_word C (body.Grant order h v end_moment members) handle version until word = absurd word
-  tick_word C (body.Extend h v end_moment) handle version until word = absurd word
-  tick_word C other handle version until word = refl
+  tick_word C (body.Named number reply) handle version until word = refl
+  tick_word C (body.Clone order h v source) handle version until word = refl
+  tick_word C other handle version until word = absurd word
 
   chosen_by : (C : ℕ → ℕ → Type 0) (b : Body) (handle version : ℕ) → IsTickWord C b → version_cloned b ≡ Some (handle, version) → C handle version
   chosen_by C (body.Clone order h v source) handle version word is =

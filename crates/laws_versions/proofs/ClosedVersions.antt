@@ -7,8 +7,6 @@ use Rattle.std.proofs.lemmas.Bool.{eqb-true, and_parts}
 use Rattle.gfs_types.specs.declared.config.Config.{Config}
 use Rattle.messages.specs.declared.event.Event.{Event}
 use Rattle.messages.specs.declared.event.NodeInput.{NodeInput}
-use Rattle.messages.specs.declared.message.Body.{Body}
-use Rattle.messages.specs.declared.message.Body.TheVariants as body
 use Rattle.messages.specs.declared.message.Message.{Message}
 use Rattle.log_records.specs.declared.record.Record.{Record}
 use Rattle.log_records.specs.declared.record.Record.TheVariants as log
@@ -28,7 +26,7 @@ use Rattle.laws_base.proofs.Steps.{on_cond, none_some, same_some, tally, put_cas
 use Rattle.laws_base.proofs.Entries.{AllOf}
 use Rattle.laws_base.proofs.Words.{no_order}
 use Rattle.laws_base.proofs.ChunkRows.{rows_of}
-use Rattle.laws_base.proofs.MasterMoves.{Core, core_of, NoneEnded, core_changed, core_appended, core_ended, core_granted, grant_record, IsDue, IsNoGrantRecord, IsPlainOrder, logs_alone}
+use Rattle.laws_base.proofs.MasterMoves.{Core, core_of, NoneEnded, core_changed, core_appended, core_ended, core_granted, grant_record, IsDue, IsNoGrantRecord, logs_alone}
 use Rattle.laws_base.proofs.ClientMoves.{HasNoOrder, quiet_orders}
 use Rattle.laws_base.proofs.SentReached.{without_order, count-sent, server_quiet, server_restarts_quiet, sent_reached}
 use Rattle.laws_base.proofs.OrderNumbers.{state_of, state-appended, AllStops, stops_push, AllFound, found_same, found_stopped}
@@ -37,7 +35,7 @@ use Rattle.laws_base.proofs.GrantedIssued.{IsIssued}
 use Rattle.laws_base.proofs.NamesReached.{IsGood, IsUpToLog, IsLogged, opening_first, opening_naming}
 use Rattle.laws_base.proofs.RowsLogged.{IsFoundRows, IsRowedLog}
 use Rattle.laws_base.proofs.RowsKept.{rows_kept}
-use Rattle.laws_base.proofs.GrantsOnce.{row_below}
+use Rattle.laws_base.proofs.GrantsOnce.{row_below, no_order_grants, plain_grants}
 use Rattle.laws_base.proofs.LeasesTimely.{IsOfTimes, times_kept}
 use Rattle.laws_base.proofs.ScenesReached.{Scene, scene_of, IsKeptByScenes, lifted, scene_reached, IsKeptOn, goes_on}
 use Rattle.laws_steps.specs.Versions.{IsLeaseOver}
@@ -68,14 +66,6 @@ module _ (handle version : ℕ) where
       let one = count-cons f m [] in
       let same = ap tally plain in
       omega (arith, whole, one, same, none)
-
-  no_order_grants : (b : Body) → order_number b ≡ None → is_grant handle version b ≡ false
-  no_order_grants (body.Grant order h v end_moment members) none = none_some order (sym none)
-  no_order_grants other none = refl
-
-  plain_grants : (b : Body) → IsPlainOrder b → is_grant handle version b ≡ false
-  plain_grants (body.Grant order h v end_moment members) plain = absurd plain
-  plain_grants other plain = refl
 
   sends : (start : LogDisk) (c : Core) (attempts : Attempts) (m : Message) (count : ℕ) → is_grant handle version m.body ≡ false → IsShut start c attempts → IsShut start (record c { sent = c.sent ++ m ∷ []; order_count = count }) attempts
   sends start c attempts m count plain h = record { state = h.state; above = h.above; none = one_more c.sent m plain h.none; disk = h.disk; stops = h.stops }
@@ -141,9 +131,9 @@ module _ (handle version : ℕ) where
   shut_acts : (start : LogDisk) → Acts start NoneEnded (IsRowing start) (Shut start)
   shut_acts start =
       record {
-        tells = λ c attempts ss receiver b quiet h. sends start c attempts _ c.order_count (no_order_grants b (no_order b quiet)) h;
-        orders = λ c attempts ss server b is plain none h. sends start c attempts _ (suc c.order_count) (plain_grants (b _) (plain _)) h;
-        gives = λ c attempts ss server chunk a b at has plain given h. sends start c attempts _ (suc c.order_count) (plain_grants (b _) (plain _)) h;
+        tells = λ c attempts ss receiver b quiet h. sends start c attempts _ c.order_count (no_order_grants handle version b (no_order b quiet)) h;
+        orders = λ c attempts ss server b is plain none h. sends start c attempts _ (suc c.order_count) (plain_grants handle version (b _) (plain _)) h;
+        gives = λ c attempts ss server chunk a b at has plain given h. sends start c attempts _ (suc c.order_count) (plain_grants handle version (b _) (plain _)) h;
         revokes = λ c attempts ss chunk row is h. sends start c attempts _ (suc c.order_count) refl h;
         appends = λ c attempts ss r due plain beside n after h. appended start c attempts r due plain n h;
         checkpoint = λ c attempts ss tree n after h. checkpointed start c attempts tree n h;
@@ -183,7 +173,7 @@ module _ (handle version : ℕ) where
   no_grants [] all = refl
   no_grants (m ∷ ms) all =
       let whole = count-cons (λ (x : Message). is_grant handle version x.body) m ms in
-      let one = ap tally (no_order_grants m.body all.0) in
+      let one = ap tally (no_order_grants handle version m.body all.0) in
       let rest = no_grants ms all.1 in
       omega (arith, whole, one, rest)
 

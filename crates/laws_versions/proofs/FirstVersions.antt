@@ -23,6 +23,7 @@ use Rattle.laws_base.specs.Laws.{is_grant, grants_of}
 use Rattle.laws_base.proofs.Steps.{none_some, same_some}
 use Rattle.laws_base.proofs.Entries.{AllOf}
 use Rattle.laws_base.proofs.Words.{true_false}
+use Rattle.laws_base.proofs.LeaseOrders.{grant_parts, nothing_counts}
 use Rattle.laws_base.proofs.MembersRecorded.{all_at}
 use Rattle.laws_base.proofs.MessagesSent.{IsSent, IsSameMessage}
 use Rattle.laws_base.proofs.ClientMoves.{HasNoOrder, quiet_orders, client_quiet, call_quiet}
@@ -44,9 +45,9 @@ use Rattle.laws_steps.proofs.Histories.{SentIn, sent_in, after_both}
 use Rattle.laws_versions.specs.EmptyGrants.{IsGrantUsed}
 use Rattle.laws_versions.proofs.UsedGrants.{numbered_versions_have_used_grants}
 use Rattle.laws_steps.proofs.MasterPremises.{is_told, IsAsk, IsTold}
-use Rattle.laws_versions.proofs.MasterCauses.{is_caused, Attempts, IsRaised, Causes, step_caused}
+use Rattle.laws_versions.proofs.MasterCauses.{is_caused, uncaused_nothing, Attempts, IsRaised, Causes, step_caused}
 use Rattle.laws_versions.proofs.ExtendLaws.{restart_silent, new_one, none_before}
-use Rattle.laws_versions.proofs.RaisedVersions.{grant_parts, counted_grant, skipped}
+use Rattle.laws_versions.proofs.RaisedVersions.{counted_grant, skipped}
 use Rattle.laws_versions.specs.FirstVersions.{version_made, FirstVersionsSkipNoGrant, FirstVersionsSkipNoEntry}
 use Rattle.laws_versions.proofs.AttemptsAbove.{step_above}
 
@@ -89,8 +90,7 @@ abbrev IsNoGrant : ℕ → ℕ → Message → Type 0
 IsNoGrant handle granted x = is_grant handle granted x.body ≡ false
 
 plain_grant : (handle granted : ℕ) (b : Body) → is_caused b ≡ false → is_grant handle granted b ≡ false
-plain_grant handle granted (body.Grant order q v end_moment members) none = true_false none
-plain_grant handle granted other none = refl
+plain_grant handle granted b none = nothing_counts handle granted b (uncaused_nothing b none)
 
 asked_grants : (handle granted : ℕ) (l : Logged) (tried : Attempts) (i : NodeInput) → IsAsk i → Causes l tried i (IsNoGrant handle granted)
 asked_grants handle granted l tried i ask =

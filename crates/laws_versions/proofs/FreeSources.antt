@@ -6,17 +6,17 @@ use Rattle.gfs_types.specs.declared.ids.Node.{Node}
 use Rattle.gfs_types.specs.declared.ids.Node.TheVariants as node
 use Rattle.gfs_types.specs.declared.ids.OrderNo.{OrderNo}
 use Rattle.messages.specs.declared.message.Body.{Body}
-use Rattle.messages.specs.declared.message.Body.TheVariants as body
 use Rattle.messages.specs.declared.message.Message.{Message}
 use Rattle.log_records.specs.declared.record.Record.{Record}
 use Rattle.log_records.specs.declared.record.Record.TheVariants as log
 use Rattle.relaxed_file.specs.Names.{copied_entries}
 use Rattle.chunk_table.specs.ChunkTable.{ChunkRow, changed_by, set_end, row_granted}
 use Rattle.protocol.specs.Tables.{removed_all, kept_where}
-use Rattle.protocol.specs.Sending.{message, the_server, server_id, handle_of, version_of, moment_of}
+use Rattle.protocol.specs.Sending.{message, the_server, server_id, handle_of, version_of}
 use Rattle.protocol.specs.Logged.{Logged, Copy, LogChange, AppendRecord, WriteCheckpoint, after_record, copies_given_up, copies_for_file, swapped_in, checkpoint_of}
 use Rattle.protocol.specs.Master.{MasterDoing, VersionAttempt, appends}
 use Rattle.protocol.specs.MasterStep.{is_in_time}
+use Rattle.laws_base.proofs.LeaseOrders.{grant_order}
 use Rattle.laws_base.proofs.Steps.{put_cases, kept_cases, removed_cases}
 use Rattle.laws_base.proofs.Entries.{AllOf, all_joined, kept_where_cases}
 use Rattle.laws_base.proofs.ChunkRows.{Rows, rows_of, OwnedFrom, removed_owned, all_copied_owned, swapped_owned, expired_owned}
@@ -166,7 +166,7 @@ module _ (W : Message → Type 0) (V : LogChange → Type 0) (plain : (receiver 
             let until : ℕ = d.master.now + d.master.config.lease_ms in
             record {
               free = free_granted d.master.logged d.master.attempts d.master.now handle a.version until primary members a at h.free;
-              sent = orders_fine (appends d r) primary (λ order. body.Grant order (handle_of handle) (version_of a.version) (moment_of until) members) (λ o. refl) h.sent;
+              sent = orders_fine (appends d r) primary (grant_order handle a.version until members) (λ o. refl) h.sent;
               changes = all_joined V d.changes (AppendRecord r ∷ []) h.changes (grants handle a.version primary members, tt);
             };
         ended = λ d handle h. record { free = free_set d.master.logged d.master.attempts d.master.now handle 0 (inl (omega arith)) h.free; sent = h.sent; changes = h.changes };

@@ -31,7 +31,8 @@ use Rattle.protocol.specs.World.{WorldState, stamped, IsReached}
 use Rattle.laws_base.proofs.Steps.{on_cond, none_some, same_some, same_or_not, put_cases, gone_split, removed_cases}
 use Rattle.laws_base.proofs.Entries.{same_number}
 use Rattle.laws_base.proofs.Words.{no_order}
-use Rattle.laws_base.proofs.MasterMoves.{Core, core_of, NoneEnded, core_changed, core_appended, core_ended, core_granted, grant_record, IsDue, IsNoGrantRecord, IsPlainOrder, logs_alone}
+use Rattle.laws_base.proofs.LeaseOrders.{SaysGrant, grant_order, says_grant, moved_grant, not_said, grant_handle, grant_version, grant_members, revoke_order}
+use Rattle.laws_base.proofs.MasterMoves.{Core, core_of, NoneEnded, core_changed, core_appended, core_ended, core_granted, grant_record, IsDue, IsNoGrantRecord, IsPlainOrder, logs_alone, plain_nothing, unordered_plain}
 use Rattle.laws_base.proofs.MessagesSent.{IsSent, sent_before, sent_cases, none_sent, numbered_sent, step_sent}
 use Rattle.laws_base.proofs.MembersRecorded.{all_at}
 use Rattle.laws_base.proofs.ClientMoves.{HasNoOrder}
@@ -87,7 +88,7 @@ module _ (handle version : ℕ) where
 
   -- a Grant of the version
   abbrev pub IsGrant : List ℕ → Body → Type 0
-  IsGrant members b = (order : OrderNo) × (end_moment : Moment) × (b ≡ body.Grant order (handle_of handle) (version_of version) end_moment members)
+  IsGrant members b = (order : OrderNo) × (end_moment : Moment) × (SaysGrant order (handle_of handle) (version_of version) end_moment members b)
 
   abbrev pub IsWord : Body → Type 0
   IsWord b = IsGiven b ⊎ ((members : List ℕ) × IsGrant members b)
@@ -113,7 +114,7 @@ module _ (handle version : ℕ) where
   given_among servers less ms among h m s g = let was = among m s (inl g) in to_same servers was.0 m was.2 (h was.0 was.1 (ap version_given was.3 ∙ g))
 
   grant_same : (members : List ℕ) (x m : Message) → x.body ≡ m.body → IsGrant members m.body → IsGrant members x.body
-  grant_same members x m same g = (g.0, g.1, same ∙ g.2)
+  grant_same members x m same g = (g.0, g.1, moved_grant same g.2)
 
   ungranted_among : (less ms : List Message) → AreAmong less ms → AreUngranted ms → AreUngranted less
   ungranted_among less ms among h m s members g = let was = among m s (inr (members, g)) in h was.0 was.1 members (grant_same members was.0 m was.3 g)
@@ -127,7 +128,7 @@ module _ (handle version : ℕ) where
   no_given b none g = none_some (handle, version) (sym none ∙ g)
 
   no_grant : {A : Type 0} (b : Body) (members : List ℕ) → IsPlainOrder b → IsGrant members b → A
-  no_grant b members plain g = absurd (subst (λ (x : Body). IsPlainOrder x) g.2 plain)
+  no_grant b members plain g = not_said g.2 (plain_nothing b plain)
 
   no_word : (b : Body) → version_given b ≡ None → IsPlainOrder b → IsWord b → ⊥
   no_word b none plain (inl g) = no_given b none g
@@ -138,11 +139,6 @@ module _ (handle version : ℕ) where
   unordered_given (body.SetVersion order h v base) none = none_some order (sym none)
   unordered_given (body.CopyLocal order h v copy copy_version) none = none_some order (sym none)
   unordered_given other none = refl
-
-  unordered_plain : (b : Body) → order_number b ≡ None → IsPlainOrder b
-  unordered_plain (body.Grant order h v end_moment members) none = none_some order (sym none)
-  unordered_plain (body.Revoke order h v) none = none_some order (sym none)
-  unordered_plain other none = tt
 
   unordered_no_word : (b : Body) → order_number b ≡ None → IsWord b → ⊥
   unordered_no_word b none word = no_word b (unordered_given b none) (unordered_plain b none) word
@@ -400,7 +396,7 @@ module _ (handle version : ℕ) where
         d = core_ended (core_appended c r) chunk until
 
         m : Message
-        m = message node.Master (the_server primary) (body.Grant (record { epoch = d.logged.epoch; count = suc d.order_count }) (handle_of chunk) (version_of a.version) (moment_of until) members)
+        m = message node.Master (the_server primary) (grant_order chunk a.version until members (record { epoch = d.logged.epoch; count = suc d.order_count }))
 
         later : ArePassed c.logged c.disk → ArePassed d.logged d.disk
         later p = (
@@ -418,29 +414,17 @@ module _ (handle version : ℕ) where
             ))
             (λ b is. (gone_split attempts chunk handle b is).1) h)
 
-        members_in : Body → List ℕ
-        members_in (body.Grant o q v end_moment ns) = ns
-        members_in other = []
-
-        handle_in : Body → ℕ
-        handle_in (body.Grant o q v end_moment ns) = q.0
-        handle_in other = 0
-
-        version_in : Body → ℕ
-        version_in (body.Grant o q v end_moment ns) = v.0
-        version_in other = 0
-
         by_key : (chunk ≡ handle) ⊎ (chunk ≡ handle → ⊥) → (a.version ≡ version) ⊎ (a.version ≡ version → ⊥) → IsGiving before start (core_granted c chunk a.version until primary members) left
         by_key (inl key) (inl same) =
             let t : IsTried (before ++ c.sent) c.logged c.disk a = h.tried a (ap (λ (k : ℕ). table.get attempts k) (sym key) ∙ at) same in
-            granted_own c d attempts left a m (suc d.order_count) members refl (record { passed = later t.passed; given = t.given; ungranted = t.ungranted }) all refl (λ ns g. ap members_in g.2)
+            granted_own c d attempts left a m (suc d.order_count) members refl (record { passed = later t.passed; given = t.given; ungranted = t.ungranted }) all refl (λ ns g. ap grant_members g.2.says)
             (λ b is. (gone_split attempts chunk handle b is).0 (sym key)) two
-        by_key (inl key) (inr other) = sends d left m (suc d.order_count) (not_word (λ ns g. other (ap version_in g.2))) two
+        by_key (inl key) (inr other) = sends d left m (suc d.order_count) (not_word (λ ns g. other (ap grant_version g.2.says))) two
           where
             not_word : ((ns : List ℕ) → IsGrant ns m.body → ⊥) → IsWord m.body → ⊥
             not_word none (inl g) = no_given m.body refl g
             not_word none (inr g) = none g.0 g.1
-        by_key (inr other) v = sends d left m (suc d.order_count) (not_word (λ ns g. other (ap handle_in g.2))) two
+        by_key (inr other) v = sends d left m (suc d.order_count) (not_word (λ ns g. other (ap grant_handle g.2.says))) two
           where
             not_word : ((ns : List ℕ) → IsGrant ns m.body → ⊥) → IsWord m.body → ⊥
             not_word none (inl g) = no_given m.body refl g
@@ -455,7 +439,7 @@ module _ (handle version : ℕ) where
           tells = λ c attempts ss receiver b quiet h. sends c attempts _ c.order_count (unordered_no_word b (no_order b quiet)) h;
           orders = λ c attempts ss server b is plain none h. sends c attempts _ (suc c.order_count) (no_word (b _) (none _) (plain _)) h;
           gives = λ c attempts ss server chunk a b at has plain given h. gave c attempts server chunk a _ (suc c.order_count) refl at has (plain _) (given _) h;
-          revokes = λ c attempts ss chunk row is h. sends c attempts _ (suc c.order_count) (revoke_no_word _ (handle_of chunk) (version_of row.granted)) h;
+          revokes = λ c attempts ss chunk row is h. sends c attempts _ (suc c.order_count) (revoke_no_word chunk row _) h;
           appends = λ c attempts ss r due plain beside n after h. appended c attempts r due plain n h;
           checkpoint = λ c attempts ss tree n after h. checkpointed c attempts tree n h;
           less = λ c attempts ss handles copied n h. quieter c attempts (removed_all attempts handles) (copies_given_up c.logged handles) (passed_less handle version c.logged handles) (λ a is. removed_cases attempts handles handle a is) h;
@@ -469,13 +453,9 @@ module _ (handle version : ℕ) where
           extends = λ c attempts ss chunk until row is lasts n h. sends (core_ended c chunk until) attempts _ c.order_count (extend_no_word (handle_of chunk) (version_of row.granted) (moment_of until)) (ended c attempts chunk until h);
         }
       where
-        revoke_no_word : (order : OrderNo) (q : Handle) (v : Version) → IsWord (body.Revoke order q v) → ⊥
-        revoke_no_word order q v (inl g) = no_given (body.Revoke order q v) refl g
-        revoke_no_word order q v (inr g) = absurd (subst is_revoke g.1.2 tt)
-          where
-            is_revoke : Body → Type 0
-            is_revoke (body.Revoke o k n) = Unit {0}
-            is_revoke other = ⊥
+        revoke_no_word : (chunk : ℕ) (row : ChunkRow) (order : OrderNo) → IsWord (revoke_order chunk row order) → ⊥
+        revoke_no_word chunk row order (inl g) = no_given (revoke_order chunk row order) refl g
+        revoke_no_word chunk row order (inr g) = not_said g.1.2 tt
 
         extend_no_word : (q : Handle) (v : Version) (end_moment : Moment) → IsWord (body.Extend q v end_moment) → ⊥
         extend_no_word q v end_moment word = no_word (body.Extend q v end_moment) refl tt word
@@ -635,11 +615,11 @@ module _ (handle version : ℕ) where
 
 pub members_alone_are_given_a_version : MembersAloneAreGivenAVersion
 members_alone_are_given_a_version config servers clients w r handle version place grant order end_moment members at is other m there given =
-    (given_reached handle version config servers clients w r).granted grant (place, at) members (order, end_moment, is) m (other, there) given
+    (given_reached handle version config servers clients w r).granted grant (place, at) members (order, end_moment, says_grant is) m (other, there) given
 
 pub attempts_are_given_to_their_servers : AttemptsAreGivenToTheirServers
 attempts_are_given_to_their_servers config servers clients w r up handle a tried place m at =
     let t = (given_reached handle a.version config servers clients w r).tried up a tried refl in (
       λ given. t.2 m (place, at) given,
-      λ order end_moment members is. t.3 m (place, at) members (order, end_moment, is),
+      λ order end_moment members is. t.3 m (place, at) members (order, end_moment, says_grant is),
     )

@@ -8,15 +8,13 @@ use Rattle.gfs_types.specs.declared.ids.OrderNo.{OrderNo}
 use Rattle.gfs_types.specs.declared.ids.Handle.{Handle}
 use Rattle.gfs_types.specs.declared.ids.Version.{Version}
 use Rattle.gfs_types.specs.declared.ids.Moment.{Moment}
-use Rattle.messages.specs.declared.message.Body.{Body}
-use Rattle.messages.specs.declared.message.Body.TheVariants as body
 use Rattle.messages.specs.declared.message.Message.{Message}
 use Rattle.messages.specs.declared.event.NodeInput.{NodeInput}
 use Rattle.log_records.specs.declared.record.Record.{Record}
 use Rattle.log_records.specs.declared.record.Record.TheVariants as log
 use Rattle.relaxed_file.proofs.NamesTree.{Tree}
 use Rattle.protocol.specs.Tables.{element_at}
-use Rattle.protocol.specs.Sending.{message, the_server, handle_of, version_of, moment_of, order_number}
+use Rattle.protocol.specs.Sending.{message, the_server, handle_of, version_of, order_number}
 use Rattle.protocol.specs.Choice.{Choice, Ending, Goes, Lost, Stops, in_order, decided_changes}
 use Rattle.protocol.specs.Seen.{Taken, no_step}
 use Rattle.chunk_table.specs.ChunkTable.{ChunkRow, row_granted, changed_by}
@@ -24,11 +22,12 @@ use Rattle.protocol.specs.Logged.{Logged, LogDisk, LogChange, AppendRecord, Writ
 use Rattle.protocol.specs.Master.{MasterState, MasterDoing, stopped_master, master_begins, writes_checkpoint}
 use Rattle.protocol.specs.MasterStep.{master_at, master_goes, master_ends, master_bounded, master_step, is_within_limits, may_end, found_log, started_master, opening, has_opened, opens_as}
 use Rattle.protocol.specs.World.{WorldState, stamped, IsReached}
-use Rattle.laws_base.proofs.Steps.{on_cond, none_some, removed_cases}
-use Rattle.laws_base.proofs.Words.{is_of_lease, true_false}
+use Rattle.laws_base.proofs.Steps.{on_cond, removed_cases}
+use Rattle.laws_base.proofs.Words.{quiet_nothing}
+use Rattle.laws_base.proofs.LeaseOrders.{SaysGrant, grant_order, named_grant, says_grant, moved_grant, lease_grant, not_said, GrantsNothing, unordered_nothing, grant_handle, grant_version, grant_members, stated_grant}
 use Rattle.laws_base.proofs.ChunkRows.{Rows, rows_of, removed_owned, swapped_owned}
 use Rattle.laws_base.proofs.VersionsAhead.{changed_cases}
-use Rattle.laws_base.proofs.MasterMoves.{Core, core_of, IsDue, IsPlainOrder, Nothing, NoneEnded, Keeps, core_changed, core_appended, core_ended, core_granted, grant_record, logs_alone}
+use Rattle.laws_base.proofs.MasterMoves.{Core, core_of, IsDue, Nothing, NoneEnded, Keeps, core_changed, core_appended, core_ended, core_granted, grant_record, logs_alone, plain_nothing}
 use Rattle.laws_base.proofs.MasterSteps.{no_input, goes_named}
 use Rattle.laws_base.proofs.MembersRecorded.{all_at}
 use Rattle.laws_base.proofs.MessagesSent.{IsSent, sent_cases, none_sent, numbered_sent, step_sent}
@@ -55,14 +54,14 @@ use Rattle.laws_versions.specs.MasterKnowledge.{MembersAreTheRows, LeaseMembersA
 -- a Grant of this chunk is of the granted version with the row's members, or of an earlier one
 abbrev GrantFits : ℕ → ℕ → List ℕ → Message → Type 0
 GrantFits handle granted members m =
-    (order : OrderNo) (version : Version) (end_moment : Moment) (ns : List ℕ) → m.body ≡ body.Grant order (handle_of handle) version end_moment ns → (version.0 ≤ granted) × (version.0 ≡ granted → ns ≡ members)
+    (order : OrderNo) (version : Version) (end_moment : Moment) (ns : List ℕ) → SaysGrant order (handle_of handle) version end_moment ns m.body → (version.0 ≤ granted) × (version.0 ≡ granted → ns ≡ members)
 
 abbrev Fits : List Message → ℕ → ℕ → List ℕ → Type 0
 Fits ms handle granted members = (m : Message) → IsSent ms m → GrantFits handle granted members m
 
 -- its handle was used
 abbrev IsUsed : ℕ → Message → Type 0
-IsUsed next m = (order : OrderNo) (handle : Handle) (version : Version) (end_moment : Moment) (ns : List ℕ) → m.body ≡ body.Grant order handle version end_moment ns → handle.0 < next
+IsUsed next m = (order : OrderNo) (handle : Handle) (version : Version) (end_moment : Moment) (ns : List ℕ) → SaysGrant order handle version end_moment ns m.body → handle.0 < next
 
 pub record Agrees (ms : List Message) (l : Logged) : Type 0 where
   pub used : (m : Message) → IsSent ms m → IsUsed l.next_handle m
@@ -74,8 +73,8 @@ used_more next more m grows h order handle version end_moment ns is = let below 
 agrees_among : (ms less : List Message) (l : Logged) → AreAmong less ms → Agrees ms l → Agrees less l
 agrees_among ms less l among h =
     record {
-      used = λ m s order handle version end_moment ns is. let was = among m s in h.used was.0 was.1 order handle version end_moment ns (was.2.2 ∙ is);
-      rows = λ handle row at m s order version end_moment ns is. let was = among m s in h.rows handle row at was.0 was.1 order version end_moment ns (was.2.2 ∙ is);
+      used = λ m s order handle version end_moment ns is. let was = among m s in h.used was.0 was.1 order handle version end_moment ns (moved_grant was.2.2 is);
+      rows = λ handle row at m s order version end_moment ns is. let was = among m s in h.rows handle row at was.0 was.1 order version end_moment ns (moved_grant was.2.2 is);
     }
 
 -- rows that are there still
@@ -135,24 +134,9 @@ agrees_more ms more m l one used fits h =
           ];
     }
 
-abbrev is_no_grant : Body → Type 0
-is_no_grant (body.Grant order handle version end_moment members) = ⊥
-is_no_grant other = Unit {0}
-
-not_grant : {A : Type 0} (b : Body) (order : OrderNo) (handle : Handle) (version : Version) (end_moment : Moment) (members : List ℕ) → is_no_grant b → b ≡ body.Grant order handle version end_moment members → A
-not_grant b order handle version end_moment members none is = absurd (subst (λ (x : Body). is_no_grant x) is none)
-
-quiet_none : (b : Body) → is_of_lease b ≡ false → is_no_grant b
-quiet_none (body.Grant order handle version end_moment members) h = true_false h
-quiet_none other h = tt
-
-plain_none : (b : Body) → IsPlainOrder b → is_no_grant b
-plain_none (body.Grant order handle version end_moment members) h = h
-plain_none other h = tt
-
-none_agrees_more : (ms more : List Message) (m : Message) (l : Logged) → IsOneMore ms m more → is_no_grant m.body → Agrees ms l → Agrees more l
+none_agrees_more : (ms more : List Message) (m : Message) (l : Logged) → IsOneMore ms m more → GrantsNothing m.body → Agrees ms l → Agrees more l
 none_agrees_more ms more m l one none h =
-    agrees_more ms more m l one (λ order handle version end_moment ns is. not_grant m.body order handle version end_moment ns none is) (λ q row at order version end_moment ns is. not_grant m.body order (handle_of q) version end_moment ns none is) h
+    agrees_more ms more m l one (λ order handle version end_moment ns is. not_said is none) (λ q row at order version end_moment ns is. not_said is none) h
 
 -- a step so far
 
@@ -207,7 +191,7 @@ ended : (before : List Message) (start : LogDisk) (c : Core) (handle moment : �
 ended before start c handle moment h = quieter before start c (core_ended c handle moment).logged (end_granted (rows_of c.logged) handle moment) (omega arith) h
 
 -- a message that grants nothing
-sends : (before : List Message) (start : LogDisk) (c : Core) (m : Message) (count : ℕ) → is_no_grant m.body → IsAgreeing before start c → IsAgreeing before start (record c { sent = c.sent ++ m ∷ []; order_count = count })
+sends : (before : List Message) (start : LogDisk) (c : Core) (m : Message) (count : ℕ) → GrantsNothing m.body → IsAgreeing before start c → IsAgreeing before start (record c { sent = c.sent ++ m ∷ []; order_count = count })
 sends before start c m count none h =
     let one : IsOneMore (before ++ c.sent) m (before ++ (c.sent ++ m ∷ [])) = one_more before c.sent m in
     record {
@@ -236,7 +220,7 @@ granted before start c handle version until primary members due n h =
     order = record { epoch = two.logged.epoch; count = suc two.order_count }
 
     m : Message
-    m = message node.Master (the_server primary) (body.Grant order (handle_of handle) (version_of version) (moment_of until) members)
+    m = message node.Master (the_server primary) (grant_order handle version until members order)
 
     ms : List Message
     ms = before ++ c.sent
@@ -274,29 +258,16 @@ granted before start c handle version until primary members due n h =
     to_log : IsGrantedTo (state_of two.disk) handle version members
     to_log = subst (λ (k : Logged). IsGrantedTo k handle version members) (sym (state-appended c.disk r)) (granted_to_after (state_of c.disk) handle version primary members)
 
-    -- what this message says
-    handle_in : Body → ℕ
-    handle_in (body.Grant o q v end_moment ns) = q.0
-    handle_in other = 0
-
-    version_in : Body → ℕ
-    version_in (body.Grant o q v end_moment ns) = v.0
-    version_in other = 0
-
-    members_in : Body → List ℕ
-    members_in (body.Grant o q v end_moment ns) = ns
-    members_in other = []
-
     is_used : (top : ℕ) → handle < top → IsUsed top m
-    is_used top below o q v end_moment ns is = let same : handle ≡ q.0 = ap handle_in is in omega (arith, below, same)
+    is_used top below o q v end_moment ns is = let same : handle ≡ q.0 = ap grant_handle is.says in omega (arith, below, same)
 
     fits : (l : Logged) → IsGrantedTo l handle version members → (q : ℕ) (row : ChunkRow) → table.get (rows_of l) q ≡ Some row → GrantFits q row.granted row.members m
     fits l to q row at o v end_moment ns is =
-        let key : handle ≡ q = ap handle_in is in
-        let same : version ≡ v.0 = ap version_in is in
+        let key : handle ≡ q = ap grant_handle is.says in
+        let same : version ≡ v.0 = ap grant_version is.says in
         let says = to row (ap (λ (k : ℕ). table.get (rows_of l) k) key ∙ at) in
         let granted_is = says.0 in
-        (omega (arith, same, granted_is), λ also. sym (ap members_in is) ∙ sym says.1)
+        (omega (arith, same, granted_is), λ also. sym (ap grant_members is.says) ∙ sym says.1)
 
 -- what each move keeps
 agreeing_keeps : (before : List Message) (start : LogDisk) → Keeps (Unit {0}) Nothing NoneEnded (λ c. IsRowing start c × IsAgreeing before start c)
@@ -304,8 +275,8 @@ agreeing_keeps before start =
     let base : Keeps (Unit {0}) Nothing NoneEnded (IsRowing start) = naming_keeps IsFoundRows IsRowedLog rows_kept start NoneEnded in
     record {
       sound = λ asks c h. base.sound asks c h.0;
-      tells = λ c receiver b quiet h. (base.tells c receiver b quiet h.0, sends before start c _ c.order_count (quiet_none b quiet) h.1);
-      orders = λ c server b is plain h. (base.orders c server b is plain h.0, sends before start c _ (suc c.order_count) (plain_none (b _) (plain _)) h.1);
+      tells = λ c receiver b quiet h. (base.tells c receiver b quiet h.0, sends before start c _ c.order_count (quiet_nothing b quiet) h.1);
+      orders = λ c server b is plain h. (base.orders c server b is plain h.0, sends before start c _ (suc c.order_count) (plain_nothing (b _) (plain _)) h.1);
       revokes = λ c handle row is h. (base.revokes c handle row is h.0, sends before start c _ (suc c.order_count) tt h.1);
       grants = λ c handle version until primary members told due names from idle h.
           (base.grants c handle version until primary members told due names from idle h.0, granted before start c handle version until primary members due h.0 h.1);
@@ -326,25 +297,21 @@ record AreAgreed (sent : List Message) (m : MasterState) : Type 0 where
 
 -- messages that are no orders
 
-unordered_none : (b : Body) → order_number b ≡ None → is_no_grant b
-unordered_none (body.Grant order handle version end_moment members) h = none_some order (sym h)
-unordered_none other h = tt
-
-all_none : (ms : List Message) (k : ℕ) → HasNoOrder ms → (m : Message) → IsSent (stamped k ms) m → is_no_grant m.body
+all_none : (ms : List Message) (k : ℕ) → HasNoOrder ms → (m : Message) → IsSent (stamped k ms) m → GrantsNothing m.body
 all_none ms k quiet m s =
     let was = numbered_sent k ms s.0 m s.1 in
-    unordered_none m.body (ap order_number (sym was.2.2) ∙ all_at (λ x. order_number x.body ≡ None) ms (was.1).0 was.0 (without_order ms quiet) (was.1).1)
+    unordered_nothing m.body (ap order_number (sym was.2.2) ∙ all_at (λ x. order_number x.body ≡ None) ms (was.1).0 was.0 (without_order ms quiet) (was.1).1)
 
 still_agrees : (sent ms : List Message) (k : ℕ) (l : Logged) → HasNoOrder ms → Agrees sent l → Agrees (sent ++ stamped k ms) l
 still_agrees sent ms k l quiet h =
     record {
       used = λ m s. elim (sent_cases sent (stamped k ms) m s) [
         | inl before ↦ h.used m before
-        | inr new ↦ λ order handle version end_moment ns is. not_grant m.body order handle version end_moment ns (all_none ms k quiet m new) is
+        | inr new ↦ λ order handle version end_moment ns is. not_said is (all_none ms k quiet m new)
       ];
       rows = λ q row at m s. elim (sent_cases sent (stamped k ms) m s) [
         | inl before ↦ h.rows q row at m before
-        | inr new ↦ λ order version end_moment ns is. not_grant m.body order (handle_of q) version end_moment ns (all_none ms k quiet m new) is
+        | inr new ↦ λ order version end_moment ns is. not_said is (all_none ms k quiet m new)
       ];
     }
 
@@ -460,19 +427,19 @@ agreed_reached config servers clients w r = (sent_reached IsOfMembers members_ke
 
 -- by a row of the master, or of its log
 members_by : (w : WorldState) (l : Logged) → Agrees w.sent l → (handle : ℕ) (row : ChunkRow) → table.get (rows_of l) handle ≡ Some row → (place : ℕ) (grant : Message) (order : OrderNo) (version : Version) (end_moment : Moment) (members : List ℕ)
-    → element_at w.sent place ≡ Some grant → grant.body ≡ body.Grant order (handle_of handle) version end_moment members → version.0 ≡ row.granted → members ≡ row.members
+    → element_at w.sent place ≡ Some grant → SaysGrant order (handle_of handle) version end_moment members grant.body → version.0 ≡ row.granted → members ≡ row.members
 members_by w l agrees handle row there place grant order version end_moment members at is same = (agrees.rows handle row there grant (place, at) order version end_moment members is).1 same
 
 pub members_are_the_rows : MembersAreTheRows
 members_are_the_rows config servers clients w r handle row there place grant order end_moment members at is =
     elim (there) [
-      | inl known ↦ members_by w w.master.logged ((agreed_reached config servers clients w r).up known.0) handle row known.1 place grant order (version_of row.granted) end_moment members at is refl
+      | inl known ↦ members_by w w.master.logged ((agreed_reached config servers clients w r).up known.0) handle row known.1 place grant order (version_of row.granted) end_moment members at (says_grant is) refl
       | inr logged ↦
           let all : Logged = state_of w.master.disk in
-          members_by w all ((agreed_reached config servers clients w r).found []) handle row (removed_cases (rows_of all) (table.keys all.copies) handle row logged) place grant order (version_of row.granted) end_moment members at is refl
+          members_by w all ((agreed_reached config servers clients w r).found []) handle row (removed_cases (rows_of all) (table.keys all.copies) handle row logged) place grant order (version_of row.granted) end_moment members at (says_grant is) refl
     ]
 
 pub lease_members_are_the_rows : LeaseMembersAreTheRows
 lease_members_are_the_rows config servers clients w r index s at handle p there row known same =
     let g = (leases_are_told config servers clients w r index s at handle p there).0 in
-    members_are_the_rows config servers clients w r handle row known g.0 g.1 g.4 g.5 p.held.members g.2 (g.6 ∙ ap (λ (v : ℕ). body.Grant g.4 (handle_of handle) (version_of v) g.5 p.held.members) same)
+    members_are_the_rows config servers clients w r handle row known g.0 g.1 g.4 g.5 p.held.members g.2 (stated_grant (named_grant {handle = handle} (lease_grant w.sent (suc index) handle p.held g) refl same))

@@ -19,7 +19,7 @@ use Rattle.laws_base.specs.Laws.{is_grant, tells_end}
 use Rattle.laws_base.proofs.Steps.{same_some, count-cons, count-append, same_or_not, put_cases, gone_split, removed_cases}
 use Rattle.laws_base.proofs.ChunkRows.{Rows, rows_of, OwnedFrom, all_copied_owned, swapped_owned, expired_owned}
 use Rattle.laws_base.proofs.CountsLogged.{next_grows}
-use Rattle.laws_base.proofs.GrantsOnce.{row_below}
+use Rattle.laws_base.proofs.GrantsOnce.{row_below, no_order_grants, plain_grants}
 use Rattle.laws_base.proofs.VersionsAhead.{changed_cases}
 use Rattle.laws_base.proofs.RowsFit.{granted_logged, same_row}
 use Rattle.laws_base.proofs.RowsKept.{given_up_same}
@@ -30,7 +30,7 @@ use Rattle.laws_base.proofs.Words.{no_order}
 use Rattle.laws_steps.proofs.MasterActs.{IsRowing, core_checkpointed, Waits, Acts}
 use Rattle.laws_steps.proofs.Awaited.{Attempts}
 use Rattle.laws_steps.proofs.AwaitedRecords.{IsBeside}
-use Rattle.laws_versions.proofs.SharedSteps.{no_order_grants, plain_grants, given_tells, other_first, Stepping, IsDone, done_sends, over_of_done}
+use Rattle.laws_versions.proofs.SharedSteps.{given_tells, other_first, Stepping, IsDone, done_sends, over_of_done}
 
 -- a row that was there, with the same numbers and end
 abbrev pub IsSameNumbers : Rows → ℕ → ChunkRow → Type 0

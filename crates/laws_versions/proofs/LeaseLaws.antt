@@ -3,6 +3,7 @@ use Rattle.std.proofs.Common.{ℕ, [], inl, inr, arith}
 use Rattle.std.specs.FinMap as table
 use Rattle.protocol.specs.Logged.{Logged}
 use Rattle.protocol.specs.World.{WorldState}
+use Rattle.laws_base.proofs.LeaseOrders.{says_grant, says_revoke}
 use Rattle.laws_base.proofs.Steps.{removed_cases}
 use Rattle.laws_base.proofs.ChunkRows.{rows_of}
 use Rattle.laws_base.proofs.OrderNumbers.{state_of}
@@ -40,7 +41,7 @@ told_ends_are_the_masters config servers clients w r clocks place m at handle ve
 pub revokes_follow_their_grants : RevokesFollowTheirGrants
 revokes_follow_their_grants config servers clients w r place other grant revoke at also order later handle version end_moment members granted revoked =
     let h : IsOfTimes (scene_of w) = scene_reached IsOfTimes times_kept config servers clients w r in
-    paired w.sent w.master h.base.sent grant revoke (place, at) (other, also) order later handle version end_moment members granted revoked
+    paired w.sent w.master h.base.sent grant revoke (place, at) (other, also) order later handle version end_moment members (says_grant granted) (says_revoke revoked)
 
 pub revoked_leases_are_over : RevokedLeasesAreOver
 revoked_leases_are_over config servers clients w r handle version said =

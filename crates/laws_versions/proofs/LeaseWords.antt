@@ -22,11 +22,13 @@ use Rattle.protocol.specs.Master.{MasterState, MasterDoing, stopped_master, mast
 use Rattle.protocol.specs.MasterStep.{master_at, master_goes, master_ends, master_bounded, master_step, is_within_limits, may_end, found_log, started_master, opening, has_opened, opens_as, new_master}
 use Rattle.protocol.specs.ServerStep.{server_step, server_restart}
 use Rattle.protocol.specs.World.{stamped}
+use Rattle.laws_base.proofs.LeaseEnds.{ordered_extends, quiet_extends}
 use Rattle.laws_base.proofs.Steps.{on_cond, none_some, same_some}
 use Rattle.laws_base.proofs.Entries.{same_number}
-use Rattle.laws_base.proofs.Words.{is_of_lease, true_false}
+use Rattle.laws_base.proofs.Words.{is_of_lease, true_false, quiet_nothing}
+use Rattle.laws_base.proofs.LeaseOrders.{grant_order, grant_body, GrantsNothing, ExtendsNothing, untold_nothing}
 use Rattle.laws_base.proofs.ChunkRows.{Rows, rows_of, From, removed_from, changed_from}
-use Rattle.laws_base.proofs.MasterMoves.{Core, core_of, IsDue, IsPlainOrder, Nothing, NoneEnded, Keeps, core_changed, core_appended, core_ended, core_granted, core_extended, grant_record, logs_alone}
+use Rattle.laws_base.proofs.MasterMoves.{Core, core_of, IsDue, IsPlainOrder, Nothing, NoneEnded, Keeps, core_changed, core_appended, core_ended, core_granted, core_extended, grant_record, logs_alone, plain_nothing}
 use Rattle.laws_base.proofs.MasterSteps.{no_input, goes_named}
 use Rattle.laws_base.proofs.MembersRecorded.{all_at}
 use Rattle.laws_base.proofs.MessagesSent.{IsSent, sent_cases, none_sent, numbered_sent, step_sent}
@@ -144,23 +146,25 @@ paired_more ms more m one with_earlier h x y is also handle version said too =
 
 -- messages that say nothing of a lease
 
+nothing_said : (b : Body) → GrantsNothing b → ExtendsNothing b → lease_said b ≡ None
+nothing_said (grant_body order handle version end_moment members) none also = absurd none
+nothing_said (body.Extend handle version end_moment) none also = absurd also
+nothing_said other none also = refl
+
 quiet_said : (b : Body) → is_of_lease b ≡ false → lease_said b ≡ None
-quiet_said (body.Grant order handle version end_moment members) h = true_false h
-quiet_said (body.Extend handle version end_moment) h = true_false h
-quiet_said other h = refl
+quiet_said b quiet = nothing_said b (quiet_nothing b quiet) (quiet_extends b quiet)
 
 plain_said : (b : Body) (o : OrderNo) → order_number b ≡ Some o → IsPlainOrder b → lease_said b ≡ None
-plain_said (body.Grant order handle version end_moment members) o is plain = absurd plain
-plain_said (body.Extend handle version end_moment) o is plain = none_some o is
-plain_said other o is plain = refl
+plain_said b o is plain = nothing_said b (plain_nothing b plain) (ordered_extends b o is)
 
 -- one that tells no end
+untold_extends : (b : Body) → TellsNoEnd b → ExtendsNothing b
+untold_extends (body.Extend h v e) none =
+    true_false (sym (and_from ((h.0 == h.0) && (v.0 == v.0)) (e.0 == e.0) (and_from (h.0 == h.0) (v.0 == v.0) (same_number h.0) (same_number v.0)) (same_number e.0)) ∙ none h.0 v.0 e.0)
+untold_extends other none = tt
+
 untold_said : (b : Body) → TellsNoEnd b → lease_said b ≡ None
-untold_said (body.Grant order h v e members) none =
-    true_false (sym (and_from ((h.0 == h.0) && (v.0 == v.0)) (e.0 == e.0) (and_from (h.0 == h.0) (v.0 == v.0) (same_number h.0) (same_number v.0)) (same_number e.0)) ∙ none h.0 v.0 e.0)
-untold_said (body.Extend h v e) none =
-    true_false (sym (and_from ((h.0 == h.0) && (v.0 == v.0)) (e.0 == e.0) (and_from (h.0 == h.0) (v.0 == v.0) (same_number h.0) (same_number v.0)) (same_number e.0)) ∙ none h.0 v.0 e.0)
-untold_said other none = refl
+untold_said b none = nothing_said b (untold_nothing b none) (untold_extends b none)
 
 silent_agrees : (ms more : List Message) (m : Message) (l : Logged) → IsOneMore ms m more → lease_said m.body ≡ None → Agrees ms l → Agrees more l
 silent_agrees ms more m l one none h = agrees_more ms more m l one (λ q v is. none_some (q, v) (sym none ∙ is)) (λ q row at v is. none_some (q, v) (sym none ∙ is)) h
@@ -270,7 +274,7 @@ granted before start c handle version until primary members due n h =
     order = record { epoch = two.logged.epoch; count = suc two.order_count }
 
     m : Message
-    m = message node.Master (the_server primary) (body.Grant order (handle_of handle) (version_of version) (moment_of until) members)
+    m = message node.Master (the_server primary) (grant_order handle version until members order)
 
     ms : List Message
     ms = before ++ c.sent

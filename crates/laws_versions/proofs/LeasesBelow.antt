@@ -1,8 +1,8 @@
 -- The leases below a version that an order gives are over: those of its chunk have ended as it is sent, and none below it is granted any more.
 use Rattle.std.proofs.Common.{◌≡◌, ◌⊎◌, ℕ, suc, ◌≤◌, ◌<◌, false, List, ◌++◌, length, Option, Some, None, refl, sym, ap, subst, ◌∙◌, inl, inr, arith}
-use Rattle.std.specs.Prelude.{◌==◌, max, IsTrue}
+use Rattle.std.specs.Prelude.{max, IsTrue}
 use Rattle.std.specs.FinMap as table
-use Rattle.std.proofs.lemmas.Bool.{and_from, cases_lt}
+use Rattle.std.proofs.lemmas.Bool.{cases_lt}
 use Rattle.std.proofs.Math.Nat.{le-max_left, le-max_right, max-le}
 use Rattle.gfs_types.specs.declared.config.Config.{Config}
 use Rattle.messages.specs.declared.event.NodeInput.{NodeInput}
@@ -13,15 +13,15 @@ use Rattle.messages.specs.declared.message.Body.TheVariants as body
 use Rattle.chunk_table.specs.ChunkTable.{ChunkRow}
 use Rattle.protocol.specs.Tables.{element_at}
 use Rattle.gfs_types.specs.declared.ids.OrderNo.{OrderNo}
-use Rattle.protocol.specs.Sending.{order_number}
+use Rattle.protocol.specs.Sending.{handle_of, version_of, order_number}
 use Rattle.protocol.specs.Choice.{Choice, decided_changes}
 use Rattle.protocol.specs.Logged.{Logged, log_changed_by_all}
 use Rattle.protocol.specs.Master.{VersionAttempt}
 use Rattle.protocol.specs.MasterStep.{master_step}
 use Rattle.protocol.specs.World.{WorldState, stamped, after_master, after_events, IsReached}
+use Rattle.laws_base.proofs.LeaseOrders.{ExtendsNothing, nothing_ends, SaysGrant, says_grant, grant_counts}
 use Rattle.laws_base.specs.Laws.{is_grant, grants_of, tells_end}
 use Rattle.laws_base.proofs.Steps.{same_some}
-use Rattle.laws_base.proofs.Entries.{same_number}
 use Rattle.laws_base.proofs.Words.{true_false}
 use Rattle.laws_base.proofs.ChunkRows.{rows_of}
 use Rattle.laws_base.proofs.MembersRecorded.{all_at}
@@ -43,7 +43,7 @@ use Rattle.laws_versions.proofs.ClosedVersions.{StaysShut, stays_shut, clocks_be
 use Rattle.laws_entries.proofs.SentGrants.{counted_one}
 use Rattle.laws_entries.proofs.RisingRounds.{leased_granted}
 use Rattle.laws_steps.proofs.MasterPremises.{is_told, IsAsk}
-use Rattle.laws_versions.proofs.MasterCauses.{is_caused, Attempts, Causes, step_caused}
+use Rattle.laws_versions.proofs.MasterCauses.{is_caused, uncaused_nothing, Attempts, Causes, step_caused}
 use Rattle.laws_versions.proofs.AttemptsAbove.{step_above}
 use Rattle.laws_versions.proofs.OrderSteps.{IsOrderedNow, WasOrderedIn, was_ordered_in}
 use Rattle.laws_versions.proofs.GivenOnce.{IsNext, now_given, given_number}
@@ -51,7 +51,7 @@ use Rattle.laws_versions.specs.AskedVersions.{LeasesBelowAreOver}
 use Rattle.laws_versions.proofs.AskedOrders.{GivesFree, GivesFirst, ready_later, step_asked}
 
 -- the lease of a version that was not granted is over
-none_granted_over : (config : Config) (servers clients : ℕ) (w : WorldState) → IsReached config servers clients w → (handle number : ℕ) → grants_of handle number w.sent ≤ 0 → IsLeaseOver w handle number
+pub none_granted_over : (config : Config) (servers clients : ℕ) (w : WorldState) → IsReached config servers clients w → (handle number : ℕ) → grants_of handle number w.sent ≤ 0 → IsLeaseOver w handle number
 none_granted_over config servers clients w r handle number none =
     record {
       held = λ index p holds same.
@@ -59,9 +59,8 @@ none_granted_over config servers clients w r handle number none =
           let some = counted_one (λ x. is_grant handle number x.body) w.sent g.0 (g.1).0 (g.1).1 (ap (λ (n : ℕ). is_grant handle n (g.0).body) (sym same) ∙ g.2) in
           omega (arith, some, none);
       comes = λ place grant order end_moment members at is.
-          absurd (let some = counted_one (λ x. is_grant handle number x.body) w.sent grant place at
-          (ap (is_grant handle number) is ∙ and_from (handle == handle) (number == number) (same_number handle) (same_number number)) in
-          omega (arith, some, none));
+          let says : SaysGrant order (handle_of handle) (version_of number) end_moment members grant.body = says_grant is in
+          absurd (let some = counted_one (λ x. is_grant handle number x.body) w.sent grant place at (grant_counts says) in omega (arith, some, none));
     }
 
 -- a step on an Ask tells no end of a lease
@@ -76,10 +75,12 @@ same_message i x y one two = same_some x y (ap message_in (sym one ∙ two))
 abbrev TellsNone : ℕ → ℕ → ℕ → Message → Type 0
 TellsNone handle number until x = tells_end handle number until x.body ≡ false
 
+uncaused_extends : (b : Body) → is_caused b ≡ false → ExtendsNothing b
+uncaused_extends (body.Extend q v end_moment) none = true_false none
+uncaused_extends other none = tt
+
 plain_end : (handle number until : ℕ) (b : Body) → is_caused b ≡ false → tells_end handle number until b ≡ false
-plain_end handle number until (body.Grant order q v end_moment members) none = true_false none
-plain_end handle number until (body.Extend q v end_moment) none = true_false none
-plain_end handle number until other none = refl
+plain_end handle number until b none = nothing_ends b (uncaused_nothing b none) (uncaused_extends b none) handle number until
 
 asked_ends : (handle number until : ℕ) (l : Logged) (tried : Attempts) (i : NodeInput) → IsAsk i → Causes l tried i (TellsNone handle number until)
 asked_ends handle number until l tried i ask =

@@ -3,6 +3,7 @@ use Rattle.std.proofs.Common.{◌≡◌, ◌⊎◌, ℕ, suc, ◌+◌, ◌≤◌
 use Rattle.std.specs.Ordering.{nat_cmp, eq_by_cmp}
 use Rattle.std.specs.List.{list_any}
 use Rattle.std.proofs.Math.Nat.{le-max_left}
+use Rattle.std.proofs.lemmas.Bool.{true≢false}
 use Rattle.std.specs.FinMap as table
 use Rattle.gfs_types.specs.declared.ids.Node.{Node}
 use Rattle.gfs_types.specs.declared.ids.Node.TheVariants as node
@@ -20,6 +21,7 @@ use Rattle.protocol.specs.Choice.{Choice}
 use Rattle.protocol.specs.Logged.{Logged, copies_given_up, after_record}
 use Rattle.protocol.specs.Master.{MasterState, MasterDoing, VersionAttempt}
 use Rattle.protocol.specs.MasterStep.{master_step}
+use Rattle.laws_base.proofs.LeaseOrders.{grant_order, grant_body, GrantsNothing}
 use Rattle.laws_base.proofs.MasterMoves.{removed_other}
 use Rattle.laws_base.proofs.Steps.{none_some, put_cases, removed_cases, now_gone}
 use Rattle.laws_base.proofs.Entries.{AllOf}
@@ -31,9 +33,13 @@ abbrev pub is_caused : Body → Bool
 is_caused (body.Create order handle version) = true
 is_caused (body.SetVersion order handle version base) = true
 is_caused (body.CopyLocal order handle version copy copy_version) = true
-is_caused (body.Grant order handle version end_moment members) = true
+is_caused (grant_body order handle version end_moment members) = true
 is_caused (body.Extend handle version end_moment) = true
 is_caused other = false
+
+pub uncaused_nothing : (b : Body) → is_caused b ≡ false → GrantsNothing b
+uncaused_nothing (grant_body order handle version end_moment members) none = absurd (true≢false none)
+uncaused_nothing other none = tt
 
 abbrev pub Attempts : Type 0
 Attempts = Table VersionAttempt
@@ -49,7 +55,7 @@ pub record Causes (l : Logged) (tried : Attempts) (i : NodeInput) (W : Message �
   pub plain : (receiver : Node) (b : Body) → is_caused b ≡ false → W (message node.Master receiver b)
   pub extends : (server : ℕ) (line : LeaseLine) (until : ℕ) → IsLineTaken i server line → W (message node.Master (the_server server) (body.Extend line.handle line.version (moment_of until)))
   pub grants : (server : ℕ) (order : OrderNo) (handle version until : ℕ) (members : List ℕ) → IsTold i → has_number members server ≡ true
-      → W (message node.Master (the_server server) (body.Grant order (handle_of handle) (version_of version) (moment_of until) members))
+      → W (message node.Master (the_server server) (grant_order handle version until members order))
   pub creates : (server : ℕ) (order : OrderNo) (handle version : ℕ) → IsAsk i → IsRaised l tried handle version 0 ⊎ (l.next_handle ≤ handle)
       → W (message node.Master (the_server server) (body.Create order (handle_of handle) (version_of version)))
   pub raises : (server : ℕ) (order : OrderNo) (handle version base : ℕ) → IsAsk i → IsRaised l tried handle version base
@@ -139,12 +145,11 @@ module _ (l : Logged) (tried : Attempts) where
 
     module _ (i : NodeInput) (W : Message → Type 0) (k : Causes l tried i W) where
       answer_caused : (receiver : Node) (b : Body) → IsAnswer l i Keeping receiver b → is_caused b ≡ false
-      answer_caused receiver (body.Create order handle version) is = absurd is
-      answer_caused receiver (body.SetVersion order handle version base) is = absurd is
-      answer_caused receiver (body.CopyLocal order handle version copy copy_version) is = absurd is
-      answer_caused receiver (body.Grant order handle version end_moment members) is = absurd is
-      answer_caused receiver (body.Extend handle version end_moment) is = absurd is
-      answer_caused receiver other is = refl
+      answer_caused receiver (body.Told number place) is = refl
+      answer_caused receiver (body.Refused number refusal) is = refl
+      answer_caused receiver (body.Named number reply) is = refl
+      answer_caused receiver (body.Wait number) is = refl
+      answer_caused receiver other is = absurd is
 
       order_caused : (server : ℕ) (b : Body) → IsOrder i Keeping server b → W (message node.Master (the_server server) b)
       order_caused server (body.Create order handle version) is = k.creates server order handle.0 version.0 is.0 (created handle.0 version.0 is.1)
@@ -152,7 +157,7 @@ module _ (l : Logged) (tried : Attempts) where
           k.raises server order handle.0 version.0 base.0 is.0 (raised handle.0 version.0 base.0 is.1)
       order_caused server (body.CopyLocal order handle version copy copy_version) is =
           k.copies server order handle.0 version.0 copy.0 copy_version.0 is.0 (copied handle.0 version.0 copy.0 is.1)
-      order_caused server (body.Grant order handle version end_moment members) is = k.grants server order handle.0 version.0 end_moment.0 members is.0 is.1
+      order_caused server (grant_body order handle version end_moment members) is = k.grants server order handle.0 version.0 end_moment.0 members is.0 is.1
       order_caused server (body.Extend handle version end_moment) is = absurd is
       order_caused server other is = k.plain (the_server server) other refl
 

@@ -8,6 +8,7 @@ use Rattle.chunk_table.specs.ChunkTable.{ChunkRow}
 use Rattle.protocol.specs.Sending.{order_number}
 use Rattle.protocol.specs.Logged.{Logged, Copy, replayed}
 use Rattle.protocol.specs.World.{WorldState, IsReached}
+use Rattle.laws_base.proofs.LeaseOrders.{says_grant}
 use Rattle.laws_base.specs.Laws.{is_number, orders_under}
 use Rattle.laws_base.proofs.Steps.{none_some, now_gone, removed_cases}
 use Rattle.laws_base.proofs.Entries.{same_number}
@@ -78,10 +79,10 @@ orders_are_of_used_handles config servers clients w r place m at handle version 
 
 pub grants_agree_with_rows : GrantsAgreeWithRows
 grants_agree_with_rows config servers clients w r handle row (inl there) place grant order version end_moment members at is =
-    (((base config servers clients w r).base.revokes.up there.0).rows handle row there.1 grant (place, at)).0 order version end_moment members is
+    (((base config servers clients w r).base.revokes.up there.0).rows handle row there.1 grant (place, at)).0 order version end_moment members (says_grant is)
 grants_agree_with_rows config servers clients w r handle row (inr there) place grant order version end_moment members at is =
     let all : Logged = state_of w.master.disk in
-    (((base config servers clients w r).base.revokes.found []).rows handle row (removed_cases (rows_of all) (table.keys all.copies) handle row there) grant (place, at)).0 order version end_moment members is
+    (((base config servers clients w r).base.revokes.found []).rows handle row (removed_cases (rows_of all) (table.keys all.copies) handle row there) grant (place, at)).0 order version end_moment members (says_grant is)
 
 pub attempted_leases_have_ended : AttemptedLeasesHaveEnded
 attempted_leases_have_ended config servers clients w r up handle row at =

@@ -1,10 +1,9 @@
 -- Why a SetVersion skips no granted version: as it is sent, nothing above its base was granted, its number is the next one, and no other is attempted. So those between are shut.
 use Rattle.std.proofs.Common.{◌≡◌, ◌⊎◌, ℕ, zero, suc, ◌≤◌, ◌<◌, Bool, true, false, List, [], ◌∷◌, ◌++◌, length, Option, Some, None, refl, sym, ap, subst, ◌∙◌, inl, inr, arith}
-use Rattle.std.specs.Prelude.{◌==◌, nat_le, IsTrue}
+use Rattle.std.specs.Prelude.{nat_le, IsTrue}
 use Rattle.std.specs.FinMap as table
-use Rattle.std.proofs.lemmas.Bool.{eqb-true, and_parts, leb-true, leb-false}
+use Rattle.std.proofs.lemmas.Bool.{leb-true, leb-false}
 use Rattle.gfs_types.specs.declared.config.Config.{Config}
-use Rattle.gfs_types.specs.declared.ids.Moment.{Moment}
 use Rattle.gfs_types.specs.declared.ids.OrderNo.{OrderNo}
 use Rattle.messages.specs.declared.event.Event.{Event}
 use Rattle.messages.specs.declared.event.NodeInput.{NodeInput}
@@ -23,6 +22,7 @@ use Rattle.protocol.specs.World.{WorldState, new_world, stamped, after_events, I
 use Rattle.laws_base.specs.Laws.{is_grant, grants_of}
 use Rattle.laws_base.proofs.Steps.{none_some, same_some, tally, count-cons}
 use Rattle.laws_base.proofs.Words.{true_false}
+use Rattle.laws_base.proofs.LeaseOrders.{grant_parts}
 use Rattle.laws_base.proofs.ChunkRows.{rows_of}
 use Rattle.laws_base.proofs.MembersRecorded.{all_at}
 use Rattle.laws_base.proofs.MessagesSent.{IsSent}
@@ -119,12 +119,6 @@ each_raised config servers clients u r =
     }
 
 -- a Grant that is counted
-pub grant_parts : (handle version : ℕ) (b : Body) → is_grant handle version b ≡ true → (order : OrderNo) × (end_moment : Moment) × (members : List ℕ) × (b ≡ body.Grant order (handle_of handle) (version_of version) end_moment members)
-grant_parts handle version (body.Grant order q v end_moment members) is =
-    let parts = and_parts (q.0 == handle) (v.0 == version) is in
-    (order, end_moment, members, ap (λ (n : ℕ). body.Grant order (handle_of n) v end_moment members) (eqb-true q.0 handle parts.0) ∙ ap (λ (n : ℕ). body.Grant order (handle_of handle) (version_of n) end_moment members) (eqb-true v.0 version parts.1))
-grant_parts handle version other is = true_false (sym is)
-
 pub counted_grant : (handle version : ℕ) (sent : List Message) → 1 ≤ grants_of handle version sent → (m : Message) × IsSent sent m × (is_grant handle version m.body ≡ true)
 counted_grant handle version [] some = absurd (let none : 1 ≤ 0 = some in omega (arith, none))
 counted_grant handle version (x ∷ sent) some = by_first (is_grant handle version x.body) refl (counted_grant handle version sent)

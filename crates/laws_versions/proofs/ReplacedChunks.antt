@@ -1,13 +1,11 @@
 -- In each reached world whose clocks were kept, a chunk that was told with a granted round stands at its place still, or its file is gone, or the lease of the told round is over.
 use Rattle.std.proofs.Common.{◌≡◌, ◌⊎◌, ℕ, suc, ◌≤◌, ◌<◌, Bool, true, false, List, [], ◌∷◌, ◌++◌, length, Option, Some, None, is_some, refl, sym, ap, subst, ◌∙◌, inl, inr, arith}
-use Rattle.std.specs.Prelude.{◌==◌, ◌&&◌, nat_lt, unwrap_or, IsTrue}
+use Rattle.std.specs.Prelude.{nat_lt, unwrap_or, IsTrue}
 use Rattle.std.specs.FinMap as table
-use Rattle.std.proofs.lemmas.Bool.{and_parts, eqb-true, ltb-true, ltb-false}
+use Rattle.std.proofs.lemmas.Bool.{ltb-true, ltb-false}
 use Rattle.gfs_types.specs.declared.config.Config.{Config}
 use Rattle.messages.specs.declared.event.Event.{Event}
 use Rattle.messages.specs.declared.event.NodeInput.{NodeInput}
-use Rattle.messages.specs.declared.message.Body.{Body}
-use Rattle.messages.specs.declared.message.Body.TheVariants as body
 use Rattle.messages.specs.declared.message.Message.{Message}
 use Rattle.messages.specs.declared.message.Location.{Location}
 use Rattle.chunk_table.specs.ChunkTable.{ChunkRow}
@@ -26,7 +24,7 @@ use Rattle.laws_base.proofs.FilesNamed.{Files}
 use Rattle.laws_base.proofs.Owners.{chunks_at}
 use Rattle.laws_base.proofs.CountsLogged.{files_below}
 use Rattle.laws_base.proofs.LoggedParts.{Parts}
-use Rattle.laws_base.proofs.GrantsOnce.{row_below}
+use Rattle.laws_base.proofs.GrantsOnce.{row_below, no_order_grants}
 use Rattle.laws_base.proofs.MembersRecorded.{place_below}
 use Rattle.laws_base.proofs.ClientMoves.{HasNoOrder, quiet_orders, client_quiet, call_quiet}
 use Rattle.laws_base.proofs.SentReached.{without_order, count-sent, server_quiet, server_restarts_quiet, sent_reached}
@@ -43,6 +41,7 @@ use Rattle.laws_versions.proofs.ClosedVersions.{clocks_before}
 use Rattle.laws_steps.proofs.Histories.{IsGrown, steps_grown, SentIn, sent_in, stood_before, after_both}
 use Rattle.laws_versions.proofs.ExtendLaws.{restart_silent}
 use Rattle.laws_entries.proofs.GrantsFollow.{GrantsAbove, HasPassed, step_passed, restart_passed}
+use Rattle.laws_entries.proofs.SentGrants.{above_grants}
 use Rattle.laws_versions.proofs.AskedSteps.{StandsAt, IsToldOf, IsNoGrant}
 use Rattle.laws_versions.proofs.CopiedSources.{IsNoStart, asked_or_not, unasked_step, asked_step, free_reached, copied_chunks_have_no_lease}
 use Rattle.laws_versions.specs.ReplacedChunks.{IsToldAt, ToldChunksStandOrAreOver, ReplacedChunksHaveNoLease}
@@ -52,20 +51,6 @@ use Rattle.laws_versions.proofs.ToldAnswers.{WasToldIn, told_now, was_told_in}
 -- of a number that the master has passed no Grant is sent
 
 module _ (handle version : ℕ) where
-  no_order_grants : (b : Body) → order_number b ≡ None → is_grant handle version b ≡ false
-  no_order_grants (body.Grant order h v end_moment members) none = none_some order (sym none)
-  no_order_grants other none = refl
-
-  above_grants : (b : Body) → GrantsAbove handle version b → is_grant handle version b ≡ false
-  above_grants (body.Grant order h v end_moment members) above = by_test ((h.0 == handle) && (v.0 == version)) refl
-    where
-      by_test : (b : Bool) → (h.0 == handle) && (v.0 == version) ≡ b → b ≡ false
-      by_test false e = refl
-      by_test true e =
-          let parts = and_parts (h.0 == handle) (v.0 == version) e in
-          absurd (let low = above (eqb-true h.0 handle parts.0) in let same = eqb-true v.0 version parts.1 in omega (arith, low, same))
-  above_grants other above = refl
-
   none_granted : (P : Message → Type 0) → ((m : Message) → P m → is_grant handle version m.body ≡ false) → (ms : List Message) → AllOf P ms → grants_of handle version ms ≡ 0
   none_granted P go [] all = refl
   none_granted P go (m ∷ ms) all =
@@ -78,7 +63,7 @@ module _ (handle version : ℕ) where
   no_more sent ms k none = let whole = count-sent (λ b. is_grant handle version b) k sent [] ms in omega (arith, whole, none)
 
   quiet_more : (sent ms : List Message) (k : ℕ) → HasNoOrder ms → grants_of handle version (sent ++ stamped k ms) ≤ grants_of handle version sent
-  quiet_more sent ms k quiet = no_more sent ms k (none_granted (λ m. order_number m.body ≡ None) (λ m none. no_order_grants m.body none) ms (without_order ms quiet))
+  quiet_more sent ms k quiet = no_more sent ms k (none_granted (λ m. order_number m.body ≡ None) (λ m none. no_order_grants handle version m.body none) ms (without_order ms quiet))
 
 -- one event of a reached world
 

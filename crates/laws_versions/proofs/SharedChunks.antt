@@ -23,6 +23,7 @@ use Rattle.protocol.specs.MasterStep.{master_at, master_goes, master_ends, maste
 use Rattle.protocol.specs.Observer.{new_observer}
 use Rattle.protocol.specs.ServerStep.{server_step, server_restart}
 use Rattle.protocol.specs.World.{WorldState, new_world, stamped}
+use Rattle.laws_base.proofs.GrantsOnce.{no_order_grants}
 use Rattle.laws_base.specs.Laws.{is_grant, grants_of, tells_end}
 use Rattle.laws_base.proofs.Steps.{on_cond, none_some, tally, count-cons, same_or_not, removed_cases}
 use Rattle.laws_base.proofs.Entries.{AllOf, mapped_cases}
@@ -102,10 +103,6 @@ stay x base set handle version over = record { told = base.base.told; set = set;
 -- messages alone are sent, of which none grants it
 pub sent_over : (x : Scene) (ms : List Message) (handle version : ℕ) → grants_of handle version (x.sent ++ ms) ≤ grants_of handle version x.sent → IsOverIn x handle version → AreOverAt handle version 0 (x.sent ++ ms) x.greatest x.servers
 sent_over x ms handle version few over index s at = over_sent handle version (grants_of handle version x.sent) x.sent ms x.greatest (suc index) s.disk s.leases (omega arith) few (over index s at)
-
-no_order_grants : (handle version : ℕ) (b : Body) → order_number b ≡ None → is_grant handle version b ≡ false
-no_order_grants handle version (body.Grant order h v end_moment members) none = none_some order (sym none)
-no_order_grants handle version other none = refl
 
 none_granted : (handle version : ℕ) (ms : List Message) → AllOf (λ m. order_number m.body ≡ None) ms → grants_of handle version ms ≡ 0
 none_granted handle version [] all = refl

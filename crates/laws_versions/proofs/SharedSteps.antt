@@ -13,10 +13,11 @@ use Rattle.log_records.specs.declared.record.Record.TheVariants as log
 use Rattle.relaxed_file.specs.Names.{Node, Dir, File, node_at, copied_entries, id_after}
 use Rattle.relaxed_file.proofs.NamesTree.{HasAt, copied_of, entry_is}
 use Rattle.protocol.specs.Tables.{removed_all, with_at}
-use Rattle.protocol.specs.Sending.{message, the_server, handle_of, version_of, moment_of, order_number}
+use Rattle.protocol.specs.Sending.{message, the_server, handle_of, version_of, moment_of}
 use Rattle.chunk_table.specs.ChunkTable.{ChunkRow, ChunkTable, new_row, chunk_of, handles_of, row_granted}
 use Rattle.protocol.specs.Logged.{Logged, Copy, LogDisk, LogChange, AppendRecord, WriteCheckpoint, log_changed, after_record, checkpoint_of, copies_given_up, all_copies_given_up, swapped_in, with_copied_node, with_copied_nodes}
 use Rattle.protocol.specs.Master.{VersionAttempt}
+use Rattle.laws_base.proofs.GrantsOnce.{no_order_grants, plain_grants}
 use Rattle.laws_base.specs.Laws.{times_in, is_grant, grants_of, tells_end}
 use Rattle.laws_base.proofs.Steps.{none_some, same_some, tally, count-cons, count-append, same_or_not, put_cases, put_other, kept_cases, removed_cases}
 use Rattle.laws_base.proofs.ChunkRows.{Rows, rows_of, OwnedFrom, all_copied_owned, swapped_owned, expired_owned}
@@ -29,7 +30,7 @@ use Rattle.laws_base.proofs.LoggedParts.{Parts}
 use Rattle.laws_base.proofs.RowsFit.{granted_logged, same_row}
 use Rattle.laws_base.proofs.OrderNumbers.{state_of, state-appended, AllStops, stops_push}
 use Rattle.laws_base.proofs.MessagesSent.{sent_before}
-use Rattle.laws_base.proofs.MasterMoves.{Core, core_changed, core_appended, core_ended, core_granted, core_extended, grant_record, IsDue, IsNoGrantRecord, IsPlainOrder}
+use Rattle.laws_base.proofs.MasterMoves.{Core, core_changed, core_appended, core_ended, core_granted, core_extended, grant_record, IsDue, IsNoGrantRecord}
 use Rattle.laws_base.proofs.RevokesNumbered.{one_more}
 use Rattle.laws_base.proofs.LeaseEnds.{IsKeptRow, IsEndTold, WasSaidOver, IsPast, plain_tells, quiet_tells, IsTelling}
 use Rattle.laws_base.proofs.Words.{no_order}
@@ -160,18 +161,11 @@ snapshot_shares l from to q named shared =
 
 -- messages
 
-pub no_order_grants : (handle version : ℕ) (b : Body) → order_number b ≡ None → is_grant handle version b ≡ false
-no_order_grants handle version (body.Grant order h v end_moment members) none = none_some order (sym none)
-no_order_grants handle version other none = refl
-
-pub plain_grants : (handle version : ℕ) (b : Body) → IsPlainOrder b → is_grant handle version b ≡ false
-plain_grants handle version (body.Grant order h v end_moment members) plain = absurd plain
-plain_grants handle version other plain = refl
-
 pub given_tells : (b : Body) (x : ℕ × ℕ) → version_given b ≡ Some x → (handle version until : ℕ) → tells_end handle version until b ≡ false
-given_tells (body.Grant order h v end_moment members) x given handle version until = none_some x given
-given_tells (body.Extend h v end_moment) x given handle version until = none_some x given
-given_tells other x given handle version until = refl
+given_tells (body.Create order h v) x given handle version until = refl
+given_tells (body.SetVersion order h v base) x given handle version until = refl
+given_tells (body.CopyLocal order h v copy copy_version) x given handle version until = refl
+given_tells other x given handle version until = none_some x given
 
 -- tests of two numbers that are other
 pub other_first : (a b : ℕ) (rest : Bool) → (a ≡ b → ⊥) → (a == b) && rest ≡ false

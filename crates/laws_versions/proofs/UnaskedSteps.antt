@@ -32,6 +32,7 @@ use Rattle.protocol.specs.MasterVersions.{sends_grant, grants_to, is_complete, w
 use Rattle.protocol.specs.MasterReports.{holds_now, revoked_row, is_useless, drops_useless, learns_all, may_extend, extends_row, extends_all, hears, takes_report}
 use Rattle.protocol.specs.MasterClones.{CloneOrder, orders_clone, best_clone}
 use Rattle.protocol.specs.MasterStep.{master_ticks, gives_up_attempts, gives_up_lost_copies, lost_copies, expires_all, expires_old, expired_files, master_takes, master_does, finishes}
+use Rattle.laws_base.proofs.LeaseOrders.{revoke_order}
 use Rattle.laws_base.proofs.Steps.{on_cond, put_there}
 use Rattle.laws_base.proofs.MasterMoves.{removed_other}
 use Rattle.laws_base.proofs.VersionAttempts.{both_of}
@@ -107,8 +108,8 @@ module _ (Of : Record → Type 0) (calls : (r : Record) → IsOfCalls r → Of r
   revoked_of : (d : MasterDoing) (handle : ℕ) (o : Option ChunkRow) → P d → P (revokes_row d handle o)
   revoked_of d handle None h = h
   revoked_of d handle (Some row) h =
-      on_cond P (has_lease d.master row) (orders d row.primary (λ order. body.Revoke order (handle_of handle) (version_of row.granted))) d
-      (λ _. k.ordered d row.primary (λ order. body.Revoke order (handle_of handle) (version_of row.granted)) (λ o. refl) h) (λ _. h)
+      on_cond P (has_lease d.master row) (orders d row.primary (revoke_order handle row)) d
+      (λ _. k.ordered d row.primary (revoke_order handle row) (λ o. refl) h) (λ _. h)
 
   revoked_all : (d : MasterDoing) (handles : List ℕ) → P d → P (revokes_all d handles)
   revoked_all d [] h = h
@@ -277,31 +278,7 @@ module _ (Of : Record → Type 0) (calls : (r : Record) → IsOfCalls r → Of r
   takes_kept d m (body.Revoked handle version) none h = revoked_row_kept d (server_number m.sender) handle.0 version.0 (chunk_of d.master.logged.table handle.0) h
   takes_kept d m (body.Cloned handle version) none h = more.held d (server_number m.sender) handle.0 version.0 h
   takes_kept d m (body.Report replicas leases) none h = report_kept d (server_number m.sender) replicas leases h
-  takes_kept d m (body.Named number reply) none h = h
-  takes_kept d m (body.Told number location) none h = h
-  takes_kept d m (body.Wait number) none h = h
-  takes_kept d m (body.Refused number refusal) none h = h
-  takes_kept d m (body.Push id bytes rest) none h = h
-  takes_kept d m (body.Pushed id) none h = h
-  takes_kept d m (body.Mutate id handle version t deadline) none h = h
-  takes_kept d m (body.Done id place) none h = h
-  takes_kept d m (body.Forward handle version serial id change) none h = h
-  takes_kept d m (body.Acked handle version serial) none h = h
-  takes_kept d m (body.Nacked handle version serial refusal) none h = h
-  takes_kept d m (body.Read number handle version offset count) none h = h
-  takes_kept d m (body.Len number handle version) none h = h
-  takes_kept d m (body.Bytes number bytes) none h = h
-  takes_kept d m (body.LenIs number count) none h = h
-  takes_kept d m (body.Create order handle version) none h = h
-  takes_kept d m (body.SetVersion order handle version base) none h = h
-  takes_kept d m (body.Grant order handle version end_moment members) none h = h
-  takes_kept d m (body.Extend handle version end_moment) none h = h
-  takes_kept d m (body.Revoke order handle version) none h = h
-  takes_kept d m (body.Drop order handle version) none h = h
-  takes_kept d m (body.Clone order handle version source) none h = h
-  takes_kept d m (body.CopyAsk handle version) none h = h
-  takes_kept d m (body.Image handle version serial bytes) none h = h
-  takes_kept d m (body.CopyLocal order handle version copy copy_version) none h = h
+  takes_kept d m other none h = h
 
   -- a message, at which no file expires, and the snapshots that are ready then
   pub taken_kept : (d : MasterDoing) (m : Message) → IsNoAsk m.body → P d → P (finishes (master_does d (input.Deliver m)))

@@ -1,5 +1,5 @@
 -- The Grant of a version under which something is numbered is used up: the lease was granted to that server, which refuses the Grant since.
-use Rattle.std.proofs.Common.{◌≡◌, ℕ, zero, suc, ◌≤◌, true, List, [], ◌∷◌, Option, Some, None, refl, sym, ap, subst, ◌∙◌, arith}
+use Rattle.std.proofs.Common.{◌≡◌, ℕ, suc, true, List, ◌∷◌, Option, Some, None, refl, sym, ap, subst, ◌∙◌, arith}
 use Rattle.std.specs.Prelude.{◌==◌}
 use Rattle.std.specs.FinMap as table
 use Rattle.std.proofs.lemmas.Bool.{eqb-true, and_parts}
@@ -8,7 +8,6 @@ use Rattle.gfs_types.specs.declared.ids.OrderNo.{OrderNo}
 use Rattle.messages.specs.declared.event.Event.{Event}
 use Rattle.messages.specs.declared.event.NodeInput.TheVariants as input
 use Rattle.messages.specs.declared.message.Message.{Message}
-use Rattle.messages.specs.declared.message.Body.TheVariants as body
 use Rattle.primary_order.specs.declared.order.SerialOrder.{SerialOrder}
 use Rattle.protocol.specs.Tables.{element_at}
 use Rattle.protocol.specs.Sending.{handle_of, version_of, order_number}
@@ -17,8 +16,9 @@ use Rattle.protocol.specs.Observer.{Placed}
 use Rattle.protocol.specs.Server.{ServerState, counting_primary}
 use Rattle.protocol.specs.ServerStep.{server_at}
 use Rattle.protocol.specs.World.{WorldState, new_world, happens, after_events, IsReached}
-use Rattle.laws_base.specs.Laws.{grants_of, is_grant}
-use Rattle.laws_base.proofs.Steps.{on_cond, none_some, same_some, tally, count-cons}
+use Rattle.laws_base.proofs.LeaseOrders.{SaysGrant, named_grant, says_grant, grant_number}
+use Rattle.laws_base.specs.Laws.{is_grant}
+use Rattle.laws_base.proofs.Steps.{on_cond, none_some, same_some}
 use Rattle.laws_base.proofs.RisingOrders.{order_numbers_never_fall}
 use Rattle.laws_base.proofs.LeasesTold.{IsStaleAt, stale_later, IsToldLease, IsToldServer, AreTold, told_kept, same_grant, granting}
 use Rattle.laws_base.proofs.GrantsOnce.{versions_are_granted_once}
@@ -31,6 +31,7 @@ use Rattle.laws_entries.specs.ChunkOrders.{IsNumberedNow, WasNumbered, WasCopied
 use Rattle.laws_entries.proofs.Numbering.{entries_were_numbered}
 use Rattle.laws_versions.proofs.AnsweredOrders.{placed_later, stale_refuses}
 use Rattle.laws_versions.specs.EmptyGrants.{IsGrantUsed, NumberedVersionsHaveUsedGrants, EntriesAreOfUsedGrants}
+use Rattle.laws_entries.proofs.SentGrants.{counted_one}
 
 -- a lease that counts is held, of that version
 primary_there : (s : ServerState) (version : ℕ) (o : Option SerialOrder) (p : SerialOrder) → counting_primary s version o ≡ Some p → (o ≡ Some p) × (p.held.version ≡ version)
@@ -39,32 +40,22 @@ primary_there s version (Some q) p is =
     on_cond (λ (x : Option SerialOrder). x ≡ Some p → (Some q ≡ Some p) × (p.held.version ≡ version)) _ (Some q) None
     (λ both now. (now, sym (ap (λ (x : SerialOrder). x.held.version) (same_some q p now)) ∙ eqb-true q.held.version version (and_parts (q.held.version == version) _ both).0)) (λ _ now. none_some p now) is
 
-some_grant : (handle version : ℕ) (sent : List Message) (place : ℕ) (g : Message) → element_at sent place ≡ Some g → is_grant handle version g.body ≡ true → 1 ≤ grants_of handle version sent
-some_grant handle version [] place g at is = none_some g at
-some_grant handle version (m ∷ sent) zero g at is =
-    let whole = count-cons (λ (x : Message). is_grant handle version x.body) m sent in
-    let one = ap tally (ap (λ (x : Message). is_grant handle version x.body) (same_some m g at) ∙ is) in
-    omega (arith, whole, one)
-some_grant handle version (m ∷ sent) (suc place) g at is =
-    let whole = count-cons (λ (x : Message). is_grant handle version x.body) m sent in
-    let more = some_grant handle version sent place g at is in
-    omega (arith, whole, more)
-
 -- a lease that was granted to a server by an order that it took
 module _ (config : Config) (servers clients : ℕ) (w : WorldState) (r : IsReached config servers clients w) (index : ℕ) (s : ServerState) (there : element_at w.servers index ≡ Some s) (handle version : ℕ) (p : SerialOrder) (same : p.held.version ≡ version)
     (lease : IsToldLease w.sent (suc index) s.disk handle p.held) where
-  lease_body : (lease.grant).body ≡ body.Grant lease.order (handle_of handle) (version_of version) lease.end_moment p.held.members
-  lease_body = lease.is ∙ ap (λ (v : ℕ). body.Grant lease.order (handle_of handle) (version_of v) lease.end_moment p.held.members) same
+  lease_body : SaysGrant lease.order (handle_of handle) (version_of version) lease.end_moment p.held.members (lease.grant).body
+  lease_body = named_grant lease.is refl same
 
   pub lease_used : (steps : List (Event × Choice)) → IsGrantUsed (after_events w steps) index handle version
   lease_used steps =
       record {
-        granted = some_grant handle version v.sent lease.place lease.grant still is_its;
+        granted = counted_one (λ (x : Message). is_grant handle version x.body) v.sent lease.grant lease.place still is_its;
         refused = λ place m at order end_moment members is.
+            let says : SaysGrant order (handle_of handle) (version_of version) end_moment members m.body = says_grant is in
             let one : lease.grant ≡ m =
             same_grant handle version v.sent lease.place place lease.grant m (versions_are_granted_once config servers clients v reached handle version) still at is_its
-            (granting order handle version end_moment members m.body is) in
-            let number : lease.order ≡ order = same_some lease.order order (sym (ap order_number lease_body) ∙ ap (λ (x : Message). order_number x.body) one ∙ ap order_number is) in (
+            (granting order handle version end_moment members m.body says) in
+            let number : lease.order ≡ order = same_some lease.order order (sym (grant_number lease_body) ∙ ap (λ (x : Message). order_number x.body) one ∙ grant_number says) in (
               sym (ap (λ (x : Message). x.receiver) one) ∙ lease.receiver,
               λ t at_t. stale_refuses t order
                   (subst (λ (o : OrderNo). IsStaleAt t.disk o) number (stale_later s.disk t.disk lease.order (order_numbers_never_fall config servers clients w r steps index s t there at_t) lease.taken)),
