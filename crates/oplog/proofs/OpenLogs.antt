@@ -1,5 +1,6 @@
 -- A log as its callers see it, over its volume.
 use Rattle.std.proofs.Common.{◌≡◌, ℕ, ◌+◌, ◌<◌, ◌≤◌, ◌^◌, Bool, true, false, List, [], ◌∷◌, ◌++◌, length, drop, length-append, length-drop, length-take, refl, sym, ap, subst, ◌∙◌, arith}
+use Rattle.std.specs.Prelude.{◌&&◌}
 use Rattle.std.proofs.lemmas.Bool.{false≢true}
 use Rattle.disk.specs.Bytes.{range_at}
 use Rattle.disk.specs.Device.{NoMore}
@@ -8,7 +9,7 @@ use Rattle.oplog.specs.Areas.{AreaSays, AreaState, end_of}
 use Rattle.oplog.specs.Changes.{appended}
 use Rattle.oplog.specs.Disks.{area_of, DiskSays}
 use Rattle.oplog.specs.Faults.{leaves_open}
-use Rattle.oplog.specs.Layout.{area_at, area_size}
+use Rattle.oplog.specs.Layout.{area_at, area_size, record_fits}
 use Rattle.oplog.specs.Logs.{area_counted, log_counted, IsCounted, IsDurable, IsOpen, LogState}
 use Rattle.oplog.specs.Writing.{area_with}
 use Rattle.oplog.specs.declared.fault.LogFault.{LogFault}
@@ -22,6 +23,13 @@ use Rattle.oplog.proofs.Whole.{state_of}
 -- what is seen of a log is so of its volume
 pub was_open : {D : Type 0} (inside log : LogState D) → inside ≡ log → log.is_open ≡ true → inside.is_open ≡ true
 was_open {D = D} inside log is opened = subst (λ (s : LogState D). s.is_open ≡ true) (sym is) opened
+
+-- an open log takes what its volume has room for
+pub fits_open : {D : Type 0} (inside log : LogState D) (r : Record) (fits : Bool) → inside ≡ log → inside.is_open ≡ true → fits ≡ record_fits (area_size inside.size) inside.area r
+    → fits ≡ (log.is_open && record_fits (area_size log.size) log.area r)
+fits_open {D = D} inside log r fits is opened has_room =
+    subst (λ (s : LogState D). fits ≡ (s.is_open && record_fits (area_size s.size) s.area r)) is
+    (has_room ∙ sym (ap (λ (b : Bool). b && record_fits (area_size inside.size) inside.area r) opened))
 
 -- an area ends behind its records
 end_within : (area : AreaState) (bytes : List ℕ) → AreaSays area bytes → end_of area < length bytes

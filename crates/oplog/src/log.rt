@@ -1,6 +1,6 @@
 //! The operation log.
 
-ghost use Rattle.std.specs.Prelude.{◌≡◌, ◌<◌, ◌≤◌, ◌+◌, ◌↔◌, ◌++◌, ℕ, List, true, false, is_ok, length, IfErr, IfOk, OnErr, OnOk, IsErrOf};
+ghost use Rattle.std.specs.Prelude.{◌≡◌, ◌<◌, ◌≤◌, ◌+◌, ◌↔◌, ◌&&◌, ◌++◌, ℕ, List, true, false, is_ok, length, IfErr, IfOk, OnErr, OnOk, IsErrOf};
 ghost use Rattle.std.specs.List.{AllByRecursion};
 ghost use Rattle.disk.specs.Device.{Elapses, Follows, NoMore, Only};
 ghost use Rattle.disk_redo.specs.GateMoments.{LeavesOnly, OnlyReads};
@@ -159,13 +159,12 @@ impl<D: Disk> Log<D> {
         self.volume.end
     }
 
-    /// Whether the record has room. Where it has none, `append` answers `Full`.
+    /// Whether the log is open and the record has room. Where an open log has none, `append` answers `Full`.
     pub fn fits(&self, logged: &Record) -> bool
-        requires writable { IsWritable logged.now }
-        requires open { self.now.is_open ≡ true }
-        ensures { result ≡ record_fits (area_size self.now.size) self.now.area logged.now }
+        requires { IsWritable logged.now }
+        ensures { result ≡ (self.now.is_open && record_fits (area_size self.now.size) self.now.area logged.now) }
     {
-        self.volume.fits(logged)
+        self.is_open && self.volume.fits(logged)
     }
 
     /// Appends a record. At `Ok` it is on the disk for good.

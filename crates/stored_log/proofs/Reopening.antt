@@ -13,7 +13,7 @@ use Rattle.operation_log.specs.Logs.{IsDecided}
 use Rattle.protocol.specs.Logged.{LogDisk}
 use Rattle.stored_log.specs.declared.standing.LogStanding.{LogStanding}
 use Rattle.stored_log.specs.declared.standing.LogStanding.TheVariants.{Open, Unread, Appending, Checkpointing}
-use Rattle.stored_log.specs.Kept.{changes_of, closed, HasKept, Leaves}
+use Rattle.stored_log.specs.Kept.{changes_of, closed, HasKept, Leaves, LeavesDecided}
 
 abbrev pub log_of : List Record → List Record → LogDisk
 log_of items records = record { items = items; records = records }
@@ -65,3 +65,17 @@ pub found_decided : {D : Type 0} (may_leave : D → List ℕ → Type 0) (old : 
     → IsAmong (may_leave old) size found_items found_records → Leaves may_leave old items records (closed standing) → IsDecided (log_of items records) (changes_of standing) (log_of found_items found_records)
 found_decided may_leave old size items records found_items found_records standing large found kept =
     decided items records found_items found_records standing found.disk (omega (arith, large, found.sized)) found.log (kept found.disk found.left)
+
+left_decided : (items records : List Record) (standing : LogStanding) (c : List ℕ) → HasKept items records (closed standing) c
+    → (left : LogDisk) × IsDecided (log_of items records) (changes_of standing) left × HasLog left.items left.records c
+left_decided items records Open c log = (log_of items records, ([], refl), log)
+left_decided items records Unread c log = (log_of items records, ([], refl), log)
+left_decided items records (Appending entry) c (inl log) = (log_of items records, ([], refl), log)
+left_decided items records (Appending entry) c (inr log) = (log_of items (records ++ entry ∷ []), (true ∷ [], refl), log)
+left_decided items records (Checkpointing written) c (inl log) = (log_of items records, ([], refl), log)
+left_decided items records (Checkpointing written) c (inr log) = (log_of written [], (true ∷ [], refl), log)
+
+-- what a stop leaves of a disk that is handed back
+pub disk_decided : {D : Type 0} (may_leave : D → List ℕ → Type 0) (disk : D) (items records : List Record) (standing : LogStanding) → Leaves may_leave disk items records (closed standing)
+    → LeavesDecided may_leave disk (log_of items records) (changes_of standing)
+disk_decided may_leave disk items records standing kept c left = left_decided items records standing c (kept c left)

@@ -7,6 +7,7 @@ use Rattle.oplog.specs.Disks.{HasLog}
 use Rattle.oplog.specs.Logs.{LogState}
 use Rattle.oplog.specs.Walks.{IsWalk}
 use Rattle.oplog.specs.declared.walk.Walk.{Walk}
+use Rattle.operation_log.specs.Logs.{IsDecided}
 use Rattle.protocol.specs.Logged.{LogDisk, LogChange, AppendRecord, WriteCheckpoint}
 use Rattle.protocol.specs.LogSizes.{used_size}
 use Rattle.stored_log.specs.declared.standing.LogStanding.{LogStanding}
@@ -42,6 +43,10 @@ HasKept items records (Checkpointing written) disk = HasLog items records disk �
 -- A stop leaves the log from before the change that is under way, or the one after it.
 abbrev pub Leaves : {D : Type 0} (may_leave : D → List ℕ → Type 0) → D → List Record → List Record → LogStanding → Type 0
 Leaves may_leave disk items records standing = (c : List ℕ) → may_leave disk c → HasKept items records standing c
+
+-- A stop leaves of a disk a log that has all changes, but for those under way, of which each was made or wasn't.
+abbrev pub LeavesDecided : {D : Type 0} (may_leave : D → List ℕ → Type 0) → D → LogDisk → List LogChange → Type 0
+LeavesDecided may_leave disk log under_way = (c : List ℕ) → may_leave disk c → (left : LogDisk) × IsDecided log under_way left × HasLog left.items left.records c
 
 -- A log that is to take changes is open. Of another one a stop leaves what is kept, with the change under way or without it.
 abbrev pub IsKept : {D : Type 0} (may_leave : D → List ℕ → Type 0) → LogState D → LogStanding → Type 0

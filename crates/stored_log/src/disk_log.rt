@@ -9,7 +9,7 @@ ghost use Rattle.protocol.specs.Logged.{new_log};
 ghost use Rattle.protocol.specs.LogSizes.{checkpoint_fits, checkpoint_size, payload_size, used_size};
 ghost use Rattle.operation_log.specs.Logs.{IsDecided};
 ghost use Rattle.operation_log.specs.declared.fault.OperationLogFault.TheVariants as faults;
-ghost use Rattle.stored_log.specs.Kept.{all_entries, closed, HasDiskSize, IsDiskSize, KeepsWalk, Takes};
+ghost use Rattle.stored_log.specs.Kept.{all_entries, closed, HasDiskSize, IsDiskSize, KeepsWalk, LeavesDecided, Takes};
 
 use crate::entries::{entry_at, fault_of};
 use crate::standing::LogStanding;
@@ -138,8 +138,11 @@ impl<D: StoppableDisk> DiskLog<D> {
         Ok(opened)
     }
 
-    /// The disk as it is.
-    pub fn into_disk(self) -> D {
+    /// The disk as it is. A stop leaves the log on it, with the change under way or without it.
+    pub fn into_disk(self) -> D
+        ensures { LeavesDecided D.may_leave result self.disk self.under_way }
+    {
+        let _is_open = self.log.is_open();
         self.log.into_disk()
     }
 

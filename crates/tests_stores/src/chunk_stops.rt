@@ -1,10 +1,15 @@
 //! A store whose disk stops at each of its calls.
 
-ghost use Rattle.std.specs.Prelude.{◌≡◌, false, IfOk};
+ghost use Rattle.std.specs.Prelude.{◌≡◌, ◌⊎◌, false, IfOk};
+ghost use Rattle.chunk_store.specs.Stores.{IsOpen};
+ghost use Rattle.replica_store.specs.declared.change.StoreChange.TheVariants.{SetOrder};
+ghost use Rattle.replica_store.specs.Replicas.{ServerDisk, disk_changed};
 ghost use Rattle.store_disk.specs.Formats.{is_head_open};
 
-use crate::chunk_calls::{Listing, STEPS, fused, listed, run};
-use disk::{Disk, FuseDisk};
+use crate::chunk_calls::{Listing, SIZE, STEPS, fused, listed, open_new, run};
+use chunk_store::{OpenFault, Store};
+use disk::{Disk, FuseDisk, NodeDisk, StoppableDisk};
+use gfs_types::ids::OrderNo;
 use gfs_types::torn::Torn;
 use std::alloc::{AllocError, Global};
 use std::test::Fail;
@@ -128,5 +133,55 @@ fn a_refused_allocation_leaves_a_state(rt: HostRuntime) -> Result<(), Fail> {
     let (disk, ran) = run(fused_again(alloc)?, alloc, STEPS + 1);
     let found = listed_again(disk, alloc);
     assert!(rt; are_after(&states, ran.done, found));
+    Ok(())
+}
+
+// Keeps an order's number, whether the disk stops meanwhile or not, and opens the store on what the disk has then. It says what it said before, or has the number.
+fn keep_order<D: StoppableDisk>(
+    store: Store<D>,
+    alloc: Global,
+    order: OrderNo,
+) -> Result<Store<D>, (D, OpenFault)>
+    requires { (d : ServerDisk) × IsOpen D.seen D.may_leave store d }
+    ensures { (d : ServerDisk) → IsOpen D.seen D.may_leave store d
+        → IfOk result (λ s. IsOpen D.seen D.may_leave s d ⊎ IsOpen D.seen D.may_leave s (disk_changed d (SetOrder order))) }
+{
+    let mut store = store;
+    let layout = store.layout;
+    let _is_kept = store.set_order(alloc, order).is_ok();
+    let mut disk = store.into_disk();
+    match disk.restart() {
+        Ok(()) => Store::open(disk, alloc, layout),
+        Err(_) => Err((disk, OpenFault::NoMemory)),
+    }
+}
+
+// The number of the last order, where the disk stops after so many calls.
+fn order_after(alloc: Global, calls: u64) -> Option<OrderNo> {
+    let Ok(disk) = NodeDisk::new(alloc, SIZE) else {
+        return None;
+    };
+    let Ok(store) = open_new(disk, alloc) else {
+        return None;
+    };
+    let mut store = store;
+    store.arm(calls);
+    match keep_order(store, alloc, OrderNo { epoch: 2, count: 3 }) {
+        Ok(store) => Some(store.order()),
+        Err(_) => None,
+    }
+}
+
+#[test]
+fn an_order_is_kept_or_not(rt: HostRuntime) -> Result<(), Fail> {
+    let alloc = rt.alloc();
+    let before = Some(OrderNo { epoch: 0, count: 0 });
+    let after = Some(OrderNo { epoch: 2, count: 3 });
+    assert!(rt; order_after(alloc, 0) == before);
+    assert!(rt; order_after(alloc, 100) == after);
+    for calls in 0..20 {
+        let found = order_after(alloc, calls);
+        assert!(rt; found == before || found == after, "call {calls}");
+    }
     Ok(())
 }
