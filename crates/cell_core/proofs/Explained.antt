@@ -55,7 +55,7 @@ step_explained old new event (Ok answer) has = λ config servers clients w earli
     leads_so config servers clients w earlier (raised_event (length earlier) event) answer new r (steps_to w earlier old new event answer stands has)
 step_explained old new event (Err e) has = tt
 
-rebase_explained : {E : Type 0} (old new : HeldCell) (moment : ℕ) (result : Result (Unit {0}) E) → OnOk result (Rebases old moment new) → OnOk result (RebasesAsMachine old moment new)
+rebase_explained : {V : Type 0} {E : Type 0} (old new : HeldCell) (moment : ℕ) (result : Result V E) → OnOk result (Rebases old moment new) → OnOk result (RebasesAsMachine old moment new)
 rebase_explained old new moment (Ok v) rebases = λ config servers clients w earlier r stands.
     let it = rebases_to w earlier old new moment stands rebases in
     (it.0, it.1, it.2, ran config servers clients w it.0 (restart_events (server_count old) moment) [] r it.1)
@@ -72,7 +72,7 @@ pub step_of_world : {E : Type 0} (inside old new : HeldCell) (event : Event) (re
 step_of_world inside old new event result same has =
     subst (λ (h : HeldCell). IfOk result (λ (answer : Option Answer). StepsAsMachine h event answer new)) same (step_explained inside new event result has)
 
-pub rebase_of_world : {E : Type 0} (inside old new : HeldCell) (moment : ℕ) (result : Result (Unit {0}) E) → inside ≡ old → OnOk result (Rebases inside moment new) → OnOk result (RebasesAsMachine old moment new)
+pub rebase_of_world : {V : Type 0} {E : Type 0} (inside old new : HeldCell) (moment : ℕ) (result : Result V E) → inside ≡ old → OnOk result (Rebases inside moment new) → OnOk result (RebasesAsMachine old moment new)
 rebase_of_world inside old new moment result same rebases = subst (λ (h : HeldCell). OnOk result (RebasesAsMachine h moment new)) same (rebase_explained inside new moment result rebases)
 
 pub all_explained : (h : HeldCell) → AreAnswersARun h

@@ -68,6 +68,6 @@ pub stands_ran : {V : Type 0} (old new : HeldCell) (events : List Event) (items 
 stands_ran old new events items (Ok v) s ok err = stands_run old new events (items v) s ok
 stands_ran old new events items (Err fault) s ok err = stands_until old new events fault s err
 
-pub stands_rebased : {E : Type 0} (old new : HeldCell) (moment : ℕ) (r : Result (Unit {0}) E) → HasReachedWorld old → OnOk r (Rebases old moment new) → OnErr r (new ≡ old) → HasReachedWorld new
+pub stands_rebased : {V : Type 0} {E : Type 0} (old new : HeldCell) (moment : ℕ) (r : Result V E) → HasReachedWorld old → OnOk r (Rebases old moment new) → OnErr r (new ≡ old) → HasReachedWorld new
 stands_rebased old new moment (Ok v) s ok err = stands_rebase old new moment s ok
 stands_rebased old new moment (Err e) s ok err = subst HasReachedWorld (sym err) s

@@ -79,7 +79,7 @@ step_on o old new clock w dropped s at there le (inl does) =
       record {
         reached = reached_on o.config o.servers o.clients w v at.reached ((e, k.choice) ∷ []) refl;
         held_as = k.stands;
-        clocks = subst (λ (to : ℕ). AreClocksKept v.observer to) same (clocks_kept w e k.choice clock (omega (arith, le, same)) at.clocks);
+        clocks = subst (λ (to : ℕ). AreClocksKept v.observer to) same (clocks_kept w e k.choice clock (subst (λ (to : ℕ). clock ≤ to) (sym same) le) at.clocks);
       },
     )
 step_on o old new clock w dropped s at there le (inr refused) = (
@@ -106,7 +106,9 @@ rebase_on o old new clock w dropped at (inl rebases) =
     let it = rebases_to w dropped old new clock at.held_as rebases in
     let quiet = restarts_go_quietly w it.0 (server_count old) clock it.1 at.clocks in
     (it.0, it.1, quiet.0, record { reached = reached_on o.config o.servers o.clients w it.0 at.reached it.1.steps it.1.leads; held_as = it.2; clocks = quiet.1 })
-rebase_on o old new clock w dropped at (inr behind) = absurd (omega (arith, behind.0, greatest_before o old clock w dropped at))
+rebase_on o old new clock w dropped at (inr behind) =
+    let late : clock + old.config.skew_ms < old.greatest = behind.0 in
+    absurd (omega (arith, late, greatest_before o old clock w dropped at))
 
 -- what is told of a cell is so of what it holds
 pub record IsOfHeld {C : Type 0} (m : Meaning C) (held : C → HeldCell) : Type 0 where

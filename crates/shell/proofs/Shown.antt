@@ -23,7 +23,7 @@ pub stepped : {E : Type 0} (old new : HeldCell) (event : Event) (r : Result (Opt
 stepped old new event (Ok answer) ok same refused = inl ok
 stepped old new event (Err e) ok same refused = inr (record { may_be = refused; unanswered = refl; unchanged = same })
 
-pub dropped : (old new : HeldCell) (moment : ℕ) (r : Result (Unit {0}) RebaseFault) → OnOk r (Rebases old moment new) → IfErr r (λ fault. (fault ≡ Clock) × IsBehind old moment) → OnErr r (new ≡ old) → DropsMessages old moment new
+pub dropped : {V : Type 0} (old new : HeldCell) (moment : ℕ) (r : Result V RebaseFault) → OnOk r (Rebases old moment new) → IfErr r (λ fault. (fault ≡ Clock) × IsBehind old moment) → OnErr r (new ≡ old) → DropsMessages old moment new
 dropped old new moment (Ok v) ok fault same = inl ok
 dropped old new moment (Err e) ok fault same = inr (fault.1, same)
 

@@ -1,6 +1,6 @@
 //! A cell that begins again without its messages.
 
-use crate::small::small_cell;
+use crate::outcome::small_cell;
 use cell_world::rebase_fault::RebaseFault;
 use gfs_types::ids::{Moment, Node, ServerId};
 use messages::event::Event;
