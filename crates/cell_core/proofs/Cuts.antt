@@ -1,5 +1,5 @@
 -- What a cell does that dropped messages is done in each world that it stands for.
-use Rattle.std.proofs.Common.{◌≡◌, ℕ, List, [], map, length, Option, sym, ap, ◌∙◌}
+use Rattle.std.proofs.Common.{◌≡◌, ℕ, List, [], map, length, Option, sym, subst, ap, ◌∙◌}
 use Rattle.std.specs.Prelude.{Result, Ok, Err, IfOk}
 use Rattle.gfs_types.specs.declared.answer.Answer.{Answer}
 use Rattle.messages.specs.declared.event.Event.{Event}
@@ -54,11 +54,20 @@ rebases_to w earlier old new moment s rebases =
     (all.0, all.1, record { cut = without_messages it.0; is_cut = all.2; held = it.2 })
 
 -- A look at a world that doesn't see its messages shows the same of each world that the cell stands for.
-pub shown_of_cuts : {X : Type 0} (look : WorldState → X) → ((w : WorldState) (sent : List Message) → look (record w { sent = sent }) ≡ look w) → (h : HeldCell) (found : X) → ((w : WorldState) → IsHeldAs w h → found ≡ look w)
+shown_of_cuts : {X : Type 0} (look : WorldState → X) → ((w : WorldState) (sent : List Message) → look (record w { sent = sent }) ≡ look w) → (h : HeldCell) (found : X) → ((w : WorldState) → IsHeldAs w h → found ≡ look w)
     → IsShown h look found
 shown_of_cuts look blind h found shown w earlier s = shown s.cut s.held ∙ (sym (ap look s.is_cut.but_sent) ∙ blind w s.cut.sent)
 
-pub shown_if_ok : {V E X : Type 0} (look : WorldState → X) → ((w : WorldState) (sent : List Message) → look (record w { sent = sent }) ≡ look w) → (h : HeldCell) (r : Result V E) (given : V → X)
+shown_if_ok : {V E X : Type 0} (look : WorldState → X) → ((w : WorldState) (sent : List Message) → look (record w { sent = sent }) ≡ look w) → (h : HeldCell) (r : Result V E) (given : V → X)
     → IfOk r (λ found. (w : WorldState) → IsHeldAs w h → given found ≡ look w) → IfOk r (λ found. IsShown h look (given found))
 shown_if_ok look blind h (Ok found) given shown = shown_of_cuts look blind h (given found) shown
 shown_if_ok look blind h (Err e) given shown = tt
+
+-- the same of a cell that is what stands inside a world
+pub shown_of_world : {X : Type 0} (look : WorldState → X) → ((w : WorldState) (sent : List Message) → look (record w { sent = sent }) ≡ look w) → (inside h : HeldCell) (found : X) → inside ≡ h
+    → ((w : WorldState) → IsHeldAs w inside → found ≡ look w) → IsShown h look found
+shown_of_world look blind inside h found same shown = subst (λ (c : HeldCell). IsShown c look found) same (shown_of_cuts look blind inside found shown)
+
+pub shown_if_any : {V E X : Type 0} (look : WorldState → X) → ((w : WorldState) (sent : List Message) → look (record w { sent = sent }) ≡ look w) → (inside h : HeldCell) (r : Result V E) (given : V → X) → inside ≡ h
+    → IfOk r (λ found. (w : WorldState) → IsHeldAs w inside → given found ≡ look w) → IfOk r (λ found. IsShown h look (given found))
+shown_if_any look blind inside h r given same shown = subst (λ (c : HeldCell). IfOk r (λ found. IsShown c look (given found))) same (shown_if_ok look blind inside r given shown)
