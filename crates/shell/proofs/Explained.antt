@@ -146,13 +146,13 @@ module _ {C : Type 0} (m : Meaning C) (held : C → HeldCell) (so : IsOfHeld m h
     explained = λ disks. explained o.config o.servers o.clients v stands.reached in_range (and_from v.observer.are_clocks_kept v.observer.are_disks_kept stands.clocks.kept disks);
   }
 
-  -- where a line leads to
+  -- where a line leads to, and the messages that were dropped until then
   record GoesOn (w : WorldState) (dropped : List Message) (old : Simulated C) (l : CellLine) (steps : List Step) (new : Simulated C) : Type 0 where
     pub world : WorldState
-    pub later : List Message
-    pub leads : LineLeads held w dropped old l steps world later
-    pub runs : IsRunOfMachine w later (lines_of steps) (held new.cell) world
-    pub stands : StandsAt o (held new.cell) new.clock world later
+    pub gone : List Message
+    pub leads : LineLeads held w dropped old l steps world gone
+    pub runs : IsRunOfMachine w gone (lines_of steps) (held new.cell) world
+    pub stands : StandsAt o (held new.cell) new.clock world gone
 
   record GoesBySteps (w : WorldState) (dropped : List Message) (steps : List Step) (new : Simulated C) : Type 0 where
     pub world : WorldState
@@ -172,7 +172,7 @@ module _ {C : Type 0} (m : Meaning C) (held : C → HeldCell) (so : IsOfHeld m h
       let last = rebase_on o (held old.cell) (held new.cell) old.clock w dropped at (so.rebases old.cell new.cell old.clock rebases) in
       let v : WorldState = last.0 in
       let stands : StandsAt o (held new.cell) new.clock v v.sent = subst (λ (clock : ℕ). StandsAt o (held new.cell) clock v v.sent) (sym same) last.3 in
-      record { world = v; later = v.sent; leads = (last.1, refl); runs = explained_at (held new.cell) new.clock w v v.sent [] last.2 stands; stands = stands }
+      record { world = v; gone = v.sent; leads = (last.1, refl); runs = explained_at (held new.cell) new.clock w v v.sent [] last.2 stands; stands = stands }
 
   line_on : (old new : Simulated C) (w : WorldState) (dropped : List Message) (l : CellLine) (printed : List ℕ) → StandsAt o (held old.cell) old.clock w dropped → (comes : ComesTo m old l new printed)
       → GoesOn w dropped old l comes.steps new
@@ -180,15 +180,15 @@ module _ {C : Type 0} (m : Meaning C) (held : C → HeldCell) (so : IsOfHeld m h
       subst (λ (steps : List Step). GoesOn w dropped old line.Rebase steps new) (sym comes.makes) (by_rebase old new w dropped at comes.leads comes.leaves)
   line_on old new w dropped other printed at comes =
       let it : GoesBySteps w dropped comes.steps new = by_steps old new w dropped comes.steps at comes.leads comes.rises in
-      record { world = it.world; later = dropped; leads = (it.leads, refl); runs = it.runs; stands = it.stands }
+      record { world = it.world; gone = dropped; leads = (it.leads, refl); runs = it.runs; stands = it.stands }
 
   lines_on : (old : Simulated C) (lines : List CellLine) (new : Simulated C) (printed : List ℕ) (w : WorldState) (dropped : List Message) → StandsAt o (held old.cell) old.clock w dropped → (come : ComeTo m old lines new printed)
       → (v : WorldState) × (last : List Message) × AreRunsOfMachine m held w dropped old lines new printed come v last × StandsAt o (held new.cell) new.clock v last
   lines_on old [] new printed w dropped at come = (w, dropped, (refl, refl), subst (λ (s : Simulated C). StandsAt o (held s.cell) s.clock w dropped) (sym come.0) at)
   lines_on old (l ∷ rest) new printed w dropped at come =
       let first : GoesOn w dropped old l come.3.steps come.0 = line_on old come.0 w dropped l come.1 at come.3 in
-      let last = lines_on come.0 rest new come.2 first.world first.later first.stands come.4 in
-      (last.0, last.1, (first.world, first.later, first.leads, first.runs, last.2), last.3)
+      let last = lines_on come.0 rest new come.2 first.world first.gone first.stands come.4 in
+      (last.0, last.1, (first.world, first.gone, first.leads, first.runs, last.2), last.3)
 
   -- lines on a new cell
   pub all_explained : (first : C) → IsNew o (held first) → (last : Simulated C) (before after : Option (List ℕ)) (lines : List CellLine) (r : RunsOn m (at_0 first) last before after lines)
