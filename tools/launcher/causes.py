@@ -5,7 +5,7 @@ from script import ARGUMENTS, KINDS, LONGEST_LINE, BadLine, data, number, path_o
 # the words behind the first of each line that is no call
 LINES = {
     'start': 'cN CALL', 'finish': '', 'wait': 'MS', 'hold': 'KIND NODE', 'free': '', 'twice': 'KIND NODE', 'cut': 'NODE', 'join': 'NODE',
-    'restart': 'NODE', 'fuse': 'NODE K T', 'rot': 'sN PATH INDEX PLACE BYTE', 'regions': 'PATH INDEX', 'replicas': 'PATH INDEX'}
+    'restart': 'NODE', 'rebase': '', 'fuse': 'NODE K T', 'rot': 'sN PATH INDEX PLACE BYTE', 'regions': 'PATH INDEX', 'replicas': 'PATH INDEX'}
 CALLS = {
     'close': 'FD', 'length': 'FD', 'rename': 'PATH PATH', 'snapshot': 'PATH PATH', 'write': 'FD OFFSET DATA', 'append': 'FD DATA',
     'read': 'FD OFFSET LENGTH'}

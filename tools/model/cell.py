@@ -131,6 +131,12 @@ class Cell:
     def restart(self, node, now):
         self.take(('Restart', node_of(node), wrapped(now)))
 
+    def rebase(self, now):
+        """The master and each server begin again, and messages are counted anew."""
+        for event in apply(self.rebase_definition('restart_events'), self.server_count, now):
+            self.take(event)
+        self.drop_messages()
+
     def drop_messages(self):
         """From now on a cell that counts its messages anew goes beside this one, which keeps all."""
         self.rebased = Rebased(self)

@@ -191,7 +191,7 @@ class Simulator:
             return
         action = getattr(self, 'line_' + head, None)
         counts = {'start': None, 'finish': 0, 'wait': 1, 'hold': 2, 'free': 0, 'twice': 2, 'cut': 1, 'join': 1,
-                  'restart': 1, 'fuse': 3, 'rot': 5, 'regions': 2, 'replicas': 2}
+                  'restart': 1, 'rebase': 0, 'fuse': 3, 'rot': 5, 'regions': 2, 'replicas': 2}
         if action is None or counts[head] not in (None, len(words) - 1):
             raise BadLine()
         action(*words[1:])
@@ -233,6 +233,11 @@ class Simulator:
         self.cell.restart(node, self.clock)
         self.collect()
         self.deliver()
+
+    def line_rebase(self):
+        self.cell.rebase(self.clock)
+        self.pending, self.aside = [], []
+        self.seen = len(self.cell.messages)
 
     def line_fuse(self, word, calls, torn):
         node = self.node(word)

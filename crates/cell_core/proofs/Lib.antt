@@ -1,4 +1,5 @@
 pub mod Traced
+pub mod Cuts
 pub mod Explained
 pub mod Reached
 pub mod CellLaws

@@ -1,7 +1,8 @@
 -- Laws of a cell to which lawful events led, of what it holds: versions and leases, names, and the master's log.
-use Rattle.std.specs.Prelude.{◌≡◌, ◌≤◌, ◌<◌, ℕ, Some, IsTrue}
+use Rattle.std.specs.Prelude.{◌≡◌, ◌≤◌, ◌<◌, ℕ, List, ◌++◌, Some, IsTrue}
 use Rattle.std.specs.FinMap as table
 use Rattle.gfs_types.specs.declared.config.Config.{Config}
+use Rattle.messages.specs.declared.message.Message.{Message}
 use Rattle.relaxed_file.specs.Names.{IsTree}
 use Rattle.primary_order.specs.declared.order.SerialOrder.{SerialOrder}
 use Rattle.protocol.specs.Tables.{element_at}
@@ -9,11 +10,14 @@ use Rattle.protocol.specs.Logged.{all_copies_given_up, replayed}
 use Rattle.protocol.specs.Server.{ServerState}
 use Rattle.protocol.specs.World.{WorldState, IsReached}
 use Rattle.laws_base.specs.Laws.{HaveSameNames, chunk_but_end, grants_of}
-use Rattle.cell_world.specs.Held.{HeldCell, IsHeldAs}
+use Rattle.cell_world.specs.Held.{HeldCell}
+use Rattle.cell_core.specs.Standing.{StandsFor}
 
--- A version of a chunk is granted at most once (section 3.1).
+-- A version of a chunk is granted at most once, in the messages that the cell has and in those that it dropped (section 3.1).
 abbrev pub GrantsVersionsOnce : HeldCell → Type 0
-GrantsVersionsOnce h = (handle version : ℕ) → grants_of handle version h.sent ≤ 1
+GrantsVersionsOnce h =
+    (config : Config) (servers clients : ℕ) (w : WorldState) (earlier : List Message) → IsReached config servers clients w → StandsFor w earlier h
+    → (handle version : ℕ) → grants_of handle version (earlier ++ h.sent) ≤ 1
 
 -- the server at this place holds a lease of a chunk that ends after a moment
 pub record HoldsLeaseAfter (h : HeldCell) (moment index handle : ℕ) : Type 0 where
@@ -26,8 +30,8 @@ pub record HoldsLeaseAfter (h : HeldCell) (moment index handle : ℕ) : Type 0 w
 -- Where clocks were kept, one server at most holds a lease of a chunk that ends after the greatest moment that was given (section 3.1).
 abbrev pub HasOneLasting : HeldCell → Type 0
 HasOneLasting h =
-    (config : Config) (servers clients : ℕ) (w : WorldState) → IsReached config servers clients w → IsHeldAs w h → IsTrue w.observer.are_clocks_kept
-    → (index other handle : ℕ) → HoldsLeaseAfter h w.observer.greatest index handle → HoldsLeaseAfter h w.observer.greatest other handle → index ≡ other
+    (config : Config) (servers clients : ℕ) (w : WorldState) (earlier : List Message) → IsReached config servers clients w → StandsFor w earlier h → IsTrue w.observer.are_clocks_kept
+    → (index other handle : ℕ) → HoldsLeaseAfter h h.greatest index handle → HoldsLeaseAfter h h.greatest other handle → index ≡ other
 
 -- The names of a master that is up are a tree (section 4.1).
 abbrev pub HasTreeOfNames : HeldCell → Type 0

@@ -1,8 +1,20 @@
--- What is true of each cell: events led to it from a new one.
-use Rattle.std.specs.Prelude.{ℕ}
+-- What is true of each cell: events led to it from a new one, and of their messages it may have dropped the first.
+use Rattle.std.specs.Prelude.{◌≡◌, ℕ, List}
 use Rattle.gfs_types.specs.declared.config.Config.{Config}
+use Rattle.messages.specs.declared.message.Message.{Message}
 use Rattle.protocol.specs.World.{WorldState, IsReached}
+use Rattle.laws_rebase.specs.Rebased.{IsCut}
 use Rattle.cell_world.specs.Held.{HeldCell, IsHeldAs}
+
+-- A cell stands for a world whose earlier messages it dropped: it holds the same world without them, in which the others are counted from 1. Where it dropped none, this is the world itself.
+pub record StandsFor (w : WorldState) (earlier : List Message) (h : HeldCell) : Type 0 where
+  pub cut : WorldState
+  pub is_cut : IsCut w earlier cut
+  pub held : IsHeldAs cut h
+
+-- a look at each world that the cell stands for shows this
+abbrev pub IsShown : {X : Type 0} → HeldCell → (WorldState → X) → X → Type 0
+IsShown h look found = (w : WorldState) (earlier : List Message) → StandsFor w earlier h → found ≡ look w
 
 -- it stands for a world that lawful events lead to
 pub record HasReachedWorld (h : HeldCell) : Type 0 where
@@ -10,5 +22,6 @@ pub record HasReachedWorld (h : HeldCell) : Type 0 where
   pub servers : ℕ
   pub clients : ℕ
   pub world : WorldState
+  pub earlier : List Message
   pub reached : IsReached config servers clients world
-  pub held : IsHeldAs world h
+  pub stands : StandsFor world earlier h

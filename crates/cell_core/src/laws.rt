@@ -6,7 +6,7 @@ ghost use Rattle.cell_world.specs.Held.{HeldCell};
 
 /// A version of a chunk is granted at most once, over restarts and stops too.
 pub fn versions_are_granted_once()
-    ensures { (h : HeldCell) → HasReachedWorld h → GrantsVersionsOnce h }
+    ensures { (h : HeldCell) → GrantsVersionsOnce h }
 {}
 
 /// Where clocks were kept, one server at most holds a lease of a chunk that ends after the greatest moment that was given.

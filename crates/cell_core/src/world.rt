@@ -1,27 +1,30 @@
-//! A cell that a list of events led to, with the headline as the contract of its steps and runs.
+//! A cell that a list of events led to, with the headline as the contract of its steps, runs and rebases.
 
-ghost use Rattle.std.specs.Prelude.{◌≡◌, ◌≤◌, [], length, map, option_map, All, IfOk, IfErr, OnErr};
+ghost use Rattle.std.specs.Prelude.{◌≡◌, ◌≤◌, ◌+◌, [], length, map, option_map, All, IfOk, IfErr, OnOk, OnErr};
 ghost use Rattle.std.specs.Option.{option_copied};
 ghost use Rattle.std.specs.FinMap as table;
 ghost use Rattle.gfs_types.specs.Settings.{largest_chunk};
 ghost use Rattle.protocol.specs.Lookups.{file_named, regions_at, replicas_at};
 ghost use Rattle.protocol.specs.MasterStep.{new_master};
 ghost use Rattle.protocol.specs.Sending.{file_id};
-ghost use Rattle.protocol.specs.World.{WorldState, happens, new_world, numbered_from_1};
+ghost use Rattle.protocol.specs.World.{happens, new_world, numbered_from_1};
 ghost use Rattle.replica_store.specs.Replicas.{new_server_disk};
-ghost use Rattle.cell_core.specs.Headline.{RunsAsMachine, StepsAsMachine};
+ghost use Rattle.cell_core.specs.Headline.{RebasesAsMachine, RunsAsMachine, StepsAsMachine};
+ghost use Rattle.cell_core.specs.Standing.{IsShown};
 ghost use Rattle.cell_world.specs.AsStored.{as_stored};
 ghost use Rattle.cell_world.specs.Events.{MayBeRefused};
 ghost use Rattle.cell_world.specs.Held.{HasEffect, IsHeldAs};
 ghost use Rattle.cell_world.specs.Looks.{file_held, has_open_call, regions_held, replicas_held, server_count};
+ghost use Rattle.cell_world.specs.Rebasing.{IsBehind, Rebases};
 ghost use Rattle.cell_world.specs.Runs.{Runs, RanUntil};
 
 use cell_world::cell::CellState;
 use cell_world::fault::RunFault;
 use cell_world::master::CellMaster;
+use cell_world::rebase_fault::RebaseFault;
 use gfs_types::answer::Answer;
 use gfs_types::config::Config;
-use gfs_types::ids::{ClientId, FileId, Handle};
+use gfs_types::ids::{ClientId, FileId, Handle, Moment};
 use gfs_types::no_memory::NoMemory;
 use gfs_types::path::Path;
 use messages::event::Event;
@@ -34,8 +37,8 @@ use server_store::store::ReplicaStore;
 use std::alloc::Global;
 use std::marker::Model;
 
-/// One master, and chunkservers and clients by their numbers, from 1, with each message that was ever sent. Each is what a list of events
-/// led to from a new cell.
+/// One master, and chunkservers and clients by their numbers, from 1, with each message that was sent since they were dropped last. Each
+/// is what a list of events led to from a new cell.
 #[derive(Drop)]
 pub struct World<M: CellMaster, S: ReplicaStore> {
     cell: CellState<M, S>,
@@ -105,10 +108,40 @@ impl<M: CellMaster, S: StoppableStore> World<M, S> {
         self.cell.run(alloc, events)
     }
 
+    /// The master and then each server, in rising number, begin again at a moment. Then all messages are dropped, and the next one has the
+    /// number 1. Clients, the chunks' orders and what clients saw stay, and a run of the machine has it. A node that can't open is down. At an
+    /// error nothing has changed.
+    ///
+    /// - `Clock`: the moment is more than the clock bound behind the greatest one that a node was given.
+    pub fn rebase(self, now: Moment) -> Result<World<M, S>, (World<M, S>, RebaseFault)>
+        ensures ok { IfOk result (λ world. Rebases self now.0 world) }
+        ensures explained { IfOk result (λ world. RebasesAsMachine self now.0 world) }
+        ensures clock { OnOk result (self.greatest ≤ now.0 + self.config.skew_ms) }
+        ensures fault { IfErr result (λ failed. (failed.1 ≡ RebaseFault.Clock) × IsBehind self now.0) }
+        ensures err { IfErr result (λ failed. failed.0 ≡ self) }
+    {
+        let mut world = self;
+        match world.rebase_in_place(now) {
+            Ok(()) => Ok(world),
+            Err(fault) => Err((world, fault)),
+        }
+    }
+
+    /// The same where the world lies.
+    pub fn rebase_in_place(&mut self, now: Moment) -> Result<(), RebaseFault>
+        ensures ok { OnOk result (Rebases self.old now.0 self.new) }
+        ensures explained { OnOk result (RebasesAsMachine self.old now.0 self.new) }
+        ensures clock { OnOk result (self.old.greatest ≤ now.0 + self.old.config.skew_ms) }
+        ensures fault { IfErr result (λ fault. (fault ≡ RebaseFault.Clock) × IsBehind self.old now.0) }
+        ensures err { OnErr result (self.new ≡ self.old) }
+    {
+        self.cell.rebase(now)
+    }
+
     /// The file that a path names; none where it names no file, and while the master is down.
     pub fn file(&self, path: &Path) -> Option<FileId>
         ensures held { result ≡ file_held self.now path.now }
-        ensures world { (w : WorldState) → IsHeldAs w self.now → result ≡ option_map file_id (file_named w path.now) }
+        ensures world { IsShown self.now (λ w. option_map file_id (file_named w path.now)) result }
     {
         self.cell.file(path)
     }
@@ -121,7 +154,7 @@ impl<M: CellMaster, S: StoppableStore> World<M, S> {
         index: u64,
     ) -> Result<Option<Vec<Region>>, NoMemory>
         ensures held { IfOk result (λ found. option_map (λ v. v.items) found ≡ regions_held self.now file.0 index) }
-        ensures world { IfOk result (λ found. (w : WorldState) → IsHeldAs w self.now → option_map (λ v. v.items) found ≡ regions_at w file.0 index) }
+        ensures world { IfOk result (λ found. IsShown self.now (λ w. regions_at w file.0 index) (option_map (λ v. v.items) found)) }
     {
         self.cell.regions(alloc, file, index)
     }
@@ -134,12 +167,12 @@ impl<M: CellMaster, S: StoppableStore> World<M, S> {
         index: u64,
     ) -> Result<Option<(Handle, Vec<StoredReplica>)>, NoMemory>
         ensures held { IfOk result (λ found. option_map (λ c. (c.0.0, map as_stored c.1.items)) found ≡ replicas_held self.now file.0 index) }
-        ensures world { IfOk result (λ found. (w : WorldState) → IsHeldAs w self.now → option_map (λ c. (c.0.0, map as_stored c.1.items)) found ≡ replicas_at w file.0 index) }
+        ensures world { IfOk result (λ found. IsShown self.now (λ w. replicas_at w file.0 index) (option_map (λ c. (c.0.0, map as_stored c.1.items)) found)) }
     {
         self.cell.replicas(alloc, file, index)
     }
 
-    /// How many messages were sent so far, which is the last one's number.
+    /// How many messages were sent since they were dropped last, which is the last one's number.
     pub fn message_count(&self) -> u64
         ensures { result ≡ length self.now.sent }
     {

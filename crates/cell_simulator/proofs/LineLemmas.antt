@@ -136,7 +136,7 @@ nothing_is_a_line is = let e : Some line.Nothing ≡ None = is in cc
 
 -- a line without a byte, behind the others
 runs_empty : {C : Type 0} (m : Meaning C) (a b : Simulated C) (x y : Option (List ℕ)) (lines : List CellLine) → RunsOn m a b x y lines → RunsOn m a b x y (lines ++ line.Nothing ∷ [])
-runs_empty m a b x y lines p = runs_on m a b b x y y lines (line.Nothing ∷ []) p (runs_alone m b b y y line.Nothing (runs_nothing m b line.Nothing y refl refl refl refl))
+runs_empty m a b x y lines p = runs_on m a b b x y y lines (line.Nothing ∷ []) p (runs_alone m b b y y line.Nothing (runs_nothing m b line.Nothing y refl refl refl refl refl))
 
 -- all lines were read
 all_read : {C : Type 0} (m : Meaning C) (a b : Simulated C) (x y : Option (List ℕ)) (xs : List ℕ) (texts : List (List ℕ)) → AreRead xs texts [] → All IsLine texts → RunsOn m a b x y (flat_map asked_on texts) → RunsScript m a b x y (Some xs)

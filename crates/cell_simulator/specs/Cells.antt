@@ -13,6 +13,8 @@ use Rattle.script.specs.declared.stored.StoredReplica.{StoredReplica}
 pub record Meaning (C : Type 0) : Type 1 where
   -- what an event may come to: its answer, and the cell after it
   pub steps : C → Event → Option Answer → C → Type 0
+  -- what may come of dropping all messages at a moment, as the nodes but the clients begin again
+  pub rebases : C → ℕ → C → Type 0
   -- the message of a number
   pub message : C → ℕ → Option Message
   -- how many servers and clients there are

@@ -30,6 +30,7 @@ is_bad m cell (line.Twice matter) = not (has_node m cell matter.receiver)
 is_bad m cell (line.Cut n) = not (has_node m cell n)
 is_bad m cell (line.Join n) = not (has_node m cell n)
 is_bad m cell (line.Restart n) = not (has_node m cell n)
+is_bad m cell line.Rebase = false
 is_bad m cell (line.Fuse n calls torn) = not (has_node m cell n)
 is_bad m cell (line.Rot server chunk place byte) = not (has_node m cell (node.Server server)) || is_none (handle_shown m cell chunk)
 is_bad m cell (line.Regions chunk) = is_none (regions_shown m cell chunk)
@@ -46,6 +47,11 @@ Makes m old (line.Restart n) steps = First (event.Restart n (record { 0 = old.cl
 Makes m old (line.Fuse n calls torn) steps = Just (event.Fuse n calls torn) steps
 Makes m old (line.Rot server chunk place byte) steps = (handle : Handle) × (handle_shown m old.cell chunk ≡ Some handle) × Just (event.Rot server handle place byte) steps
 Makes m old other steps = steps ≡ []
+
+-- A line's steps lead from one cell to another. That all messages are dropped is no step.
+abbrev pub Follows : {C : Type 0} → Meaning C → Simulated C → CellLine → List Step → C → Type 0
+Follows m old line.Rebase steps new = m.rebases old.cell old.clock new
+Follows m old other steps new = Lead m old.cell steps new
 
 -- what a line prints: the answers, and a look at a chunk what the cell shows of it
 abbrev pub printed_by : {C : Type 0} → Meaning C → C → CellLine → List Step → Option (List ℕ)
@@ -69,7 +75,7 @@ StillWaits m other cell = ⊥
 pub record ComesTo {C : Type 0} (m : Meaning C) (old : Simulated C) (l : CellLine) (new : Simulated C) (printed : List ℕ) : Type 0 where
   pub is_good : is_bad m old.cell l ≡ false
   pub steps : List Step
-  pub leads : Lead m old.cell steps new.cell
+  pub leads : Follows m old l steps new.cell
   pub rises : Rise old.clock steps new.clock
   pub makes : Makes m old l steps
   pub printed_is : printed_by m old.cell l steps ≡ Some printed

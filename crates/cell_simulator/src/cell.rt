@@ -5,7 +5,7 @@ ghost use Rattle.std.specs.Option.{option_copied};
 ghost use Rattle.cell_simulator.specs.Cells.{Meaning};
 
 use gfs_types::answer::Answer;
-use gfs_types::ids::{ClientId, FileId, Handle};
+use gfs_types::ids::{ClientId, FileId, Handle, Moment};
 use gfs_types::no_memory::NoMemory;
 use gfs_types::path::Path;
 use messages::event::Event;
@@ -23,7 +23,11 @@ pub trait SimulatedCell {
     fn step(&mut self, event: Event) -> Option<Answer>
         ensures { meaning.steps self.old event result self.new };
 
-    /// The message of a number. Messages are numbered from 1 in the order of sending.
+    /// The master and then each server, in rising number, begin again at a moment, and all messages are dropped.
+    fn rebase(&mut self, now: Moment)
+        ensures { meaning.rebases self.old now.0 self.new };
+
+    /// The message of a number. Messages are numbered from 1 in the order of sending, since they were dropped last.
     fn message(&self, number: u64) -> Option<&Message>
         ensures { option_copied result ≡ meaning.message self.now number };
 

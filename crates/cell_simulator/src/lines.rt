@@ -160,6 +160,15 @@ impl<C: SimulatedCell> Simulator<C> {
         Ok(LineEnd::Done)
     }
 
+    /// The master and each server begin again without a message.
+    fn run_rebase(&mut self) -> Result<LineEnd, ScriptFault>
+        ensures ends { IfOk result (λ e. (known : Option (List ℕ)) → Ends C.meaning (state_of self.old) (CellLine.Rebase) (state_of self.new) known known e) }
+        ensures fault { IfErr result IsOfWrite }
+    {
+        self.rebase();
+        Ok(LineEnd::Done)
+    }
+
     /// A node's disk passes so many calls, and then fails.
     fn run_fuse<W: Write>(
         &mut self,
@@ -264,6 +273,7 @@ impl<C: SimulatedCell> Simulator<C> {
             CellLine::Cut(node) => self.run_cut(node),
             CellLine::Join(node) => self.run_join(node),
             CellLine::Restart(node) => self.run_restart(node, writer),
+            CellLine::Rebase => self.run_rebase(),
             CellLine::Fuse { node, calls, torn } => self.run_fuse(node, calls, torn, writer),
             CellLine::Rot {
                 server,

@@ -1,6 +1,6 @@
 //! A cell under the simulator's clock, and how its messages come and its nodes tick.
 
-ghost use Rattle.std.specs.Prelude.{◌≡◌, Some, IfErr, OnOk};
+ghost use Rattle.std.specs.Prelude.{◌≡◌, [], Some, IfErr, OnOk};
 ghost use Rattle.script.specs.ScriptFaults.{IsOfWrite};
 ghost use Rattle.cell_simulator.specs.Steps.{First, Goes, Just, Only, is_delivery, moment_of, node_of};
 ghost use Rattle.cell_simulator.specs.Shown.{has_node, state_of};
@@ -155,6 +155,18 @@ impl<C: SimulatedCell> Simulator<C> {
             self.deliver_message(*number, writer)?;
         }
         self.deliver(writer)
+    }
+
+    /// The master and each server begin again, and all messages are dropped, those too that were put aside.
+    pub fn rebase(&mut self)
+        ensures clock { self.new.clock ≡ self.old.clock }
+        ensures rebases { C.meaning.rebases self.old.cell self.old.clock.0 self.new.cell }
+        ensures aside { self.new.network.aside.items ≡ [] }
+        ensures next { self.new.next ≡ 1 }
+    {
+        self.cell.rebase(self.clock);
+        self.network.aside.clear();
+        self.next = 1;
     }
 
     /// A node starts anew.

@@ -1,5 +1,6 @@
 -- What a step leaves of a world, as a cell holds it.
 use Rattle.std.proofs.Common.{◌≡◌, ℕ, suc, List, [], ◌++◌, length, Option, Some, None, refl, sym, subst, ap, ◌∙◌}
+use Rattle.std.specs.Prelude.{max}
 use Rattle.gfs_types.specs.declared.answer.Answer.{Answer}
 use Rattle.gfs_types.specs.declared.call.Call.{Call}
 use Rattle.messages.specs.declared.message.Message.{Message}
@@ -27,7 +28,7 @@ seen_more trace orders seen more g =
     subst (AreHeldAs (orders_after_all trace orders more)) (sym (after_both [] _ seen more)) (after_all trace orders (orders_seen seen) more g)
 
 pub held_after_master : (w : WorldState) (h : HeldCell) (moment : ℕ) (t : Taken MasterState) (m : MasterState) → IsHeldAs w h → IsLeftAs t.state m
-    → IsHeldAs (after_master w moment t).world (record h { master = m; files = files_seen m h.files; sent = sent_after h.sent t.out.sent; seen = h.seen ++ t.seen })
+    → IsHeldAs (after_master w moment t).world (record h { master = m; files = files_seen m h.files; sent = sent_after h.sent t.out.sent; seen = h.seen ++ t.seen; greatest = max h.greatest moment })
 held_after_master w h moment t m g left = record {
   config = g.config;
   master = left;
@@ -36,10 +37,11 @@ held_after_master w h moment t m g left = record {
   clients = g.clients;
   sent = ap (λ ms. sent_after ms t.out.sent) g.sent;
   orders = seen_more (observed_moment w.config.skew_ms w.observer moment).trace w.observer.orders h.seen t.seen g.orders;
+  greatest = ap (λ (n : ℕ). max n moment) g.greatest;
 }
 
 pub held_after_server : (w : WorldState) (h : HeldCell) (place moment : ℕ) (t : Taken ServerState) → IsHeldAs w h
-    → IsHeldAs (after_server w place moment t).world (record h { servers = with_at h.servers place t.state; sent = sent_after h.sent t.out.sent; seen = h.seen ++ t.seen })
+    → IsHeldAs (after_server w place moment t).world (record h { servers = with_at h.servers place t.state; sent = sent_after h.sent t.out.sent; seen = h.seen ++ t.seen; greatest = max h.greatest moment })
 held_after_server w h place moment t g = record {
   config = g.config;
   master = g.master;
@@ -48,6 +50,7 @@ held_after_server w h place moment t g = record {
   clients = g.clients;
   sent = ap (λ ms. sent_after ms t.out.sent) g.sent;
   orders = seen_more (observed_moment w.config.skew_ms w.observer moment).trace w.observer.orders h.seen t.seen g.orders;
+  greatest = ap (λ (n : ℕ). max n moment) g.greatest;
 }
 
 files_answered : (o : Observer) (client : ℕ) (a : Option Answer) → (observed_answer o client a).files ≡ o.files
@@ -58,8 +61,12 @@ orders_answered : (o : Observer) (client : ℕ) (a : Option Answer) → (observe
 orders_answered o client None = refl
 orders_answered o client (Some reply) = refl
 
+greatest_answered : (o : Observer) (client : ℕ) (a : Option Answer) → (observed_answer o client a).greatest ≡ o.greatest
+greatest_answered o client None = refl
+greatest_answered o client (Some reply) = refl
+
 pub held_after_client : (w : WorldState) (h : HeldCell) (place moment : ℕ) (t : Taken ClientState) → IsHeldAs w h
-    → IsHeldAs (after_client w place moment t).world (record h { clients = with_at h.clients place t.state; sent = sent_after h.sent t.out.sent })
+    → IsHeldAs (after_client w place moment t).world (record h { clients = with_at h.clients place t.state; sent = sent_after h.sent t.out.sent; greatest = max h.greatest moment })
 held_after_client w h place moment t g =
     let o : Observer = observed_moment w.config.skew_ms w.observer moment in
     record {
@@ -70,10 +77,11 @@ held_after_client w h place moment t g =
       clients = ap (λ cs. with_at cs place t.state) g.clients;
       sent = ap (λ ms. sent_after ms t.out.sent) g.sent;
       orders = subst (λ (orders : Table (List Placed)). AreHeldAs orders (orders_seen h.seen)) (sym (orders_answered o (suc place) t.out.answer)) g.orders;
+      greatest = greatest_answered o (suc place) t.out.answer ∙ ap (λ (n : ℕ). max n moment) g.greatest;
     }
 
 -- a call is seen
 pub held_called : (w : WorldState) (h : HeldCell) (moment client : ℕ) (c : Call) → IsHeldAs w h
-    → IsHeldAs (record w { observer = observed_call (observed_moment w.config.skew_ms w.observer moment) client c }) h
+    → IsHeldAs (record w { observer = observed_call (observed_moment w.config.skew_ms w.observer moment) client c }) (record h { greatest = max h.greatest moment })
 held_called w h moment client c g =
-    record { config = g.config; master = g.master; files = g.files; servers = g.servers; clients = g.clients; sent = g.sent; orders = g.orders }
+    record { config = g.config; master = g.master; files = g.files; servers = g.servers; clients = g.clients; sent = g.sent; orders = g.orders; greatest = ap (λ (n : ℕ). max n moment) g.greatest }

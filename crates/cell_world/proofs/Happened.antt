@@ -128,9 +128,9 @@ tests up place chunk is h = grind (arith, nat_tests)
 rotted_in : (w : WorldState) (h : HeldCell) (index : ℕ) (s : ServerState) (handle place byte : ℕ) → IsHeldAs w h → element_at h.servers index ≡ Some s → (o : Option Replica)
     → IsHeldAs (rots_replica w index s handle place byte o).world (record h { servers = with_at h.servers index (record s { disk = replica_becomes (λ r. rotten_replica r place byte) s.disk handle o }) })
 rotted_in w h index s handle place byte g is None =
-    record { config = g.config; master = g.master; files = g.files; servers = g.servers ∙ sym (set_itself h.servers index s is); clients = g.clients; sent = g.sent; orders = g.orders }
+    record { config = g.config; master = g.master; files = g.files; servers = g.servers ∙ sym (set_itself h.servers index s is); clients = g.clients; sent = g.sent; orders = g.orders; greatest = g.greatest }
 rotted_in w h index s handle place byte g is (Some r) =
-    record { config = g.config; master = g.master; files = g.files; servers = ap (λ ss. with_at ss index (record s { disk = with_replica s.disk handle (rotten_replica r place byte) })) g.servers; clients = g.clients; sent = g.sent; orders = g.orders }
+    record { config = g.config; master = g.master; files = g.files; servers = ap (λ ss. with_at ss index (record s { disk = with_replica s.disk handle (rotten_replica r place byte) })) g.servers; clients = g.clients; sent = g.sent; orders = g.orders; greatest = g.greatest }
 
 unanswered : (w : WorldState) (index : ℕ) (s : ServerState) (handle place byte : ℕ) (o : Option Replica) → (rots_replica w index s handle place byte o).out.answer ≡ None
 unanswered w index s handle place byte None = refl

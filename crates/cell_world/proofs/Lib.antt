@@ -4,6 +4,7 @@ pub mod WorldOrders
 pub mod Left
 pub mod After
 pub mod Acts
+pub mod Inside
 pub mod Lost
 pub mod Made
 pub mod Moved
@@ -11,3 +12,4 @@ pub mod Happened
 pub mod Regions
 pub mod Running
 pub mod Looked
+pub mod Restarting

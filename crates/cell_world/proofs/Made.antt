@@ -46,8 +46,8 @@ none_held q = ap (λ o. map uncounted (unwrap_or o [])) (table.get-empty nat_cmp
 
 pub held_new : (config : Config) (servers clients : ℕ) (h : HeldCell) → h.config ≡ config → h.master ≡ new_master config servers → h.files ≡ table.empty
     → h.servers ≡ map (λ s. started_server config s (new_server_disk config.block) 0) (first_numbers servers) → h.clients ≡ map (new_client config) (first_numbers clients)
-    → h.sent ≡ [] → h.seen ≡ [] → IsHeldAs (new_world config servers clients) h
-held_new config servers clients h config_is master_is files_are servers_are clients_are sent_is seen_is = record {
+    → h.sent ≡ [] → h.seen ≡ [] → h.greatest ≡ 0 → IsHeldAs (new_world config servers clients) h
+held_new config servers clients h config_is master_is files_are servers_are clients_are sent_is seen_is greatest_is = record {
   config = sym config_is;
   master = subst (IsLeftAs (new_master config servers)) (sym master_is) (same_left (new_master config servers));
   files = sym files_are;
@@ -55,4 +55,5 @@ held_new config servers clients h config_is master_is files_are servers_are clie
   clients = sym clients_are;
   sent = sym sent_is;
   orders = subst (λ (s : List Seen). AreHeldAs table.empty (orders_seen s)) (sym seen_is) none_held;
+  greatest = sym greatest_is;
 }

@@ -1,6 +1,6 @@
 -- Steps of nodes, as a cell holds them.
-use Rattle.std.proofs.Common.{◌≡◌, ◌<◌, ℕ, suc, ◌-◌, Bool, true, false, List, [], ◌++◌, length, Option, Some, None, refl, sym, subst, ap, ◌∙◌}
-use Rattle.std.specs.Prelude.{◌⊎◌, ◌&&◌, if◌then◌else◌}
+use Rattle.std.proofs.Common.{◌≡◌, ◌<◌, ℕ, suc, ◌-◌, Bool, true, false, List, [], ◌++◌, length, Option, Some, None, refl, sym, subst, ap, ◌∙◌, arith}
+use Rattle.std.specs.Prelude.{◌⊎◌, ◌&&◌, if◌then◌else◌, max}
 use Rattle.std.proofs.lemmas.List.{append-nil}
 use Rattle.gfs_types.specs.declared.answer.Answer.{Answer}
 use Rattle.gfs_types.specs.declared.call.Call.{Call}
@@ -57,16 +57,24 @@ recorded w h before after out given shown seen answer held out_is seen_is r =
     ∙ ap (λ (s : List Seen). with_records h after.network.messages s) (sym r.seen_is))))
     held
 
+-- the greatest moment, as the code has it
+at_greatest : (w : WorldState) (h : HeldCell) (moment before greatest : ℕ) → greatest ≡ max before moment → IsHeldAs w (record h { greatest = max before moment }) → IsHeldAs w (record h { greatest = greatest })
+at_greatest w h moment before greatest is held = subst (λ (n : ℕ). IsHeldAs w (record h { greatest = n })) (sym is) held
+
+-- a moment that is given again
+max_again : (a b : ℕ) → max a b ≡ max (max a b) b
+max_again a b = omega arith
+
 -- the master
 
 pub master_down : (h : HeldCell) (moment : ℕ) (i : NodeInput) → h.master.up ≡ false → HasEffect h (λ w choice. moves w node.Master moment i choice) None h
 master_down h moment i down = does_nothing h (λ w choice. moves w node.Master moment i choice) (λ w g choice.
     ap (λ (b : Bool). if b then after_master w moment (master_step w.master moment i choice) else nothing_happens w) (sym (ap (λ (m : MasterState). m.up) g.master.but_under_way) ∙ down))
 
-pub master_did : (h : HeldCell) (moment : ℕ) (i : NodeInput) (before after : CellRecord) (answer : Option Answer) (m : MasterState) (files : Table (List ℕ))
-    → h.master.up ≡ true → MasterStepsSo h.master moment i before answer m after → files ≡ files_seen m h.files → before.network.messages ≡ h.sent → before.sights.seen ≡ h.seen
-    → HasEffect h (λ w choice. moves w node.Master moment i choice) answer (record h { master = m; files = files; sent = after.network.messages; seen = after.sights.seen })
-master_did h moment i before after answer m files up k files_are sent_is seen_is w g =
+pub master_did : (h : HeldCell) (moment : ℕ) (i : NodeInput) (before after : CellRecord) (answer : Option Answer) (m : MasterState) (files : Table (List ℕ)) (greatest : ℕ)
+    → h.master.up ≡ true → MasterStepsSo h.master moment i before answer m after → files ≡ files_seen m h.files → before.network.messages ≡ h.sent → before.sights.seen ≡ h.seen → greatest ≡ max h.greatest moment
+    → HasEffect h (λ w choice. moves w node.Master moment i choice) answer (record h { master = m; files = files; sent = after.network.messages; seen = after.sights.seen; greatest = greatest })
+master_did h moment i before after answer m files greatest up k files_are sent_is seen_is greatest_is w g =
     let choice = k.steps.choice in
     let t : Taken MasterState = master_step h.master moment i choice in
     let whole : w.master ≡ h.master = same_up w.master h.master g.master up in
@@ -74,14 +82,15 @@ master_did h moment i before after answer m files up k files_are sent_is seen_is
     ap (λ (x : MasterState). if x.up then after_master w moment (master_step x moment i choice) else nothing_happens w) whole
     ∙ ap (λ (b : Bool). if b then after_master w moment t else nothing_happens w) up in
     let held = held_after_master w h moment t m g k.steps.gives.left_as in
-    let new : HeldCell = record h { master = m; files = files } in
-    done h (record new { sent = after.network.messages; seen = after.sights.seen }) (λ u c. moves u node.Master moment i c) answer w choice (after_master w moment t) same
+    let new : HeldCell = record h { master = m; files = files; greatest = max h.greatest moment } in
+    done h (record new { sent = after.network.messages; seen = after.sights.seen; greatest = greatest }) (λ u c. moves u node.Master moment i c) answer w choice (after_master w moment t) same
     (ap (λ (o : StepOut). o.answer) k.steps.gives.out_is ∙ k.recorded.answer_is)
+    (at_greatest (after_master w moment t).world (record new { sent = after.network.messages; seen = after.sights.seen }) moment h.greatest greatest greatest_is
     (recorded (after_master w moment t).world new before after k.out t.out t.seen k.seen answer
     (subst (λ (f : Table (List ℕ)). IsHeldAs (after_master w moment t).world (record new { files = f; sent = sent_after before.network.messages t.out.sent; seen = before.sights.seen ++ t.seen })) (sym files_are)
     (subst (λ (s : List Seen). IsHeldAs (after_master w moment t).world (record new { files = files_seen m h.files; sent = sent_after before.network.messages t.out.sent; seen = s ++ t.seen })) (sym seen_is)
     (subst (λ (ms : List Message). IsHeldAs (after_master w moment t).world (record new { files = files_seen m h.files; sent = sent_after ms t.out.sent; seen = h.seen ++ t.seen })) (sym sent_is) held)))
-    k.steps.gives.out_is k.steps.gives.seen_is k.recorded)
+    k.steps.gives.out_is k.steps.gives.seen_is k.recorded))
 
 -- a restart of the master says and answers nothing
 abbrev IsSilent : {S : Type 0} → Taken S → Type 0
@@ -104,18 +113,19 @@ silent w h sent seen none unseen held =
     ∙ (ap (λ (ms : List Message). with_records h ms (h.seen ++ [])) (append-nil h.sent) ∙ ap (λ (s : List Seen). with_records h h.sent s) (append-nil h.seen))))
     held
 
-pub master_restarted : (h : HeldCell) (moment : ℕ) (out : StepOut) (m : MasterState) (files : Table (List ℕ)) → MasterRestarts h.master moment out m → files ≡ files_seen m h.files
-    → HasEffect h (λ w choice. restarts w node.Master moment choice) None (record h { master = m; files = files })
-master_restarted h moment out m files k files_are w g =
+pub master_restarted : (h : HeldCell) (moment : ℕ) (out : StepOut) (m : MasterState) (files : Table (List ℕ)) (greatest : ℕ) → MasterRestarts h.master moment out m → files ≡ files_seen m h.files → greatest ≡ max h.greatest moment
+    → HasEffect h (λ w choice. restarts w node.Master moment choice) None (record h { master = m; files = files; greatest = greatest })
+master_restarted h moment out m files greatest k files_are greatest_is w g =
     let left = restarts_of_what_is_left w.master h.master g.master moment k.choice in
     let choice = left.0 in
     let t : Taken MasterState = master_restart w.master moment choice in
     let quiet : IsSilent t = opens_silently w.master (started_master w.master.config w.master.server_count (found_log w.master choice) moment) (opening (started_master w.master.config w.master.server_count (found_log w.master choice) moment)) choice choice.ending in
     let held = held_after_master w h moment t m g (left_on t.state (master_restart h.master moment k.choice).state m left.1.2 k.gives.left_as) in
-    let new : HeldCell = record h { master = m; files = files_seen m h.files } in
-    done h (record h { master = m; files = files }) (λ u c. restarts u node.Master moment c) None w choice (after_master w moment t) refl quiet.1
-    (subst (λ (f : Table (List ℕ)). IsHeldAs (after_master w moment t).world (record h { master = m; files = f })) (sym files_are)
-    (silent (after_master w moment t).world new t.out.sent t.seen quiet.0 quiet.2 held))
+    let new : HeldCell = record h { master = m; files = files_seen m h.files; greatest = max h.greatest moment } in
+    done h (record h { master = m; files = files; greatest = greatest }) (λ u c. restarts u node.Master moment c) None w choice (after_master w moment t) refl quiet.1
+    (at_greatest (after_master w moment t).world (record h { master = m; files = files }) moment h.greatest greatest greatest_is
+    (subst (λ (f : Table (List ℕ)). IsHeldAs (after_master w moment t).world (record new { files = f })) (sym files_are)
+    (silent (after_master w moment t).world new t.out.sent t.seen quiet.0 quiet.2 held)))
 
 -- a server
 
@@ -135,11 +145,11 @@ server_down h id place moment i e within down =
     ap (server_moves w (id.0 - 1) moment i choice) (found_server w h id.0 place s.0 g e s.1)
     ∙ ap (λ (b : Bool). if b then after_server w (id.0 - 1) moment (server_step s.0 moment i choice) else nothing_happens w) (down s.0 s.1))
 
-pub server_did : (h : HeldCell) (id : ServerId) (place moment : ℕ) (i : NodeInput) (before after : CellRecord) (answer : Option Answer) (servers : List ServerState)
+pub server_did : (h : HeldCell) (id : ServerId) (place moment : ℕ) (i : NodeInput) (before after : CellRecord) (answer : Option Answer) (servers : List ServerState) (greatest : ℕ)
     → id.0 ≡ suc place → IsUpAt (λ (s : ServerState). s.up) h.servers place true
-    → StepsAt (λ s out seen t. ServerSteps s moment i out seen t) h.servers place before answer servers after → before.network.messages ≡ h.sent → before.sights.seen ≡ h.seen
-    → HasEffect h (λ w choice. moves w (node.Server id) moment i choice) answer (record h { servers = servers; sent = after.network.messages; seen = after.sights.seen })
-server_did h id place moment i before after answer servers e up k sent_is seen_is w g =
+    → StepsAt (λ s out seen t. ServerSteps s moment i out seen t) h.servers place before answer servers after → before.network.messages ≡ h.sent → before.sights.seen ≡ h.seen → greatest ≡ max h.greatest moment
+    → HasEffect h (λ w choice. moves w (node.Server id) moment i choice) answer (record h { servers = servers; sent = after.network.messages; seen = after.sights.seen; greatest = greatest })
+server_did h id place moment i before after answer servers greatest e up k sent_is seen_is greatest_is w g =
     let choice = k.steps.choice in
     let t : Taken ServerState = server_step k.old moment i choice in
     let same : moves w (node.Server id) moment i choice ≡ after_server w place moment t =
@@ -147,15 +157,17 @@ server_did h id place moment i before after answer servers e up k sent_is seen_i
     ∙ (ap (λ (b : Bool). if b then after_server w (id.0 - 1) moment t else nothing_happens w) (up k.old k.is_there)
     ∙ ap (λ (n : ℕ). after_server w n moment t) (place_is id.0 place e)) in
     let held = held_after_server w h place moment t g in
-    let new : HeldCell = record h { servers = servers } in
+    let passed : HeldCell = record h { greatest = max h.greatest moment } in
+    let new : HeldCell = record passed { servers = servers } in
     let servers_are : with_at h.servers place t.state ≡ servers = ap (with_at h.servers place) k.steps.gives.state_is ∙ sym k.nodes_are in
-    done h (record new { sent = after.network.messages; seen = after.sights.seen }) (λ u c. moves u (node.Server id) moment i c) answer w choice (after_server w place moment t) same
+    done h (record new { sent = after.network.messages; seen = after.sights.seen; greatest = greatest }) (λ u c. moves u (node.Server id) moment i c) answer w choice (after_server w place moment t) same
     (ap (λ (o : StepOut). o.answer) k.steps.gives.out_is ∙ k.recorded.answer_is)
+    (at_greatest (after_server w place moment t).world (record new { sent = after.network.messages; seen = after.sights.seen }) moment h.greatest greatest greatest_is
     (recorded (after_server w place moment t).world new before after k.out t.out t.seen k.seen answer
-    (subst (λ (ss : List ServerState). IsHeldAs (after_server w place moment t).world (record h { servers = ss; sent = sent_after before.network.messages t.out.sent; seen = before.sights.seen ++ t.seen })) servers_are
-    (subst (λ (s : List Seen). IsHeldAs (after_server w place moment t).world (record h { servers = with_at h.servers place t.state; sent = sent_after before.network.messages t.out.sent; seen = s ++ t.seen })) (sym seen_is)
-    (subst (λ (ms : List Message). IsHeldAs (after_server w place moment t).world (record h { servers = with_at h.servers place t.state; sent = sent_after ms t.out.sent; seen = h.seen ++ t.seen })) (sym sent_is) held)))
-    k.steps.gives.out_is k.steps.seen_is k.recorded)
+    (subst (λ (ss : List ServerState). IsHeldAs (after_server w place moment t).world (record passed { servers = ss; sent = sent_after before.network.messages t.out.sent; seen = before.sights.seen ++ t.seen })) servers_are
+    (subst (λ (s : List Seen). IsHeldAs (after_server w place moment t).world (record passed { servers = with_at h.servers place t.state; sent = sent_after before.network.messages t.out.sent; seen = s ++ t.seen })) (sym seen_is)
+    (subst (λ (ms : List Message). IsHeldAs (after_server w place moment t).world (record passed { servers = with_at h.servers place t.state; sent = sent_after ms t.out.sent; seen = h.seen ++ t.seen })) (sym sent_is) held)))
+    k.steps.gives.out_is k.steps.seen_is k.recorded))
 
 restarts_silently : (s : ServerState) (moment : ℕ) (choice : Choice) (e : Ending) → IsSilent (server_restarts s moment choice e)
 restarts_silently s moment choice Goes = (refl, refl, refl)
@@ -166,9 +178,9 @@ pub no_server_restarts : (h : HeldCell) (id : ServerId) (moment : ℕ) → (id.0
 no_server_restarts h id moment m = does_nothing h (λ w choice. restarts w (node.Server id) moment choice) (λ w g choice.
     ap (server_restarts_at w (id.0 - 1) moment choice) (ap (λ ss. numbered_from_1 ss id.0) g.servers ∙ missing h.servers id.0 m))
 
-pub server_restarted : (h : HeldCell) (id : ServerId) (place moment : ℕ) (out : StepOut) (servers : List ServerState) → id.0 ≡ suc place → RestartsAt h.servers place moment out servers
-    → HasEffect h (λ w choice. restarts w (node.Server id) moment choice) None (record h { servers = servers })
-server_restarted h id place moment out servers e k w g =
+pub server_restarted : (h : HeldCell) (id : ServerId) (place moment : ℕ) (out : StepOut) (servers : List ServerState) (greatest : ℕ) → id.0 ≡ suc place → RestartsAt h.servers place moment out servers → greatest ≡ max h.greatest moment
+    → HasEffect h (λ w choice. restarts w (node.Server id) moment choice) None (record h { servers = servers; greatest = greatest })
+server_restarted h id place moment out servers greatest e k greatest_is w g =
     let choice = k.restarts.choice in
     let t : Taken ServerState = server_restart k.old moment choice in
     let quiet : IsSilent t = restarts_silently k.old moment choice choice.ending in
@@ -176,9 +188,11 @@ server_restarted h id place moment out servers e k w g =
     ap (server_restarts_at w (id.0 - 1) moment choice) (found_server w h id.0 place k.old g e k.is_there)
     ∙ ap (λ (n : ℕ). after_server w n moment t) (place_is id.0 place e) in
     let servers_are : with_at h.servers place t.state ≡ servers = ap (with_at h.servers place) k.restarts.gives.state_is ∙ sym k.servers_are in
-    done h (record h { servers = servers }) (λ u c. restarts u (node.Server id) moment c) None w choice (after_server w place moment t) same quiet.1
-    (subst (λ (ss : List ServerState). IsHeldAs (after_server w place moment t).world (record h { servers = ss })) servers_are
-    (silent (after_server w place moment t).world (record h { servers = with_at h.servers place t.state }) t.out.sent t.seen quiet.0 quiet.2 (held_after_server w h place moment t g)))
+    let passed : HeldCell = record h { greatest = max h.greatest moment } in
+    done h (record h { servers = servers; greatest = greatest }) (λ u c. restarts u (node.Server id) moment c) None w choice (after_server w place moment t) same quiet.1
+    (at_greatest (after_server w place moment t).world (record h { servers = servers }) moment h.greatest greatest greatest_is
+    (subst (λ (ss : List ServerState). IsHeldAs (after_server w place moment t).world (record passed { servers = ss })) servers_are
+    (silent (after_server w place moment t).world (record passed { servers = with_at h.servers place t.state }) t.out.sent t.seen quiet.0 quiet.2 (held_after_server w h place moment t g))))
 
 -- a client
 
@@ -198,33 +212,35 @@ client_down h id place moment i e within down =
     ∙ ap (λ (b : Bool). if b then after_client w (id.0 - 1) moment (client_step s.0 moment i choice) else nothing_happens w) (down s.0 s.1))
 
 -- what a client gave is recorded, and nothing was seen of it
-client_held : (w u : WorldState) (h : HeldCell) (place moment : ℕ) (t : Taken ClientState) (before after : CellRecord) (out : StepOut) (seen : List Seen) (answer : Option Answer) (new : ClientState) (clients : List ClientState)
-    → IsHeldAs u h → t.out ≡ out → t.state ≡ new → seen ≡ [] → clients ≡ with_at h.clients place new → IsRecorded before out seen answer after → before.network.messages ≡ h.sent → before.sights.seen ≡ h.seen
-    → IsHeldAs (after_client u place moment t).world (record h { clients = clients; sent = after.network.messages; seen = after.sights.seen })
-client_held w u h place moment t before after out seen answer new clients g out_is state_is unseen clients_are r sent_is seen_is =
+client_held : (w u : WorldState) (h : HeldCell) (place moment : ℕ) (t : Taken ClientState) (before after : CellRecord) (out : StepOut) (seen : List Seen) (answer : Option Answer) (new : ClientState) (clients : List ClientState) (greatest : ℕ)
+    → IsHeldAs u h → t.out ≡ out → t.state ≡ new → seen ≡ [] → clients ≡ with_at h.clients place new → IsRecorded before out seen answer after → before.network.messages ≡ h.sent → before.sights.seen ≡ h.seen → greatest ≡ max h.greatest moment
+    → IsHeldAs (after_client u place moment t).world (record h { clients = clients; sent = after.network.messages; seen = after.sights.seen; greatest = greatest })
+client_held w u h place moment t before after out seen answer new clients greatest g out_is state_is unseen clients_are r sent_is seen_is greatest_is =
     let last = (after_client u place moment t).world in
     let clients_so : with_at h.clients place t.state ≡ clients = ap (with_at h.clients place) state_is ∙ sym clients_are in
     let seen_so : h.seen ≡ before.sights.seen ++ [] = sym seen_is ∙ sym (append-nil before.sights.seen) in
-    recorded last (record h { clients = clients }) before after out t.out [] seen answer
-    (subst (λ (cs : List ClientState). IsHeldAs last (record h { clients = cs; sent = sent_after before.network.messages t.out.sent; seen = before.sights.seen ++ [] })) clients_so
-    (subst (λ (s : List Seen). IsHeldAs last (record h { clients = with_at h.clients place t.state; sent = sent_after before.network.messages t.out.sent; seen = s })) seen_so
-    (subst (λ (ms : List Message). IsHeldAs last (record h { clients = with_at h.clients place t.state; sent = sent_after ms t.out.sent })) (sym sent_is) (held_after_client u h place moment t g))))
-    out_is (sym unseen) r
+    let passed : HeldCell = record h { greatest = max h.greatest moment } in
+    at_greatest last (record h { clients = clients; sent = after.network.messages; seen = after.sights.seen }) moment h.greatest greatest greatest_is
+    (recorded last (record passed { clients = clients }) before after out t.out [] seen answer
+    (subst (λ (cs : List ClientState). IsHeldAs last (record passed { clients = cs; sent = sent_after before.network.messages t.out.sent; seen = before.sights.seen ++ [] })) clients_so
+    (subst (λ (s : List Seen). IsHeldAs last (record passed { clients = with_at h.clients place t.state; sent = sent_after before.network.messages t.out.sent; seen = s })) seen_so
+    (subst (λ (ms : List Message). IsHeldAs last (record passed { clients = with_at h.clients place t.state; sent = sent_after ms t.out.sent })) (sym sent_is) (held_after_client u h place moment t g))))
+    out_is (sym unseen) r)
 
-pub client_did : (h : HeldCell) (id : ClientId) (place moment : ℕ) (i : NodeInput) (before after : CellRecord) (answer : Option Answer) (clients : List ClientState)
+pub client_did : (h : HeldCell) (id : ClientId) (place moment : ℕ) (i : NodeInput) (before after : CellRecord) (answer : Option Answer) (clients : List ClientState) (greatest : ℕ)
     → id.0 ≡ suc place → IsUpAt (λ (s : ClientState). s.up) h.clients place true
-    → StepsAt (λ s out seen t. ClientStepsSo s moment i out seen t) h.clients place before answer clients after → before.network.messages ≡ h.sent → before.sights.seen ≡ h.seen
-    → HasEffect h (λ w choice. moves w (node.Client id) moment i choice) answer (record h { clients = clients; sent = after.network.messages; seen = after.sights.seen })
-client_did h id place moment i before after answer clients e up k sent_is seen_is w g =
+    → StepsAt (λ s out seen t. ClientStepsSo s moment i out seen t) h.clients place before answer clients after → before.network.messages ≡ h.sent → before.sights.seen ≡ h.seen → greatest ≡ max h.greatest moment
+    → HasEffect h (λ w choice. moves w (node.Client id) moment i choice) answer (record h { clients = clients; sent = after.network.messages; seen = after.sights.seen; greatest = greatest })
+client_did h id place moment i before after answer clients greatest e up k sent_is seen_is greatest_is w g =
     let choice = k.steps.steps.choice in
     let t : Taken ClientState = client_step k.old moment i choice in
     let same : moves w (node.Client id) moment i choice ≡ after_client w place moment t =
     ap (client_moves w (id.0 - 1) moment i choice) (found_client w h id.0 place k.old g e k.is_there)
     ∙ (ap (λ (b : Bool). if b then after_client w (id.0 - 1) moment t else nothing_happens w) (up k.old k.is_there)
     ∙ ap (λ (n : ℕ). after_client w n moment t) (place_is id.0 place e)) in
-    done h (record h { clients = clients; sent = after.network.messages; seen = after.sights.seen }) (λ u c. moves u (node.Client id) moment i c) answer w choice (after_client w place moment t) same
+    done h (record h { clients = clients; sent = after.network.messages; seen = after.sights.seen; greatest = greatest }) (λ u c. moves u (node.Client id) moment i c) answer w choice (after_client w place moment t) same
     (ap (λ (o : StepOut). o.answer) k.steps.steps.gives.out_is ∙ k.recorded.answer_is)
-    (client_held w w h place moment t before after k.out k.seen answer k.new clients g k.steps.steps.gives.out_is k.steps.steps.gives.state_is k.steps.unseen k.nodes_are k.recorded sent_is seen_is)
+    (client_held w w h place moment t before after k.out k.seen answer k.new clients greatest g k.steps.steps.gives.out_is k.steps.steps.gives.state_is k.steps.unseen k.nodes_are k.recorded sent_is seen_is greatest_is)
 
 -- a call
 
@@ -244,11 +260,11 @@ call_barred h id place moment c e within barred =
     ap (call_moves w (id.0 - 1) moment c choice) (found_client w h id.0 place s.0 g e s.1)
     ∙ ap (λ (b : Bool). if b then after_client (seen_call w moment (suc (id.0 - 1)) c) (id.0 - 1) moment (client_call s.0 moment c choice) else nothing_happens w) (barred s.0 s.1))
 
-pub call_did : (h : HeldCell) (id : ClientId) (place moment : ℕ) (c : Call) (before after : CellRecord) (answer : Option Answer) (clients : List ClientState)
+pub call_did : (h : HeldCell) (id : ClientId) (place moment : ℕ) (c : Call) (before after : CellRecord) (answer : Option Answer) (clients : List ClientState) (greatest : ℕ)
     → id.0 ≡ suc place → IsUpAt may_call h.clients place true
-    → StepsAt (λ s out seen t. ClientCallsSo s moment c out seen t) h.clients place before answer clients after → before.network.messages ≡ h.sent → before.sights.seen ≡ h.seen
-    → HasEffect h (λ w choice. call_moves w (id.0 - 1) moment c choice (numbered_from_1 w.clients id.0)) answer (record h { clients = clients; sent = after.network.messages; seen = after.sights.seen })
-call_did h id place moment c before after answer clients e may k sent_is seen_is w g =
+    → StepsAt (λ s out seen t. ClientCallsSo s moment c out seen t) h.clients place before answer clients after → before.network.messages ≡ h.sent → before.sights.seen ≡ h.seen → greatest ≡ max h.greatest moment
+    → HasEffect h (λ w choice. call_moves w (id.0 - 1) moment c choice (numbered_from_1 w.clients id.0)) answer (record h { clients = clients; sent = after.network.messages; seen = after.sights.seen; greatest = greatest })
+call_did h id place moment c before after answer clients greatest e may k sent_is seen_is greatest_is w g =
     let choice = k.steps.calls.choice in
     let t : Taken ClientState = client_call k.old moment c choice in
     let u = seen_call w moment (suc place) c in
@@ -256,9 +272,11 @@ call_did h id place moment c before after answer clients e may k sent_is seen_is
     ap (call_moves w (id.0 - 1) moment c choice) (found_client w h id.0 place k.old g e k.is_there)
     ∙ (ap (λ (b : Bool). if b then after_client (seen_call w moment (suc (id.0 - 1)) c) (id.0 - 1) moment t else nothing_happens w) (may k.old k.is_there)
     ∙ ap (λ (n : ℕ). after_client (seen_call w moment (suc n) c) n moment t) (place_is id.0 place e)) in
-    done h (record h { clients = clients; sent = after.network.messages; seen = after.sights.seen }) (λ v x. call_moves v (id.0 - 1) moment c x (numbered_from_1 v.clients id.0)) answer w choice (after_client u place moment t) same
+    let passed : HeldCell = record h { greatest = max h.greatest moment } in
+    done h (record h { clients = clients; sent = after.network.messages; seen = after.sights.seen; greatest = greatest }) (λ v x. call_moves v (id.0 - 1) moment c x (numbered_from_1 v.clients id.0)) answer w choice (after_client u place moment t) same
     (ap (λ (o : StepOut). o.answer) k.steps.calls.gives.out_is ∙ k.recorded.answer_is)
-    (client_held w u h place moment t before after k.out k.seen answer k.new clients (held_called w h moment (suc place) c g) k.steps.calls.gives.out_is k.steps.calls.gives.state_is k.steps.unseen k.nodes_are k.recorded sent_is seen_is)
+    (client_held w u passed place moment t before after k.out k.seen answer k.new clients greatest (held_called w h moment (suc place) c g) k.steps.calls.gives.out_is k.steps.calls.gives.state_is k.steps.unseen k.nodes_are k.recorded sent_is seen_is
+    (greatest_is ∙ max_again h.greatest moment))
 
 -- a node by what it is
 

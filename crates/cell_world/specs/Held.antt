@@ -14,7 +14,7 @@ use Rattle.protocol.specs.World.{WorldState, Happened}
 use Rattle.protocol.specs.Conforms.{IsLeftAs}
 use Rattle.cell_world.specs.Seeing.{orders_seen}
 
--- No code holds the trace, the moments that passed, or whether clocks and disks kept what is asked of them.
+-- No code holds the trace, or whether clocks and disks kept what is asked of them. Of the moments that passed it holds the greatest.
 pub record HeldCell : Type 0 where
   pub config : Config
   pub master : MasterState
@@ -23,6 +23,7 @@ pub record HeldCell : Type 0 where
   pub clients : List ClientState
   pub sent : List Message
   pub seen : List Seen
+  pub greatest : ℕ
 
 -- an entry without the number of its call
 abbrev pub uncounted : Placed → Placed
@@ -41,6 +42,7 @@ pub record IsHeldAs (w : WorldState) (h : HeldCell) : Type 0 where
   pub clients : w.clients ≡ h.clients
   pub sent : w.sent ≡ h.sent
   pub orders : AreHeldAs w.observer.orders (orders_seen h.seen)
+  pub greatest : w.observer.greatest ≡ h.greatest
 
 -- What an act comes to in each world that a cell stands for, for some choice: this answer, and a world that the new cell stands for.
 abbrev pub HasEffect : HeldCell → (WorldState → Choice → Happened) → Option Answer → HeldCell → Type 0

@@ -8,4 +8,5 @@ pub mod FileNames
 pub mod Steps
 pub mod AsStored
 pub mod Looks
+pub mod Rebasing
 pub mod Faults

@@ -10,6 +10,7 @@ ghost use Rattle.cell_world.specs.Held.{HasEffect};
 ghost use Rattle.cell_world.specs.Events.{MayBeRefused};
 
 use crate::clients::{client_calls, client_may_call, client_place, client_steps, is_client_up};
+use crate::clock::later;
 use crate::master::CellMaster;
 use crate::masters::master_steps;
 use crate::record::CellRecord;
@@ -29,7 +30,7 @@ use server_store::stoppable_store::StoppableStore;
 use server_store::store::ReplicaStore;
 use std::marker::Model;
 
-/// A cell of one master, and of servers and clients by their numbers, from 1.
+/// A cell of one master, and of servers and clients by their numbers, from 1, and the greatest moment that was given to a node.
 #[derive(Drop)]
 pub struct CellState<M: CellMaster, S: ReplicaStore> {
     pub(crate) config: Config,
@@ -37,6 +38,7 @@ pub struct CellState<M: CellMaster, S: ReplicaStore> {
     pub(crate) servers: Vec<Chunkserver<S>>,
     pub(crate) clients: Vec<Client>,
     pub(crate) record: CellRecord,
+    pub(crate) greatest: Moment,
 }
 
 impl<M: CellMaster, S: ReplicaStore> Model for CellState<M, S> {
@@ -57,6 +59,7 @@ impl<M: CellMaster, S: ReplicaStore> Model for CellState<M, S> {
       clients = c.clients.items;
       sent = c.record.network.messages;
       seen = c.record.sights.seen;
+      greatest = c.greatest.0;
     } };
 }
 
@@ -88,10 +91,8 @@ impl<M: CellMaster, S: StoppableStore> CellState<M, S> {
                 Ok(self.moves(node, None, now))
             }
             Event::Restart { node, now } => {
-                if now.0 > MAX_MOMENT {
-                    return Ok(None);
-                }
-                Ok(self.restarts(node, now))
+                self.restart(node, now);
+                Ok(None)
             }
             Event::Rot {
                 server,
@@ -119,6 +120,7 @@ impl<M: CellMaster, S: StoppableStore> CellState<M, S> {
         if !client_may_call(&self.clients, place) {
             return None;
         }
+        self.greatest = later(self.greatest, now);
         client_calls(&mut self.clients, place, &mut self.record, call, now)
     }
 
@@ -152,6 +154,7 @@ impl<M: CellMaster, S: StoppableStore> CellState<M, S> {
         if !self.master.is_up() {
             return None;
         }
+        self.greatest = later(self.greatest, now);
         master_steps(&mut self.master, &mut self.record, given, now)
     }
 
@@ -165,6 +168,7 @@ impl<M: CellMaster, S: StoppableStore> CellState<M, S> {
         if !is_server_up(&self.servers, place) {
             return None;
         }
+        self.greatest = later(self.greatest, now);
         server_steps(&mut self.servers, place, &mut self.record, given, now)
     }
 
@@ -178,33 +182,48 @@ impl<M: CellMaster, S: StoppableStore> CellState<M, S> {
         if !is_client_up(&self.clients, place) {
             return None;
         }
+        self.greatest = later(self.greatest, now);
         client_steps(&mut self.clients, place, &mut self.record, given, now)
     }
 
-    /// A node begins again, whether it was up or down.
-    fn restarts(&mut self, node: Node, now: Moment) -> Option<Answer>
+    /// A node begins again, whether it was up or down. A moment past `MAX_MOMENT` changes nothing.
+    pub(crate) fn restart(&mut self, node: Node, now: Moment)
+        ensures { HasEffect self.old (λ w choice. happens w (Event.Restart node now) choice) None self.new }
+    {
+        if now.0 > MAX_MOMENT {
+            return;
+        }
+        self.restarts(node, now);
+    }
+
+    fn restarts(&mut self, node: Node, now: Moment)
         requires { now.0 ≤ moment_limit }
-        ensures { HasEffect self.old (λ w choice. restarts w node now.0 choice) result self.new }
+        ensures { HasEffect self.old (λ w choice. restarts w node now.0 choice) None self.new }
     {
         match node {
-            Node::Master => {
-                let _ = self.master.restart(now);
-                None
-            }
+            Node::Master => self.master_restarts(now),
             Node::Server(id) => self.server_restarts(id, now),
-            Node::Client(_) => None,
+            Node::Client(_) => {}
         }
     }
 
-    fn server_restarts(&mut self, id: ServerId, now: Moment) -> Option<Answer>
+    fn master_restarts(&mut self, now: Moment)
         requires { now.0 ≤ moment_limit }
-        ensures { HasEffect self.old (λ w choice. restarts w (node.Server id) now.0 choice) result self.new }
+        ensures { HasEffect self.old (λ w choice. restarts w node.Master now.0 choice) None self.new }
+    {
+        self.greatest = later(self.greatest, now);
+        let _ = self.master.restart(now);
+    }
+
+    fn server_restarts(&mut self, id: ServerId, now: Moment)
+        requires { now.0 ≤ moment_limit }
+        ensures { HasEffect self.old (λ w choice. restarts w (node.Server id) now.0 choice) None self.new }
     {
         let Some(place) = server_place(&self.servers, id) else {
-            return None;
+            return;
         };
+        self.greatest = later(self.greatest, now);
         let _ = server_restarts(&mut self.servers, place, now);
-        None
     }
 
     /// A node's disk is told to stop.

@@ -48,6 +48,7 @@ impl<M: CellMaster + Drop, S: ReplicaStore + Drop> CellState<M, S> {
             servers,
             clients,
             record: CellRecord::new(alloc),
+            greatest: Moment(0),
         })
     }
 }

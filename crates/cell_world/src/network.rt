@@ -1,4 +1,4 @@
-//! All messages that were ever sent, by their numbers.
+//! All messages that were sent since they were dropped last, by their numbers.
 
 ghost use Rattle.std.specs.Prelude.{◌≡◌, ◌+◌, ◌-◌, ◌^◌, ◌<◌, ◌≤◌, [], ◌∷◌, ◌++◌, suc, length, slice_get, vec_len, vec_capacity, OnOk};
 ghost use Rattle.std.specs.Option.{option_copied};
@@ -42,6 +42,14 @@ impl Network {
             batches: Vec::new(alloc),
             count: 0,
         }
+    }
+
+    /// All messages are dropped; the next one has the number 1.
+    pub fn clear(&mut self)
+        ensures { self.new.messages ≡ [] }
+    {
+        self.batches.clear();
+        self.count = 0;
     }
 
     /// How many were sent, which is the last one's number.

@@ -118,6 +118,7 @@ line_for (first ∷ rest) =
     else if bytes_eq first (codes "wait") then option_map lines.Wait (moments_of rest)
     else if bytes_eq first (codes "hold") then option_map lines.Hold (matter_of rest)
     else if bytes_eq first (codes "free") then alone rest lines.Free
+    else if bytes_eq first (codes "rebase") then alone rest lines.Rebase
     else if bytes_eq first (codes "twice") then option_map lines.Twice (matter_of rest)
     else node_line first rest
 

@@ -54,6 +54,8 @@ pub enum CellLine {
     /// A cut ends.
     Join(Node),
     Restart(Node),
+    /// The master and each server begin again, and all messages are dropped.
+    Rebase,
     /// The node's disk passes so many calls, and then fails.
     Fuse {
         node: Node,
@@ -247,6 +249,8 @@ fn line_for(alloc: Global, words: &[&[u8]]) -> Result<CellLine, LineFault>
         Ok(CellLine::Hold(read_matter(rest)?))
     } else if *first == b"free".as_slice() {
         alone(rest, CellLine::Free)
+    } else if *first == b"rebase".as_slice() {
+        alone(rest, CellLine::Rebase)
     } else if *first == b"twice".as_slice() {
         Ok(CellLine::Twice(read_matter(rest)?))
     } else {

@@ -34,7 +34,7 @@ a_world h =
       servers = h.servers;
       clients = h.clients;
       sent = h.sent;
-      observer = record (new_observer h.files) { orders = orders_seen h.seen };
+      observer = record (new_observer h.files) { orders = orders_seen h.seen; greatest = h.greatest };
     }
 
 none_held : AreHeldAs table.empty table.empty
@@ -50,6 +50,7 @@ held_there h =
       clients = refl;
       sent = refl;
       orders = after_all [] table.empty table.empty h.seen none_held;
+      greatest = refl;
     }
 
 same_answer : (client : ClientId) (n : Node) (a : Option Answer) → is_answered_at client n a ≡ is_answer_of client.0 n a

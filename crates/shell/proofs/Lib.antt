@@ -3,6 +3,8 @@ pub mod Counted
 pub mod Settings
 pub mod Clocks
 pub mod Printed
+pub mod Raised
+pub mod Restarts
 pub mod Explained
 pub mod Running
 pub mod Stores

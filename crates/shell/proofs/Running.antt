@@ -19,7 +19,7 @@ module _ {C : Type 0} (m : Meaning C) (held : C → HeldCell) (so : IsOfHeld m h
   runs_on_new last script before after (Ok x) h =
       let runs : RunsScript m (at_0 first) last before after script = subst (λ (s : Simulated C). RunsScript m s last before after script) begins h in
       let ran = all_explained m held so o (settings_in_range o first range) first new last before after runs.lines runs.runs in
-      record { first = first; is_new = new; last = last; runs = runs; world = ran.0; explained = ran.1 }
+      record { first = first; is_new = new; last = last; runs = runs; world = ran.0; dropped = ran.1; explained = ran.2 }
   runs_on_new last script before after (Err f) h = tt
 
   stopped : (script before after : Option (List ℕ)) (f : ScriptFault) → StopsWith m old script before after f → StopsOnNew m held o script before after f

@@ -1,6 +1,6 @@
 -- Steps that may be refused, and replicas as they are printed.
 use Rattle.std.proofs.Common.{◌≡◌, ℕ, List, [], ◌∷◌, map, Option, Some, None, Result, Ok, Err, refl, sym, ap, ◌∙◌, inl, inr}
-use Rattle.std.specs.Prelude.{◌⊎◌, IfOk, OnErr, option_map, unwrap_or}
+use Rattle.std.specs.Prelude.{◌⊎◌, IfOk, IfErr, OnOk, OnErr, option_map, unwrap_or}
 use Rattle.std.specs.Result.{result_unwrap_or}
 use Rattle.gfs_types.specs.declared.answer.Answer.{Answer}
 use Rattle.gfs_types.specs.declared.ids.Handle.{Handle}
@@ -13,12 +13,19 @@ use Rattle.cell_world.specs.AsStored.{as_stored}
 use Rattle.cell_world.specs.Events.{MayBeRefused}
 use Rattle.cell_world.specs.Held.{HeldCell, HasEffect}
 use Rattle.cell_world.specs.Looks.{replicas_held}
-use Rattle.shell.specs.Worlds.{IsRefused, Steps, as_shown, replicas_shown}
+use Rattle.cell_world.specs.Rebasing.{IsBehind, Rebases}
+use Rattle.cell_world.specs.declared.rebase_fault.RebaseFault.{RebaseFault}
+use Rattle.cell_world.specs.declared.rebase_fault.RebaseFault.TheVariants.{Clock}
+use Rattle.shell.specs.Worlds.{DropsMessages, IsRefused, Steps, as_shown, replicas_shown}
 
 pub stepped : {E : Type 0} (old new : HeldCell) (event : Event) (r : Result (Option Answer) E) → IfOk r (λ answer. HasEffect old (λ w choice. happens w event choice) answer new) → OnErr r (new ≡ old)
     → OnErr r (MayBeRefused event) → Steps old event (result_unwrap_or r None) new
 stepped old new event (Ok answer) ok same refused = inl ok
 stepped old new event (Err e) ok same refused = inr (record { may_be = refused; unanswered = refl; unchanged = same })
+
+pub dropped : {V : Type 0} (old new : HeldCell) (moment : ℕ) (r : Result V RebaseFault) → OnOk r (Rebases old moment new) → IfErr r (λ fault. (fault ≡ Clock) × IsBehind old moment) → OnErr r (new ≡ old) → DropsMessages old moment new
+dropped old new moment (Ok v) ok fault same = inl ok
+dropped old new moment (Err e) ok fault same = inr (fault.1, same)
 
 stored_back : (rs : List StoredReplica) → rs ≡ map as_shown (map as_stored rs)
 stored_back [] = refl

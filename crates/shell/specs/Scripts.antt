@@ -1,6 +1,7 @@
 -- What running a script on a new cell comes to.
 use Rattle.std.specs.Prelude.{⊤, ℕ, List, Option}
 use Rattle.std.specs.Io.KnownBytes.{Keeps}
+use Rattle.messages.specs.declared.message.Message.{Message}
 use Rattle.script.specs.declared.options.Options.{Options}
 use Rattle.script.specs.declared.script_fault.ScriptFault.{ScriptFault}
 use Rattle.script.specs.declared.script_fault.ScriptFault.TheVariants as fault
@@ -23,7 +24,8 @@ pub record RunsOnNew {C : Type 0} (m : Meaning C) (held : C → HeldCell) (o : O
   pub last : Simulated C
   pub runs : RunsScript m (at_0 first) last before after script
   pub world : WorldState
-  pub explained : AreExplained held (world_of o) runs.runs world
+  pub dropped : List Message
+  pub explained : AreExplained held (world_of o) runs.runs world dropped
 
 -- A script that stopped at this fault on a new cell. A run of the machine explains what is known to have run.
 pub record StopsOnNew {C : Type 0} (m : Meaning C) (held : C → HeldCell) (o : Options) (script before after : Option (List ℕ)) (f : ScriptFault) : Type 0 where

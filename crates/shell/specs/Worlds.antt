@@ -9,6 +9,7 @@ use Rattle.protocol.specs.Sending.{handle_of, server_id, version_of}
 use Rattle.protocol.specs.World.{happens, numbered_from_1}
 use Rattle.cell_world.specs.Events.{MayBeRefused}
 use Rattle.cell_world.specs.Held.{HeldCell, HasEffect}
+use Rattle.cell_world.specs.Rebasing.{IsBehind, Rebases}
 use Rattle.cell_world.specs.Looks.{file_held, has_open_call, regions_held, replicas_held, server_count}
 use Rattle.cell_simulator.specs.Cells.{Meaning}
 
@@ -22,6 +23,10 @@ pub record IsRefused (old : HeldCell) (event : Event) (answer : Option Answer) (
 abbrev pub Steps : HeldCell → Event → Option Answer → HeldCell → Type 0
 Steps old event answer new = HasEffect old (λ w choice. happens w event choice) answer new ⊎ IsRefused old event answer new
 
+-- All messages are dropped, unless the moment is too far behind the greatest one, as no script's clock is: then nothing happens.
+abbrev pub DropsMessages : HeldCell → ℕ → HeldCell → Type 0
+DropsMessages old moment new = Rebases old moment new ⊎ (IsBehind old moment × (new ≡ old))
+
 abbrev pub as_shown : StoredAt → StoredReplica
 as_shown r = record { server = server_id r.server; version = version_of r.version; length = r.count }
 
@@ -34,6 +39,7 @@ abbrev pub meaning_of : {C : Type 0} → (C → HeldCell) → Meaning C
 meaning_of cell_of =
     record {
       steps = λ old event answer new. Steps (cell_of old) event answer (cell_of new);
+      rebases = λ old moment new. DropsMessages (cell_of old) moment (cell_of new);
       message = λ c number. numbered_from_1 (cell_of c).sent number;
       servers = λ c. server_count (cell_of c);
       clients = λ c. length (cell_of c).clients;

@@ -6,7 +6,7 @@ use cell_core::world::World;
 use cell_simulator::cell::SimulatedCell;
 use cell_world::master::CellMaster;
 use gfs_types::answer::Answer;
-use gfs_types::ids::{ClientId, FileId, Handle};
+use gfs_types::ids::{ClientId, FileId, Handle, Moment};
 use gfs_types::no_memory::NoMemory;
 use gfs_types::path::Path;
 use messages::event::Event;
@@ -28,6 +28,10 @@ impl<M: CellMaster, S: StoppableStore> SimulatedCell for SimulatedWorld<M, S> {
 
     fn step(&mut self, event: Event) -> Option<Answer> {
         self.world.step(event).unwrap_or(None)
+    }
+
+    fn rebase(&mut self, now: Moment) {
+        let _ = self.world.rebase_in_place(now);
     }
 
     fn message(&self, number: u64) -> Option<&Message> {

@@ -21,6 +21,8 @@ mod primary;
 #[cfg(test)]
 mod random;
 #[cfg(test)]
+mod rebased;
+#[cfg(test)]
 mod records;
 #[cfg(test)]
 mod refused;

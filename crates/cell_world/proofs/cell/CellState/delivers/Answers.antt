@@ -1,20 +1,14 @@
 use Rattle.std.proofs.Common.{sym, ap, ◌∙◌}
 use Rattle.std.specs.Option.{option_copied}
+use Rattle.cell_world.proofs.Inside.{holding}
 use Rattle.cell_world.proofs.Happened.{no_message, message_came}
 use Rattle.cell_world.specs.Held.{HeldCell}
 use Rattle.cell_world.proofs.cell.CellState.delivers.Goals as goal
 
 pub returns-in_default : goal.returns-in_default
 returns-in_default g c =
-    let h : HeldCell = record {
-      config = c.self.inside.config;
-      master = g.M.CellMaster.state c.self.inside.master;
-      files = g.M.CellMaster.files c.self.inside.master;
-      servers = c.self.inside.servers.items;
-      clients = c.self.inside.clients.items;
-      sent = c.self.inside.record.network.messages;
-      seen = c.self.inside.record.sights.seen;
-    } in
+    let i = c.self.inside in
+    let h : HeldCell = holding i.config (g.M.CellMaster.state i.master) (g.M.CellMaster.files i.master) i.servers.items i.clients.items i.record i.greatest in
     rw (← c.self.view_is) (no_message h c.args.number c.args.now.0 (sym c.get.ensures ∙ ap option_copied c.in_default.is))
 
 pub returns : goal.returns

@@ -14,5 +14,6 @@ returns g c =
       clients = c.in_ok-clients.clients.items;
       sent = c.new.result.network.messages;
       seen = c.new.result.sights.seen;
+      greatest = 0;
     } in
-    held_new c.args.config (length c.args.stores.items) c.args.clients h refl c.requires.master c.requires.files c.in_ok-servers.ensures c.in_ok-clients.ensures c.new.ensures.sent c.new.ensures.seen
+    held_new c.args.config (length c.args.stores.items) c.args.clients h refl c.requires.master c.requires.files c.in_ok-servers.ensures c.in_ok-clients.ensures c.new.ensures.sent c.new.ensures.seen refl

@@ -1,7 +1,7 @@
 use Rattle.std.proofs.Common.{None, sym, subst}
 use Rattle.protocol.specs.World.{happens}
 use Rattle.cell_world.specs.Held.{HasEffect, HeldCell}
-use Rattle.cell_world.proofs.Happened.{event_at, late_call, late_message, late_tick, late_restart, called, brought, ticked, restarted, fuses}
+use Rattle.cell_world.proofs.Happened.{event_at, late_call, late_message, late_tick, called, brought, ticked, fuses}
 use Rattle.cell_world.proofs.cell.CellState.step.Goals as goal
 
 pub returns-then-now-gt-MAX_MOMENT-clause-ok : goal.returns-then-now-gt-MAX_MOMENT-clause-ok
@@ -22,11 +22,8 @@ returns-then-now-gt-MAX_MOMENT-3-clause-ok g c = event_at _ _ _ _ _ c.in-Tick.is
 pub returns-else-now-gt-MAX_MOMENT-3-clause-ok : goal.returns-else-now-gt-MAX_MOMENT-3-clause-ok
 returns-else-now-gt-MAX_MOMENT-3-clause-ok g c = event_at _ _ _ _ _ c.in-Tick.is (ticked c.args.self.now _ c.in-Tick.node c.in-Tick.now _ c.if-now-gt-MAX_MOMENT-3.false c.moves.ensures)
 
-pub returns-then-now-gt-MAX_MOMENT-4-clause-ok : goal.returns-then-now-gt-MAX_MOMENT-4-clause-ok
-returns-then-now-gt-MAX_MOMENT-4-clause-ok g c = event_at _ _ _ _ _ c.in-Restart.is (late_restart c.args.self.now c.in-Restart.node c.in-Restart.now c.if-now-gt-MAX_MOMENT-4.true)
-
-pub returns-else-now-gt-MAX_MOMENT-4-clause-ok : goal.returns-else-now-gt-MAX_MOMENT-4-clause-ok
-returns-else-now-gt-MAX_MOMENT-4-clause-ok g c = event_at _ _ _ _ _ c.in-Restart.is (restarted c.args.self.now _ c.in-Restart.node c.in-Restart.now _ c.if-now-gt-MAX_MOMENT-4.false c.restarts.ensures)
+pub returns-in-Restart-clause-ok : goal.returns-in-Restart-clause-ok
+returns-in-Restart-clause-ok g c = event_at _ _ _ _ _ c.in-Restart.is c.restart.ensures
 
 pub returns-in_ok-rots-in-Rot-clause-ok : goal.returns-in_ok-rots-in-Rot-clause-ok
 returns-in_ok-rots-in-Rot-clause-ok g c = event_at _ _ _ _ _ c.in-Rot.is c.in_ok-rots-in-Rot.ensures.ok

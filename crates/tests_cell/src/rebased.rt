@@ -1,0 +1,35 @@
+//! A cell that begins again without its messages.
+
+use crate::outcome::small_cell;
+use cell_world::rebase_fault::RebaseFault;
+use gfs_types::ids::{Moment, Node, ServerId};
+use messages::event::Event;
+use script::script_fault::ScriptFault;
+use shell::making::new_cell;
+use shell::world::SimulatedWorld;
+use std::alloc::Global;
+
+/// Whether a cell keeps its messages at a moment that is too far back, and else begins again without one.
+fn begins_again(alloc: Global) -> Result<bool, ScriptFault> {
+    let SimulatedWorld { world } = new_cell(alloc, alloc, &small_cell())?;
+    let mut world = world;
+    let tick = Event::Tick {
+        node: Node::Server(ServerId(1)),
+        now: Moment(5_000),
+    };
+    let _ = world.step(tick);
+    let sent = world.message_count();
+    let Err((world, fault)) = world.rebase(Moment(2_999)) else {
+        return Ok(false);
+    };
+    let is_kept = fault == RebaseFault::Clock && sent > 0 && world.message_count() == sent;
+    let Ok(world) = world.rebase(Moment(3_000)) else {
+        return Ok(false);
+    };
+    Ok(is_kept && world.message_count() == 0)
+}
+
+#[test]
+fn a_cell_begins_again_without_its_messages(rt: HostRuntime) {
+    assert!(rt; matches!(begins_again(rt.alloc()), Ok(true)));
+}
