@@ -1,4 +1,4 @@
-"""The wrong definitions and statements of this folder (README.md beside this file): which there are, what each changes, and copies in which it is made."""
+"""The wrong definitions, statements and bodies of this folder (README.md beside this file): which there are, what each changes, and copies in which it is made."""
 import glob
 import os
 import re
@@ -8,7 +8,7 @@ import state
 from antt import CRATES_FOLDER
 
 HERE = os.path.dirname(os.path.abspath(__file__))
-KINDS = ('explore', 'parts', 'laws', 'statements', 'above')
+KINDS = ('explore', 'parts', 'laws', 'statements', 'bodies', 'above')
 # the crate whose definitions an edit of `laws` changes, by the crate of the laws
 DEFINITIONS = {'laws_base': state.PROTOCOL, 'protocol_allowed': 'protocol_invariant'}
 WORDS = ('file', 'old', 'new', 'seed', 'row', 'facts', 'rebases', 'branch', 'becomes')
@@ -51,7 +51,7 @@ class Edit:
 
     def target(self, file):
         """The file below the crates that a line `file:` means."""
-        if self.by == 'statements':
+        if self.by in ('statements', 'bodies'):
             return os.path.join(self.crate, file)
         if not file.startswith('specs/'):
             return file

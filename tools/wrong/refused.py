@@ -1,4 +1,4 @@
-"""Wrong definitions and statements that the prover must refuse, each in copies of the crates in a folder of its own. What earlier checks kept in out/ is taken,
+"""Wrong definitions, statements and bodies that the prover must refuse, each in copies of the crates in a folder of its own. What earlier checks kept in out/ is taken,
 so each is tried soon where libraries are built (`rt lib`, `tools/workshop/libraries`)."""
 import concurrent.futures
 import glob
@@ -72,10 +72,10 @@ def count_of(lines):
     return sum(': refused, as it must be' in line for line in lines)
 
 
-# ---------------------------------------------------------------- wrong statements of a crate's laws
+# ---------------------------------------------------------------- wrong statements of a crate's laws, and wrong bodies of its functions
 
 def refused_statements(crate, edits, crates):
-    """How many of these wrong statements the crate refuses, which is tried as the gate tries the edits of crates/*/must-fail."""
+    """How many of these wrong statements or bodies the crate refuses, which is tried as the gate tries the edits of crates/*/must-fail."""
     with tempfile.TemporaryDirectory(prefix='wrong-statements-') as room:
         lower = below([crate], crates)
         for name in lower:
