@@ -104,3 +104,15 @@ returns-in-Ok-clause-cause g c = rw (← c.self.view_is) (rw c.in-Ok.is at c.app
 
 pub returns-in-Err-clause-cause : goal.returns-in-Err-clause-cause
 returns-in-Err-clause-cause g c = rw (← c.self.view_is) (rw c.in-Err.is at c.append.ensures.cause)
+
+pub returns-in-Ok-clause-read : goal.returns-in-Ok-clause-read
+returns-in-Ok-clause-read g c =
+    let was = c.self.inside in
+    let is_open = c.self.invariant.opened (was_open _ _ c.self.view_is c.requires.open) in
+    rw (← c.self.view_is) (c.append.ensures.read (area_counted was.volume was.items was.records) is_open)
+
+pub returns-in-Err-clause-read : goal.returns-in-Err-clause-read
+returns-in-Err-clause-read g c =
+    let was = c.self.inside in
+    let is_open = c.self.invariant.opened (was_open _ _ c.self.view_is c.requires.open) in
+    rw (← c.self.view_is) (c.append.ensures.read (area_counted was.volume was.items was.records) is_open)
