@@ -61,6 +61,7 @@ pub fn checkpoint<D: Disk>(
     ensures undamaged { IsErrOf result faults.Damaged → ⊥ }
     ensures size { volume.new.size ≡ volume.old.size }
     ensures number { OnErr result (volume.new.number ≡ volume.old.number) }
+    ensures end { OnErr result (volume.new.end ≡ volume.old.end) }
     ensures next { OnOk result (volume.new.number ≡ volume.old.number + 1) }
     ensures read { (area : AreaState) → IsOpen D.seen D.may_leave volume.old area → IsOldOrNew area items.now (D.seen volume.new.disk) }
     // A stop at any moment of the call leaves the items and records from before it, or the new items alone.

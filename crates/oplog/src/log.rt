@@ -157,7 +157,6 @@ impl<D: Disk> Log<D> {
 
     /// How many bytes of its area the log takes, up to the closed gate after the last record.
     pub fn used(&self) -> usize
-        requires open { self.now.is_open ≡ true }
         ensures end { result ≡ end_of self.now.area }
         ensures within { result < self.now.size }
     {

@@ -1,6 +1,6 @@
 //! A log's place on its disk.
 
-ghost use Rattle.std.specs.Prelude.{◌≡◌, ◌<◌, ◌≤◌, ◌+◌, ◌⊎◌, ◌↔◌, ◌++◌, ◌∷◌, [], true, false, length, IfOk, OnOk, IsErrOf};
+ghost use Rattle.std.specs.Prelude.{◌≡◌, ◌<◌, ◌≤◌, ◌+◌, ◌⊎◌, ◌↔◌, ◌++◌, ◌∷◌, [], true, false, length, IfOk, OnErr, OnOk, IsErrOf};
 ghost use Rattle.disk.specs.Device.{HasCause, Only};
 ghost use Rattle.disk_redo.specs.Gates.{committed, IsCommitting, IsUncommitted};
 ghost use Rattle.disk_redo.specs.GateMoments.{LeavesOnly};
@@ -136,6 +136,7 @@ impl<D: Disk> LogVolume<D> {
         ensures undamaged { IsErrOf result faults.Damaged → ⊥ }
         ensures size { self.new.size ≡ self.old.size }
         ensures number { self.new.number ≡ self.old.number }
+        ensures end { OnErr result (self.new.end ≡ self.old.end) }
         ensures read { (area : AreaState) → IsOpen D.seen D.may_leave self.old area → IsBeforeOrAfter area logged.now (D.seen self.new.disk) }
         // A stop at any moment of the call leaves the records from before it, with the new one or without.
         ensures any_moment { (area : AreaState) → IsOpen D.seen D.may_leave self.old area → LeavesOnly D.moment D.left_since self.old.disk self.new.disk (IsBeforeOrAfter area logged.now) }
