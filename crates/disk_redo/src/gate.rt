@@ -33,7 +33,8 @@ pub fn close<D: Disk>(disk: &mut D, gate: usize) -> Result<(), DiskFault>
     ensures closed { OnOk result (D.seen disk.new ≡ put_at (D.seen disk.old) gate (0 ∷ [])) }
     ensures durable { OnOk result (Only (D.seen disk.new) (D.may_leave disk.new)) }
     ensures refused { IsErrOf result NoMemory → (D.seen disk.new ≡ D.seen disk.old) × Only (D.seen disk.new) (D.may_leave disk.new) }
-    // A stop at any moment of the call changes the gate alone.
+    // What is read, and what a stop at any moment of the call leaves, differs in the gate alone.
+    ensures read { ChangesOnly gate 1 (D.seen disk.old) (D.seen disk.new) }
     ensures any_moment { LeavesOnly D.moment D.left_since disk.old disk.new (ChangesOnly gate 1 (D.seen disk.old)) }
     ensures cause { HasCause (D.failed disk.old) (D.failed disk.new) result }
 {

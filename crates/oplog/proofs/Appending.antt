@@ -21,6 +21,10 @@ use Rattle.oplog.proofs.DiskAreas.{end_more}
 use Rattle.oplog.proofs.Disks.{areas_fit, has_log, first_write, both_written, stopped, room}
 
 module _ {D : Type 0} (seen : D → List ℕ) (may_leave : D → List ℕ → Type 0) (log : LogVolume D) (area : AreaState) (is_open : IsOpen seen may_leave log area) where
+  -- what a read gives before the first call
+  pub nothing_left : (r : Record) → IsBeforeOrAfter area r (seen log.disk)
+  nothing_left r = inl (has_log log.size log.which area (seen log.disk) is_open.says)
+
   -- before the first call, and where there is none
   pub nothing_done : (moment : D → ℕ) (left_since : D → ℕ → List ℕ → Type 0) (r : Record) → ((c : List ℕ) → left_since log.disk (moment log.disk) c → may_leave log.disk c)
       → LeavesOnly moment left_since log.disk log.disk (IsBeforeOrAfter area r)

@@ -41,7 +41,7 @@ range_within d at n = omega (arith, length-take n (drop at d), length-drop at d)
 
 module _ {D : Type 0} (seen : D → List ℕ) (may_leave : D → List ℕ → Type 0) where
   -- the records of an open volume end within its disk
-  pub ends_inside : (volume : LogVolume D) (area : AreaState) → IsOpen seen may_leave volume area → volume.end < volume.size
+  ends_inside : (volume : LogVolume D) (area : AreaState) → IsOpen seen may_leave volume area → volume.end < volume.size
   ends_inside volume area is =
       let d = seen volume.disk in
       let within = end_within area (area_of volume.size volume.which d) is.says.says in
@@ -61,19 +61,27 @@ module _ {D : Type 0} (seen : D → List ℕ) (may_leave : D → List ℕ → Ty
 
   -- an open volume is an open log
   pub counted_open : (volume : LogVolume D) (number : ℕ) (items records : List Record) (is_open : Bool) → IsOpen seen may_leave volume (state_of number items records) → IsCounted seen may_leave volume items records is_open
-  counted_open volume number items records is_open is = record { large = is.large; small = is.small; opened = λ _. renumbered volume number items records is }
+  counted_open volume number items records is_open is = record {
+    large = is.large;
+    small = is.small;
+    end = is.end;
+    within = ends_inside volume (state_of number items records) is;
+    opened = λ _. renumbered volume number items records is;
+  }
 
-  counted_closed : (volume : LogVolume D) (items records : List Record) (is_open : Bool) → 4096 ≤ volume.size → volume.size ≤ 1073741824 → is_open ≡ false → IsCounted seen may_leave volume items records is_open
-  counted_closed volume items records is_open large small closed = record { large = large; small = small; opened = λ opened. absurd (false≢true (sym closed ∙ opened)) }
+  counted_closed : (volume : LogVolume D) (items records : List Record) (is_open : Bool) → 4096 ≤ volume.size → volume.size ≤ 1073741824 → volume.end ≡ end_of (area_counted volume items records) → volume.end < volume.size → is_open ≡ false
+      → IsCounted seen may_leave volume items records is_open
+  counted_closed volume items records is_open large small end within closed = record { large = large; small = small; end = end; within = within; opened = λ opened. absurd (false≢true (sym closed ∙ opened)) }
 
   -- what a fault leaves
-  pub counted_after : (volume : LogVolume D) (number : ℕ) (items records : List Record) (fault : LogFault) (is_open : Bool) → 4096 ≤ volume.size → volume.size ≤ 1073741824 → is_open ≡ leaves_open fault
+  pub counted_after : (volume : LogVolume D) (number : ℕ) (items records : List Record) (fault : LogFault) (is_open : Bool) → 4096 ≤ volume.size → volume.size ≤ 1073741824
+      → volume.end ≡ end_of (area_counted volume items records) → volume.end < volume.size → is_open ≡ leaves_open fault
       → (fault ≡ Full → IsOpen seen may_leave volume (state_of number items records)) → (fault ≡ NoMemory → IsOpen seen may_leave volume (state_of number items records)) → (fault ≡ Damaged → ⊥)
       → IsCounted seen may_leave volume items records is_open
-  counted_after volume number items records Full is_open large small is full memory undamaged = counted_open volume number items records is_open (full refl)
-  counted_after volume number items records Damaged is_open large small is full memory undamaged = absurd (undamaged refl)
-  counted_after volume number items records Device is_open large small is full memory undamaged = counted_closed volume items records is_open large small is
-  counted_after volume number items records NoMemory is_open large small is full memory undamaged = counted_open volume number items records is_open (memory refl)
+  counted_after volume number items records Full is_open large small end within is full memory undamaged = counted_open volume number items records is_open (full refl)
+  counted_after volume number items records Damaged is_open large small end within is full memory undamaged = absurd (undamaged refl)
+  counted_after volume number items records Device is_open large small end within is full memory undamaged = counted_closed volume items records is_open large small end within is
+  counted_after volume number items records NoMemory is_open large small end within is full memory undamaged = counted_open volume number items records is_open (memory refl)
 
   -- the disk says the same, and a stop leaves no more
   still_open : (volume : LogVolume D) (disk : D) (area : AreaState) → seen disk ≡ seen volume.disk → NoMore (may_leave volume.disk) (may_leave disk)
@@ -94,12 +102,14 @@ module _ {D : Type 0} (seen : D → List ℕ) (may_leave : D → List ℕ → Ty
   still_counted volume disk items records is_open same more is = record {
     large = is.large;
     small = is.small;
+    end = is.end;
+    within = is.within;
     opened = λ opened. still_open volume disk (area_counted volume items records) same more (is.opened opened);
   }
 
   -- a log that was closed stays so, whatever its disk does
   pub closed_counted : (volume : LogVolume D) (disk : D) (items records : List Record) (is_open : Bool) → IsCounted seen may_leave volume items records is_open → IsCounted seen may_leave (record volume { disk = disk }) items records false
-  closed_counted volume disk items records is_open is = counted_closed (record volume { disk = disk }) items records false is.large is.small refl
+  closed_counted volume disk items records is_open is = counted_closed (record volume { disk = disk }) items records false is.large is.small is.end is.within refl
 
 -- one record more, or a checkpoint
 pub more_records : (number after : ℕ) (items records more : List Record) (r : Record) → after ≡ number → more ≡ records ++ r ∷ [] → state_of after items more ≡ appended (state_of number items records) r

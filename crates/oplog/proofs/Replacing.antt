@@ -79,6 +79,10 @@ forgot moment left_since old new may_leave P time before after = record {
   before = λ t c le left. ⊎_elim (λ was. inl was) (λ now. inr (after c now)) (time.nothing_else t c le left);
 }
 
+-- nothing was done yet
+pub nothing_replaced : {D : Type 0} (seen : D → List ℕ) (may_leave : D → List ℕ → Type 0) (log : LogVolume D) (area : AreaState) (items : List Record) → IsOpen seen may_leave log area → IsOldOrNew area items (seen log.disk)
+nothing_replaced seen may_leave log area items is_open = inl (has_log log.size log.which area (seen log.disk) is_open.says)
+
 -- A checkpoint of an open log: the past is forgotten, the other area is closed, and it is written.
 module _ {D : Type 0} (seen : D → List ℕ) (may_leave : D → List ℕ → Type 0) (moment : D → ℕ) (left_since : D → ℕ → List ℕ → Type 0)
     (log : LogVolume D) (area : AreaState) (is_open : IsOpen seen may_leave log area) (items : List Record)
@@ -98,9 +102,11 @@ module _ {D : Type 0} (seen : D → List ℕ) (may_leave : D → List ℕ → Ty
   closing_there : (c : List ℕ) → IsClosing start (seen begun) c → IsClosing (area_at log.size (other log.which)) (seen log.disk) c
   closing_there c stop = subst (λ (k : ℕ). IsClosing k (seen log.disk) c) start_is (subst (λ (l : List ℕ). IsClosing start l c) same stop)
 
+  pub once_closed : (c : List ℕ) → IsClosing start (seen begun) c → IsOldOrNew area items c
+  once_closed c stop = while_closing log.size log.which area (seen log.disk) large is_open.says items c (closing_there c stop)
+
   pub until_closed : (closed : D) → LeavesOnly moment left_since begun closed (IsClosing start (seen begun)) → LeavesOnly moment left_since log.disk closed (IsOldOrNew area items)
-  until_closed closed run = joined moment left_since log.disk begun closed (IsOldOrNew area items) (IsClosing start (seen begun)) (IsOldOrNew area items) at_first run (λ c p. p)
-      (λ c stop. while_closing log.size log.which area (seen log.disk) large is_open.says items c (closing_there c stop))
+  until_closed closed run = joined moment left_since log.disk begun closed (IsOldOrNew area items) (IsClosing start (seen begun)) (IsOldOrNew area items) at_first run (λ c p. p) once_closed
 
   module _ (closed : D) (changed : ChangesOnly start 1 (seen begun) (seen closed)) (shut : get_or (seen closed) start 0 == 1 ≡ false) where
     says_closed : DiskSays log.size log.which area (seen closed)
@@ -110,13 +116,15 @@ module _ {D : Type 0} (seen : D → List ℕ) (may_leave : D → List ℕ → Ty
     size_is = says_closed.sized
 
     module _ (number : ℕ) (number_is : number ≡ area.number + 1) where
+      pub once_written : (c : List ℕ) → IsWriting (length (seen closed)) (other log.which) (area_with number items) (seen closed) c → IsOldOrNew area items c
+      once_written c stop = while_writing log.size log.which area (seen closed) large says_closed items c
+          (subst (λ (k : ℕ). IsWriting k (other log.which) (area_with (area.number + 1) items) (seen closed) c) size_is
+          (subst (λ (k : ℕ). IsWriting (length (seen closed)) (other log.which) (area_with k items) (seen closed) c) number_is stop))
+
       pub until_written : (run : LeavesOnly moment left_since begun closed (IsClosing start (seen begun))) (written : D)
           → LeavesOnly moment left_since closed written (IsWriting (length (seen closed)) (other log.which) (area_with number items) (seen closed)) → LeavesOnly moment left_since log.disk written (IsOldOrNew area items)
       until_written run written last =
-          joined moment left_since log.disk closed written (IsOldOrNew area items) (IsWriting (length (seen closed)) (other log.which) (area_with number items) (seen closed)) (IsOldOrNew area items) (until_closed closed run) last (λ c p. p)
-          (λ c stop. while_writing log.size log.which area (seen closed) large says_closed items c
-          (subst (λ (k : ℕ). IsWriting k (other log.which) (area_with (area.number + 1) items) (seen closed) c) size_is
-          (subst (λ (k : ℕ). IsWriting (length (seen closed)) (other log.which) (area_with k items) (seen closed) c) number_is stop)))
+          joined moment left_since log.disk closed written (IsOldOrNew area items) (IsWriting (length (seen closed)) (other log.which) (area_with number items) (seen closed)) (IsOldOrNew area items) (until_closed closed run) last (λ c p. p) once_written
 
       pub opened : (left : ℕ) (written : D) → length (entries items) + left ≡ log.room - 14
           → AreaSays (area_with number items) (area_of (length (seen closed)) (other log.which) (seen written))

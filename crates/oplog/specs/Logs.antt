@@ -51,8 +51,10 @@ area_counted volume items records = record { number = volume.number; items = ite
 abbrev pub log_counted : {D : Type 0} → LogVolume D → List Record → List Record → Bool → LogState D
 log_counted volume items records is_open = record { disk = volume.disk; size = volume.size; is_open = is_open; area = area_counted volume items records }
 
--- While the log is open, its volume says what was counted.
+-- The volume's records end where those end that were counted; and while the log is open, its disk says what was counted.
 pub record IsCounted {D : Type 0} (seen : D → List ℕ) (may_leave : D → List ℕ → Type 0) (volume : LogVolume D) (items records : List Record) (is_open : Bool) : Type 0 where
   pub large : 4096 ≤ volume.size
   pub small : volume.size ≤ 1073741824
+  pub end : volume.end ≡ end_of (area_counted volume items records)
+  pub within : volume.end < volume.size
   pub opened : is_open ≡ true → IsOpen seen may_leave volume (area_counted volume items records)

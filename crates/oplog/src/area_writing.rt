@@ -103,6 +103,7 @@ pub fn write_area<D: Disk>(
     ensures refused { IsErrOf result faults.NoMemory → IsStillClosed (length (D.seen disk.old)) which (D.seen disk.old) (D.seen disk.new) × Only (D.seen disk.new) (D.may_leave disk.new) }
     ensures not_full { IsErrOf result faults.Full → ⊥ }
     ensures undamaged { IsErrOf result faults.Damaged → ⊥ }
+    ensures read { IsWriting (length (D.seen disk.old)) which (area_with number items.now) (D.seen disk.old) (D.seen disk.new) }
     // A stop at any moment of the call leaves the area closed, or as it is to be, and all else as it was.
     ensures any_moment { LeavesOnly D.moment D.left_since disk.old disk.new (IsWriting (length (D.seen disk.old)) which (area_with number items.now) (D.seen disk.old)) }
     ensures cause { MayFail (D.failed disk.old) (D.failed disk.new) result }

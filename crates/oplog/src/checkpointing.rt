@@ -30,6 +30,7 @@ fn close_if_open<D: Disk>(disk: &mut D, gate: usize) -> Result<(), DiskFault>
     ensures changed { OnOk result (ChangesOnly gate 1 (D.seen disk.old) (D.seen disk.new)) }
     ensures durable { OnOk result (Only (D.seen disk.new) (D.may_leave disk.new)) }
     ensures refused { IsErrOf result disk_faults.NoMemory → (D.seen disk.new ≡ D.seen disk.old) × Only (D.seen disk.new) (D.may_leave disk.new) }
+    ensures read { IsClosing gate (D.seen disk.old) (D.seen disk.new) }
     ensures any_moment { LeavesOnly D.moment D.left_since disk.old disk.new (IsClosing gate (D.seen disk.old)) }
     ensures cause { HasCause (D.failed disk.old) (D.failed disk.new) result }
 {
@@ -60,7 +61,9 @@ pub fn checkpoint<D: Disk>(
     ensures undamaged { IsErrOf result faults.Damaged → ⊥ }
     ensures size { volume.new.size ≡ volume.old.size }
     ensures number { OnErr result (volume.new.number ≡ volume.old.number) }
+    ensures end { OnErr result (volume.new.end ≡ volume.old.end) }
     ensures next { OnOk result (volume.new.number ≡ volume.old.number + 1) }
+    ensures read { (area : AreaState) → IsOpen D.seen D.may_leave volume.old area → IsOldOrNew area items.now (D.seen volume.new.disk) }
     // A stop at any moment of the call leaves the items and records from before it, or the new items alone.
     ensures any_moment { (area : AreaState) → IsOpen D.seen D.may_leave volume.old area → LeavesOnly D.moment D.left_since volume.old.disk volume.new.disk (IsOldOrNew area items.now) }
     ensures cause { MayFail (D.failed volume.old.disk) (D.failed volume.new.disk) result }

@@ -70,6 +70,9 @@ impl<D: Disk> Log<D> {
         // Damaged comes only where the disk holds no log.
         ensures undamaged { (items records : List Record) → IsLogOf items records (D.seen disk) → IfErr result (λ e. e.1 ≡ faults.Damaged → ⊥) }
         ensures not_full { IfErr result (λ e. e.1 ≡ faults.Full → ⊥) }
+        // What is read once the call is over, also after an error: the same bytes, or an empty log where none stood there.
+        ensures read { IfOk result (λ x. IsReopened (D.seen disk) (D.seen x.0.disk)) }
+        ensures read_of_error { IfErr result (λ e. IsReopened (D.seen disk) (D.seen e.0)) }
         // A stop at any moment of the call leaves what one before it might have left, or an empty log where none stood there.
         ensures any_moment { IfOk result (λ x. LeavesOnly D.moment D.left_since disk x.0.disk (IsOpening (D.seen disk) (D.may_leave disk))) }
         ensures any_moment_of_error { IfErr result (λ e. LeavesOnly D.moment D.left_since disk e.0 (IsOpening (D.seen disk) (D.may_leave disk))) }
@@ -95,6 +98,8 @@ impl<D: Disk> Log<D> {
         ensures walk { IfOk result (λ x. WalksThrough (x.0.area.items ++ x.0.area.records) x.1) }
         ensures undamaged { (items records : List Record) → IsLogOf items records (D.seen disk) → IfErr result (λ e. e.1 ≡ faults.Damaged → ⊥) }
         ensures not_full { IfErr result (λ e. e.1 ≡ faults.Full → ⊥) }
+        ensures read { IfOk result (λ x. IsReopened (D.seen disk) (D.seen x.0.disk)) }
+        ensures read_of_error { IfErr result (λ e. IsReopened (D.seen disk) (D.seen e.0)) }
         ensures any_moment { IfOk result (λ x. LeavesOnly D.moment D.left_since disk x.0.disk (IsOpening (D.seen disk) (D.may_leave disk))) }
         ensures any_moment_of_error { IfErr result (λ e. LeavesOnly D.moment D.left_since disk e.0 (IsOpening (D.seen disk) (D.may_leave disk))) }
         ensures cause { IfErr result (λ e. e.1 ≡ faults.Device → D.failed disk < D.failed e.0) }
@@ -152,7 +157,6 @@ impl<D: Disk> Log<D> {
 
     /// How many bytes of its area the log takes, up to the closed gate after the last record.
     pub fn used(&self) -> usize
-        requires open { self.now.is_open ≡ true }
         ensures end { result ≡ end_of self.now.area }
         ensures within { result < self.now.size }
     {
@@ -182,6 +186,8 @@ impl<D: Disk> Log<D> {
         ensures full { IsErrOf result faults.Full ↔ record_fits (area_size self.old.size) self.old.area logged.now ≡ false }
         ensures unchanged { IsErrOf result faults.Full → self.new ≡ self.old }
         ensures undamaged { IsErrOf result faults.Damaged → ⊥ }
+        // What is read once the call is over, also after an error: the records from before it, with the new one or without.
+        ensures read { IsBeforeOrAfter self.old.area logged.now (D.seen self.new.disk) }
         // A stop at any moment of the call leaves the records from before it, with the new one or without.
         ensures any_moment { LeavesOnly D.moment D.left_since self.old.disk self.new.disk (IsBeforeOrAfter self.old.area logged.now) }
         ensures cause { MayFail (D.failed self.old.disk) (D.failed self.new.disk) result }
@@ -213,6 +219,8 @@ impl<D: Disk> Log<D> {
         ensures full { IsErrOf result faults.Full ↔ has_place self.old.size self.old.area items.now ≡ false }
         ensures unchanged { IsErrOf result faults.Full → self.new ≡ self.old }
         ensures undamaged { IsErrOf result faults.Damaged → ⊥ }
+        // What is read once the call is over, also after an error: the items and records from before it, or the new items alone.
+        ensures read { IsOldOrNew self.old.area items.now (D.seen self.new.disk) }
         // A stop at any moment of the call leaves the items and records from before it, or the new items alone.
         ensures any_moment { LeavesOnly D.moment D.left_since self.old.disk self.new.disk (IsOldOrNew self.old.area items.now) }
         ensures cause { MayFail (D.failed self.old.disk) (D.failed self.new.disk) result }

@@ -25,11 +25,11 @@ fn close_areas<D: Disk>(disk: &mut D) -> Result<(), DiskFault>
     requires large { 4096 ≤ length (D.seen disk.old) }
     requires new { is_formatted (D.seen disk.old) ≡ false }
     requires durable { Only (D.seen disk.old) (D.may_leave disk.old) }
-    ensures new { OnOk result (is_formatted (D.seen disk.new) ≡ false) }
     ensures first { OnOk result (is_area_open (length (D.seen disk.new)) 0 (D.seen disk.new) ≡ false) }
     ensures second { OnOk result (is_area_open (length (D.seen disk.new)) 1 (D.seen disk.new) ≡ false) }
     ensures size { length (D.seen disk.new) ≡ length (D.seen disk.old) }
     ensures durable { OnOk result (Only (D.seen disk.new) (D.may_leave disk.new)) }
+    ensures read { is_formatted (D.seen disk.new) ≡ false }
     ensures any_moment { LeavesOnly D.moment D.left_since disk.old disk.new (λ c. is_formatted c ≡ false) }
     ensures cause { HasCause (D.failed disk.old) (D.failed disk.new) result }
 {
@@ -50,6 +50,7 @@ fn write_head<D: Disk>(disk: &mut D) -> Result<(), DiskFault>
     requires second { is_area_open (length (D.seen disk.old)) 1 (D.seen disk.old) ≡ false }
     ensures formatted { OnOk result (DiskSays (length (D.seen disk.old)) 0 (area_with 1 []) (D.seen disk.new)) }
     ensures durable { OnOk result (Only (D.seen disk.new) (D.may_leave disk.new)) }
+    ensures read { IsLogOf [] [] (D.seen disk.new) }
     ensures any_moment { LeavesOnly D.moment D.left_since disk.old disk.new (IsLogOf [] []) }
     ensures cause { HasCause (D.failed disk.old) (D.failed disk.new) result }
 {
@@ -65,6 +66,7 @@ pub fn format<D: Disk>(disk: &mut D, alloc: Global) -> Result<(), LogFault>
     requires durable { Only (D.seen disk.old) (D.may_leave disk.old) }
     ensures formatted { OnOk result (DiskSays (length (D.seen disk.old)) 0 (area_with 1 []) (D.seen disk.new)) }
     ensures durable { OnOk result (Only (D.seen disk.new) (D.may_leave disk.new)) }
+    ensures read { IsLogOf [] [] (D.seen disk.new) }
     ensures any_moment { LeavesOnly D.moment D.left_since disk.old disk.new (IsLogOf [] []) }
     ensures not_full { IsErrOf result faults.Full → ⊥ }
     ensures undamaged { IsErrOf result faults.Damaged → ⊥ }

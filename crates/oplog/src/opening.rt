@@ -9,6 +9,7 @@ ghost use Rattle.oplog.specs.Logs.{MayFail};
 ghost use Rattle.oplog.specs.declared.fault.LogFault.TheVariants as faults;
 ghost use Rattle.oplog.specs.NewLogs.{IsLogOf};
 ghost use Rattle.oplog.specs.Opening.{IsFound, IsOpening};
+ghost use Rattle.oplog.specs.Reopening.{IsReopened};
 
 use crate::counted::CountedRecords;
 use crate::fault::LogFault;
@@ -64,6 +65,7 @@ fn format_new<D: Disk>(disk: &mut D, alloc: Global) -> Result<FoundArea, LogFaul
     ensures durable { OnOk result (Only (D.seen disk.new) (D.may_leave disk.new)) }
     ensures undamaged { IsErrOf result faults.Damaged → ⊥ }
     ensures not_full { IsErrOf result faults.Full → ⊥ }
+    ensures read { IsLogOf [] [] (D.seen disk.new) }
     ensures any_moment { LeavesOnly D.moment D.left_since disk.old disk.new (IsLogOf [] []) }
     ensures cause { MayFail (D.failed disk.old) (D.failed disk.new) result }
 {
@@ -87,6 +89,7 @@ pub fn open_disk<D: Disk>(disk: &mut D, alloc: Global) -> Result<FoundArea, LogF
     ensures durable { OnOk result (Only (D.seen disk.new) (D.may_leave disk.new)) }
     ensures undamaged { (items records : List Record) → IsLogOf items records (D.seen disk.old) → IsErrOf result faults.Damaged → ⊥ }
     ensures not_full { IsErrOf result faults.Full → ⊥ }
+    ensures read { IsReopened (D.seen disk.old) (D.seen disk.new) }
     ensures any_moment { LeavesOnly D.moment D.left_since disk.old disk.new (IsOpening (D.seen disk.old) (D.may_leave disk.old)) }
     ensures cause { MayFail (D.failed disk.old) (D.failed disk.new) result }
 {

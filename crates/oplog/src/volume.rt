@@ -1,6 +1,6 @@
 //! A log's place on its disk.
 
-ghost use Rattle.std.specs.Prelude.{◌≡◌, ◌<◌, ◌≤◌, ◌+◌, ◌⊎◌, ◌↔◌, ◌++◌, ◌∷◌, [], true, false, length, IfOk, OnOk, IsErrOf};
+ghost use Rattle.std.specs.Prelude.{◌≡◌, ◌<◌, ◌≤◌, ◌+◌, ◌⊎◌, ◌↔◌, ◌++◌, ◌∷◌, [], true, false, length, IfOk, OnErr, OnOk, IsErrOf};
 ghost use Rattle.disk.specs.Device.{HasCause, Only};
 ghost use Rattle.disk_redo.specs.Gates.{committed, IsCommitting, IsUncommitted};
 ghost use Rattle.disk_redo.specs.GateMoments.{LeavesOnly};
@@ -58,6 +58,7 @@ fn write_behind<D: Disk>(disk: &mut D, gate: usize, bytes: &[u8]) -> Result<(), 
     ensures committed { OnOk result (D.seen disk.new ≡ committed (D.seen disk.old) (gate + 1) bytes.now gate) }
     ensures durable { OnOk result (Only (D.seen disk.new) (D.may_leave disk.new)) }
     ensures refused { IsErrOf result disk_faults.NoMemory → IsUncommitted (D.seen disk.old) (gate + 1) bytes.now (D.seen disk.new) × Only (D.seen disk.new) (D.may_leave disk.new) }
+    ensures read { IsCommitting (D.seen disk.old) (gate + 1) bytes.now gate (D.seen disk.new) }
     ensures any_moment { LeavesOnly D.moment D.left_since disk.old disk.new (IsCommitting (D.seen disk.old) (gate + 1) bytes.now gate) }
     ensures cause { HasCause (D.failed disk.old) (D.failed disk.new) result }
 {
@@ -135,6 +136,8 @@ impl<D: Disk> LogVolume<D> {
         ensures undamaged { IsErrOf result faults.Damaged → ⊥ }
         ensures size { self.new.size ≡ self.old.size }
         ensures number { self.new.number ≡ self.old.number }
+        ensures end { OnErr result (self.new.end ≡ self.old.end) }
+        ensures read { (area : AreaState) → IsOpen D.seen D.may_leave self.old area → IsBeforeOrAfter area logged.now (D.seen self.new.disk) }
         // A stop at any moment of the call leaves the records from before it, with the new one or without.
         ensures any_moment { (area : AreaState) → IsOpen D.seen D.may_leave self.old area → LeavesOnly D.moment D.left_since self.old.disk self.new.disk (IsBeforeOrAfter area logged.now) }
         ensures cause { MayFail (D.failed self.old.disk) (D.failed self.new.disk) result }

@@ -1,7 +1,7 @@
-use Rattle.std.proofs.Common.{◌≡◌, ℕ, length, refl, ap, ◌∙◌, arith}
+use Rattle.std.proofs.Common.{◌≡◌, ℕ, length, refl, ap, inl, ◌∙◌, arith}
 use Rattle.std.specs.Prelude.{Err}
-use Rattle.disk_redo.proofs.Moments.{weaker}
-use Rattle.oplog.specs.Layout.{area_at}
+use Rattle.disk_redo.proofs.Moments.{same_changes, weaker}
+use Rattle.oplog.specs.Layout.{area_at, area_size}
 use Rattle.oplog.proofs.Refusing.{was_refused}
 use Rattle.oplog.specs.Writing.{area_with, IsWriting}
 use Rattle.oplog.proofs.WholeAreas.{behind_gate, elsewhere_at, room, says_at, stopped_at, unfinished_at}
@@ -60,3 +60,24 @@ returns-clause-any_moment g c =
     weaker g.D.Disk.moment g.D.Disk.left_since c.args.disk.now c.commit.new.disk _ (IsWriting (length d) c.args.which (area_with c.args.number c.args.items.now) d) c.commit.ensures.any_moment
     (stopped_at (length d) c.args.which c.args.number c.args.items.now d c.requires.large refl c.requires.which c.requires.closed c.requires.fits c.ranges.number.fits c.requires.short c.in_ok-bytes.ensures.stand c.requires.order
     c.area_at-place.result c.deref.result.now place written)
+
+pub returns-in_err-commit-clause-read : goal.returns-in_err-commit-clause-read
+returns-in_err-commit-clause-read g c =
+    let d = g.D.Disk.seen c.args.disk.now in
+    let written : c.deref.result.now ≡ behind_gate c.args.number c.args.items.now = c.deref.ensures.value ∙ c.in_ok-bytes.ensures.bytes in
+    let place : c.area_at-place.result ≡ area_at (length d) c.args.which = c.area_at-place.ensures.place ∙ ap (λ (k : ℕ). area_at k c.args.which) c.size.ensures in
+    stopped_at (length d) c.args.which c.args.number c.args.items.now d c.requires.large refl c.requires.which c.requires.closed c.requires.fits c.ranges.number.fits c.requires.short c.in_ok-bytes.ensures.stand c.requires.order
+    c.area_at-place.result c.deref.result.now place written (g.D.Disk.seen c.commit.new.disk) c.commit.ensures.read
+
+pub returns-clause-read : goal.returns-clause-read
+returns-clause-read g c =
+    let d = g.D.Disk.seen c.args.disk.now in
+    let written : c.deref.result.now ≡ behind_gate c.args.number c.args.items.now = c.deref.ensures.value ∙ c.in_ok-bytes.ensures.bytes in
+    let place : c.area_at-place.result ≡ area_at (length d) c.args.which = c.area_at-place.ensures.place ∙ ap (λ (k : ℕ). area_at k c.args.which) c.size.ensures in
+    stopped_at (length d) c.args.which c.args.number c.args.items.now d c.requires.large refl c.requires.which c.requires.closed c.requires.fits c.ranges.number.fits c.requires.short c.in_ok-bytes.ensures.stand c.requires.order
+    c.area_at-place.result c.deref.result.now place written (g.D.Disk.seen c.commit.new.disk) c.commit.ensures.read
+
+pub returns-in_err-bytes-clause-read : goal.returns-in_err-bytes-clause-read
+returns-in_err-bytes-clause-read g c =
+    let d = g.D.Disk.seen c.args.disk.now in
+    record { elsewhere = same_changes (area_at (length d) c.args.which) (area_size (length d)) d; inside = inl c.requires.closed }

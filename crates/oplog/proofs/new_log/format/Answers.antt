@@ -16,7 +16,7 @@ returns-in_err-write_area-clause-any_moment g c =
     let closed = c.in_ok-close_areas.ensures in
     let large : 4096 ≤ length d = omega (arith, closed.size, c.requires.large) in
     joined g.D.Disk.moment g.D.Disk.left_since c.args.disk.now c.close_areas.new.disk c.write_area.new.disk (λ f. is_formatted f ≡ false) (IsWriting (length d) 0 (area_with 1 []) d) (IsLogOf [] []) c.close_areas.ensures.any_moment c.write_area.ensures.any_moment
-    new_log (λ f stop. new_log f (still_new_behind d f large stop.elsewhere closed.new))
+    new_log (λ f stop. new_log f (still_new_behind d f large stop.elsewhere c.close_areas.ensures.read))
 
 pub returns-in_err-write_head-clause-any_moment : goal.returns-in_err-write_head-clause-any_moment
 returns-in_err-write_head-clause-any_moment g c =
@@ -24,7 +24,7 @@ returns-in_err-write_head-clause-any_moment g c =
     let closed = c.in_ok-close_areas.ensures in
     let large : 4096 ≤ length d = omega (arith, closed.size, c.requires.large) in
     let two = joined g.D.Disk.moment g.D.Disk.left_since c.args.disk.now c.close_areas.new.disk c.write_area.new.disk (λ f. is_formatted f ≡ false) (IsWriting (length d) 0 (area_with 1 []) d) (IsLogOf [] []) c.close_areas.ensures.any_moment c.write_area.ensures.any_moment
-    new_log (λ f stop. new_log f (still_new_behind d f large stop.elsewhere closed.new)) in
+    new_log (λ f stop. new_log f (still_new_behind d f large stop.elsewhere c.close_areas.ensures.read)) in
     joined g.D.Disk.moment g.D.Disk.left_since c.args.disk.now c.write_area.new.disk c.write_head.new.disk (IsLogOf [] []) (IsLogOf [] []) (IsLogOf [] []) two c.write_head.ensures.any_moment (λ f log. log) (λ f log. log)
 
 pub returns-clause-any_moment : goal.returns-clause-any_moment
@@ -33,7 +33,7 @@ returns-clause-any_moment g c =
     let closed = c.in_ok-close_areas.ensures in
     let large : 4096 ≤ length d = omega (arith, closed.size, c.requires.large) in
     let two = joined g.D.Disk.moment g.D.Disk.left_since c.args.disk.now c.close_areas.new.disk c.write_area.new.disk (λ f. is_formatted f ≡ false) (IsWriting (length d) 0 (area_with 1 []) d) (IsLogOf [] []) c.close_areas.ensures.any_moment c.write_area.ensures.any_moment
-    new_log (λ f stop. new_log f (still_new_behind d f large stop.elsewhere closed.new)) in
+    new_log (λ f stop. new_log f (still_new_behind d f large stop.elsewhere c.close_areas.ensures.read)) in
     joined g.D.Disk.moment g.D.Disk.left_since c.args.disk.now c.write_area.new.disk c.write_head.new.disk (IsLogOf [] []) (IsLogOf [] []) (IsLogOf [] []) two c.write_head.ensures.any_moment (λ f log. log) (λ f log. log)
 
 pub write_area-requires-clause-fits : goal.write_area-requires-clause-fits
@@ -49,7 +49,7 @@ write_head-requires-clause-new g c =
     let d = g.D.Disk.seen c.close_areas.new.disk in
     let closed = c.in_ok-close_areas.ensures in
     let large : 4096 ≤ length d = omega (arith, closed.size, c.requires.large) in
-    still_new_behind d (g.D.Disk.seen c.write_area.new.disk) large c.in_ok-write_area.ensures.elsewhere closed.new
+    still_new_behind d (g.D.Disk.seen c.write_area.new.disk) large c.in_ok-write_area.ensures.elsewhere c.close_areas.ensures.read
 
 pub write_head-requires-clause-first : goal.write_head-requires-clause-first
 write_head-requires-clause-first g c =
@@ -68,3 +68,14 @@ write_head-requires-clause-second g c =
 pub returns-clause-formatted : goal.returns-clause-formatted
 returns-clause-formatted g c =
     subst (λ (k : ℕ). DiskSays k 0 (area_with 1 []) (g.D.Disk.seen c.write_head.new.disk)) (c.in_ok-write_area.ensures.elsewhere.size ∙ c.in_ok-close_areas.ensures.size) c.in_ok-write_head.ensures.formatted
+
+pub returns-in_err-close_areas-clause-read : goal.returns-in_err-close_areas-clause-read
+returns-in_err-close_areas-clause-read g c = new_log (g.D.Disk.seen c.close_areas.new.disk) c.close_areas.ensures.read
+
+pub returns-in_err-write_area-clause-read : goal.returns-in_err-write_area-clause-read
+returns-in_err-write_area-clause-read g c =
+    let d = g.D.Disk.seen c.close_areas.new.disk in
+    let f = g.D.Disk.seen c.write_area.new.disk in
+    let closed = c.in_ok-close_areas.ensures in
+    let large : 4096 ≤ length d = omega (arith, closed.size, c.requires.large) in
+    new_log f (still_new_behind d f large c.write_area.ensures.read.elsewhere c.close_areas.ensures.read)

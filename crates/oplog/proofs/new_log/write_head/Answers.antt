@@ -20,3 +20,13 @@ pub returns-in_err-commit-clause-any_moment : goal.returns-in_err-commit-clause-
 returns-in_err-commit-clause-any_moment g c =
     let d = g.D.Disk.seen c.args.disk.now in
     weaker g.D.Disk.moment g.D.Disk.left_since c.args.disk.now c.commit.new.disk _ (IsLogOf [] []) c.commit.ensures.any_moment (while_formatting (length d) d c.requires.large refl c.requires.new c.requires.first c.requires.second)
+
+pub returns-in_err-commit-clause-read : goal.returns-in_err-commit-clause-read
+returns-in_err-commit-clause-read g c =
+    let d = g.D.Disk.seen c.args.disk.now in
+    while_formatting (length d) d c.requires.large refl c.requires.new c.requires.first c.requires.second (g.D.Disk.seen c.commit.new.disk) c.commit.ensures.read
+
+pub returns-clause-read : goal.returns-clause-read
+returns-clause-read g c =
+    let d = g.D.Disk.seen c.args.disk.now in
+    while_formatting (length d) d c.requires.large refl c.requires.new c.requires.first c.requires.second (g.D.Disk.seen c.commit.new.disk) c.commit.ensures.read

@@ -1,4 +1,4 @@
-use Rattle.std.proofs.Common.{◌≡◌, ℕ, List, true, false, length, sym, ap, subst, ◌∙◌}
+use Rattle.std.proofs.Common.{◌≡◌, ℕ, List, true, false, length, inl, inr, sym, ap, subst, ◌∙◌}
 use Rattle.std.specs.Prelude.{IfOk}
 use Rattle.oplog.specs.Disks.{is_formatted}
 use Rattle.oplog.specs.NewLogs.{IsLogOf}
@@ -57,3 +57,15 @@ returns-clause-any_moment g c =
     let d = disk.seen c.args.disk.now in
     let shut = gate_is c.is_formatted.result false c.deref.result.now c.in_ok-front.front.items d c.is_formatted.ensures c.deref.ensures.value c.in_ok-front.ensures.bytes c.if-is_formatted.false in
     format_opened disk.seen disk.may_leave disk.moment disk.left_since c.args.disk.now c.read_head.new.disk c.format_new.new.disk c.read_head.ensures.reads shut c.format_new.ensures.any_moment
+
+pub returns-in_err-front-clause-read : goal.returns-in_err-front-clause-read
+returns-in_err-front-clause-read g c = inl c.read_head.ensures.reads.seen_same
+
+pub returns-then-is_formatted-clause-read : goal.returns-then-is_formatted-clause-read
+returns-then-is_formatted-clause-read g c = inl (c.read_headed.ensures.reads.seen_same ∙ c.read_head.ensures.reads.seen_same)
+
+pub returns-clause-read : goal.returns-clause-read
+returns-clause-read g c =
+    let d = g.D.Disk.seen c.args.disk.now in
+    let shut = gate_is c.is_formatted.result false c.deref.result.now c.in_ok-front.front.items d c.is_formatted.ensures c.deref.ensures.value c.in_ok-front.ensures.bytes c.if-is_formatted.false in
+    inr (shut, c.format_new.ensures.read)

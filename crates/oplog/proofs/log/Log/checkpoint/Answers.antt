@@ -1,4 +1,4 @@
-use Rattle.std.proofs.Common.{◌≡◌, ℕ, ◌+◌, [], ap, ◌∙◌}
+use Rattle.std.proofs.Common.{◌≡◌, ℕ, ◌+◌, [], ap, ◌∙◌, arith}
 use Rattle.std.specs.Prelude.{Err}
 use Rattle.oplog.specs.Faults.{leaves_open}
 use Rattle.oplog.specs.Logs.{area_counted}
@@ -27,7 +27,8 @@ invariant_of-self-in-Err g c =
     let area = area_counted was.volume was.items was.records in
     let is_open = c.self.invariant.opened (was_open _ _ c.self.view_is c.requires.open) in
     counted_after disk.seen disk.may_leave c.checkpoint.new.volume was.volume.number was.items was.records c.in-Err.fault c.leaves_open-self-inside.result
-    (rw c.checkpoint.ensures.size c.self.invariant.large) (rw c.checkpoint.ensures.size c.self.invariant.small) c.leaves_open-self-inside.ensures
+    (rw c.checkpoint.ensures.size c.self.invariant.large) (rw c.checkpoint.ensures.size c.self.invariant.small)
+    (c.in-Err.ensures.end ∙ c.self.invariant.end) (omega (arith, c.in-Err.ensures.end, c.checkpoint.ensures.size, c.self.invariant.within)) c.leaves_open-self-inside.ensures
     (λ full. rw (c.checkpoint.ensures.unchanged (c.in-Err.is ∙ ap Err full)) is_open)
     (λ refused. c.checkpoint.ensures.still_open area is_open (c.in-Err.is ∙ ap Err refused))
     (λ damaged. c.checkpoint.ensures.undamaged (c.in-Err.is ∙ ap Err damaged))
@@ -97,3 +98,15 @@ returns-in-Ok-clause-cause g c = rw (← c.self.view_is) (rw c.in-Ok.is at c.che
 
 pub returns-in-Err-clause-cause : goal.returns-in-Err-clause-cause
 returns-in-Err-clause-cause g c = rw (← c.self.view_is) (rw c.in-Err.is at c.checkpoint.ensures.cause)
+
+pub returns-in-Ok-clause-read : goal.returns-in-Ok-clause-read
+returns-in-Ok-clause-read g c =
+    let was = c.self.inside in
+    let is_open = c.self.invariant.opened (was_open _ _ c.self.view_is c.requires.open) in
+    rw (← c.self.view_is) (c.checkpoint.ensures.read (area_counted was.volume was.items was.records) is_open)
+
+pub returns-in-Err-clause-read : goal.returns-in-Err-clause-read
+returns-in-Err-clause-read g c =
+    let was = c.self.inside in
+    let is_open = c.self.invariant.opened (was_open _ _ c.self.view_is c.requires.open) in
+    rw (← c.self.view_is) (c.checkpoint.ensures.read (area_counted was.volume was.items was.records) is_open)

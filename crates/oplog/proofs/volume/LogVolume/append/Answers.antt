@@ -7,7 +7,7 @@ use Rattle.oplog.specs.Layout.{area_size, record_fits}
 use Rattle.oplog.specs.Changes.{appended, IsBeforeOrAfter}
 use Rattle.oplog.specs.Logs.{IsOpen}
 use Rattle.oplog.proofs.Refusing.{was_refused}
-use Rattle.oplog.proofs.Appending.{after_stop, appends, stays, within}
+use Rattle.oplog.proofs.Appending.{after_stop, appends, nothing_left, stays, within}
 use Rattle.oplog.proofs.volume.LogVolume.append.Goals as goal
 
 pub write_behind-requires-clause-room : goal.write_behind-requires-clause-room
@@ -65,3 +65,26 @@ returns-in_err-write_behind-clause-still_open g c area is_open refused =
     let left = c.in_err-write_behind.ensures.refused (ap Err none) in
     stays g.D.Disk.seen g.D.Disk.may_leave log area is_open r has_room (c.in_ok-bytes.ensures.stands, c.requires.no_item) c.write_behind.new.disk
     (subst (λ (l : List ℕ). IsUncommitted d (log.start + log.end + 1) l (g.D.Disk.seen c.write_behind.new.disk)) written left.0) left.1
+
+pub returns-clause-read : goal.returns-clause-read
+returns-clause-read g c area is_open =
+    let log = c.args.self.now in
+    let r = c.args.logged.now in
+    let d = g.D.Disk.seen c.write_behind.new.disk in
+    let has_room : record_fits (area_size log.size) area r ≡ true = grind (arith, c.fits.ensures area is_open) in
+    let written : c.deref.result.now ≡ entry r ++ 0 ∷ [] = c.deref.ensures.value ∙ c.in_ok-bytes.ensures.bytes in
+    after_stop g.D.Disk.seen g.D.Disk.may_leave log area is_open r has_room (c.in_ok-bytes.ensures.stands, c.requires.no_item) d
+    (subst (λ (l : List ℕ). IsCommitting (g.D.Disk.seen log.disk) (log.start + log.end + 1) l (log.start + log.end) d) written c.write_behind.ensures.read)
+
+pub returns-in_err-write_behind-clause-read : goal.returns-in_err-write_behind-clause-read
+returns-in_err-write_behind-clause-read g c area is_open =
+    let log = c.args.self.now in
+    let r = c.args.logged.now in
+    let d = g.D.Disk.seen c.write_behind.new.disk in
+    let has_room : record_fits (area_size log.size) area r ≡ true = grind (arith, c.fits.ensures area is_open) in
+    let written : c.deref.result.now ≡ entry r ++ 0 ∷ [] = c.deref.ensures.value ∙ c.in_ok-bytes.ensures.bytes in
+    after_stop g.D.Disk.seen g.D.Disk.may_leave log area is_open r has_room (c.in_ok-bytes.ensures.stands, c.requires.no_item) d
+    (subst (λ (l : List ℕ). IsCommitting (g.D.Disk.seen log.disk) (log.start + log.end + 1) l (log.start + log.end) d) written c.write_behind.ensures.read)
+
+pub returns-in_err-bytes-clause-read : goal.returns-in_err-bytes-clause-read
+returns-in_err-bytes-clause-read g c area is_open = nothing_left g.D.Disk.seen g.D.Disk.may_leave c.args.self.now area is_open c.args.logged.now

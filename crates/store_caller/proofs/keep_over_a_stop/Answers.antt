@@ -1,0 +1,16 @@
+use Rattle.std.proofs.Common.{◌≡◌, Some}
+use Rattle.std.proofs.lemmas.Result.{IfOk-weaker}
+use Rattle.replica_store.specs.Replicas.{read_at}
+use Rattle.store_caller.specs.Stored.{with_one}
+use Rattle.store_caller.proofs.ReadBack.{read_back}
+use Rattle.store_caller.proofs.keep_over_a_stop.Goals as goal
+
+pub read_one-requires-clause-held : goal.read_one-requires-clause-held
+read_one-requires-clause-held c = (with_one c.args.layout.block c.args.bytes.now, c.in_ok-stored.ensures c.stop.result.bytes c.stop.ensures.lawful)
+
+pub returns : goal.returns
+returns c =
+    let l = c.args.layout in
+    let bytes = c.args.bytes.now in
+    let d = with_one l.block bytes in
+    IfOk-weaker c.read_one.result (λ found. Some found ≡ read_at d 5 0 l.chunk) (λ found. found ≡ bytes) (λ found e. read_back l.block l.chunk bytes found c.requires.short e) (c.read_one.ensures d (c.in_ok-stored.ensures c.stop.result.bytes c.stop.ensures.lawful))
