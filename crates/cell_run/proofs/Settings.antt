@@ -45,3 +45,7 @@ bounds c h =
 pub bounds_ok : (c : Config) (r : Result (Unit {0}) ConfigFault) (b : Bool) → result_err r ≡ first_out_of_range c → b ≡ is_ok r → IsTrue b → IsFitting c
 bounds_ok c (Ok x) b h e t = bounds c (sym h)
 bounds_ok c (Err fault) b h e t = absurd (cc)
+
+pub in_range : (c : Config) (r : Result (Unit {0}) ConfigFault) (b : Bool) → result_err r ≡ first_out_of_range c → b ≡ is_ok r → IsTrue b → first_out_of_range c ≡ None
+in_range c (Ok x) b h e t = sym h
+in_range c (Err fault) b h e t = absurd (cc)

@@ -1,23 +1,29 @@
 -- Steps of the code's nodes are steps of the definitions' nodes.
-use Rattle.std.proofs.Common.{◌≡◌, ℕ, Bool, true, false, List, refl, sym, ap, subst, ◌∙◌}
-use Rattle.std.specs.Prelude.{IsTrue}
+use Rattle.std.proofs.Common.{◌≡◌, ℕ, Bool, true, false, List, [], Option, Some, None, refl, sym, ap, subst, ◌∙◌, inl, inr}
+use Rattle.std.specs.Prelude.{◌&&◌, if◌then◌else◌, IsTrue, IsSome}
+use Rattle.gfs_types.specs.declared.answer.Answer.{Answer}
 use Rattle.gfs_types.specs.declared.call.Call.{Call}
+use Rattle.gfs_types.specs.declared.config.Config.{Config}
 use Rattle.messages.specs.declared.event.NodeInput.{NodeInput}
 use Rattle.messages.specs.declared.event.StepOut.{StepOut}
-use Rattle.protocol.specs.Client.{ClientState}
-use Rattle.protocol.specs.ClientStep.{may_call}
+use Rattle.protocol.specs.Choice.{Choice, Ending, Goes, Lost, Stops}
+use Rattle.protocol.specs.Client.{ClientState, stopped_client}
+use Rattle.protocol.specs.ClientStep.{may_call, may_step, client_step, client_ends, client_goes}
 use Rattle.protocol.specs.Conforms.{MasterSteps, MasterRestarts, ServerSteps, ServerRestarts, ClientCalls, ClientSteps}
-use Rattle.protocol.specs.Master.{MasterState}
-use Rattle.protocol.specs.MasterStep.{master_step, master_restart}
+use Rattle.protocol.specs.Master.{MasterState, MasterDoing, stopped_master}
+use Rattle.protocol.specs.MasterStep.{master_step, master_restart, master_goes, master_ends, master_bounded, may_end, found_log, started_master, opening, opens_as, has_opened, is_within_limits}
 use Rattle.protocol.specs.declared.seen.Seen.{Seen}
-use Rattle.protocol.specs.Server.{ServerState}
+use Rattle.protocol.specs.Seen.{Taken, no_output, down_output, no_step}
+use Rattle.protocol.specs.Server.{ServerState, ServerDoing}
+use Rattle.protocol.specs.ServerStep.{server_step, server_restart, server_goes, server_ends, server_restarts as server_opens}
 use Rattle.protocol_journal.specs.Journal.{Calls, Takes, Restarts, NodeState, MasterIs, ServerIs, ClientIs, may_take}
 use Rattle.cell_journal.specs.declared.step_cause.StepCause.{StepCause as CodeStepCause}
 use Rattle.cell_journal.specs.declared.step_cause.StepCause.TheVariants as code
 use Rattle.cell_journal.specs.Entries.{cause_of}
 use Rattle.cell_world.proofs.Left.{same_up, left_on, restarts_of_what_is_left}
-use Rattle.cell_seats.specs.Slots.{StepsSo}
-use Rattle.cell_run.specs.Standing.{MasterStands, ServerStands, ClientStands}
+use Rattle.cell_world.proofs.Lost.{call_lost, client_lost}
+use Rattle.cell_seats.specs.Slots.{StepsSo, IsCopyOf}
+use Rattle.cell_run.specs.Standing.{MasterStands, ServerStands, ClientStands, down_client, IsCopiedOrStopped}
 
 -- a step that is never taken
 not_taken : {A : Type 0} → false ≡ true → A
@@ -144,7 +150,98 @@ pub client_never_restarts : (held : ClientState) (s : NodeState) (t : CodeStepCa
     → t ≡ code.Restarts → StepsSo s moment (cause_of t) out After
 client_never_restarts held s t moment out After stands may is = not_taken (client_restarts held s t stands is ∙ may)
 
--- the call, copied or not
+-- a step on a call is given the call's copy
 
-pub called_copy : (old new : ClientState) (moment : ℕ) (asked call : Call) (out : StepOut) → call ≡ asked → ClientCalls old moment call out new → ClientCalls old moment asked out new
+pub copy_on : (t : CodeStepCause) (asked : Call) (copy : Option Call) → t ≡ code.Calls asked → IsCopyOf (cause_of t) copy → IsCopyOf (Calls asked) copy
+copy_on t asked copy is h = subst (λ (x : CodeStepCause). IsCopyOf (cause_of x) copy) is h
+
+pub copy_is : (asked : Call) (copy : Option Call) (call : Call) → copy ≡ Some call → IsCopyOf (Calls asked) copy → call ≡ asked
+copy_is asked copy call is h = subst (λ (o : Option Call). IsCopyOf (Calls asked) o) is h
+
+-- a call of which there was a copy
+called_copy : (old new : ClientState) (moment : ℕ) (asked call : Call) (out : StepOut) → call ≡ asked → ClientCalls old moment call out new → ClientCalls old moment asked out new
 called_copy old new moment asked call out is calls = subst (λ (x : Call). ClientCalls old moment x out new) is calls
+
+-- and an answer of which there was a copy, or the client went down
+
+stopped_is : (old new : ClientState) (config : Config) (id : ℕ) → config ≡ old.config → id ≡ old.id → new ≡ down_client config id → new ≡ stopped_client old
+stopped_is old new config id same_config same_id is = is ∙ (ap (λ (x : Config). down_client x id) same_config ∙ ap (λ (n : ℕ). down_client old.config n) same_id)
+
+pub called_so : (old after new : ClientState) (config : Config) (id moment : ℕ) (asked call : Call) (out given : StepOut) → config ≡ old.config → id ≡ old.id → call ≡ asked → ClientCalls old moment call out after
+    → IsCopiedOrStopped after new config id out given → ClientCalls old moment asked given new
+called_so old after new config id moment asked call out given same_config same_id copy calls (inl kept) =
+    subst (λ (o : StepOut). ClientCalls old moment asked o new) (sym kept.0) (subst (λ (x : ClientState). ClientCalls old moment asked out x) (sym kept.1) (called_copy old after moment asked call out copy calls))
+called_so old after new config id moment asked call out given same_config same_id copy calls (inr stopped) =
+    subst (λ (o : StepOut). ClientCalls old moment asked o new) (sym stopped.1)
+    (subst (λ (x : ClientState). ClientCalls old moment asked down_output x) (sym (stopped_is old new config id same_config same_id stopped.2)) (call_lost old moment asked))
+
+-- a step that was not taken has no answer
+not_taken_silent : (old after : ClientState) (moment : ℕ) (i : NodeInput) (out : StepOut) → may_step old ≡ false → ClientSteps old moment i out after → out.answer ≡ None
+not_taken_silent old after moment i out idle steps =
+    ap (λ (o : StepOut). o.answer) (sym steps.gives.out_is) ∙ ap (λ (b : Bool). (if b then client_ends old (client_goes old moment i) steps.choice.ending else no_step old).out.answer) idle
+
+-- a step with an answer was taken, and may be lost
+answered_or_lost : (old after : ClientState) (moment : ℕ) (i : NodeInput) (out : StepOut) → ClientSteps old moment i out after → IsSome out.answer → ClientSteps old moment i down_output (stopped_client old)
+answered_or_lost old after moment i out steps some = by (may_step old) refl
+  where
+    by : (b : Bool) → may_step old ≡ b → ClientSteps old moment i down_output (stopped_client old)
+    by true taken = subst (λ (b : Bool). ClientSteps old moment i (if b then down_output else no_output) (if b then stopped_client old else old)) taken (client_lost old moment i)
+    by false idle = absurd (let both : false ≡ true = subst (λ (o : Option Answer). IsSome o) (not_taken_silent old after moment i out idle steps) some in cc)
+
+pub stepped_so : (old after new : ClientState) (config : Config) (id moment : ℕ) (i : NodeInput) (out given : StepOut) → config ≡ old.config → id ≡ old.id → ClientSteps old moment i out after
+    → IsCopiedOrStopped after new config id out given → ClientSteps old moment i given new
+stepped_so old after new config id moment i out given same_config same_id steps (inl kept) =
+    subst (λ (o : StepOut). ClientSteps old moment i o new) (sym kept.0) (subst (λ (x : ClientState). ClientSteps old moment i out x) (sym kept.1) steps)
+stepped_so old after new config id moment i out given same_config same_id steps (inr stopped) =
+    subst (λ (o : StepOut). ClientSteps old moment i o new) (sym stopped.1)
+    (subst (λ (x : ClientState). ClientSteps old moment i down_output x) (sym (stopped_is old new config id same_config same_id stopped.2)) (answered_or_lost old after moment i out steps stopped.0))
+
+-- no other node answers
+
+either_silent : {S : Type 0} (b : Bool) (t u : Taken S) → t.out.answer ≡ None → u.out.answer ≡ None → (if b then t else u).out.answer ≡ None
+either_silent true t u h k = h
+either_silent false t u h k = k
+
+master_ends_silent : (m : MasterState) (d : MasterDoing) (choice : Choice) (e : Ending) → (master_ends m d choice e).out.answer ≡ None
+master_ends_silent m d choice Goes = refl
+master_ends_silent m d choice Lost = refl
+master_ends_silent m d choice (Stops made) = refl
+
+bounded_silent : (m : MasterState) (d : MasterDoing) (choice : Choice) → (master_bounded m d choice).out.answer ≡ None
+bounded_silent m d choice = either_silent (may_end d choice.ending) (master_ends m d choice choice.ending) (no_step m) (master_ends_silent m d choice choice.ending) refl
+
+pub master_silent : (old new : MasterState) (moment : ℕ) (i : NodeInput) (out : StepOut) (seen : List Seen) → MasterSteps old moment i out seen new → out.answer ≡ None
+master_silent old new moment i out seen steps =
+    let d : MasterDoing = master_goes old moment i steps.choice.refused in
+    ap (λ (o : StepOut). o.answer) (sym steps.gives.out_is) ∙ either_silent old.up (master_bounded old d steps.choice) (no_step old) (bounded_silent old d steps.choice) refl
+
+opened_silent : (old m : MasterState) (d : MasterDoing) (choice : Choice) (e : Ending) → (opens_as old m d choice e).out.answer ≡ None
+opened_silent old m d choice Lost = refl
+opened_silent old m d choice (Stops made) = refl
+opened_silent old m d choice Goes =
+    let there : Taken MasterState = record { state = d.master; out = no_output; seen = [] } in
+    let stopped : Taken MasterState = record { state = stopped_master old d.master.disk []; out = down_output; seen = [] } in
+    either_silent (has_opened m d && is_within_limits d.master) there stopped refl refl
+
+pub master_restarts_silently : (old new : MasterState) (moment : ℕ) (out : StepOut) → MasterRestarts old moment out new → out.answer ≡ None
+master_restarts_silently old new moment out restarts =
+    let started : MasterState = started_master old.config old.server_count (found_log old restarts.choice) moment in
+    ap (λ (o : StepOut). o.answer) (sym restarts.gives.out_is) ∙ opened_silent old started (opening started) restarts.choice restarts.choice.ending
+
+server_ends_silent : (s : ServerState) (d : ServerDoing) (choice : Choice) (e : Ending) → (server_ends s d choice e).out.answer ≡ None
+server_ends_silent s d choice Goes = refl
+server_ends_silent s d choice Lost = refl
+server_ends_silent s d choice (Stops made) = refl
+
+pub server_silent : (old new : ServerState) (moment : ℕ) (i : NodeInput) (out : StepOut) (seen : List Seen) → ServerSteps old moment i out seen new → out.answer ≡ None
+server_silent old new moment i out seen steps =
+    let d : ServerDoing = server_goes old moment i in
+    ap (λ (o : StepOut). o.answer) (sym steps.gives.out_is) ∙ either_silent old.up (server_ends old d steps.choice steps.choice.ending) (no_step old) (server_ends_silent old d steps.choice steps.choice.ending) refl
+
+restarts_silent : (s : ServerState) (moment : ℕ) (choice : Choice) (e : Ending) → (server_opens s moment choice e).out.answer ≡ None
+restarts_silent s moment choice Goes = refl
+restarts_silent s moment choice Lost = refl
+restarts_silent s moment choice (Stops made) = refl
+
+pub server_restarts_silently : (old new : ServerState) (moment : ℕ) (out : StepOut) → ServerRestarts old moment out new → out.answer ≡ None
+server_restarts_silently old new moment out restarts = ap (λ (o : StepOut). o.answer) (sym restarts.gives.out_is) ∙ restarts_silent old moment restarts.choice restarts.choice.ending

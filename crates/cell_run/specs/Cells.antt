@@ -1,6 +1,7 @@
 -- A running cell.
-use Rattle.std.specs.Prelude.{◌≡◌, ◌≤◌, ◌<◌, ◌+◌, ℕ, List, [], false, replicate}
+use Rattle.std.specs.Prelude.{◌≡◌, ◌≤◌, ◌<◌, ◌+◌, ℕ, List, [], None, false, replicate}
 use Rattle.logbook.specs.Pages.{Book}
+use Rattle.gfs_types.specs.Settings.{first_out_of_range}
 use Rattle.gfs_types.specs.declared.config.Config.{Config}
 use Rattle.gfs_types.specs.declared.ids.Node.{Node}
 use Rattle.gfs_types.specs.declared.ids.Node.TheVariants.{Client}
@@ -25,8 +26,9 @@ pub record CellState : Type 0 where
 abbrev pub cell_state : Identity → ℕ → Policy → List ℕ → CellState
 cell_state of made policy restarts = record { of = of; made = made; policy = policy; restarts = restarts }
 
--- it has these settings and so many servers, and may have 64 clients
+-- it has these settings, each in its range, and so many servers, and may have 64 clients
 pub record IsCellOf (config : Config) (servers : ℕ) (cell : Identity) : Type 0 where
+  pub in_range : first_out_of_range config ≡ None
   pub config_is : cell.config ≡ config
   pub servers_are : cell.servers ≡ servers
   pub clients_are : cell.clients ≡ 64

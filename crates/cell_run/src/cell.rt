@@ -1,8 +1,12 @@
 //! A running cell.
 
-ghost use Rattle.std.specs.Prelude.{◌≡◌, ◌+◌, ◌≤◌, ◌<◌, [], IfOk, IfErr, OnOk, OnErr, vec_len, replicate};
+ghost use Rattle.std.specs.Prelude.{◌≡◌, ◌+◌, ◌≤◌, ◌<◌, [], None, IfOk, IfErr, OnOk, OnErr, IsTrue, vec_len, replicate};
 ghost use Rattle.std.specs.Arc.{arc_value};
+ghost use Rattle.gfs_types.specs.Settings.{first_out_of_range};
+ghost use Rattle.journal_headline.specs.Journals.{AreExplained};
+ghost use Rattle.cell_journal.specs.Clocks.{are_clocks_kept};
 ghost use Rattle.cell_journal.specs.Log.{listed};
+ghost use Rattle.cell_journal.specs.Rules.{IsJournalOf};
 ghost use Rattle.cell_run.specs.NewNodes.{IsFitting, IsSame};
 ghost use Rattle.cell_seats.specs.Controls.{WritesControls, no_policy, policy_in};
 ghost use Rattle.cell_run.specs.Cells.{IsCellOf, IsNewCell, IsNewSeat, IsSeatFault, more, with_policy, asked_again};
@@ -163,9 +167,12 @@ impl Cell {
             .put(rt, node, MailboxItem::Take(Input::Tick));
     }
 
-    /// Ends the cell: no step is begun any more, each call that waits is refused, and the threads end. No step follows.
+    /// Ends the cell: no step is begun any more, each call that waits is refused, and the threads end. No step follows. Where clocks were
+    /// kept, the journal's calls and answers are a run of the machine.
     pub fn close<R: Threads + Wait + Clock>(self, rt: &R) -> Journal
-        ensures { result.cell ≡ self.of }
+        ensures cell { result.cell ≡ self.of }
+        ensures lawful { IsJournalOf result.cell result.entries }
+        ensures explained { IsTrue (are_clocks_kept result.cell result.entries) → AreExplained result.cell.config result.entries }
     {
         let Self {
             alloc: _,
@@ -304,6 +311,7 @@ fn new_registry(
     servers: u16,
     began: Duration,
 ) -> Result<Parts, StartFault>
+    requires { first_out_of_range config ≡ None }
     ensures registry { IfOk result (λ p. (p.registry.config ≡ config) × (p.registry.servers ≡ servers) × (p.registry.registered ≡ 0)) }
     ensures nothing { IfOk result (λ p. p.nothing ≡ listed p.registry.writer.me.0.of.name []) }
     ensures boxes { IfOk result (λ p. vec_len p.boxes.clients ≡ 64) }

@@ -1,11 +1,17 @@
 //! The master of a running cell.
 
+ghost use Rattle.std.specs.Prelude.{◌≡◌, ◌≤◌, None, IsTrue};
+ghost use Rattle.protocol.specs.Tables.{moment_limit};
+ghost use Rattle.protocol_journal.specs.Journal.{NodeState, may_take};
+ghost use Rattle.cell_journal.specs.Entries.{cause_of};
+ghost use Rattle.cell_seats.specs.Slots.{StepsSo};
 ghost use Rattle.cell_run.specs.Standing.{MasterStands};
 
 use crate::step_message::message_in;
 use cell_journal::journal_entry::StepCause;
-use cell_seats::stepper::Stepper;
+use cell_seats::stepper::{NodeStep, Stepper};
 use cell_world::master::CellMaster;
+use gfs_types::call::Call;
 use gfs_types::ids::Moment;
 use messages::event::StepOut;
 
@@ -26,12 +32,26 @@ impl<M: CellMaster + Drop> Stepper for MasterNode<M> {
         }
     }
 
-    fn step(&mut self, now: Moment, cause: &StepCause) -> StepOut {
-        match cause {
-            StepCause::Takes(input) => self.master.step(now, message_in(input)).out,
-            StepCause::Restarts => self.master.restart(now),
-            // It takes no call.
-            StepCause::Calls(_) => self.master.step(now, None).out,
+    fn step(&mut self, now: Moment, cause: &StepCause, call: Option<Call>) -> NodeStep {
+        let _none = call;
+        NodeStep {
+            out: step_master(&mut self.master, now, cause),
+            answer: None,
         }
+    }
+}
+
+// A step, which has no answer.
+fn step_master<M: CellMaster + Drop>(master: &mut M, now: Moment, cause: &StepCause) -> StepOut
+    requires moment { now.0 ≤ moment_limit }
+    requires may { (s : NodeState) → MasterStands (M.state master.old) s → IsTrue (may_take s (cause_of cause.now)) }
+    ensures steps { (s : NodeState) → MasterStands (M.state master.old) s → StepsSo s now.0 (cause_of cause.now) result (MasterStands (M.state master.new)) }
+    ensures silent { result.answer ≡ None }
+{
+    match cause {
+        StepCause::Takes(input) => master.step(now, message_in(input)).out,
+        StepCause::Restarts => master.restart(now),
+        // It takes no call.
+        StepCause::Calls(_) => master.step(now, None).out,
     }
 }

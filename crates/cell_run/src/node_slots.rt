@@ -1,6 +1,6 @@
 //! The nodes of a running cell, each with its journal.
 
-ghost use Rattle.std.specs.Prelude.{◌≡◌, ◌≤◌, ◌<◌, ◌+◌, IfOk, IfErr, OnOk, OnErr, IsTrue, is_none};
+ghost use Rattle.std.specs.Prelude.{◌≡◌, ◌≤◌, ◌<◌, ◌+◌, None, IfOk, IfErr, OnOk, OnErr, IsTrue, is_none};
 ghost use Rattle.gfs_types.specs.declared.ids.Node.TheVariants as node;
 ghost use Rattle.gfs_types.specs.Settings.{first_out_of_range};
 ghost use Rattle.protocol.specs.MasterStep.{new_master};
@@ -36,6 +36,7 @@ pub type ClientSlot = Slot<RunningClient>;
 /// Whether the settings are in their ranges, and so in the bounds that nodes ask for.
 pub fn are_fitting(config: &Config) -> bool
     ensures range { result ≡ is_none (first_out_of_range config.now) }
+    ensures in_range { IsTrue result → first_out_of_range config.now ≡ None }
     ensures fits { IsTrue result → IsFitting config.now }
 {
     config.check().is_ok()

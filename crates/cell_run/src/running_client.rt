@@ -5,12 +5,12 @@ ghost use Rattle.protocol.specs.Client.{new_client};
 
 use crate::client_stepper::ClientNode;
 use cell_journal::journal_entry::StepCause;
-use cell_seats::stepper::Stepper;
+use cell_seats::stepper::{NodeStep, Stepper};
 use client_calls::client::Client;
+use gfs_types::call::Call;
 use gfs_types::config::Config;
 use gfs_types::ids::{ClientId, Moment};
 use gfs_types::no_memory::NoMemory;
-use messages::event::StepOut;
 use std::alloc::Global;
 
 /// A client of a running cell. Its drop stands here, once, so that no crate above proves those of all that a client owns.
@@ -46,7 +46,7 @@ impl Stepper for RunningClient {
         self.node.may_take(cause)
     }
 
-    fn step(&mut self, now: Moment, cause: &StepCause) -> StepOut {
-        self.node.step(now, cause)
+    fn step(&mut self, now: Moment, cause: &StepCause, call: Option<Call>) -> NodeStep {
+        self.node.step(now, cause, call)
     }
 }

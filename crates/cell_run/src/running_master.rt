@@ -6,12 +6,12 @@ ghost use Rattle.protocol.specs.MasterStep.{new_master};
 use crate::master_stepper::MasterNode;
 use cell_core::cell_master::SeatedMaster;
 use cell_journal::journal_entry::StepCause;
-use cell_seats::stepper::Stepper;
+use cell_seats::stepper::{NodeStep, Stepper};
 use cell_world::master::CellMaster;
+use gfs_types::call::Call;
 use gfs_types::config::Config;
 use gfs_types::ids::Moment;
 use master_cell::fault::MasterFault;
-use messages::event::StepOut;
 use operation_log::memory::MemoryLog;
 use std::alloc::Global;
 
@@ -55,7 +55,7 @@ impl Stepper for RunningMaster {
         self.node.may_take(cause)
     }
 
-    fn step(&mut self, now: Moment, cause: &StepCause) -> StepOut {
-        self.node.step(now, cause)
+    fn step(&mut self, now: Moment, cause: &StepCause, call: Option<Call>) -> NodeStep {
+        self.node.step(now, cause, call)
     }
 }

@@ -7,11 +7,11 @@ ghost use Rattle.replica_store.specs.Replicas.{new_server_disk};
 
 use crate::server_stepper::ServerNode;
 use cell_journal::journal_entry::StepCause;
-use cell_seats::stepper::Stepper;
+use cell_seats::stepper::{NodeStep, Stepper};
+use gfs_types::call::Call;
 use gfs_types::config::Config;
 use gfs_types::ids::{Moment, ServerId};
 use memory_store::MemoryStore;
-use messages::event::StepOut;
 use server_cell::server::Chunkserver;
 use std::alloc::Global;
 
@@ -50,7 +50,7 @@ impl Stepper for RunningServer {
         self.node.may_take(cause)
     }
 
-    fn step(&mut self, now: Moment, cause: &StepCause) -> StepOut {
-        self.node.step(now, cause)
+    fn step(&mut self, now: Moment, cause: &StepCause, call: Option<Call>) -> NodeStep {
+        self.node.step(now, cause, call)
     }
 }

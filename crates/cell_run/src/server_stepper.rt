@@ -1,10 +1,16 @@
 //! A server of a running cell.
 
+ghost use Rattle.std.specs.Prelude.{◌≡◌, ◌≤◌, None, IsTrue};
+ghost use Rattle.protocol.specs.Tables.{moment_limit};
+ghost use Rattle.protocol_journal.specs.Journal.{NodeState, may_take};
+ghost use Rattle.cell_journal.specs.Entries.{cause_of};
+ghost use Rattle.cell_seats.specs.Slots.{StepsSo};
 ghost use Rattle.cell_run.specs.Standing.{ServerStands};
 
 use crate::step_message::message_in;
 use cell_journal::journal_entry::StepCause;
-use cell_seats::stepper::Stepper;
+use cell_seats::stepper::{NodeStep, Stepper};
+use gfs_types::call::Call;
 use gfs_types::ids::Moment;
 use messages::event::StepOut;
 use server_cell::server::Chunkserver;
@@ -27,12 +33,30 @@ impl<S: ReplicaStore + Drop> Stepper for ServerNode<S> {
         }
     }
 
-    fn step(&mut self, now: Moment, cause: &StepCause) -> StepOut {
-        match cause {
-            StepCause::Takes(input) => self.server.step(now, message_in(input)).out,
-            StepCause::Restarts => self.server.restart(now),
-            // It takes no call.
-            StepCause::Calls(_) => self.server.step(now, None).out,
+    fn step(&mut self, now: Moment, cause: &StepCause, call: Option<Call>) -> NodeStep {
+        let _none = call;
+        NodeStep {
+            out: step_server(&mut self.server, now, cause),
+            answer: None,
         }
+    }
+}
+
+// A step, which has no answer.
+fn step_server<S: ReplicaStore + Drop>(
+    server: &mut Chunkserver<S>,
+    now: Moment,
+    cause: &StepCause,
+) -> StepOut
+    requires moment { now.0 ≤ moment_limit }
+    requires may { (s : NodeState) → ServerStands server.old s → IsTrue (may_take s (cause_of cause.now)) }
+    ensures steps { (s : NodeState) → ServerStands server.old s → StepsSo s now.0 (cause_of cause.now) result (ServerStands server.new) }
+    ensures silent { result.answer ≡ None }
+{
+    match cause {
+        StepCause::Takes(input) => server.step(now, message_in(input)).out,
+        StepCause::Restarts => server.restart(now),
+        // It takes no call.
+        StepCause::Calls(_) => server.step(now, None).out,
     }
 }

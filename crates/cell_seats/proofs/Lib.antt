@@ -2,5 +2,6 @@ pub mod WrittenControls
 pub mod Moving
 pub mod Shown
 pub mod Sitting
+pub mod Traces
 pub mod RegisteredNodes
 pub mod Starting

@@ -1,6 +1,6 @@
 -- A node's next step.
 use Rattle.std.proofs.Common.{◌≡◌, ℕ, ◌≤◌, Bool, true, false, List, [], ◌∷◌, ◌++◌, Option, Some, None, refl, sym, ap, subst, ◌∙◌}
-use Rattle.std.specs.Prelude.{IsTrue, Result, Ok, Err, IfOk, OnOk, OnErr, IfSome}
+use Rattle.std.specs.Prelude.{IsTrue, Result, Ok, Err, IfOk, OnErr, IfSome}
 use Rattle.std.proofs.lemmas.Bool.{le-leb}
 use Rattle.atomic_table.specs.Table.{Me}
 use Rattle.gfs_types.specs.declared.answer.Answer.{Answer}
@@ -23,7 +23,7 @@ use Rattle.gfs_types.specs.declared.refusal.Refusal.{Refusal}
 use Rattle.cell_seats.specs.declared.slot.StepResult.{StepResult}
 use Rattle.cell_seats.specs.declared.mailboxes.Input.{Input}
 use Rattle.cell_seats.specs.declared.mailboxes.Input.TheVariants.{Deliver, Tick, Restart}
-use Rattle.cell_seats.specs.Slots.{StepsSo, IsLedTo, IsTakenOn, IsInputOf, number_in, told_where, StepTaken, ActsOn, Acts}
+use Rattle.cell_seats.specs.Slots.{StepsSo, IsLedTo, IsTakenOn, IsInputOf, IsCopyOf, number_in, told_where, StepTaken, ActsOn, Acts}
 
 runs_more : (s t : NodeState) (es : List Entry) (e : Entry) (choice : Choice) → RunsTo s es t → IsTrue (may_take t e.cause) → (node_step t e.moment e.cause choice).out ≡ e.out
     → RunsTo s (es ++ e ∷ []) (node_step t e.moment e.cause choice).state
@@ -73,32 +73,16 @@ step_of v c n Stands After moment cause out writer led may steps within reads = 
   reads = reads;
 }
 
-on_ok : {A E P : Type 0} (r : Result A E) → P → OnOk r P
-on_ok (Ok a) h = h
-on_ok (Err e) h = tt
-
--- what is told of an answer is the answer
-answer_told : (kept : Bool) (copy : Result (Option Answer) Refusal) (o : Option Answer) → IfOk copy (λ a. a ≡ o) → IfOk (told_where kept copy) (λ a. a ≡ o)
-answer_told true copy o h = h
-answer_told false copy o h = tt
-
--- it is told only where clocks were kept
-clocks_told : (kept : Bool) (copy : Result (Option Answer) Refusal) → OnOk (told_where kept copy) (IsTrue kept)
-clocks_told true copy = on_ok copy refl
-clocks_told false copy = tt
-
 -- a step that stands in the journal, with what its caller is told of its answer
-pub step_taken : (n : Node) (v w : View) (moment : ℕ) (cause : StepCause) (out : StepOut) (copy told : Result (Option Answer) Refusal) (beginning : Listed Entry) (count : ℕ) (kept : Bool)
-    → GoesOn v w (entry n moment cause out) × IsSeen w beginning count → kept ≡ are_clocks_kept w.of w.seen → IfOk copy (λ a. a ≡ out.answer) → told ≡ told_where kept copy
+pub step_taken : (n : Node) (v w : View) (moment : ℕ) (cause : StepCause) (out : StepOut) (answer : Option Answer) (told : Result (Option Answer) Refusal) (beginning : Listed Entry) (count : ℕ) (kept : Bool)
+    → GoesOn v w (entry n moment cause out) × IsSeen w beginning count → kept ≡ are_clocks_kept w.of w.seen → answer ≡ out.answer → told ≡ told_where kept answer
     → StepTaken n v w cause told beginning count
-step_taken n v w moment cause out copy told beginning count kept (goes, seen) clocks copied is = record {
+step_taken n v w moment cause out answer told beginning count kept (goes, seen) clocks same is = record {
   entry = entry n moment cause out;
   node_is = refl;
   goes = goes;
   cause_is = refl;
-  answer_is = subst (λ (r : Result (Option Answer) Refusal). IfOk r (λ a. a ≡ out.answer)) (sym is) (answer_told kept copy out.answer copied);
-  clocks = subst (λ (r : Result (Option Answer) Refusal). OnOk r (IsTrue (are_clocks_kept w.of w.seen))) (sym is)
-      (subst (λ (b : Bool). OnOk (told_where kept copy) (IsTrue b)) clocks (clocks_told kept copy));
+  answer_is = is ∙ (ap (λ (b : Bool). told_where b answer) clocks ∙ ap (λ (o : Option Answer). told_where (are_clocks_kept w.of w.seen) o) same);
   seen = seen;
 }
 
@@ -108,6 +92,14 @@ for_node (Deliver number) (Some m) cause sent n is read = subst (IsForNode sent 
 for_node (Deliver number) None cause sent n is read = absurd read
 for_node Tick (Some m) cause sent n is read = absurd read
 for_node Tick None cause sent n is read = subst (IsForNode sent n) (sym is) tt
+
+-- what an input names is no call
+pub no_call_on : (i : Input) (message : Option Message) (cause : StepCause) → IsTakenOn i message cause → IsCopyOf cause None
+no_call_on Restart message cause is = subst (λ (x : StepCause). IsCopyOf x None) (sym is) tt
+no_call_on (Deliver number) (Some m) cause is = subst (λ (x : StepCause). IsCopyOf x None) (sym is) tt
+no_call_on (Deliver number) None cause is = subst (λ (x : StepCause). IsCopyOf x None) (sym is) tt
+no_call_on Tick (Some m) cause is = subst (λ (x : StepCause). IsCopyOf x None) (sym is) tt
+no_call_on Tick None cause is = subst (λ (x : StepCause). IsCopyOf x None) (sym is) tt
 
 pub input_of_it : (i : Input) (message : Option Message) (cause : StepCause) (sent : List Message) (n : Node) → IsTakenOn i message cause → IsRead sent n (number_in i) message → IsInputOf sent i cause
 input_of_it Restart message cause sent n is read = subst (IsInputOf sent Restart) (sym is) tt
@@ -138,7 +130,6 @@ taken_later n u v w cause answer beginning count a t = record {
   goes = goes_later u v w t.entry a t.goes;
   cause_is = t.cause_is;
   answer_is = t.answer_is;
-  clocks = t.clocks;
   seen = t.seen;
 }
 

@@ -1,11 +1,12 @@
 -- What is seen of a client's steps.
-use Rattle.std.proofs.Common.{◌≡◌, ℕ, List, [], ◌∷◌, ◌++◌, Option, Some, None, refl, sym, ap, subst, ◌∙◌, append_assoc}
-use Rattle.std.specs.Prelude.{Result, Ok, Err, IfOk, OnOk, IsTrue}
+use Rattle.std.proofs.Common.{◌≡◌, ℕ, Bool, true, false, List, [], ◌∷◌, ◌++◌, Option, Some, None, refl, sym, ap, subst, ◌∙◌, inl, inr, append_assoc}
+use Rattle.std.specs.Prelude.{Result, Ok, Err, IfOk, IfErr, IsErrAnd}
 use Rattle.std.proofs.lemmas.List.{append-nil}
 use Rattle.gfs_types.specs.declared.answer.Answer.{Answer}
 use Rattle.gfs_types.specs.declared.call.Call.{Call}
 use Rattle.gfs_types.specs.declared.ids.Node.{Node}
 use Rattle.gfs_types.specs.declared.refusal.Refusal.{Refusal}
+use Rattle.gfs_types.specs.declared.refusal.Refusal.TheVariants.{ClockBroken}
 use Rattle.messages.specs.declared.message.Message.{Message}
 use Rattle.protocol_journal.specs.Journal.{StepCause, Calls, Takes, Restarts, Entry, own}
 use Rattle.cell_journal.specs.Log.{Listed}
@@ -15,9 +16,9 @@ use Rattle.cell_journal.specs.declared.view.View.{View}
 use Rattle.cell_journal.specs.Writers.{IsLater, GoesOn}
 use Rattle.cell_seats.specs.declared.mailboxes.Input.{Input}
 use Rattle.cell_seats.specs.declared.mailboxes.Input.TheVariants.{Deliver, Tick, Restart}
-use Rattle.cell_seats.specs.Slots.{IsInputOf, StepTaken, ActsOn}
+use Rattle.cell_seats.specs.Slots.{IsInputOf, told_where, StepTaken, ActsOn}
 use Rattle.cell_seats.specs.declared.client_call.AnsweredCall.{AnsweredCall}
-use Rattle.cell_seats.specs.Seen.{Visible, Asked, Answered, asked_in, answered_in, visible_of, IsFurther, HasSeen, IsAnsweredCall, ShowsAnswer}
+use Rattle.cell_seats.specs.Seen.{Visible, Asked, Answered, asked_in, answered_in, visible_of, IsFurther, HasSeen, IsAnsweredCall, ShowsAnswer, ShowsNoMore, StaysUnanswered}
 
 visible_append : (xs ys : List Entry) → visible_of (xs ++ ys) ≡ visible_of xs ++ visible_of ys
 visible_append [] ys = refl
@@ -38,20 +39,33 @@ further_self v = record { of = refl; grows = prefix_self v.seen }
 pub further_trans : (u v w : View) → IsFurther u v → IsFurther v w → IsFurther u w
 further_trans u v w a b = record { of = b.of ∙ a.of; grows = prefix_trans u.seen v.seen w.seen a.grows b.grows }
 
+-- what is told was answered, and clocks were kept
+told_so : (kept : Bool) (answer o : Option Answer) → told_where kept answer ≡ Ok o → (kept ≡ true) × (answer ≡ o)
+told_so true answer o h = (refl, (let both : ◌≡◌ {A = Result (Option Answer) Refusal} (Ok answer) (Ok o) = h in cc))
+told_so false answer o h = absurd (let both : ◌≡◌ {A = Result (Option Answer) Refusal} (Err ClockBroken) (Ok o) = h in cc)
+
+-- it is not told where clocks were not kept
+not_told : (kept : Bool) (answer : Option Answer) (refusal : Refusal) → told_where kept answer ≡ Err refusal → refusal ≡ ClockBroken
+not_told true answer refusal h = absurd (let both : ◌≡◌ {A = Result (Option Answer) Refusal} (Ok answer) (Err refusal) = h in cc)
+not_told false answer refusal h = sym (let both : ◌≡◌ {A = Result (Option Answer) Refusal} (Err ClockBroken) (Err refusal) = h in cc)
+
 module _ (n : Node) (v w : View) (cause : StepCause) (answer : Result (Option Answer) Refusal) (beginning : Listed Entry) (count : ℕ) (t : StepTaken n v w cause answer beginning count) where
   pub further_taken : IsFurther v w
   further_taken = record { of = t.goes.of; grows = t.goes.grows }
+
+  kept_and_told : (o : Option Answer) → answer ≡ Ok o → (are_clocks_kept w.of w.seen ≡ true) × (t.entry.out.answer ≡ o)
+  kept_and_told o is = told_so (are_clocks_kept w.of w.seen) t.entry.out.answer o (sym t.answer_is ∙ is)
 
   has_seen : (h : AnsweredCall) → answer ≡ Ok (Some h.answer) → h.beginning ≡ beginning → h.count ≡ count → HasSeen n w h.beginning h.count
   has_seen h is b k = record {
     seen = (b ∙ t.seen.0, k ∙ t.seen.1);
     lawful = t.goes.lawful;
-    clocks = subst (λ (r : Result (Option Answer) Refusal). OnOk r (IsTrue (are_clocks_kept w.of w.seen))) is t.clocks;
+    clocks = (kept_and_told (Some h.answer) is).0;
     own_is = t.goes.own_is ∙ ap (λ (m : Node). own m w.seen) t.node_is;
   }
 
   answer_of : (o : Option Answer) → answer ≡ Ok o → t.entry.out.answer ≡ o
-  answer_of o is = sym (subst (λ (r : Result (Option Answer) Refusal). IfOk r (λ a. a ≡ t.entry.out.answer)) is t.answer_is)
+  answer_of o is = (kept_and_told o is).1
 
   seen_so : visible_of w.mine ≡ visible_of v.mine ++ (asked_in cause ++ answered_in t.entry.out.answer)
   seen_so = visible_more v w t.entry t.goes ∙ ap (λ (x : StepCause). visible_of v.mine ++ (asked_in x ++ answered_in t.entry.out.answer)) t.cause_is
@@ -107,3 +121,41 @@ pub answer_to_input : (r : Result (Option AnsweredCall) Refusal) (n m : Node) (v
 answer_to_input (Ok h) n m v w i answer beginning count is acts heard =
     subst (λ (k : Node). ShowsAnswer k (visible_of v.mine) w h) (sym is) (hears_input n v w i answer beginning count h acts heard)
 answer_to_input (Err e) n m v w i answer beginning count is acts heard = tt
+
+-- a step that ended with a refusal
+
+pub shows_no_more : (v w : View) (refusal : Refusal) → IsLater v w → ShowsNoMore (visible_of v.mine) (visible_of w.mine) refusal
+shows_no_more v w refusal later = inl (ap visible_of later.mine)
+
+-- and so whatever the refusal is
+pub refused_before : (r : Result (Option AnsweredCall) Refusal) (v w : View) → IsLater v w → IfErr r (ShowsNoMore (visible_of v.mine) (visible_of w.mine))
+refused_before (Ok h) v w later = tt
+refused_before (Err refusal) v w later = shows_no_more v w refusal later
+
+-- what holds of a refusal holds of the result that hands it on
+pub handed_on : {X : Type 0} (r : Result X Refusal) (P : Refusal → Type 0) (refusal : Refusal) → IsErrAnd r (λ e. e ≡ refusal) → P refusal → IfErr r P
+handed_on (Ok x) P refusal is p = absurd is
+handed_on (Err e) P refusal is p = subst P (sym is) p
+
+refused_step : (r : Result (Option AnsweredCall) Refusal) (n : Node) (v w : View) (cause : StepCause) (answer : Result (Option Answer) Refusal) (beginning : Listed Entry) (count : ℕ)
+    → StepTaken n v w cause answer beginning count → IfErr r (λ refusal. answer ≡ Err refusal) → IfErr r (ShowsNoMore (visible_of v.mine) (visible_of w.mine))
+refused_step (Ok h) n v w cause answer beginning count t is = tt
+refused_step (Err refusal) n v w cause answer beginning count t is = inr (not_told (are_clocks_kept w.of w.seen) t.entry.out.answer refusal (sym t.answer_is ∙ is))
+
+pub refused_call : (r : Result (Option AnsweredCall) Refusal) (n : Node) (v w : View) (call : Call) (answer : Result (Option Answer) Refusal) (beginning : Listed Entry) (count : ℕ)
+    → StepTaken n v w (Calls call) answer beginning count → IfErr r (λ refusal. answer ≡ Err refusal) → IfErr r (ShowsNoMore (visible_of v.mine) (visible_of w.mine))
+refused_call r n v w call answer beginning count t is = refused_step r n v w (Calls call) answer beginning count t is
+
+pub refused_input : (r : Result (Option AnsweredCall) Refusal) (n : Node) (v w : View) (i : Input) (answer : Result (Option Answer) Refusal) (beginning : Listed Entry) (count : ℕ)
+    → ActsOn n v w i answer beginning count → IfErr r (λ refusal. answer ≡ Err refusal) → IfErr r (ShowsNoMore (visible_of v.mine) (visible_of w.mine))
+refused_input r n v w i answer beginning count acts is = refused_step r n v w acts.cause answer beginning count acts.taken is
+
+-- before the call was made
+pub unanswered_first : (before after : List Visible) (call : Call) (refusal : Refusal) → ShowsNoMore before after refusal → StaysUnanswered before after call refusal
+unanswered_first before after call refusal (inl same) = inl same
+unanswered_first before after call refusal (inr clock) = inr (inr clock)
+
+-- and after
+pub unanswered_then : (before was after : List Visible) (call : Call) (refusal : Refusal) → was ≡ before ++ Asked call ∷ [] → ShowsNoMore was after refusal → StaysUnanswered before after call refusal
+unanswered_then before was after call refusal asked (inl same) = inr (inl (same ∙ asked))
+unanswered_then before was after call refusal asked (inr clock) = inr (inr clock)

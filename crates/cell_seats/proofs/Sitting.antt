@@ -4,16 +4,27 @@ use Rattle.std.specs.Prelude.{Result, Ok, Err, IfOk, IfErr, IfSome, IsTrue}
 use mathlib.Core.List.{IsPrefix}
 use Rattle.gfs_types.specs.declared.answer.Answer.{Answer}
 use Rattle.gfs_types.specs.declared.call.Call.{Call}
+use Rattle.gfs_types.specs.Settings.{first_out_of_range}
 use Rattle.gfs_types.specs.declared.ids.Node.{Node}
 use Rattle.gfs_types.specs.declared.refusal.Refusal.{Refusal}
 use Rattle.protocol_journal.specs.Journal.{Entry, own}
-use Rattle.cell_journal.specs.Log.{Listed, listed}
+use Rattle.journal_headline.specs.Journals.{AreExplained}
+use Rattle.journal_headline.proofs.Explained.{journals_are_explained}
+use Rattle.cell_journal.specs.Log.{Listed}
 use Rattle.cell_journal.proofs.Begins.{prefix_self, prefix_trans}
 use Rattle.cell_journal.specs.Clocks.{are_clocks_kept}
+use Rattle.cell_journal.specs.Identity.{Identity}
 use Rattle.cell_journal.specs.declared.view.View.{View}
 use Rattle.cell_journal.specs.Rules.{IsJournalOf}
 use Rattle.cell_seats.specs.Seen.{Asked, Answered, visible_of, IsFurther, HasSeen}
 use Rattle.cell_seats.specs.Seats.{SeatState, seat_state, is_some, is_the_cells, IsSeat, IsAnswered, IsLost, Fails, AnswersSo, Loses, is_value_of, refusal_in, IsRefusal}
+
+-- a lawful journal in which clocks were kept, of a cell whose settings are in their ranges
+pub explains : (cell : Identity) (entries : List Entry) → first_out_of_range cell.config ≡ None → IsJournalOf cell entries → IsTrue (are_clocks_kept cell entries) → AreExplained cell.config entries
+explains cell entries in_range lawful clocks = journals_are_explained cell.config cell.servers cell.clients entries lawful.0 lawful.1 in_range clocks
+
+range_later : (v w : View) → IsFurther v w → first_out_of_range v.of.config ≡ None → first_out_of_range w.of.config ≡ None
+range_later v w further in_range = subst (λ (c : Identity). first_out_of_range c.config ≡ None) (sym further.of) in_range
 
 items_of : (n : Node) (w : View) (now : Listed Entry) (after : ℕ) → HasSeen n w now after → now.items ≡ w.seen
 items_of n w now after has = ap (λ (l : Listed Entry). l.items) has.seen.0
@@ -25,8 +36,9 @@ answered n m v w was now count after call reply same seat further has shows = re
   node = same;
   cell = further.of;
   begins = subst (IsPrefix was.items) (sym items) (prefix_trans was.items v.seen w.seen seat.begins further.grows);
-  lawful = subst (IsJournalOf w.of) (sym items) has.lawful;
-  clocks = subst (λ l. IsTrue (are_clocks_kept w.of l)) (sym items) has.clocks;
+  lawful = lawful_now;
+  clocks = clocks_now;
+  explained = explains w.of now.items (range_later v w further seat.in_range) lawful_now clocks_now;
   shows = ap (λ l. visible_of (own m l)) items ∙ (ap visible_of (sym has.own_is) ∙ (shows ∙ ap (λ l. visible_of l ++ Asked call ∷ Answered reply ∷ []) (sym (seat.own_is refl))));
   was_open = refl;
   still_open = refl;
@@ -35,6 +47,12 @@ answered n m v w was now count after call reply same seat further has shows = re
     items : now.items ≡ w.seen
     items = items_of m w now after has
 
+    lawful_now : IsJournalOf w.of now.items
+    lawful_now = subst (IsJournalOf w.of) (sym items) has.lawful
+
+    clocks_now : IsTrue (are_clocks_kept w.of now.items)
+    clocks_now = subst (λ l. IsTrue (are_clocks_kept w.of l)) (sym items) has.clocks
+
 pub answered_here : (s : SeatState) (lost : Option Refusal) (n m : Node) (v w : View) (was now : Listed Entry) (count after : ℕ) (call : Call) (reply : Answer) → seat_state n v.of was.items (is_some lost) ≡ s → lost ≡ None
     → m ≡ n → IsSeat n v was count lost → IsFurther v w → HasSeen m w now after → visible_of w.mine ≡ visible_of v.mine ++ Asked call ∷ Answered reply ∷ []
     → IsAnswered s (seat_state m w.of now.items false) call reply
@@ -42,19 +60,20 @@ answered_here s None n m v w was now count after call reply view none same seat 
     subst (λ (x : SeatState). IsAnswered x (seat_state m w.of now.items false) call reply) view (answered n m v w was now count after call reply same seat further has shows)
 answered_here s (Some r) n m v w was now count after call reply view none same seat further has shows = absurd (let both : Some r ≡ None = none in cc)
 
-pub sits : (n : Node) (w : View) (now : Listed Entry) (after : ℕ) → HasSeen n w now after → IsSeat n w now after None
-sits n w now after has = record {
+pub sits : (n m : Node) (v w : View) (was now : Listed Entry) (count after : ℕ) (lost : Option Refusal) → IsSeat n v was count lost → IsFurther v w → HasSeen m w now after → IsSeat m w now after None
+sits n m v w was now count after lost seat further has = record {
   name = ap (λ (l : Listed Entry). l.name) has.seen.0;
   count_is = has.seen.1 ∙ ap length (sym items);
   begins = subst (λ l. IsPrefix l w.seen) (sym items) (prefix_self w.seen);
   lawful = subst (IsJournalOf w.of) (sym items) has.lawful;
   clocks = subst (λ l. IsTrue (are_clocks_kept w.of l)) (sym items) has.clocks;
-  own_is = λ _. ap (own n) items ∙ sym has.own_is;
+  in_range = range_later v w further seat.in_range;
+  own_is = λ _. ap (own m) items ∙ sym has.own_is;
   refused = tt;
 }
   where
     items : now.items ≡ w.seen
-    items = items_of n w now after has
+    items = items_of m w now after has
 
 -- one that was refused keeps what it saw
 pub sits_still : (n m : Node) (v w : View) (was : Listed Entry) (count : ℕ) (lost : Option Refusal) (refusal : Refusal) → IsSeat n v was count lost → IsFurther v w → IsTrue (is_the_cells refusal)
@@ -65,6 +84,7 @@ sits_still n m v w was count lost refusal seat further of_it = record {
   begins = prefix_trans was.items v.seen w.seen seat.begins further.grows;
   lawful = subst (λ c. IsJournalOf c was.items) (sym further.of) seat.lawful;
   clocks = subst (λ c. IsTrue (are_clocks_kept c was.items)) (sym further.of) seat.clocks;
+  in_range = range_later v w further seat.in_range;
   own_is = λ h. absurd (let both : Some refusal ≡ None = h in cc);
   refused = of_it;
 }

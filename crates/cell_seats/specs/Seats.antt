@@ -6,9 +6,11 @@ use Rattle.gfs_types.specs.declared.answer.Answer.TheVariants as answer
 use Rattle.gfs_types.specs.declared.call.Call.{Call}
 use Rattle.gfs_types.specs.declared.call.Call.TheVariants as calls
 use Rattle.gfs_types.specs.declared.ids.Node.{Node}
+use Rattle.gfs_types.specs.Settings.{first_out_of_range}
 use Rattle.gfs_types.specs.declared.refusal.Refusal.{Refusal}
 use Rattle.gfs_types.specs.declared.refusal.Refusal.TheVariants.{Unknown, ClockBroken, JournalFull, Closed}
 use Rattle.protocol_journal.specs.Journal.{Entry, own}
+use Rattle.journal_headline.specs.Journals.{AreExplained}
 use Rattle.cell_journal.specs.Log.{Listed}
 use Rattle.cell_journal.specs.Clocks.{are_clocks_kept}
 use Rattle.cell_journal.specs.Identity.{Identity}
@@ -48,16 +50,18 @@ pub record IsSeat (n : Node) (v : View) (seen : Listed Entry) (count : ℕ) (los
   pub begins : IsPrefix seen.items v.seen
   pub lawful : IsJournalOf v.of seen.items
   pub clocks : IsTrue (are_clocks_kept v.of seen.items)
+  pub in_range : first_out_of_range v.of.config ≡ None
   pub own_is : lost ≡ None → own n seen.items ≡ v.mine
   pub refused : IfSome lost (λ refusal. IsTrue (is_the_cells refusal))
 
--- The call was answered: what the client saw goes on lawfully, with clocks kept, and has one more call of its own, with this answer, at the end.
+-- The call was answered: what the client saw goes on lawfully, with clocks kept, and has one more call of its own, with this answer, at the end. All calls and answers that it saw are a run of the machine.
 pub record IsAnswered (old new : SeatState) (call : Call) (reply : Answer) : Type 0 where
   pub node : new.node ≡ old.node
   pub cell : new.cell ≡ old.cell
   pub begins : IsPrefix old.seen new.seen
   pub lawful : IsJournalOf new.cell new.seen
   pub clocks : IsTrue (are_clocks_kept new.cell new.seen)
+  pub explained : AreExplained new.cell.config new.seen
   pub shows : shown new ≡ shown old ++ Asked call ∷ Answered reply ∷ []
   pub was_open : old.is_lost ≡ false
   pub still_open : new.is_lost ≡ false

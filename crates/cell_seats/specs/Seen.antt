@@ -1,10 +1,12 @@
 -- What is seen of a client's steps.
-use Rattle.std.specs.Prelude.{◌≡◌, ℕ, List, [], ◌∷◌, ◌++◌, Option, Some, None, Result, Ok, IsTrue}
+use Rattle.std.specs.Prelude.{◌≡◌, ◌⊎◌, ℕ, ◌==◌, if◌then◌else◌, List, [], ◌∷◌, ◌++◌, Option, Some, None, Result, Ok, IsTrue}
 use mathlib.Core.List.{IsPrefix}
 use Rattle.gfs_types.specs.declared.answer.Answer.{Answer}
 use Rattle.gfs_types.specs.declared.call.Call.{Call}
 use Rattle.gfs_types.specs.declared.ids.Node.{Node}
 use Rattle.gfs_types.specs.declared.refusal.Refusal.{Refusal}
+use Rattle.gfs_types.specs.declared.refusal.Refusal.TheVariants.{ClockBroken}
+use Rattle.relaxed_file.specs.Run as run
 use Rattle.protocol_journal.specs.Journal.{StepCause, Calls, Entry, own}
 use Rattle.cell_journal.specs.Log.{Listed}
 use Rattle.cell_journal.specs.Clocks.{are_clocks_kept}
@@ -30,6 +32,13 @@ abbrev pub visible_of : List Entry → List Visible
 visible_of [] = []
 visible_of (e ∷ rest) = asked_in e.cause ++ answered_in e.out.answer ++ visible_of rest
 
+-- a client's own calls and answers among those of all
+abbrev pub of_client : ℕ → List run.Visible → List Visible
+of_client client [] = []
+of_client client (run.Called who call ∷ rest) = if who == client then Asked call ∷ of_client client rest else of_client client rest
+of_client client (run.Answered who reply ∷ rest) = if who == client then Answered reply ∷ of_client client rest else of_client client rest
+of_client client (run.Passed moment ∷ rest) = of_client client rest
+
 -- no step of the client went back
 pub record IsFurther (v w : View) : Type 0 where
   pub of : w.of ≡ v.of
@@ -51,3 +60,11 @@ IsAnsweredCall answer beginning count (Some h) = (answer ≡ Ok (Some h.answer))
 abbrev pub ShowsAnswer : Node → List Visible → View → Option AnsweredCall → Type 0
 ShowsAnswer n before w None = visible_of w.mine ≡ before
 ShowsAnswer n before w (Some h) = (visible_of w.mine ≡ before ++ Answered h.answer ∷ []) × HasSeen n w h.beginning h.count
+
+-- a step that ended with a refusal of the cell itself shows no more of its client; or clocks were not kept
+abbrev pub ShowsNoMore : (before after : List Visible) (refusal : Refusal) → Type 0
+ShowsNoMore before after refusal = (after ≡ before) ⊎ (refusal ≡ ClockBroken)
+
+-- The journal has no answer to a call that the cell itself refused: it was not made, or was and waits; or clocks were not kept.
+abbrev pub StaysUnanswered : (before after : List Visible) (call : Call) (refusal : Refusal) → Type 0
+StaysUnanswered before after call refusal = (after ≡ before) ⊎ ((after ≡ before ++ Asked call ∷ []) ⊎ (refusal ≡ ClockBroken))

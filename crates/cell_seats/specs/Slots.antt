@@ -1,7 +1,8 @@
 -- What a node's lock guards.
-use Rattle.std.specs.Prelude.{◌≡◌, ℕ, Bool, true, false, List, [], Option, Some, None, Result, Err, IfOk, OnOk, IsTrue}
+use Rattle.std.specs.Prelude.{◌≡◌, ℕ, Bool, true, false, List, [], Option, Some, None, Result, Ok, Err}
 use mathlib.Core.List.{IsPrefix}
 use Rattle.gfs_types.specs.declared.answer.Answer.{Answer}
+use Rattle.gfs_types.specs.declared.call.Call.{Call}
 use Rattle.gfs_types.specs.declared.ids.Node.{Node}
 use Rattle.gfs_types.specs.declared.refusal.Refusal.{Refusal}
 use Rattle.gfs_types.specs.declared.refusal.Refusal.TheVariants.{ClockBroken}
@@ -10,7 +11,7 @@ use Rattle.messages.specs.declared.event.StepOut.{StepOut}
 use Rattle.messages.specs.declared.event.NodeInput.TheVariants as input
 use Rattle.protocol.specs.Choice.{Choice}
 use Rattle.protocol.specs.World.{new_world, numbered_from_1}
-use Rattle.protocol_journal.specs.Journal.{StepCause, Takes, Restarts, Entry, NodeState, node_in, node_step, sent_after, LeadsTo}
+use Rattle.protocol_journal.specs.Journal.{StepCause, Calls, Takes, Restarts, Entry, NodeState, node_in, node_step, sent_after, LeadsTo}
 use Rattle.cell_journal.specs.Log.{Listed}
 use Rattle.cell_journal.specs.Clocks.{are_clocks_kept}
 use Rattle.cell_journal.specs.declared.view.View.{View}
@@ -58,19 +59,24 @@ IsInputOf sent Tick (Takes input.Tick) = Unit {0}
 IsInputOf sent Restart Restarts = Unit {0}
 IsInputOf sent other cause = ⊥
 
+-- a step on a call is given a copy of it
+abbrev pub IsCopyOf : StepCause → Option Call → Type 0
+IsCopyOf (Calls call) (Some copy) = copy ≡ call
+IsCopyOf (Calls call) None = ⊥
+IsCopyOf other copy = Unit {0}
+
 -- a step's answer is told where clocks were kept
-abbrev pub told_where : Bool → Result (Option Answer) Refusal → Result (Option Answer) Refusal
-told_where true answer = answer
+abbrev pub told_where : Bool → Option Answer → Result (Option Answer) Refusal
+told_where true answer = Ok answer
 told_where false answer = Err ClockBroken
 
--- The node took one step more, on this; it is the last of a lawful journal, which was seen whole. The answer, where it is told, is the step's, and clocks were kept up to it.
+-- The node took one step more, on this; it is the last of a lawful journal, which was seen whole. What is told of its answer is the step's answer in the journal, where clocks were kept up to it.
 pub record StepTaken (n : Node) (v w : View) (cause : StepCause) (answer : Result (Option Answer) Refusal) (beginning : Listed Entry) (count : ℕ) : Type 0 where
   pub entry : Entry
   pub node_is : entry.node ≡ n
   pub goes : GoesOn v w entry
   pub cause_is : entry.cause ≡ cause
-  pub answer_is : IfOk answer (λ a. a ≡ entry.out.answer)
-  pub clocks : OnOk answer (IsTrue (are_clocks_kept w.of w.seen))
+  pub answer_is : answer ≡ told_where (are_clocks_kept w.of w.seen) entry.out.answer
   pub seen : IsSeen w beginning count
 
 -- the same, on what an input names

@@ -1,7 +1,7 @@
 //! A call of a client, until it is answered.
 
-ghost use Rattle.std.specs.Prelude.{◌≡◌, ◌++◌, ◌∷◌, [], IfOk};
-ghost use Rattle.cell_seats.specs.Seen.{visible_of, IsFurther, HasSeen, ShowsAnswer, IsAnsweredCall, Asked as CallAsked, Answered as CallAnswered};
+ghost use Rattle.std.specs.Prelude.{◌≡◌, ◌++◌, ◌∷◌, [], Err, IfOk, IfErr};
+ghost use Rattle.cell_seats.specs.Seen.{visible_of, IsFurther, HasSeen, ShowsAnswer, ShowsNoMore, StaysUnanswered, IsAnsweredCall, Asked as CallAsked, Answered as CallAnswered};
 
 use crate::gate::OpenGate;
 use crate::mailbox_wait::{FIRST_WAIT, input_within};
@@ -25,7 +25,7 @@ pub struct AnsweredCall {
     pub count: usize,
 }
 
-/// Makes the call, and waits for its answer.
+/// Makes the call, and waits for its answer. A call that the cell itself refuses is not answered in the journal, but where clocks were not kept.
 #[tactic(auto, using(crate::proofs::Shown::asked_answered, crate::proofs::Shown::answered_later, crate::proofs::Shown::further_trans))]
 pub fn ask<R: Wait + Clock, N: Stepper + Drop>(
     rt: &R,
@@ -37,6 +37,7 @@ pub fn ask<R: Wait + Clock, N: Stepper + Drop>(
     ensures further { IsFurther slot.old.view slot.new.view }
     ensures shows { IfOk result (λ h. visible_of slot.new.view.mine ≡ visible_of slot.old.view.mine ++ CallAsked call ∷ CallAnswered h.answer ∷ []) }
     ensures seen { IfOk result (λ h. HasSeen slot.new.node slot.new.view h.beginning h.count) }
+    ensures err { IfErr result (StaysUnanswered (visible_of slot.old.view.mine) (visible_of slot.new.view.mine) call) }
 {
     if let Some(answered) = begin(rt, slot, call)? {
         return Ok(answered);
@@ -59,6 +60,7 @@ fn begin<R: Wait + Clock, N: Stepper + Drop>(
     ensures node { slot.new.node ≡ slot.old.node }
     ensures further { IsFurther slot.old.view slot.new.view }
     ensures ok { IfOk result (λ h. ShowsAnswer slot.new.node (visible_of slot.old.view.mine ++ CallAsked call ∷ []) slot.new.view h) }
+    ensures err { IfErr result (ShowsNoMore (visible_of slot.old.view.mine) (visible_of slot.new.view.mine)) }
 {
     answered_call(slot.call(rt, call)?)
 }
@@ -73,6 +75,7 @@ fn next_step<R: Wait + Clock, N: Stepper + Drop>(
     ensures node { slot.new.node ≡ slot.old.node }
     ensures further { IsFurther slot.old.view slot.new.view }
     ensures ok { IfOk result (λ h. ShowsAnswer slot.new.node (visible_of slot.old.view.mine) slot.new.view h) }
+    ensures err { IfErr result (ShowsNoMore (visible_of slot.old.view.mine) (visible_of slot.new.view.mine)) }
 {
     let Some(input) = input_within(rt, inbox, wait) else {
         return Err(Refusal::Closed);
@@ -87,7 +90,8 @@ fn next_step<R: Wait + Clock, N: Stepper + Drop>(
 
 // What a step gave its client.
 fn answered_call(taken: StepResult) -> Result<Option<AnsweredCall>, Refusal>
-    ensures { IfOk result (λ h. IsAnsweredCall taken.answer taken.beginning taken.count h) }
+    ensures ok { IfOk result (λ h. IsAnsweredCall taken.answer taken.beginning taken.count h) }
+    ensures err { IfErr result (λ refusal. taken.answer ≡ Err refusal) }
 {
     let StepResult {
         answer,

@@ -1,8 +1,10 @@
 //! The journal of a cell that was closed.
 
-ghost use Rattle.std.specs.Prelude.{◌≡◌, ◌≤◌, length, slice_get};
+ghost use Rattle.std.specs.Prelude.{◌≡◌, ◌≤◌, None, length, slice_get, IsTrue};
 ghost use Rattle.std.specs.Option.{option_copied};
 ghost use mathlib.Core.List.{IsPrefix};
+ghost use Rattle.gfs_types.specs.Settings.{first_out_of_range};
+ghost use Rattle.journal_headline.specs.Journals.{AreExplained};
 ghost use Rattle.cell_journal.specs.Clocks.{are_clocks_kept};
 ghost use Rattle.cell_journal.specs.Rules.{IsJournalOf};
 
@@ -20,6 +22,8 @@ pub struct Journal {
 }
 
 impl Model for Journal {
+    ghost use Rattle.std.specs.Prelude.{◌≡◌, None};
+    ghost use Rattle.gfs_types.specs.Settings.{first_out_of_range};
     ghost use Rattle.cell_journal.specs.Identity.{Closed};
     ghost use Rattle.cell_journal.specs.Rules.{IsJournalOf};
 
@@ -27,21 +31,25 @@ impl Model for Journal {
 
     ghost view = { λ j. j.history };
 
-    ghost invariant = { λ j. IsJournalOf j.history.cell j.history.entries };
+    ghost invariant = { λ j. IsJournalOf j.history.cell j.history.entries × (first_out_of_range j.history.cell.config ≡ None) };
 }
 
 impl Journal {
-    pub fn new(history: ClosedHistory) -> Journal
-        requires { IsJournalOf history.cell history.entries }
-        ensures { result ≡ history }
+    pub(crate) fn new(history: ClosedHistory) -> Journal
+        requires lawful { IsJournalOf history.cell history.entries }
+        requires range { first_out_of_range history.cell.config ≡ None }
+        ensures journal { result ≡ history }
+        ensures lawful { IsJournalOf result.cell result.entries }
+        ensures explained { IsTrue (are_clocks_kept result.cell result.entries) → AreExplained result.cell.config result.entries }
     {
         Journal { history }
     }
 
-    /// How many steps there are. They are a lawful journal of the cell.
+    /// How many steps there are. They are a lawful journal of the cell. Where clocks were kept their calls and answers are a run of the machine.
     pub fn len(&self) -> usize
         ensures count { result ≡ length self.now.entries }
         ensures lawful { IsJournalOf self.now.cell self.now.entries }
+        ensures explained { IsTrue (are_clocks_kept self.now.cell self.now.entries) → AreExplained self.now.cell.config self.now.entries }
     {
         self.history.len()
     }

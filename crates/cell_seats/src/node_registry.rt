@@ -1,8 +1,12 @@
 //! The nodes of a running cell are registered, each with its own writer of the journal: the master, then the servers, then the clients.
 
-ghost use Rattle.std.specs.Prelude.{◌≡◌, ◌<◌, ◌+◌, ◌^◌, IfOk, OnErr, OnOk};
+ghost use Rattle.std.specs.Prelude.{◌≡◌, ◌<◌, ◌+◌, ◌^◌, None, IfOk, OnErr, OnOk, IsTrue};
 ghost use Rattle.std.specs.Arc.{arc_value};
+ghost use Rattle.gfs_types.specs.Settings.{first_out_of_range};
+ghost use Rattle.journal_headline.specs.Journals.{AreExplained};
+ghost use Rattle.cell_journal.specs.Clocks.{are_clocks_kept};
 ghost use Rattle.cell_journal.specs.Roles.{node_at};
+ghost use Rattle.cell_journal.specs.Rules.{IsJournalOf};
 ghost use Rattle.cell_journal.specs.Writers.{IsAt};
 ghost use Rattle.cell_seats.specs.Registry.{Registers, IsRegistered};
 
@@ -25,6 +29,7 @@ pub struct NodeRegistry {
     pub registered: u64,
     pub writer: JournalWriter,
     pub ghost here: { IsAt (arc_value shared).table.shared.table_id writer.table_id },
+    pub ghost in_range: { first_out_of_range config ≡ None },
     pub ghost registers: { Registers config servers registered writer.me },
 }
 
@@ -57,9 +62,11 @@ impl NodeRegistry {
         Ok(NodeJournal::new(theirs, node, own))
     }
 
-    /// Closes the journal. Nothing is added to it any more.
+    /// Closes the journal. Nothing is added to it any more. Where clocks were kept its calls and answers are a run of the machine.
     pub fn close<R: Wait + Clock>(self, rt: &R) -> Journal
-        ensures { result.cell ≡ self.writer.me.0.of }
+        ensures cell { result.cell ≡ self.writer.me.0.of }
+        ensures lawful { IsJournalOf result.cell result.entries }
+        ensures explained { IsTrue (are_clocks_kept result.cell result.entries) → AreExplained result.cell.config result.entries }
     {
         let Self {
             shared,

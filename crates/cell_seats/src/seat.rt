@@ -1,10 +1,14 @@
 //! A client, which runs inside its calls.
 
-ghost use Rattle.std.specs.Prelude.{◌≡◌, IfOk, IfErr, None, false, length, IsTrue};
+ghost use Rattle.std.specs.Prelude.{◌≡◌, ℕ, IfOk, IfErr, None, false, length, IsTrue};
+ghost use Rattle.gfs_types.specs.declared.ids.Node.TheVariants.{Client};
+ghost use Rattle.protocol_journal.specs.Journal.{observer_of};
+ghost use Rattle.journal_headline.specs.Journals.{AreExplained};
 ghost use Rattle.cell_journal.specs.Log.{listed};
 ghost use Rattle.cell_journal.specs.Clocks.{are_clocks_kept};
 ghost use Rattle.cell_journal.specs.Rules.{IsJournalOf};
-ghost use Rattle.cell_seats.specs.Seats.{IsAnswered, IsLost, seat_state, IsSeat, is_the_cells};
+ghost use Rattle.cell_seats.specs.Seats.{IsAnswered, IsLost, seat_state, shown, IsSeat, is_the_cells};
+ghost use Rattle.cell_seats.specs.Seen.{of_client};
 
 use crate::client_call::{AnsweredCall, ask};
 use crate::mailboxes::MailboxItem;
@@ -80,13 +84,16 @@ impl<N: Stepper + Drop> Seat<N> {
         }
     }
 
-    /// How many steps of the cell it has seen: all up to its last answer. They are a lawful journal of its cell, in which clocks were kept.
-    pub fn seen(&self) -> usize
+    /// How many steps of the cell it has seen: all up to its last answer. They are a lawful journal of its cell, in which clocks were kept,
+    /// and their calls and answers are a run of the machine, in which this client has its own.
+    pub fn seen(&self) -> u64
         ensures count { result ≡ length self.now.seen }
         ensures lawful { IsJournalOf self.now.cell self.now.seen }
         ensures clocks { IsTrue (are_clocks_kept self.now.cell self.now.seen) }
+        ensures explained { AreExplained self.now.cell.config self.now.seen }
+        ensures own { (client : ℕ) → self.now.node ≡ Client (record { 0 = client }) → of_client client (observer_of self.now.cell.config self.now.seen).trace ≡ shown self.now }
     {
-        self.count
+        self.count as u64
     }
 
     /// The journal as it was at the last answer.

@@ -1,17 +1,18 @@
 //! A node with its writer of the journal, as its lock guards it.
 
-ghost use Rattle.std.specs.Prelude.{◌≡◌, ◌<◌, ◌≤◌, [], true, Some, IfOk, IfSome, IfNone, OnOk, OnErr, IsSome, MatchBool, IsTrue};
+ghost use Rattle.std.specs.Prelude.{◌≡◌, ◌<◌, ◌≤◌, [], true, Some, IfOk, IfErr, IfSome, IfNone, OnOk, OnErr, IsSome, MatchBool, IsTrue};
+ghost use Rattle.gfs_types.specs.declared.refusal.Refusal.TheVariants.{JournalFull};
 ghost use Rattle.protocol.specs.Tables.{moment_limit};
 ghost use Rattle.protocol_journal.specs.Journal.{NodeState, sent_after, IsForNode, may_take, Calls as CallTaken};
 ghost use Rattle.cell_journal.specs.Entries.{cause_of};
 ghost use Rattle.cell_journal.specs.Writers.{IsLater};
-ghost use Rattle.cell_seats.specs.Slots.{slot_state, IsLedTo, IsTakenOn, number_in, told_where, StepTaken, ActsOn, Acts};
+ghost use Rattle.cell_seats.specs.Slots.{slot_state, IsLedTo, IsTakenOn, IsCopyOf, number_in, told_where, StepTaken, ActsOn, Acts};
 
 use crate::gate::Gate;
 use crate::mailboxes::Input;
 use crate::node_journal::NodeJournal;
 use crate::shared_state::SharedState;
-use crate::stepper::Stepper;
+use crate::stepper::{NodeStep, Stepper};
 use cell_journal::Beginning;
 use cell_journal::journal_entry::{JournalEntry, StepCause};
 use gfs_types::answer::Answer;
@@ -56,7 +57,7 @@ impl<N: Stepper + Drop> Model for Slot<N> {
 }
 
 /// What a step gave its caller: a copy of its answer, if there was one, and the journal as it was then, with its length. No answer is told where
-/// clocks were not kept (ClockBroken), or where there is no memory for its copy (JournalFull).
+/// clocks were not kept (ClockBroken).
 #[derive(Drop)]
 pub struct StepResult {
     pub answer: Result<Option<Answer>, Refusal>,
@@ -120,7 +121,7 @@ impl<N: Stepper + Drop> Slot<N> {
         )
     }
 
-    /// A call.
+    /// A call. Where there is no memory for a copy of it, it takes no step (JournalFull).
     pub fn call<R: Wait + Clock>(&mut self, rt: &R, call: Call) -> Result<StepResult, Refusal>
         ensures node { self.new.node ≡ self.old.node }
         ensures ok { IfOk result (λ t. StepTaken self.old.node self.old.view self.new.view (CallTaken call) t.answer t.beginning t.count) }
@@ -148,7 +149,7 @@ fn take_in<R: Wait + Clock, N: Stepper + Drop, G: Gate>(
     let message = journal.begin(rt, number_of(input))?;
     let cause = cause_on(input, message);
     gate.before(journal.node, &cause);
-    steps(rt, alloc, journal, node, cause)
+    steps(rt, alloc, journal, node, cause, None)
 }
 
 // A step of a node on a call.
@@ -165,8 +166,9 @@ fn call_in<R: Wait + Clock, N: Stepper + Drop>(
     ensures ok { IfOk result (λ t. StepTaken journal.old.node journal.old.writer.me.0 journal.new.writer.me.0 (CallTaken call) t.answer t.beginning t.count) }
     ensures err { OnErr result (IsLater journal.old.writer.me.0 journal.new.writer.me.0) }
 {
+    let copy = copied(alloc, &call)?;
     journal.begin(rt, None)?;
-    steps(rt, alloc, journal, node, StepCause::Calls(call))
+    steps(rt, alloc, journal, node, StepCause::Calls(call), Some(copy))
 }
 
 // A step for which there is room.
@@ -176,8 +178,10 @@ fn steps<R: Wait + Clock, N: Stepper + Drop>(
     journal: &mut NodeJournal,
     node: &mut Option<N>,
     cause: StepCause,
+    call: Option<Call>,
 ) -> Result<StepResult, Refusal>
     requires led { IfSome node.old (λ n. IsLedTo journal.old.writer.me.0 journal.old.node (N.stands n)) }
+    requires copy { IsCopyOf (cause_of cause) call }
     requires room { 0 < journal.old.writer.me.0.rooms }
     requires reads { IsForNode (sent_after [] journal.old.writer.me.0.seen) journal.old.node (cause_of cause) }
     ensures node { journal.new.node ≡ journal.old.node }
@@ -186,7 +190,7 @@ fn steps<R: Wait + Clock, N: Stepper + Drop>(
     ensures err { OnErr result (IsLater journal.old.writer.me.0 journal.new.writer.me.0) }
 {
     match ready(rt, journal, node, &cause) {
-        Ok(now) => try_step(rt, alloc, journal, node, now, cause),
+        Ok(now) => try_step(rt, alloc, journal, node, now, cause, call),
         Err(refusal) => {
             journal.give_up(rt);
             Err(refusal)
@@ -223,9 +227,11 @@ fn try_step<R: Wait + Clock, N: Stepper + Drop>(
     node: &mut Option<N>,
     now: Moment,
     cause: StepCause,
+    call: Option<Call>,
 ) -> Result<StepResult, Refusal>
     requires led { IfSome node.old (λ n. IsLedTo journal.old.writer.me.0 journal.old.node (N.stands n)) }
     requires moment { now.0 ≤ moment_limit }
+    requires copy { IsCopyOf (cause_of cause) call }
     requires some { IsSome node.old }
     requires may { (n : N) → node.old ≡ Some n → (s : NodeState) → N.stands n s → IsTrue (may_take s (cause_of cause)) }
     requires room { 0 < journal.old.writer.me.0.rooms }
@@ -236,7 +242,7 @@ fn try_step<R: Wait + Clock, N: Stepper + Drop>(
     ensures err { OnErr result (IsLater journal.old.writer.me.0 journal.new.writer.me.0) }
 {
     match node.take() {
-        Some(taker) => match step_with(journal, rt, alloc, taker, now, cause) {
+        Some(taker) => match step_with(journal, rt, alloc, taker, now, cause, call) {
             Some(stepped) => {
                 *node = Some(stepped.node);
                 Ok(stepped.taken)
@@ -273,10 +279,12 @@ fn step_with<R: Wait, N: Stepper + Drop>(
     node: N,
     now: Moment,
     cause: StepCause,
+    call: Option<Call>,
 ) -> Option<SteppedNode<N>>
     requires led { IsLedTo journal.old.writer.me.0 journal.old.node (N.stands node) }
     requires moment { now.0 ≤ moment_limit }
     requires may { (s : NodeState) → N.stands node s → IsTrue (may_take s (cause_of cause)) }
+    requires copy { IsCopyOf (cause_of cause) call }
     requires room { 0 < journal.old.writer.me.0.rooms }
     requires reads { IsForNode (sent_after [] journal.old.writer.me.0.seen) journal.old.node (cause_of cause) }
     ensures node { journal.new.node ≡ journal.old.node }
@@ -285,15 +293,15 @@ fn step_with<R: Wait, N: Stepper + Drop>(
     ensures none { IfNone result (journal.new.writer.me ≡ journal.old.writer.me) }
 {
     let mut node = node;
-    let out = node.step(now, &cause);
-    let copy = copied(alloc, &out.answer);
+    let given = node.step(now, &cause, call);
+    let NodeStep { out, answer } = given;
     match journal.end(rt, alloc, now, cause, out) {
         Some(extended) => {
-            let answer = told_where(extended.are_clocks_kept, copy);
+            let told = told_where(extended.are_clocks_kept, answer);
             Some(SteppedNode {
                 node,
                 taken: StepResult {
-                    answer,
+                    answer: told,
                     beginning: extended.beginning,
                     count: extended.count,
                 },
@@ -326,27 +334,23 @@ fn cause_on(input: Input, message: Option<Message>) -> StepCause
     }
 }
 
-fn copied(alloc: Global, answer: &Option<Answer>) -> Result<Option<Answer>, Refusal>
-    ensures { IfOk result (λ a. a ≡ answer.now) }
+// A copy of a call that is to be made.
+fn copied(alloc: Global, call: &Call) -> Result<Call, Refusal>
+    ensures ok { IfOk result (λ c. c ≡ call.now) }
+    ensures err { IfErr result (λ refusal. refusal ≡ JournalFull) }
 {
-    match answer {
-        Some(answer) => match answer.copy(alloc) {
-            Ok(copy) => Ok(Some(copy)),
-            Err(_) => Err(Refusal::JournalFull),
-        },
-        None => Ok(None),
+    match call.copy(alloc) {
+        Ok(copy) => Ok(copy),
+        Err(_) => Err(Refusal::JournalFull),
     }
 }
 
-// The copy of an answer, if clocks were kept up to it.
-fn told_where(
-    are_clocks_kept: bool,
-    copy: Result<Option<Answer>, Refusal>,
-) -> Result<Option<Answer>, Refusal>
-    ensures { result ≡ told_where are_clocks_kept copy }
+// A step's answer, if clocks were kept up to it.
+fn told_where(are_clocks_kept: bool, answer: Option<Answer>) -> Result<Option<Answer>, Refusal>
+    ensures { result ≡ told_where are_clocks_kept answer }
 {
     if are_clocks_kept {
-        copy
+        Ok(answer)
     } else {
         Err(Refusal::ClockBroken)
     }

@@ -1,6 +1,6 @@
 -- All clients of a script, from their first calls to their last.
 use Rattle.std.proofs.Common.{◌≡◌, ℕ, zero, suc, ◌+◌, ◌-◌, ◌<◌, ◌≤◌, Bool, true, false, List, [], ◌∷◌, ◌++◌, length, get_or, take, drop, map, Some, None, refl, sym, ap, subst, ◌∙◌, append_assoc, length-append, arith}
-use Rattle.std.specs.Prelude.{slice_get, slice_range, replicate, nat_lt, ◌==◌, if◌then◌else◌, Result, Ok, Err, is_err, OnOk}
+use Rattle.std.specs.Prelude.{slice_get, slice_range, replicate, nat_lt, nat_le, IsTrue, ◌==◌, if◌then◌else◌, Result, Ok, Err, is_err, OnOk}
 use Rattle.std.proofs.lemmas.Bool.Decides.{nat_tests}
 use Rattle.std.proofs.Math.Seq.{take-suc, take-nil}
 use Rattle.std.proofs.lemmas.Option.{slice_get-get_or, slice_get_within, get_or_from_slice_get}
@@ -8,6 +8,8 @@ use Rattle.std.proofs.lemmas.List.{append-nil}
 use mathlib.Core.List.{IsPrefix}
 use Rattle.gfs_types.specs.declared.answer.Answer.{Answer}
 use Rattle.gfs_types.specs.declared.answer.Answer.TheVariants as answer
+use Rattle.gfs_types.specs.Settings.{first_out_of_range}
+use Rattle.gfs_types.specs.declared.config.Config.{Config}
 use Rattle.gfs_types.specs.declared.refusal.Refusal.{Refusal}
 use Rattle.gfs_types.specs.declared.call.Call.{Call}
 use Rattle.gfs_types.specs.declared.ids.ClientId.{ClientId}
@@ -19,13 +21,18 @@ use Rattle.script.specs.declared.live_lines.LiveLine.TheVariants as lines
 use Rattle.script.specs.LiveLines.{is_barrier}
 use Rattle.script.specs.declared.options.Options.{Options}
 use Rattle.protocol_journal.specs.Journal.{Entry, own}
+use Rattle.journal_headline.specs.Journals.{AreExplained}
+use Rattle.cell_journal.proofs.Begins.{prefix_self, prefix_trans, prefix_shorter}
+use Rattle.cell_journal.proofs.Grown.{begins_lawful}
+use Rattle.cell_journal.specs.Clocks.{are_clocks_kept}
 use Rattle.cell_journal.specs.Identity.{Identity}
 use Rattle.cell_journal.specs.Rules.{IsJournalOf}
 use Rattle.cell_seats.specs.Seen.{visible_of}
+use Rattle.cell_seats.proofs.Sitting.{explains}
 use Rattle.cell_seats.specs.Seats.{SeatState, shown, IsAnswered, IsLost}
 use Rattle.cell_run.specs.Cells.{IsCellOf}
 use Rattle.live.specs.declared.play.Player.{Player}
-use Rattle.live.specs.Live.{AreAnswersOf}
+use Rattle.live.specs.Live.{HasSeenPart, AreAnswersOf}
 use Rattle.live.specs.Playing.{calls_on, calls_of, AreAnswered, HasPlayed, IsSamePlayer, HasMade, PlaysOn, Plays, IsNewPlayer, IsPlayed, Each, AllPlay}
 use Rattle.live.proofs.Playing.{nothing_played, answered_one_more, refused_more, replicate_one_more, calls_append}
 
@@ -271,27 +278,99 @@ have_played cell xs olds news new all none k q at =
       made = subst (λ (i : ℕ). HasMade q (calls_of i xs)) is.id (plays.played (none k q at) [] (new_made cell (suc k) old.0 is));
     }
 
+-- of beginnings of a journal the longest
+
+-- what all of these clients of a cell saw begins this beginning of the journal
+record IsLongest (cell : Identity) (players : List Player) (entries longest : List Entry) : Type 0 where
+  pub begins : IsPrefix longest entries
+  pub lawful : IsJournalOf cell longest
+  pub clocks : IsTrue (are_clocks_kept cell longest)
+  pub explained : AreExplained cell.config longest
+  pub all : (k : ℕ) (p : Player) → slice_get players k ≡ Some p → IsPrefix p.seat.seen longest
+
+abbrev AllSeenPart : Identity → List Player → List Entry → Type 0
+AllSeenPart cell players entries = (k : ℕ) (p : Player) → slice_get players k ≡ Some p → (p.seat.cell ≡ cell) × HasSeenPart entries p.seat
+
+-- before any client saw something
+longest_of_none : (cell : Identity) (entries : List Entry) → first_out_of_range cell.config ≡ None → IsLongest cell [] entries []
+longest_of_none cell entries in_range = record {
+  begins = (entries, refl);
+  lawful = begins_lawful cell;
+  clocks = refl;
+  explained = explains cell [] in_range (begins_lawful cell) refl;
+  all = λ k p at. absurd (let none : None ≡ Some p = at in cc);
+}
+
+-- what one more saw, where it saw the most
+first_longest : (cell : Identity) (p : Player) (ps : List Player) (entries : List Entry) → p.seat.cell ≡ cell → HasSeenPart entries p.seat
+    → ((k : ℕ) (q : Player) → slice_get ps k ≡ Some q → IsPrefix q.seat.seen p.seat.seen) → IsLongest cell (p ∷ ps) entries p.seat.seen
+first_longest cell p ps entries same part rest = record {
+  begins = part.begins;
+  lawful = subst (λ (i : Identity). IsJournalOf i p.seat.seen) same part.lawful;
+  clocks = subst (λ (i : Identity). IsTrue (are_clocks_kept i p.seat.seen)) same part.clocks;
+  explained = subst (λ (i : Identity). AreExplained i.config p.seat.seen) same part.explained;
+  all = each;
+}
+  where
+    each : (k : ℕ) (q : Player) → slice_get (p ∷ ps) k ≡ Some q → IsPrefix q.seat.seen p.seat.seen
+    each zero q at = subst (λ (x : Player). IsPrefix x.seat.seen p.seat.seen) (let both : Some p ≡ Some q = at in cc) (prefix_self p.seat.seen)
+    each (suc k) q at = rest k q at
+
+-- or what another one saw
+later_longest : (cell : Identity) (p : Player) (ps : List Player) (entries longest : List Entry) → HasSeenPart entries p.seat → IsLongest cell ps entries longest → length p.seat.seen ≤ length longest
+    → IsLongest cell (p ∷ ps) entries longest
+later_longest cell p ps entries longest part is shorter = record { begins = is.begins; lawful = is.lawful; clocks = is.clocks; explained = is.explained; all = each }
+  where
+    each : (k : ℕ) (q : Player) → slice_get (p ∷ ps) k ≡ Some q → IsPrefix q.seat.seen longest
+    each zero q at = subst (λ (x : Player). IsPrefix x.seat.seen longest) (let both : Some p ≡ Some q = at in cc) (prefix_shorter p.seat.seen longest entries part.begins is.begins shorter)
+    each (suc k) q at = is.all k q at
+
+longer : (cell : Identity) (p : Player) (ps : List Player) (entries longest : List Entry) → p.seat.cell ≡ cell → HasSeenPart entries p.seat → IsLongest cell ps entries longest
+    → (b : Bool) → nat_le (length p.seat.seen) (length longest) ≡ b → (more : List Entry) × IsLongest cell (p ∷ ps) entries more
+longer cell p ps entries longest same part is true less =
+    let e : length p.seat.seen ≤ length longest = grind (arith, nat_tests, less) in (longest, later_longest cell p ps entries longest part is e)
+longer cell p ps entries longest same part is false past =
+    let e : length longest ≤ length p.seat.seen = grind (arith, nat_tests, past) in (
+      p.seat.seen,
+      first_longest cell p ps entries same part (λ k q at. prefix_trans q.seat.seen longest p.seat.seen (is.all k q at) (prefix_shorter longest p.seat.seen entries is.begins part.begins e)),
+    )
+
+longest_of : (cell : Identity) (players : List Player) (entries : List Entry) → first_out_of_range cell.config ≡ None → AllSeenPart cell players entries → (longest : List Entry) × IsLongest cell players entries longest
+longest_of cell [] entries in_range all = ([], longest_of_none cell entries in_range)
+longest_of cell (p ∷ ps) entries in_range all =
+    let found = longest_of cell ps entries in_range (λ k q at. all (suc k) q at) in
+    let here = all zero p refl in
+    longer cell p ps entries found.0 here.0 here.1 found.1 (nat_le (length p.seat.seen) (length found.0)) refl
+
 -- what the journal has of them
-pub told_so : (options : Options) (cell : Identity) (entries : List Entry) (xs : List LiveLine) (players : List Player) → IsCellOf options.config options.servers cell → IsJournalOf cell entries
-    → length players ≡ options.clients → Each (IsPlayed cell xs) players → ((k : ℕ) (p : Player) → slice_get players k ≡ Some p → IsPrefix p.seat.seen entries)
-    → AreAnswersOf options xs (map (λ p. p.answers.items) players)
-told_so options cell entries xs players cell_is lawful count all begin = record {
+told_by_longest : (options : Options) (cell : Identity) (entries longest : List Entry) (xs : List LiveLine) (players : List Player) → IsCellOf options.config options.servers cell → length players ≡ options.clients
+    → Each (IsPlayed cell xs) players → IsLongest cell players entries longest → AreAnswersOf options xs (map (λ p. p.answers.items) players)
+told_by_longest options cell entries longest xs players cell_is count all is = record {
   cell = cell;
   cell_is = cell_is;
-  entries = entries;
-  lawful = lawful;
+  entries = longest;
+  lawful = is.lawful;
+  clocks = is.clocks;
+  explained = is.explained;
   clients = mapped_length players ∙ count;
   each = λ k replies at.
       let found = mapped_at (λ (p : Player). p.answers.items) players k replies at in
-      let is = all k found.0 found.1 in
+      let played = all k found.0 found.1 in
       record {
         seen = found.0.seat.seen;
-        begins = begin k found.0 found.1;
-        answered = subst (λ (n : Node). AreAnswered (visible_of (own n found.0.seat.seen)) (calls_of (suc k) xs) replies) is.node
-            (subst (AreAnswered (shown found.0.seat) (calls_of (suc k) xs)) found.2 is.made.answered);
+        begins = is.all k found.0 found.1;
+        answered = subst (λ (n : Node). AreAnswered (visible_of (own n found.0.seat.seen)) (calls_of (suc k) xs) replies) played.node
+            (subst (AreAnswered (shown found.0.seat) (calls_of (suc k) xs)) found.2 played.made.answered);
       };
 }
   where
     mapped_length : (ps : List Player) → length (map (λ (p : Player). p.answers.items) ps) ≡ length ps
     mapped_length [] = refl
     mapped_length (p ∷ ps) = ap (λ (k : ℕ). suc k) (mapped_length ps)
+
+pub told_so : (options : Options) (cell : Identity) (entries : List Entry) (xs : List LiveLine) (players : List Player) → IsCellOf options.config options.servers cell → length players ≡ options.clients
+    → Each (IsPlayed cell xs) players → ((k : ℕ) (p : Player) → slice_get players k ≡ Some p → HasSeenPart entries p.seat) → AreAnswersOf options xs (map (λ p. p.answers.items) players)
+told_so options cell entries xs players cell_is count all parts =
+    let in_range : first_out_of_range cell.config ≡ None = subst (λ (x : Config). first_out_of_range x ≡ None) (sym cell_is.config_is) cell_is.in_range in
+    let found = longest_of cell players entries in_range (λ k q at. ((all k q at).cell_is, parts k q at)) in
+    told_by_longest options cell entries found.0 xs players cell_is count all found.1

@@ -1,5 +1,5 @@
 -- What running a script on a running cell comes to.
-use Rattle.std.specs.Prelude.{◌≡◌, ⊤, ℕ, suc, List, [], ◌∷◌, ◌++◌, length, slice_get, Option, Some, IfSome}
+use Rattle.std.specs.Prelude.{◌≡◌, ⊤, ℕ, suc, List, [], ◌∷◌, ◌++◌, length, slice_get, Option, Some, IfSome, IsTrue}
 use Rattle.std.specs.List.{flat_map}
 use Rattle.std.specs.Io.KnownBytes.{Appends, Keeps}
 use mathlib.Core.List.{IsPrefix}
@@ -7,8 +7,11 @@ use Rattle.gfs_types.specs.declared.answer.Answer.{Answer}
 use Rattle.gfs_types.specs.declared.call.Call.{Call}
 use Rattle.gfs_types.specs.declared.ids.Node.TheVariants.{Client}
 use Rattle.protocol_journal.specs.Journal.{Entry, own}
+use Rattle.journal_headline.specs.Journals.{AreExplained}
+use Rattle.cell_journal.specs.Clocks.{are_clocks_kept}
 use Rattle.cell_journal.specs.Identity.{Identity}
 use Rattle.cell_journal.specs.Rules.{IsJournalOf}
+use Rattle.cell_seats.specs.Seats.{SeatState}
 use Rattle.cell_seats.specs.Seen.{visible_of}
 use Rattle.cell_run.specs.Cells.{IsCellOf}
 use Rattle.script.specs.declared.options.Options.{Options}
@@ -38,18 +41,27 @@ abbrev pub told_from : ℕ → List (List Answer) → List ℕ
 told_from client [] = []
 told_from client (answers ∷ rest) = told_by client answers ++ told_from (suc client) rest
 
+-- What a client saw begins this journal. It is a lawful journal of the cell in which clocks were kept, and its calls and answers are a run of the machine.
+pub record HasSeenPart (entries : List Entry) (s : SeatState) : Type 0 where
+  pub begins : IsPrefix s.seen entries
+  pub lawful : IsJournalOf s.cell s.seen
+  pub clocks : IsTrue (are_clocks_kept s.cell s.seen)
+  pub explained : AreExplained s.cell.config s.seen
+
 -- A client of this number made these calls and was answered so, by a beginning of this journal.
 pub record HasAnswers (entries : List Entry) (client : ℕ) (calls : List Call) (replies : List Answer) : Type 0 where
   pub seen : List Entry
   pub begins : IsPrefix seen entries
   pub answered : AreAnswered (visible_of (own (Client (record { 0 = client })) seen)) calls replies
 
--- These clients' calls of the lines were answered so by one cell, whose lawful journal shows it.
+-- These clients' calls of the lines were answered so by one cell, whose lawful journal shows it. Clocks were kept in it, and all its calls and answers, in its order, are one run of the machine.
 pub record AreAnswersOf (options : Options) (lines : List LiveLine) (answers : List (List Answer)) : Type 0 where
   pub cell : Identity
   pub cell_is : IsCellOf options.config options.servers cell
   pub entries : List Entry
   pub lawful : IsJournalOf cell entries
+  pub clocks : IsTrue (are_clocks_kept cell entries)
+  pub explained : AreExplained cell.config entries
   pub clients : length answers ≡ options.clients
   pub each : (k : ℕ) (replies : List Answer) → slice_get answers k ≡ Some replies → HasAnswers entries (suc k) (calls_of (suc k) lines) replies
 

@@ -1,10 +1,8 @@
 //! Runs a script on a running cell.
 
 ghost use Rattle.std.specs.Prelude.{ℕ, ◌≡◌, ◌+◌, ◌≤◌, ◌<◌, IfOk, IfErr, IfSome, OnOk, Some, length, slice_get, map, true, false};
-ghost use mathlib.Core.List.{IsPrefix};
-ghost use Rattle.cell_journal.specs.Rules.{IsJournalOf};
 ghost use Rattle.cell_run.specs.Cells.{IsNewCell};
-ghost use Rattle.live.specs.Live.{IsScript, AreAnswersOf, Prints, Stops};
+ghost use Rattle.live.specs.Live.{IsScript, HasSeenPart, AreAnswersOf, Prints, Stops};
 ghost use Rattle.live.specs.Faults.{IsOfRun};
 ghost use Rattle.live.specs.Playing.{IsNewPlayer, IsPlayed, Plays, AllPlay, Each};
 ghost use Rattle.script.specs.LiveLines.{is_barrier};
@@ -90,16 +88,23 @@ fn play_on_new<T: Threads + Wait + Clock + Copy + Send + Sync + 'static>(
     Ok(players)
 }
 
-// What each client saw begins the journal, which is lawful. Answers the journal's length.
-fn agree_all(players: &[Player], journal: &Journal) -> usize
+// What each client saw begins the journal.
+fn agree_all(players: &[Player], journal: &Journal)
     requires { (k : ℕ) (p : Player) → slice_get players.now k ≡ Some p → p.seat.cell ≡ journal.now.cell }
-    ensures begin { (k : ℕ) (p : Player) → slice_get players.now k ≡ Some p → IsPrefix p.seat.seen journal.now.entries }
-    ensures lawful { IsJournalOf journal.now.cell journal.now.entries }
+    ensures { (k : ℕ) (p : Player) → slice_get players.now k ≡ Some p → HasSeenPart journal.now.entries p.seat }
 {
     for before in 0..players.len() {
-        agree(&players[before].seat, journal);
+        agree_one(&players[before], journal);
     }
-    journal.len()
+}
+
+// What a client saw begins the journal.
+fn agree_one(player: &Player, journal: &Journal)
+    requires { player.now.seat.cell ≡ journal.now.cell }
+    ensures { HasSeenPart journal.now.entries player.now.seat }
+{
+    agree(&player.seat, journal);
+    player.seat.seen();
 }
 
 // The clients once all lines were played, if none was refused memory.

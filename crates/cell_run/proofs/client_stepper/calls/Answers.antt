@@ -1,15 +1,15 @@
-use Rattle.std.proofs.Common.{sym, subst}
-use Rattle.messages.specs.declared.event.StepOut.{StepOut}
-use Rattle.protocol.specs.Client.{ClientState, stopped_client}
-use Rattle.protocol.specs.Conforms.{ClientCalls}
-use Rattle.cell_world.proofs.Lost.{call_lost}
-use Rattle.cell_run.proofs.Stepping.{called_copy}
+use Rattle.std.proofs.Common.{subst}
+use Rattle.std.specs.Prelude.{Option}
+use Rattle.gfs_types.specs.declared.call.Call.{Call}
+use Rattle.protocol_journal.specs.Journal.{Calls}
+use Rattle.cell_seats.specs.Slots.{IsCopyOf}
+use Rattle.cell_run.proofs.Stepping.{called_so, copy_is}
 use Rattle.cell_run.proofs.client_stepper.calls.Goals as goal
 
-pub returns-in-Ok : goal.returns-in-Ok
-returns-in-Ok c = called_copy c.args.client.now c.call.new.self c.args.now.0 c.args.asked.now c.in-Ok.call c.call.result c.in-Ok.ensures c.call.ensures
+pub returns-in-Some-clause-steps : goal.returns-in-Some-clause-steps
+returns-in-Some-clause-steps c =
+    called_so c.args.client.now c.call-out.new.self c.with_copy.new.client c.config-config.result c.id-id.result c.args.now.0 c.args.asked.now c.in-Some.call c.call-out.result c.with_copy.result.out
+    c.config-config.ensures.value c.id-id.ensures (copy_is c.args.asked.now c.args.copy c.in-Some.call c.in-Some.is c.requires) c.call-out.ensures c.with_copy.ensures.step
 
-pub returns-in-Err : goal.returns-in-Err
-returns-in-Err c =
-    subst (λ (x : ClientState). ClientCalls c.args.client.now c.args.now.0 c.args.asked.now c.stops.result x) (sym c.stops.ensures.client)
-    (subst (λ (x : StepOut). ClientCalls c.args.client.now c.args.now.0 c.args.asked.now x (stopped_client c.args.client.now)) (sym c.stops.ensures.out) (call_lost c.args.client.now c.args.now.0 c.args.asked.now))
+pub unreachable-requires : goal.unreachable-requires
+unreachable-requires c = subst (λ (o : Option Call). IsCopyOf (Calls c.args.asked.now) o) c.in-None.is c.requires

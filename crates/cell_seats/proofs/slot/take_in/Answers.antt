@@ -3,7 +3,7 @@ use Rattle.std.specs.Prelude.{Option}
 use Rattle.protocol_journal.specs.Journal.{sent_after}
 use Rattle.cell_journal.specs.Entries.{cause_of}
 use Rattle.cell_journal.specs.Writers.{IsRead}
-use Rattle.cell_seats.proofs.Moving.{led_still, acts_all, err_all, for_node}
+use Rattle.cell_seats.proofs.Moving.{led_still, acts_all, err_all, for_node, no_call_on}
 use Rattle.cell_seats.proofs.slot.take_in.Goals as goal
 
 pub returns-in_err-message-clause-led : goal.returns-in_err-message-clause-led
@@ -25,3 +25,6 @@ steps-requires-clause-reads g c =
     let d = c.begin.new.self in
     for_node c.args.input c.in_ok-message.message (cause_of c.cause_on-cause.result) (sent_after [] d.writer.me.0.seen) d.node c.cause_on-cause.ensures
     (subst (λ (k : Option ℕ). IsRead (sent_after [] d.writer.me.0.seen) d.node k c.in_ok-message.message) c.number_of.ensures c.in_ok-message.ensures.ok.1)
+
+pub steps-requires-clause-copy : goal.steps-requires-clause-copy
+steps-requires-clause-copy g c = no_call_on c.args.input c.in_ok-message.message (cause_of c.cause_on-cause.result) c.cause_on-cause.ensures

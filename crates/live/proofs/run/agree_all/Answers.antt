@@ -1,17 +1,17 @@
 use Rattle.std.proofs.Common.{refl, sym, subst}
-use mathlib.Core.List.{IsPrefix}
 use Rattle.live.specs.declared.play.Player.{Player}
+use Rattle.live.specs.Live.{HasSeenPart}
 use Rattle.live.proofs.Players.{first_more, first_none, first_all}
 use Rattle.live.proofs.run.agree_all.Goals as goal
 
 pub loop-before-init : goal.loop-before-init
-loop-before-init c = first_none (λ (p : Player). IsPrefix p.seat.seen c.args.journal.now.entries) c.args.players.now 0 refl
+loop-before-init c = first_none (λ (p : Player). HasSeenPart c.args.journal.now.entries p.seat) c.args.players.now 0 refl
 
 pub loop-before-preserved : goal.loop-before-preserved
 loop-before-preserved c =
     let at = c.index-players-before in
-    first_more (λ (p : Player). IsPrefix p.seat.seen c.args.journal.now.entries) c.args.players.now c.loop-before.before at.result c.loop-before-test.true at.is c.loop-before.invariant
-    (subst (λ (p : Player). IsPrefix p.seat.seen c.args.journal.now.entries) (sym at.is) c.agree.ensures)
+    first_more (λ (p : Player). HasSeenPart c.args.journal.now.entries p.seat) c.args.players.now c.loop-before.before at.result c.loop-before-test.true at.is c.loop-before.invariant
+    (subst (λ (p : Player). HasSeenPart c.args.journal.now.entries p.seat) (sym at.is) c.agree_one.ensures)
 
-pub returns-clause-begin : goal.returns-clause-begin
-returns-clause-begin c = first_all (λ (p : Player). IsPrefix p.seat.seen c.args.journal.now.entries) c.args.players.now c.loop-before.before c.loop-before-test.false c.loop-before.invariant
+pub returns : goal.returns
+returns c = first_all (λ (p : Player). HasSeenPart c.args.journal.now.entries p.seat) c.args.players.now c.loop-before.before c.loop-before-test.false c.loop-before.invariant

@@ -1,9 +1,9 @@
 use Rattle.std.proofs.Common.{◌≡◌, ◌<◌, ℕ, Some}
 use Rattle.std.specs.Prelude.{slice_get}
-use mathlib.Core.List.{IsPrefix}
 use Rattle.live.specs.declared.play.Player.{Player}
+use Rattle.live.specs.Live.{HasSeenPart}
 use Rattle.live.proofs.run.agree_all.Given as goal
 
 -- what the first ones saw begins the journal
 abbrev pub invariant-loop-before : goal.invariant-loop-before
-invariant-loop-before l = (k : ℕ) (p : Player) → k < l.before → slice_get l.fn.players k ≡ Some p → IsPrefix p.seat.seen l.fn.journal.entries
+invariant-loop-before l = (k : ℕ) (p : Player) → k < l.before → slice_get l.fn.players k ≡ Some p → HasSeenPart l.fn.journal.entries p.seat

@@ -1,12 +1,15 @@
 use Rattle.cell_run.specs.Standing.{ClientStands}
-use Rattle.cell_run.proofs.Stepping.{client_stepped, client_called, client_never_restarts}
+use Rattle.cell_run.proofs.Stepping.{client_stepped, client_called, client_never_restarts, copy_on}
 use Rattle.cell_run.proofs.client_stepper.ClientNodeStepper.step.Goals as goal
 
-pub returns-in-Calls : goal.returns-in-Calls
-returns-in-Calls c = λ s stands. client_called c.args.self.now.client c.calls.new.client s c.args.cause.now _ c.args.now.0 c.calls.result stands c.in-Calls.is c.calls.ensures
+pub calls-requires : goal.calls-requires
+calls-requires c = copy_on c.args.cause.now _ c.args.call c.in-Calls.is c.requires.copy
 
-pub returns-in-Takes : goal.returns-in-Takes
-returns-in-Takes c = λ s stands. client_stepped c.args.self.now.client c.step.new.client s c.args.cause.now _ c.args.now.0 c.step.result stands c.in-Takes.is c.step.ensures
+pub returns-in-Calls-clause-steps : goal.returns-in-Calls-clause-steps
+returns-in-Calls-clause-steps c = λ s stands. client_called c.args.self.now.client c.calls.new.client s c.args.cause.now _ c.args.now.0 c.calls.result.out stands c.in-Calls.is c.calls.ensures.steps
 
-pub returns-in-Restarts : goal.returns-in-Restarts
-returns-in-Restarts c = λ s stands. client_never_restarts c.args.self.now.client s c.args.cause.now c.args.now.0 c.stops.result (ClientStands c.stops.new.client) stands (c.requires.may s stands) c.in-Restarts.is
+pub returns-in-Takes-clause-steps : goal.returns-in-Takes-clause-steps
+returns-in-Takes-clause-steps c = λ s stands. client_stepped c.args.self.now.client c.takes.new.client s c.args.cause.now _ c.args.now.0 c.takes.result.out stands c.in-Takes.is c.takes.ensures.steps
+
+pub returns-in-Restarts-clause-steps : goal.returns-in-Restarts-clause-steps
+returns-in-Restarts-clause-steps c = λ s stands. client_never_restarts c.args.self.now.client s c.args.cause.now c.args.now.0 c.stops.result.out (ClientStands c.stops.new.client) stands (c.requires.may s stands) c.in-Restarts.is

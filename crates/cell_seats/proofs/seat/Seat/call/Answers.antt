@@ -1,4 +1,4 @@
-use Rattle.cell_seats.proofs.Sitting.{answered_here}
+use Rattle.cell_seats.proofs.Sitting.{answered_here, sits}
 use Rattle.cell_seats.proofs.seat.Seat.call.Goals as goal
 
 pub returns-in-Ok-clause-ok : goal.returns-in-Ok-clause-ok
@@ -8,3 +8,10 @@ returns-in-Ok-clause-ok g c =
     let h = c.in-Ok.field-0 in
     answered_here c.args.self.now s.lost s.slot.node w.node s.slot.view w.view s.view h.beginning s.count h.count c.args.call h.answer c.self.view_is c.in_default.is c.ask-answered.ensures.node
     c.self.invariant c.ask-answered.ensures.further c.in-Ok.ensures.seen c.in-Ok.ensures.shows
+
+pub invariant_of-self : goal.invariant_of-self
+invariant_of-self g c =
+    let s = c.self.inside in
+    let w = c.ask-answered.new.slot in
+    let h = c.in-Ok.field-0 in
+    sits s.slot.node w.node s.slot.view w.view s.view h.beginning s.count h.count s.lost c.self.invariant c.ask-answered.ensures.further c.in-Ok.ensures.seen
