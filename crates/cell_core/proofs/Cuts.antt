@@ -1,5 +1,6 @@
 -- What a cell does that dropped messages is done in each world that it stands for.
-use Rattle.std.proofs.Common.{◌≡◌, ℕ, List, [], map, length, Option, sym, subst, ap, ◌∙◌}
+use Rattle.std.proofs.Common.{◌≡◌, ℕ, List, [], map, length, Option, refl, sym, subst, ap, ◌∙◌}
+use Rattle.std.proofs.lemmas.List.{append-nil}
 use Rattle.std.specs.Prelude.{Result, Ok, Err, IfOk}
 use Rattle.gfs_types.specs.declared.answer.Answer.{Answer}
 use Rattle.messages.specs.declared.event.Event.{Event}
@@ -14,7 +15,7 @@ use Rattle.cell_world.specs.Held.{HeldCell, IsHeldAs, HasEffect}
 use Rattle.cell_world.specs.Looks.{server_count}
 use Rattle.cell_world.specs.Rebasing.{Rebases}
 use Rattle.cell_world.specs.Runs.{Runs}
-use Rattle.cell_core.specs.Standing.{StandsFor, IsShown}
+use Rattle.cell_core.specs.Standing.{DropsAll, StandsFor, IsShown}
 
 -- events lead to a world that the new cell stands for
 pub record RunsTo (w : WorldState) (earlier : List Message) (events : List Event) (answers : List Answer) (new : HeldCell) : Type 0 where
@@ -52,6 +53,26 @@ rebases_to w earlier old new moment s rebases =
     let it = rebases s.cut s.held in
     let all = rebases_are_runs w s.cut it.0 earlier (server_count old) moment s.is_cut it.1 in
     (all.0, all.1, record { cut = without_messages it.0; is_cut = all.2; held = it.2 })
+
+-- all messages are dropped, and nothing else happens
+pub drops_all : (old new : HeldCell) → new ≡ record old { sent = [] } → DropsAll old new
+drops_all old new is w earlier s =
+    let held : IsHeldAs (without_messages s.cut) (record old { sent = [] }) =
+    record {
+      config = s.held.config;
+      master = s.held.master;
+      files = s.held.files;
+      servers = s.held.servers;
+      clients = s.held.clients;
+      sent = refl;
+      orders = s.held.orders;
+      greatest = s.held.greatest;
+    } in
+    record {
+      cut = without_messages s.cut;
+      is_cut = record { but_sent = ap without_messages s.is_cut.but_sent; sent_is = sym (append-nil w.sent) };
+      held = subst (λ (h : HeldCell). IsHeldAs (without_messages s.cut) h) (sym is) held;
+    }
 
 -- A look at a world that doesn't see its messages shows the same of each world that the cell stands for.
 shown_of_cuts : {X : Type 0} (look : WorldState → X) → ((w : WorldState) (sent : List Message) → look (record w { sent = sent }) ≡ look w) → (h : HeldCell) (found : X) → ((w : WorldState) → IsHeldAs w h → found ≡ look w)

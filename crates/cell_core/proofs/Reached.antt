@@ -12,7 +12,7 @@ use Rattle.cell_world.specs.declared.fault.RunFault.{RunFault}
 use Rattle.cell_world.specs.declared.fault.RunFault.TheVariants.{NoMemory, Rot}
 use Rattle.cell_core.specs.Standing.{HasReachedWorld}
 use Rattle.cell_world.proofs.Running.{runs_none, runs_more}
-use Rattle.cell_core.proofs.Cuts.{runs_to, rebases_to}
+use Rattle.cell_core.proofs.Cuts.{drops_all, runs_to, rebases_to}
 use Rattle.cell_core.proofs.Explained.{reached_on}
 
 pub stands_new : (config : Config) (servers clients : ℕ) (h : HeldCell) → IsHeldAs (new_world config servers clients) h → HasReachedWorld h
@@ -38,6 +38,17 @@ stands_run old new events answers s r =
       reached = reached_on s.config s.servers s.clients s.world it.next s.reached it.runs.steps it.runs.leads;
       stands = it.stands;
     }
+
+pub stands_without : (old new : HeldCell) → HasReachedWorld old → new ≡ record old { sent = [] } → HasReachedWorld new
+stands_without old new s is = record {
+  config = s.config;
+  servers = s.servers;
+  clients = s.clients;
+  world = s.world;
+  earlier = s.world.sent;
+  reached = s.reached;
+  stands = drops_all old new is s.world s.earlier s.stands;
+}
 
 stands_rebase : (old new : HeldCell) (moment : ℕ) → HasReachedWorld old → Rebases old moment new → HasReachedWorld new
 stands_rebase old new moment s r =

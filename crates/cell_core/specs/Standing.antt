@@ -12,6 +12,10 @@ pub record StandsFor (w : WorldState) (earlier : List Message) (h : HeldCell) : 
   pub is_cut : IsCut w earlier cut
   pub held : IsHeldAs cut h
 
+-- It stands for each world that the other one stood for, of whose messages it dropped all.
+abbrev pub DropsAll : HeldCell → HeldCell → Type 0
+DropsAll old new = (w : WorldState) (earlier : List Message) → StandsFor w earlier old → StandsFor w w.sent new
+
 -- a look at each world that the cell stands for shows this
 abbrev pub IsShown : {X : Type 0} → HeldCell → (WorldState → X) → X → Type 0
 IsShown h look found = (w : WorldState) (earlier : List Message) → StandsFor w earlier h → found ≡ look w

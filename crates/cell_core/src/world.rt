@@ -10,7 +10,7 @@ ghost use Rattle.protocol.specs.Sending.{file_id};
 ghost use Rattle.protocol.specs.World.{happens, new_world, numbered_from_1};
 ghost use Rattle.replica_store.specs.Replicas.{new_server_disk};
 ghost use Rattle.cell_core.specs.Headline.{RebasesAsMachine, RunsAsMachine, StepsAsMachine};
-ghost use Rattle.cell_core.specs.Standing.{IsShown};
+ghost use Rattle.cell_core.specs.Standing.{DropsAll, IsShown};
 ghost use Rattle.cell_world.specs.AsStored.{as_stored};
 ghost use Rattle.cell_world.specs.Events.{MayBeRefused};
 ghost use Rattle.cell_world.specs.Held.{HasEffect, IsHeldAs};
@@ -136,6 +136,15 @@ impl<M: CellMaster, S: StoppableStore> World<M, S> {
         ensures err { OnErr result (self.new ≡ self.old) }
     {
         self.cell.rebase(now)
+    }
+
+    /// All messages are dropped, and the next one has the number 1. None of them comes any more, as those of a network may be lost, so the
+    /// cell stands for the same worlds.
+    pub fn drop_messages(&mut self)
+        ensures held { self.new ≡ record self.old { sent = [] } }
+        ensures stands { DropsAll self.old self.new }
+    {
+        self.cell.drop_messages();
     }
 
     /// The file that a path names; none where it names no file, and while the master is down.

@@ -1,5 +1,5 @@
 -- Steps one after another.
-use Rattle.std.proofs.Common.{◌≡◌, ◌≤◌, ◌+◌, ℕ, Bool, List, [], ◌∷◌, ◌++◌, Option, Some, None, Result, Ok, Err, refl, sym, ap, ◌∙◌, subst, arith}
+use Rattle.std.proofs.Common.{◌≡◌, ◌≤◌, ◌+◌, ℕ, zero, suc, Bool, List, [], ◌∷◌, ◌++◌, Option, Some, None, Result, Ok, Err, refl, sym, ap, ◌∙◌, subst, arith}
 use Rattle.std.specs.Prelude.{IsTrue, OnOk}
 use Rattle.std.specs.Io.KnownBytes.{Appends}
 use Rattle.std.proofs.lemmas.List.{append-nil, append_assoc}
@@ -10,7 +10,7 @@ use Rattle.gfs_types.specs.declared.ids.Node.{Node}
 use Rattle.messages.specs.declared.event.Event.{Event}
 use Rattle.messages.specs.declared.event.Event.TheVariants as event
 use Rattle.cell_simulator.specs.Cells.{Meaning}
-use Rattle.cell_simulator.specs.Steps.{Step, Simulated, node_of, moment_of, is_delivery, is_of_round, Lead, Rise, line_at, line_of_step, lines_of, Only, Just, First, Goes, later, after_rounds}
+use Rattle.cell_simulator.specs.Steps.{Step, Simulated, node_of, moment_of, is_delivery, is_of_round, Lead, Rise, line_at, line_of_step, lines_of, Only, Just, First, Goes, DropsTimes, Stays, later, after_rounds}
 
 pub on_ok : {X E : Type 0} (r : Result X E) (P Q : Type 0) → OnOk r P → (P → Q) → OnOk r Q
 on_ok (Ok x) P Q p f = f p
@@ -26,9 +26,23 @@ appends_twice (Some x) None c xs ys p q = absurd p
 appends_twice (Some x) (Some y) None xs ys p q = absurd q
 appends_twice (Some x) (Some y) (Some z) xs ys p q = q ∙ (ap (λ (l : List ℕ). l ++ ys) p ∙ append_assoc x xs ys)
 
+-- no step, and then none
+stays_on : {C : Type 0} (m : Meaning C) (times : ℕ) (a b c : C) → DropsTimes m times a b → Stays m b c → Stays m a c
+stays_on m zero a b c p q = subst (λ w. Stays m w c) p q
+stays_on m (suc times) a b c p q =
+    let later : Stays m p.0 c = stays_on m times p.0 b c p.2 q in
+    record { times = suc later.times; drops = (p.0, p.1, later.drops) }
+
+pub stays : {C : Type 0} (m : Meaning C) (a : C) → Stays m a a
+stays m a = record { times = zero; drops = refl }
+
+leads_from : {C : Type 0} (m : Meaning C) (a b c : C) (ys : List Step) → Stays m a b → Lead m b ys c → Lead m a ys c
+leads_from m a b c [] p q = stays_on m p.times a b c p.drops q
+leads_from m a b c (s ∷ ys) p q = (q.0, stays_on m p.times a b q.0 p.drops q.1, q.2, q.3, q.4, q.5)
+
 leads_on : {C : Type 0} (m : Meaning C) (a b c : C) (xs ys : List Step) → Lead m a xs b → Lead m b ys c → Lead m a (xs ++ ys) c
-leads_on m a b c [] ys p q = subst (λ w. Lead m w ys c) p q
-leads_on m a b c (s ∷ xs) ys p q = (p.0, p.1, p.2, leads_on m p.0 b c xs ys p.3 q)
+leads_on m a b c [] ys p q = leads_from m a b c ys p q
+leads_on m a b c (s ∷ xs) ys p q = (p.0, p.1, p.2, p.3, p.4, leads_on m p.2 b c xs ys p.5 q)
 
 -- a later clock gives no event an earlier moment
 moment_grows : (a b : ℕ) (e : Event) → a ≤ b → moment_of a e ≤ moment_of b e
@@ -62,7 +76,7 @@ one_step m old new clock n e answer before after at now s printed =
     let step : Step = record { node = n; event = e; answer = answer } in
     record {
       steps = step ∷ [];
-      leads = (new, at, s, refl);
+      leads = (old, stays m old, new, at, s, stays m new);
       rises = (omega (arith, now), omega (arith, now));
       are = (step, refl, refl);
       printed = subst (λ l. Appends before after l) (sym (append-nil (line_at n answer))) printed;
@@ -94,7 +108,17 @@ only_on test xs ys p q = All-append (λ s. IsTrue (test s.event)) xs ys p q
 
 -- no step
 pub goes_nothing : {C : Type 0} (m : Meaning C) (a : Simulated C) (test : Event → Bool) (x : Option (List ℕ)) → Goes m a a (Only test) x x
-goes_nothing m a test x = record { steps = []; leads = refl; rises = omega arith; are = none_only test; printed = appends_none x }
+goes_nothing m a test x = record { steps = []; leads = stays m a.cell; rises = omega arith; are = none_only test; printed = appends_none x }
+
+-- all messages were dropped
+pub goes_dropping : {C : Type 0} (m : Meaning C) (old new : C) (clock : ℕ) (test : Event → Bool) → m.drops old new → (x : Option (List ℕ)) → Goes m (record { cell = old; clock = clock }) (record { cell = new; clock = clock }) (Only test) x x
+goes_dropping m old new clock test drops x = record {
+  steps = [];
+  leads = record { times = suc zero; drops = (new, drops, refl) };
+  rises = omega arith;
+  are = none_only test;
+  printed = appends_none x;
+}
 
 pub goes_on : {C : Type 0} (m : Meaning C) (a b c : Simulated C) (test : Event → Bool) (x y z : Option (List ℕ)) → Goes m a b (Only test) x y → Goes m b c (Only test) y z → Goes m a c (Only test) x z
 goes_on m a b c test x y z p q = goes_then m a b c (Only test) (Only test) (Only test) x y z (only_on test) p q

@@ -22,8 +22,15 @@ abbrev pub answers_to : ClientId → List Step → ℕ
 answers_to client [] = 0
 answers_to client (s ∷ rest) = one_if (is_answered_at client s.node s.answer) + answers_to client rest
 
+-- a client's calls stand as they stood
+pub record IsAlike {C : Type 0} (m : Meaning C) (is_up : C → ClientId → Bool) (takes : C → ClientId → Event → Bool) (client : ClientId) (old new : C) : Type 0 where
+  pub same_up : is_up new client ≡ is_up old client
+  pub same_open : m.is_open new client ≡ m.is_open old client
+  pub same_taken : (e : Event) → takes new client e ≡ takes old client e
+
 -- What a cell does about a client's calls, while the client is up: a call is open from the event that it is taken in to its answer.
 pub record AnswersOnce {C : Type 0} (m : Meaning C) (is_up : C → ClientId → Bool) (takes : C → ClientId → Event → Bool) : Type 0 where
   pub counts : (old new : C) (s : Step) (client : ClientId) → node_of m old s.event ≡ Some s.node → m.steps old s.event s.answer new → is_up new client ≡ true
       → (is_up old client ≡ true) × (one_if (m.is_open new client) + one_if (is_answered_at client s.node s.answer) ≡ one_if (m.is_open old client) + one_if (takes old client s.event))
+  pub dropped : (old new : C) (client : ClientId) → m.drops old new → IsAlike m is_up takes client old new
   pub only_calls : (cell : C) (client : ClientId) (e : Event) → IsTrue (is_of_round e) → takes cell client e ≡ false

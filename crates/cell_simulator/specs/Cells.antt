@@ -15,7 +15,10 @@ pub record Meaning (C : Type 0) : Type 1 where
   pub steps : C → Event → Option Answer → C → Type 0
   -- what may come of dropping all messages at a moment, as the nodes but the clients begin again
   pub rebases : C → ℕ → C → Type 0
-  -- the message of a number
+  -- what may come of dropping all messages, as none of them comes any more
+  pub drops : C → C → Type 0
+  -- how many messages there are, and the one of a number
+  pub count : C → ℕ
   pub message : C → ℕ → Option Message
   -- how many servers and clients there are
   pub servers : C → ℕ

@@ -48,10 +48,18 @@ Makes m old (line.Fuse n calls torn) steps = Just (event.Fuse n calls torn) step
 Makes m old (line.Rot server chunk place byte) steps = (handle : Handle) × (handle_shown m old.cell chunk ≡ Some handle) × Just (event.Rot server handle place byte) steps
 Makes m old other steps = steps ≡ []
 
--- A line's steps lead from one cell to another. That all messages are dropped is no step.
+-- A line's steps lead from one cell to another. That all messages are dropped is no step. A line that makes no event, but for `rebase`, changes nothing.
 abbrev pub Follows : {C : Type 0} → Meaning C → Simulated C → CellLine → List Step → C → Type 0
+Follows m old (line.Call asked) steps new = Lead m old.cell steps new
+Follows m old (line.Start asked) steps new = Lead m old.cell steps new
+Follows m old line.Finish steps new = Lead m old.cell steps new
+Follows m old (line.Wait count) steps new = Lead m old.cell steps new
+Follows m old line.Free steps new = Lead m old.cell steps new
+Follows m old (line.Restart n) steps new = Lead m old.cell steps new
 Follows m old line.Rebase steps new = m.rebases old.cell old.clock new
-Follows m old other steps new = Lead m old.cell steps new
+Follows m old (line.Fuse n calls torn) steps new = Lead m old.cell steps new
+Follows m old (line.Rot server chunk place byte) steps new = Lead m old.cell steps new
+Follows m old other steps new = new ≡ old.cell
 
 -- what a line prints: the answers, and a look at a chunk what the cell shows of it
 abbrev pub printed_by : {C : Type 0} → Meaning C → C → CellLine → List Step → Option (List ℕ)

@@ -1,5 +1,5 @@
 -- Events one after another, and what is printed of them: a line for each answer, when it comes.
-use Rattle.std.specs.Prelude.{◌≡◌, ◌≤◌, ℕ, ◌+◌, ◌*◌, min, Bool, true, false, IsTrue, List, [], ◌∷◌, ◌++◌, Option, Some, None, option_map}
+use Rattle.std.specs.Prelude.{◌≡◌, ◌≤◌, ℕ, zero, suc, ◌+◌, ◌*◌, min, Bool, true, false, IsTrue, List, [], ◌∷◌, ◌++◌, Option, Some, None, option_map}
 use Rattle.std.specs.List.{All, flat_map}
 use Rattle.std.specs.Io.KnownBytes.{Appends}
 use Rattle.gfs_types.specs.declared.answer.Answer.{Answer}
@@ -56,10 +56,20 @@ is_of_round (event.Restart n now) = false
 is_of_round (event.Rot server handle place byte) = false
 is_of_round (event.Fuse n count torn) = false
 
--- steps lead from one cell to another
+-- all messages were dropped so many times
+abbrev pub DropsTimes : {C : Type 0} → Meaning C → ℕ → C → C → Type 0
+DropsTimes m zero old new = new ≡ old
+DropsTimes {C} m (suc times) old new = (w : C) × m.drops old w × DropsTimes m times w new
+
+-- The cell took no step. It may have dropped all messages, and again those that were sent until then.
+pub record Stays {C : Type 0} (m : Meaning C) (old new : C) : Type 0 where
+  pub times : ℕ
+  pub drops : DropsTimes m times old new
+
+-- Steps lead from one cell to another. Between them it may drop all messages.
 abbrev pub Lead : {C : Type 0} → Meaning C → C → List Step → C → Type 0
-Lead m old [] new = new ≡ old
-Lead {C} m old (s ∷ rest) new = (w : C) × (node_of m old s.event ≡ Some s.node) × m.steps old s.event s.answer w × Lead m w rest new
+Lead m old [] new = Stays m old new
+Lead {C} m old (s ∷ rest) new = (v : C) × Stays m old v × (w : C) × (node_of m v s.event ≡ Some s.node) × m.steps v s.event s.answer w × Lead m w rest new
 
 -- the moments never fall, from the one clock to the other
 abbrev pub Rise : ℕ → List Step → ℕ → Type 0

@@ -27,6 +27,11 @@ pub trait SimulatedCell {
     fn rebase(&mut self, now: Moment)
         ensures { meaning.rebases self.old now.0 self.new };
 
+    /// All messages may be dropped, since none of them comes any more. How many are left, behind which numbers go on.
+    fn drop_messages(&mut self) -> u64
+        ensures drops { meaning.drops self.old self.new }
+        ensures count { result ≡ meaning.count self.new };
+
     /// The message of a number. Messages are numbered from 1 in the order of sending, since they were dropped last.
     fn message(&self, number: u64) -> Option<&Message>
         ensures { option_copied result ≡ meaning.message self.now number };

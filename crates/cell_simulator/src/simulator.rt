@@ -1,6 +1,6 @@
 //! A cell under the simulator's clock, and how its messages come and its nodes tick.
 
-ghost use Rattle.std.specs.Prelude.{◌≡◌, [], Some, IfErr, OnOk};
+ghost use Rattle.std.specs.Prelude.{◌≡◌, ℕ, List, [], Option, Some, IfErr, OnOk};
 ghost use Rattle.script.specs.ScriptFaults.{IsOfWrite};
 ghost use Rattle.cell_simulator.specs.Steps.{First, Goes, Just, Only, is_delivery, moment_of, node_of};
 ghost use Rattle.cell_simulator.specs.Shown.{has_node, state_of};
@@ -129,9 +129,8 @@ impl<C: SimulatedCell> Simulator<C> {
         Ok(true)
     }
 
-    /// Delivers each message that was sent, the lowest number first, but for those that are put aside or lost. So between two
-    /// lines of a script no message is on its way.
-    pub fn deliver<W: Write>(&mut self, writer: &mut W) -> Result<(), ScriptFault>
+    /// Delivers each message that was sent, the lowest number first, but for those that are put aside or lost.
+    fn see_to_all<W: Write>(&mut self, writer: &mut W) -> Result<(), ScriptFault>
         ensures clock { self.new.clock ≡ self.old.clock }
         ensures goes { OnOk result (Goes C.meaning (state_of self.old) (state_of self.new) (Only is_delivery) (W.contents writer.old) (W.contents writer.new)) }
         ensures fault { IfErr result IsOfWrite }
@@ -141,6 +140,27 @@ impl<C: SimulatedCell> Simulator<C> {
                 break;
             }
         }
+        Ok(())
+    }
+
+    /// Where no message is put aside, none comes again once all were seen to, and all are dropped.
+    fn drop_messages(&mut self)
+        ensures clock { self.new.clock ≡ self.old.clock }
+        ensures goes { (known : Option (List ℕ)) → Goes C.meaning (state_of self.old) (state_of self.new) (Only is_delivery) known known }
+    {
+        if self.network.aside.is_empty() {
+            self.next = self.cell.drop_messages().saturating_add(1);
+        }
+    }
+
+    /// The same, and then messages that can't come again are dropped. So between two lines of a script no message is on its way.
+    pub fn deliver<W: Write>(&mut self, writer: &mut W) -> Result<(), ScriptFault>
+        ensures clock { self.new.clock ≡ self.old.clock }
+        ensures goes { OnOk result (Goes C.meaning (state_of self.old) (state_of self.new) (Only is_delivery) (W.contents writer.old) (W.contents writer.new)) }
+        ensures fault { IfErr result IsOfWrite }
+    {
+        self.see_to_all(writer)?;
+        self.drop_messages();
         Ok(())
     }
 

@@ -42,7 +42,8 @@ impl<M: CellMaster, S: StoppableStore> CellState<M, S> {
         }
     }
 
-    fn drop_messages(&mut self)
+    /// All messages are dropped, and the next one has the number 1: none of them comes any more.
+    pub fn drop_messages(&mut self)
         ensures { self.new ≡ record self.old { sent = [] } }
     {
         self.record.network.clear();

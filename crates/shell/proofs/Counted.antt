@@ -21,7 +21,7 @@ use Rattle.cell_world.specs.Looks.{waits_at}
 use Rattle.cell_world.proofs.WorldOrders.{after_all}
 use Rattle.cell_simulator.specs.Cells.{Meaning}
 use Rattle.cell_simulator.specs.Steps.{Step, node_of, is_of_round}
-use Rattle.cell_simulator.specs.Answered.{one_if, is_answered_at, AnswersOnce}
+use Rattle.cell_simulator.specs.Answered.{one_if, is_answered_at, AnswersOnce, IsAlike}
 use Rattle.shell.specs.Worlds.{IsRefused, Steps, meaning_of}
 use Rattle.shell.specs.Once.{takes_call, takes_steps}
 
@@ -62,6 +62,15 @@ same_answer client (node.Server server) a = refl
 same_open : (o : Option ClientState) → waits_at o ≡ is_open o
 same_open None = refl
 same_open (Some s) = refl
+
+-- messages that are dropped change no client
+alike : (old new : HeldCell) (client : ClientId) → new ≡ record old { sent = [] } → IsAlike (meaning_of (λ (h : HeldCell). h)) takes_steps takes_call client old new
+alike old new client same =
+    record {
+      same_up = ap (λ (h : HeldCell). takes_steps h client) same;
+      same_open = ap (λ (h : HeldCell). waits_at (numbered_from_1 h.clients client.0)) same;
+      same_taken = λ e. ap (λ (h : HeldCell). takes_call h client e) same;
+    }
 
 same_node : {C : Type 0} (cell_of : C → HeldCell) (c : C) (e : Event) → node_of (meaning_of cell_of) c e ≡ node_in (cell_of c).sent e
 same_node cell_of c (event.Call client asked now) = refl
@@ -113,5 +122,8 @@ answers_once cell_of =
                 ∙ (ap (λ b. one_if (is_open after) + one_if b) (same_answer client s.node s.answer)
                 ∙ (k.sums ∙ sym (ap (λ b. one_if b + one_if (takes_call (cell_of old) client s.event)) (same_open before)))),
           );
+      dropped = λ old new client same.
+          let k = alike (cell_of old) (cell_of new) client same in
+          record { same_up = k.same_up; same_open = k.same_open; same_taken = k.same_taken };
       only_calls = λ c client e round. only_calls_so (cell_of c) client e round;
     }

@@ -1,5 +1,5 @@
 -- The lines of a script are explained: each step leads on from a world that events led to, under kept clocks.
-use Rattle.std.proofs.Common.{◌≡◌, ◌≤◌, ◌<◌, ◌+◌, ℕ, Bool, true, false, List, [], ◌∷◌, map, length, Option, Some, None, Ok, Err, inl, inr, refl, sym, ap, ◌∙◌, subst, arith}
+use Rattle.std.proofs.Common.{◌≡◌, ◌≤◌, ◌<◌, ◌+◌, ℕ, zero, suc, Bool, true, false, List, [], ◌∷◌, length, Option, Some, None, Ok, Err, inl, inr, refl, sym, ap, ◌∙◌, subst, arith}
 use Rattle.std.specs.Prelude.{◌⊎◌, ◌&&◌, is_none, option_map, IsTrue, IsFalse}
 use Rattle.std.proofs.lemmas.Bool.{and_from, and_parts}
 use Rattle.gfs_types.specs.Settings.{first_out_of_range}
@@ -19,18 +19,18 @@ use Rattle.cell_world.specs.Held.{HeldCell}
 use Rattle.cell_world.specs.Looks.{server_count}
 use Rattle.cell_core.specs.Standing.{StandsFor}
 use Rattle.cell_core.specs.Traced.{AddsToTrace}
-use Rattle.cell_core.proofs.Cuts.{StepsTo, steps_to, rebases_to}
+use Rattle.cell_core.proofs.Cuts.{StepsTo, drops_all, steps_to, rebases_to}
 use Rattle.cell_core.proofs.Traced.{events_add_to_the_trace}
 use Rattle.cell_core.proofs.Explained.{explained, reached_on}
 use Rattle.script.specs.declared.cell_lines.CellLine.{CellLine}
 use Rattle.script.specs.declared.cell_lines.CellLine.TheVariants as line
 use Rattle.cell_simulator.specs.Cells.{Meaning}
-use Rattle.cell_simulator.specs.Steps.{Step, Simulated, Lead, Rise, line_of_step, lines_of, moment_of, node_of}
+use Rattle.cell_simulator.specs.Steps.{Step, Simulated, DropsTimes, Stays, Lead, Rise, line_of_step, lines_of, moment_of, node_of}
 use Rattle.cell_simulator.specs.Lines.{ComesTo}
 use Rattle.cell_simulator.specs.Scripts.{ComeTo, RunsOn, StopsWith}
 use Rattle.shell.specs.Worlds.{DropsMessages, Steps}
 use Rattle.shell.specs.Cells.{IsNew, are_in_range, is_count, world_of}
-use Rattle.shell.specs.Explained.{LeadsTo, DoesNotRot, LeadTo, LineLeads, raised_step, raised_steps, IsRunOfMachine, AreRunsOfMachine, AreExplained, IsEndlessExplained, AreExplainedUntil}
+use Rattle.shell.specs.Explained.{LeadsTo, DoesNotRot, MayDrop, LeadTo, LineLeads, raised_step, IsRunOfMachine, AreRunsOfMachine, AreExplained, IsEndlessExplained, AreExplainedUntil}
 use Rattle.shell.specs.Scripts.{at_0}
 use Rattle.shell.proofs.Clocks.{AreClocksKept, later, clocks_kept}
 use Rattle.shell.proofs.Printed.{Adds, adds_nothing, adds_both, step_adds, unanswered_adds}
@@ -66,7 +66,7 @@ stands_new o cell new = record {
 
 step_on : (o : Options) (old new : HeldCell) (clock : ℕ) (w : WorldState) (dropped : List Message) (s : Step) → StandsAt o old clock w dropped → node_in w.sent (raised_event (length dropped) s.event) ≡ Some s.node
     → clock ≤ moment_of clock s.event → Steps old s.event s.answer new
-    → (v : WorldState) × (LeadsTo w (raised_step (length dropped) s) v ⊎ DoesNotRot w (raised_step (length dropped) s) v) × Adds w v (line_of_step s) × StandsAt o new (moment_of clock s.event) v dropped
+    → (v : WorldState) × (LeadsTo w (raised_step dropped s) v ⊎ DoesNotRot w (raised_step dropped s) v) × Adds w v (line_of_step s) × StandsAt o new (moment_of clock s.event) v dropped
 step_on o old new clock w dropped s at there le (inl does) =
     let e : Event = raised_event (length dropped) s.event in
     let same : moment_of clock e ≡ moment_of clock s.event = moment_raised (length dropped) clock s.event in
@@ -110,31 +110,71 @@ rebase_on o old new clock w dropped at (inr behind) =
     let late : clock + old.config.skew_ms < old.greatest = behind.0 in
     absurd (omega (arith, late, greatest_before o old clock w dropped at))
 
+-- messages are dropped, and nothing else happens
+without : (o : Options) (old new : HeldCell) (clock : ℕ) (w : WorldState) (dropped : List Message) → StandsAt o old clock w dropped → new ≡ record old { sent = [] } → StandsAt o new clock w w.sent
+without o old new clock w dropped at same = record { reached = at.reached; held_as = drops_all old new same w dropped at.held_as; clocks = at.clocks }
+
+all_dropped : (w : WorldState) (last : List Message) → MayDrop w w.sent last → last ≡ w.sent
+all_dropped w last (inl same) = same
+all_dropped w last (inr same) = same
+
 -- what is told of a cell is so of what it holds
 pub record IsOfHeld {C : Type 0} (m : Meaning C) (held : C → HeldCell) : Type 0 where
   pub steps : (old new : C) (e : Event) (answer : Option Answer) → m.steps old e answer new → Steps (held old) e answer (held new)
   pub rebases : (old new : C) (moment : ℕ) → m.rebases old moment new → DropsMessages (held old) moment (held new)
+  pub drops : (old new : C) → m.drops old new → held new ≡ record (held old) { sent = [] }
   pub message : (c : C) (number : ℕ) → m.message c number ≡ numbered_from_1 (held c).sent number
 
 -- under settings in range
 module _ {C : Type 0} (m : Meaning C) (held : C → HeldCell) (so : IsOfHeld m held) (o : Options) (in_range : first_out_of_range o.config ≡ None) where
-  steps_on : (old new : C) (from to : ℕ) (w : WorldState) (dropped : List Message) (steps : List Step) → StandsAt o (held old) from w dropped → Lead m old steps new → Rise from steps to
-      → (v : WorldState) × LeadTo w (raised_steps dropped steps) v × Adds w v (lines_of steps) × StandsAt o (held new) to v dropped
-  steps_on old new from to w dropped [] at leads rises = (
-    w,
-    refl,
-    adds_nothing w,
-    record {
-      reached = at.reached;
-      held_as = subst (λ (c : C). StandsFor w dropped (held c)) (sym leads) at.held_as;
-      clocks = later w.observer from to rises at.clocks;
-    },
-  )
+  -- a cell that took no step stands at the same world
+  record Stood (w : WorldState) (dropped : List Message) (cell : C) (clock : ℕ) : Type 0 where
+    pub gone : List Message
+    pub may : MayDrop w dropped gone
+    pub stands : StandsAt o (held cell) clock w gone
+
+  stood_on : (times : ℕ) (old new : C) (clock : ℕ) (w : WorldState) (dropped : List Message) → StandsAt o (held old) clock w dropped → DropsTimes m times old new → Stood w dropped new clock
+  stood_on zero old new clock w dropped at same = record { gone = dropped; may = inl refl; stands = subst (λ (c : C). StandsAt o (held c) clock w dropped) (sym same) at }
+  stood_on (suc times) old new clock w dropped at drops =
+      let first : StandsAt o (held drops.0) clock w w.sent = without o (held old) (held drops.0) clock w dropped at (so.drops old drops.0 drops.1) in
+      let last : Stood w w.sent new clock = stood_on times drops.0 new clock w w.sent first drops.2 in
+      record { gone = last.gone; may = inr (all_dropped w last.gone last.may); stands = last.stands }
+
+  stays_on : (old new : C) (clock : ℕ) (w : WorldState) (dropped : List Message) → StandsAt o (held old) clock w dropped → Stays m old new → Stood w dropped new clock
+  stays_on old new clock w dropped at stays = stood_on stays.times old new clock w dropped at stays.drops
+
+  -- where steps led to, and the messages that were dropped until then
+  record Stepped (w : WorldState) (dropped : List Message) (steps : List Step) (cell : C) (clock : ℕ) : Type 0 where
+    pub world : WorldState
+    pub gone : List Message
+    pub leads : LeadTo w dropped steps world gone
+    pub adds : Adds w world (lines_of steps)
+    pub stands : StandsAt o (held cell) clock world gone
+
+  steps_on : (old new : C) (from to : ℕ) (w : WorldState) (dropped : List Message) (steps : List Step) → StandsAt o (held old) from w dropped → Lead m old steps new → Rise from steps to → Stepped w dropped steps new to
+  steps_on old new from to w dropped [] at leads rises =
+      let here : Stood w dropped new from = stays_on old new from w dropped at leads in
+      record {
+        world = w;
+        gone = here.gone;
+        leads = (refl, here.may);
+        adds = adds_nothing w;
+        stands = record { reached = here.stands.reached; held_as = here.stands.held_as; clocks = later w.observer from to rises here.stands.clocks };
+      }
   steps_on old new from to w dropped (s ∷ rest) at leads rises =
-      let there = node_raised m old w dropped (held old) at.held_as (so.message old) s.event s.node leads.1 in
-      let first = step_on o (held old) (held leads.0) from w dropped s at there rises.0 (so.steps old leads.0 s.event s.answer leads.2) in
-      let last = steps_on leads.0 new (moment_of from s.event) to first.0 dropped rest first.3 leads.3 rises.1 in
-      (last.0, (first.0, first.1, last.1), adds_both w first.0 last.0 (line_of_step s) (lines_of rest) first.2 last.2, last.3)
+      let v : C = leads.0 in
+      let next : C = leads.2 in
+      let here : Stood w dropped v from = stays_on old v from w dropped at leads.1 in
+      let there = node_raised m v w here.gone (held v) here.stands.held_as (so.message v) s.event s.node leads.3 in
+      let first = step_on o (held v) (held next) from w here.gone s here.stands there rises.0 (so.steps v next s.event s.answer leads.4) in
+      let last : Stepped first.0 here.gone rest new to = steps_on next new (moment_of from s.event) to first.0 here.gone rest first.3 leads.5 rises.1 in
+      record {
+        world = last.world;
+        gone = last.gone;
+        leads = (here.gone, here.may, first.0, first.1, last.leads);
+        adds = adds_both w first.0 last.world (line_of_step s) (lines_of rest) first.2 last.adds;
+        stands = last.stands;
+      }
 
   -- the world at which a cell stands is explained
   explained_at : (cell : HeldCell) (clock : ℕ) (w v : WorldState) (dropped : List Message) (printed : List ℕ) → Adds w v printed → StandsAt o cell clock v dropped → IsRunOfMachine w dropped printed cell v
@@ -156,15 +196,35 @@ module _ {C : Type 0} (m : Meaning C) (held : C → HeldCell) (so : IsOfHeld m h
 
   record GoesBySteps (w : WorldState) (dropped : List Message) (steps : List Step) (new : Simulated C) : Type 0 where
     pub world : WorldState
-    pub leads : LeadTo w (raised_steps dropped steps) world
-    pub runs : IsRunOfMachine w dropped (lines_of steps) (held new.cell) world
-    pub stands : StandsAt o (held new.cell) new.clock world dropped
+    pub gone : List Message
+    pub leads : LeadTo w dropped steps world gone
+    pub runs : IsRunOfMachine w gone (lines_of steps) (held new.cell) world
+    pub stands : StandsAt o (held new.cell) new.clock world gone
 
   by_steps : (old new : Simulated C) (w : WorldState) (dropped : List Message) (steps : List Step) → StandsAt o (held old.cell) old.clock w dropped → Lead m old.cell steps new.cell → Rise old.clock steps new.clock
       → GoesBySteps w dropped steps new
   by_steps old new w dropped steps at leads rises =
-      let last = steps_on old.cell new.cell old.clock new.clock w dropped steps at leads rises in
-      record { world = last.0; leads = last.1; runs = explained_at (held new.cell) new.clock w last.0 dropped (lines_of steps) last.2 last.3; stands = last.3 }
+      let last : Stepped w dropped steps new.cell new.clock = steps_on old.cell new.cell old.clock new.clock w dropped steps at leads rises in
+      record {
+        world = last.world;
+        gone = last.gone;
+        leads = last.leads;
+        runs = explained_at (held new.cell) new.clock w last.world last.gone (lines_of steps) last.adds last.stands;
+        stands = last.stands;
+      }
+
+  -- a line that leads on by its steps
+  by_lead : (old new : Simulated C) (w : WorldState) (dropped : List Message) (l : CellLine) (steps : List Step) → ((v : WorldState) (later : List Message) → LeadTo w dropped steps v later → LineLeads held w dropped old l steps v later)
+      → StandsAt o (held old.cell) old.clock w dropped → Lead m old.cell steps new.cell → Rise old.clock steps new.clock → GoesOn w dropped old l steps new
+  by_lead old new w dropped l steps so_leads at leads rises =
+      let it : GoesBySteps w dropped steps new = by_steps old new w dropped steps at leads rises in
+      record { world = it.world; gone = it.gone; leads = so_leads it.world it.gone it.leads; runs = it.runs; stands = it.stands }
+
+  -- a line that makes no event
+  by_nothing : (old new : Simulated C) (w : WorldState) (dropped : List Message) (l : CellLine) (steps : List Step) → ((v : WorldState) (later : List Message) → LeadTo w dropped steps v later → LineLeads held w dropped old l steps v later)
+      → StandsAt o (held old.cell) old.clock w dropped → steps ≡ [] → new.cell ≡ old.cell → Rise old.clock steps new.clock → GoesOn w dropped old l steps new
+  by_nothing old new w dropped l steps so_leads at none same rises =
+      by_lead old new w dropped l steps so_leads at (subst (λ (all : List Step). Lead m old.cell all new.cell) (sym none) (record { times = zero; drops = same })) rises
 
   by_rebase : (old new : Simulated C) (w : WorldState) (dropped : List Message) → StandsAt o (held old.cell) old.clock w dropped → m.rebases old.cell old.clock new.cell → new.clock ≡ old.clock
       → GoesOn w dropped old line.Rebase [] new
@@ -178,9 +238,16 @@ module _ {C : Type 0} (m : Meaning C) (held : C → HeldCell) (so : IsOfHeld m h
       → GoesOn w dropped old l comes.steps new
   line_on old new w dropped line.Rebase printed at comes =
       subst (λ (steps : List Step). GoesOn w dropped old line.Rebase steps new) (sym comes.makes) (by_rebase old new w dropped at comes.leads comes.leaves)
-  line_on old new w dropped other printed at comes =
-      let it : GoesBySteps w dropped comes.steps new = by_steps old new w dropped comes.steps at comes.leads comes.rises in
-      record { world = it.world; gone = dropped; leads = (it.leads, refl); runs = it.runs; stands = it.stands }
+  line_on old new w dropped (line.Call asked) printed at comes = by_lead old new w dropped (line.Call asked) comes.steps (λ v later leads. leads) at comes.leads comes.rises
+  line_on old new w dropped (line.Start asked) printed at comes = by_lead old new w dropped (line.Start asked) comes.steps (λ v later leads. leads) at comes.leads comes.rises
+  line_on old new w dropped line.Finish printed at comes = by_lead old new w dropped line.Finish comes.steps (λ v later leads. leads) at comes.leads comes.rises
+  line_on old new w dropped (line.Wait count) printed at comes = by_lead old new w dropped (line.Wait count) comes.steps (λ v later leads. leads) at comes.leads comes.rises
+  line_on old new w dropped line.Free printed at comes = by_lead old new w dropped line.Free comes.steps (λ v later leads. leads) at comes.leads comes.rises
+  line_on old new w dropped (line.Restart n) printed at comes = by_lead old new w dropped (line.Restart n) comes.steps (λ v later leads. leads) at comes.leads comes.rises
+  line_on old new w dropped (line.Fuse n calls torn) printed at comes = by_lead old new w dropped (line.Fuse n calls torn) comes.steps (λ v later leads. leads) at comes.leads comes.rises
+  line_on old new w dropped (line.Rot server chunk place byte) printed at comes =
+      by_lead old new w dropped (line.Rot server chunk place byte) comes.steps (λ v later leads. leads) at comes.leads comes.rises
+  line_on old new w dropped other printed at comes = by_nothing old new w dropped other comes.steps (λ v later leads. leads) at comes.makes comes.leads comes.rises
 
   lines_on : (old : Simulated C) (lines : List CellLine) (new : Simulated C) (printed : List ℕ) (w : WorldState) (dropped : List Message) → StandsAt o (held old.cell) old.clock w dropped → (come : ComeTo m old lines new printed)
       → (v : WorldState) × (last : List Message) × AreRunsOfMachine m held w dropped old lines new printed come v last × StandsAt o (held new.cell) new.clock v last
@@ -198,7 +265,7 @@ module _ {C : Type 0} (m : Meaning C) (held : C → HeldCell) (so : IsOfHeld m h
   endless_explained : (w : WorldState) (dropped : List Message) (old : Simulated C) (before after : Option (List ℕ)) → StandsAt o (held old.cell) old.clock w dropped → IsEndlessExplained m held w dropped old before after
   endless_explained w dropped old before after at l new endless =
       let last : GoesBySteps w dropped endless.goes.steps new = by_steps old new w dropped endless.goes.steps at endless.goes.leads endless.goes.rises in
-      (last.world, last.leads, last.runs)
+      (last.world, last.gone, last.leads, last.runs)
 
   pub explained_until : (first : C) → IsNew o (held first) → (script before after : Option (List ℕ)) (f : ScriptFault) (stops : StopsWith m (at_0 first) script before after f) → AreExplainedUntil m held (world_of o) (at_0 first) script before after f stops
   explained_until first new script before after (fault.Line number) stops =

@@ -1,5 +1,5 @@
 -- What a script's lines come to in the protocol's worlds, and that a run of the relaxed-file machine explains it.
-use Rattle.std.specs.Prelude.{◌≡◌, ◌⊎◌, ⊤, ℕ, IsTrue, List, [], ◌∷◌, ◌++◌, map, length, Option, None}
+use Rattle.std.specs.Prelude.{◌≡◌, ◌⊎◌, ⊤, ℕ, IsTrue, List, [], ◌∷◌, ◌++◌, length, Option, None}
 use Rattle.std.specs.List.{flat_map}
 use Rattle.messages.specs.declared.message.Message.{Message}
 use Rattle.script.specs.Answers.{answer_line}
@@ -37,22 +37,24 @@ pub record DoesNotRot (w : WorldState) (s : Step) (v : WorldState) : Type 0 wher
   pub unanswered : s.answer ≡ None
   pub same : v ≡ w
 
--- steps lead from one world to the other
-abbrev pub LeadTo : WorldState → List Step → WorldState → Type 0
-LeadTo w [] v = v ≡ w
-LeadTo w (s ∷ rest) v = (u : WorldState) × (LeadsTo w s u ⊎ DoesNotRot w s u) × LeadTo u rest v
+-- a step with messages counted on from those that were dropped
+abbrev pub raised_step : List Message → Step → Step
+raised_step dropped s = record s { event = raised_event (length dropped) s.event }
 
--- steps with messages counted on from those that were dropped
-abbrev pub raised_step : ℕ → Step → Step
-raised_step before s = record s { event = raised_event before s.event }
+-- the messages that were dropped before, or all that were sent
+abbrev pub MayDrop : WorldState → List Message → List Message → Type 0
+MayDrop w dropped later = (later ≡ dropped) ⊎ (later ≡ w.sent)
 
-abbrev pub raised_steps : List Message → List Step → List Step
-raised_steps dropped steps = map (raised_step (length dropped)) steps
+-- Steps lead from one world to the other. Before each, and behind them, all messages may be dropped; none of them comes any more.
+abbrev pub LeadTo : WorldState → List Message → List Step → WorldState → List Message → Type 0
+LeadTo w dropped [] v last = (v ≡ w) × MayDrop w dropped last
+LeadTo w dropped (s ∷ rest) v last =
+    (later : List Message) × MayDrop w dropped later × (u : WorldState) × (LeadsTo w (raised_step later s) u ⊎ DoesNotRot w (raised_step later s) u) × LeadTo u later rest v last
 
 -- A line leads from one world to the other: by its steps, or by restarts of the master and of each server, after which all messages are dropped.
 abbrev pub LineLeads : {C : Type 0} (held : C → HeldCell) (w : WorldState) (dropped : List Message) (old : Simulated C) → CellLine → List Step → WorldState → List Message → Type 0
 LineLeads held w dropped old line.Rebase steps v later = WorldRuns w (restart_events (server_count (held old.cell)) old.clock) [] v × (later ≡ v.sent)
-LineLeads held w dropped old other steps v later = LeadTo w (raised_steps dropped steps) v × (later ≡ dropped)
+LineLeads held w dropped old other steps v later = LeadTo w dropped steps v later
 
 -- what is printed of what clients see: each answer
 abbrev pub shown_of : Visible → List ℕ
@@ -83,7 +85,7 @@ AreExplained {m} {old} {new} {lines} held w r v dropped = AreRunsOfMachine m hel
 abbrev pub IsEndlessExplained : {C : Type 0} (m : Meaning C) (held : C → HeldCell) (w : WorldState) (dropped : List Message) (old : Simulated C) (before after : Option (List ℕ)) → Type 0
 IsEndlessExplained {C} m held w dropped old before after =
     (l : CellLine) (new : Simulated C) (endless : IsEndless m old l new before after)
-    → (v : WorldState) × LeadTo w (raised_steps dropped endless.goes.steps) v × IsRunOfMachine w dropped (lines_of endless.goes.steps) (held new.cell) v
+    → (v : WorldState) × (last : List Message) × LeadTo w dropped endless.goes.steps v last × IsRunOfMachine w last (lines_of endless.goes.steps) (held new.cell) v
 
 -- The lines that ran before a script stopped, where something is known of them, and the one that had no end.
 abbrev pub AreExplainedUntil : {C : Type 0} (m : Meaning C) (held : C → HeldCell) (w : WorldState) (first : Simulated C) (script before after : Option (List ℕ)) (f : ScriptFault) → StopsWith m first script before after f → Type 0

@@ -1,5 +1,5 @@
 -- What an event may come to in a cell that a script drives, and how its replicas are printed.
-use Rattle.std.specs.Prelude.{◌≡◌, ◌⊎◌, ℕ, List, length, map, Option, None, option_map}
+use Rattle.std.specs.Prelude.{◌≡◌, ◌⊎◌, ℕ, List, [], length, map, Option, None, option_map}
 use Rattle.gfs_types.specs.declared.answer.Answer.{Answer}
 use Rattle.gfs_types.specs.declared.ids.Handle.{Handle}
 use Rattle.messages.specs.declared.event.Event.{Event}
@@ -40,6 +40,8 @@ meaning_of cell_of =
     record {
       steps = λ old event answer new. Steps (cell_of old) event answer (cell_of new);
       rebases = λ old moment new. DropsMessages (cell_of old) moment (cell_of new);
+      drops = λ old new. cell_of new ≡ record (cell_of old) { sent = [] };
+      count = λ c. length (cell_of c).sent;
       message = λ c number. numbered_from_1 (cell_of c).sent number;
       servers = λ c. server_count (cell_of c);
       clients = λ c. length (cell_of c).clients;

@@ -34,6 +34,11 @@ impl<M: CellMaster, S: StoppableStore> SimulatedCell for SimulatedWorld<M, S> {
         let _ = self.world.rebase_in_place(now);
     }
 
+    fn drop_messages(&mut self) -> u64 {
+        self.world.drop_messages();
+        self.world.message_count()
+    }
+
     fn message(&self, number: u64) -> Option<&Message> {
         self.world.message(number)
     }

@@ -4,9 +4,9 @@
 //!   client is sent Wait, and the call is done. It is never given up.
 //! - Each other call: the master answers Ask by Wait at once. A client that ticks at 500 milliseconds or later gives such a call up, with
 //!   the refusal Unknown.
-//! - A node that starts anew sends Revoked to the master; where all do, the messages are dropped and nothing is sent.
+//! - A node that starts anew sends Revoked to the master; where all do, the messages are dropped and nothing is sent. Else it keeps all messages.
 
-ghost use Rattle.std.specs.Prelude.{⊤, ◌==◌, ◌-◌, nat_lt, if◌then◌else◌, [], ◌∷◌, Some, None, slice_get, codes, bytes_eq, true, false};
+ghost use Rattle.std.specs.Prelude.{⊤, ◌==◌, ◌-◌, nat_lt, if◌then◌else◌, [], ◌∷◌, length, Some, None, slice_get, codes, bytes_eq, true, false};
 ghost use Rattle.std.specs.List.{list_any};
 ghost use Rattle.relaxed_file.specs.declared.region.Region.{Region as RegionShown};
 
@@ -193,6 +193,8 @@ impl SimulatedCell for FakeCell {
     ghost meaning = { record {
       steps = λ old event answer new. ⊤;
       rebases = λ old moment new. ⊤;
+      drops = λ old new. ⊤;
+      count = λ cell. length cell.messages.items;
       message = λ cell number. if nat_lt 0 number then slice_get cell.messages.items (number - 1) else None;
       servers = λ cell. cell.servers;
       clients = λ cell. cell.clients;
@@ -214,6 +216,10 @@ impl SimulatedCell for FakeCell {
 
     fn rebase(&mut self, _now: Moment) {
         self.messages.clear();
+    }
+
+    fn drop_messages(&mut self) -> u64 {
+        self.messages.len() as u64
     }
 
     fn message(&self, number: u64) -> Option<&Message> {

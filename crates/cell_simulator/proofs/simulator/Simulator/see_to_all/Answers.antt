@@ -1,7 +1,7 @@
 use Rattle.std.proofs.Common.{◌∙◌}
 use Rattle.cell_simulator.specs.Steps.{is_delivery}
 use Rattle.cell_simulator.proofs.StepLemmas.{goes_on}
-use Rattle.cell_simulator.proofs.simulator.Simulator.deliver.Goals as goal
+use Rattle.cell_simulator.proofs.simulator.Simulator.see_to_all.Goals as goal
 
 pub loop-preserved : goal.loop-preserved
 loop-preserved g c = record {

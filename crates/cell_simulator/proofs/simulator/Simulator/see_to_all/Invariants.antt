@@ -1,7 +1,7 @@
 use Rattle.std.proofs.Common.{◌≡◌}
 use Rattle.cell_simulator.specs.Steps.{Goes, Only, is_delivery}
 use Rattle.cell_simulator.specs.Shown.{state_of}
-use Rattle.cell_simulator.proofs.simulator.Simulator.deliver.Given as goal
+use Rattle.cell_simulator.proofs.simulator.Simulator.see_to_all.Given as goal
 
 -- the steps so far, and what was printed of them
 abbrev pub invariant-loop : goal.invariant-loop
