@@ -313,7 +313,9 @@ first_longest cell p ps entries same part rest = record {
 }
   where
     each : (k : ℕ) (q : Player) → slice_get (p ∷ ps) k ≡ Some q → IsPrefix q.seat.seen p.seat.seen
-    each zero q at = subst (λ (x : Player). IsPrefix x.seat.seen p.seat.seen) (let both : Some p ≡ Some q = at in cc) (prefix_self p.seat.seen)
+    each zero q at =
+        let same_one : p ≡ q = (let both : Some p ≡ Some q = at in cc) in
+        subst (λ (x : Player). IsPrefix x.seat.seen p.seat.seen) same_one (prefix_self p.seat.seen)
     each (suc k) q at = rest k q at
 
 -- or what another one saw
@@ -322,7 +324,9 @@ later_longest : (cell : Identity) (p : Player) (ps : List Player) (entries longe
 later_longest cell p ps entries longest part is shorter = record { begins = is.begins; lawful = is.lawful; clocks = is.clocks; explained = is.explained; all = each }
   where
     each : (k : ℕ) (q : Player) → slice_get (p ∷ ps) k ≡ Some q → IsPrefix q.seat.seen longest
-    each zero q at = subst (λ (x : Player). IsPrefix x.seat.seen longest) (let both : Some p ≡ Some q = at in cc) (prefix_shorter p.seat.seen longest entries part.begins is.begins shorter)
+    each zero q at =
+        let same_one : p ≡ q = (let both : Some p ≡ Some q = at in cc) in
+        subst (λ (x : Player). IsPrefix x.seat.seen longest) same_one (prefix_shorter p.seat.seen longest entries part.begins is.begins shorter)
     each (suc k) q at = is.all k q at
 
 longer : (cell : Identity) (p : Player) (ps : List Player) (entries longest : List Entry) → p.seat.cell ≡ cell → HasSeenPart entries p.seat → IsLongest cell ps entries longest
