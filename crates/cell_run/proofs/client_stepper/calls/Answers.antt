@@ -6,8 +6,8 @@ use Rattle.cell_seats.specs.Slots.{IsCopyOf}
 use Rattle.cell_run.proofs.Stepping.{called_so, copy_is}
 use Rattle.cell_run.proofs.client_stepper.calls.Goals as goal
 
-pub returns-in-Some-clause-steps : goal.returns-in-Some-clause-steps
-returns-in-Some-clause-steps c =
+pub returns-clause-steps : goal.returns-clause-steps
+returns-clause-steps c =
     called_so c.args.client.now c.call-out.new.self c.with_copy.new.client c.config-config.result c.id-id.result c.args.now.0 c.args.asked.now c.in-Some.call c.call-out.result c.with_copy.result.out
     c.config-config.ensures.value c.id-id.ensures (copy_is c.args.asked.now c.args.copy c.in-Some.call c.in-Some.is c.requires) c.call-out.ensures c.with_copy.ensures.step
 
