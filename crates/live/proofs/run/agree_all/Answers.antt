@@ -1,4 +1,4 @@
-use Rattle.std.proofs.Common.{refl, sym, subst}
+use Rattle.std.proofs.Common.{refl}
 use Rattle.live.specs.declared.play.Player.{Player}
 use Rattle.live.specs.Live.{HasSeenPart}
 use Rattle.live.proofs.Players.{first_more, first_none, first_all}
@@ -11,7 +11,7 @@ pub loop-before-preserved : goal.loop-before-preserved
 loop-before-preserved c =
     let at = c.index-players-before in
     first_more (λ (p : Player). HasSeenPart c.args.journal.now.entries p.seat) c.args.players.now c.loop-before.before at.result c.loop-before-test.true at.is c.loop-before.invariant
-    (subst (λ (p : Player). HasSeenPart c.args.journal.now.entries p.seat) (sym at.is) c.agree_one.ensures)
+    c.agree_one.ensures
 
 pub returns : goal.returns
 returns c = first_all (λ (p : Player). HasSeenPart c.args.journal.now.entries p.seat) c.args.players.now c.loop-before.before c.loop-before-test.false c.loop-before.invariant
