@@ -36,7 +36,7 @@ def regions_row(regions):
 def picture(cell, title, file, index, handle):
     """The lines of one chunk's picture."""
     order = state.orders(cell.world).get(handle)
-    entries = state.entries(order, cell.settings['chunk']) if order else []
+    entries = state.entries(order) if order else []
     stored = [(f's{number + 1}', state.replicas(server).get(handle)) for number, server in enumerate(state.servers(cell.world)) if state.is_up(server)]
     stored = [(name, replica) for name, replica in stored if replica is not None]
     regions = cell.regions(file, index)

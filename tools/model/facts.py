@@ -53,7 +53,7 @@ class Facts:
         return self.cell.world
 
     def entries_of(self, handle, world=None):
-        return state.entries(state.orders(world or self.world()).get(handle, []), self.chunk)
+        return state.entries(state.orders(world or self.world()).get(handle, []))
 
     def check(self, event, before):
         """All facts, after an event in the world before."""

@@ -150,10 +150,10 @@ class StoreDisk(StoppedDisk):
         if body[0] == 'Mutate':
             for seen in doing['seen']:
                 if seen[0] == 'Numbered':
-                    yield self.edges(cell, server, state.number(body[2]), *range_of(server, seen[5][:2], seen[5][2:]))
+                    yield self.edges(cell, server, state.number(body[2]), *range_of(seen[5], seen[5][2:]))
         elif body[0] == 'Forward' and kinds & {'Write', 'Zero', 'Remove'}:
             pushed = apply(cell.program.function('data_push', 'Buffers', 'data_of'), server['pushed'], body[4])
-            yield self.edges(cell, server, state.number(body[1]), *range_of(server, body[5], pushed[1:]))
+            yield self.edges(cell, server, state.number(body[1]), *range_of(body[5], pushed[1:]))
         elif body[0] == 'Read' and kinds & {'Bytes', 'Remove'}:
             yield self.reads(server, state.number(body[2]), body[4], body[5])
         elif body[0] == 'CopyAsk' and kinds & {'Image', 'Remove'}:
@@ -250,7 +250,6 @@ class StoreDisk(StoppedDisk):
         return choice
 
 
-def range_of(server, change, data):
-    """Where a mutation begins and ends: of a write or an append the data are given as a list of one, of a pad none."""
-    kind, offset = change
-    return offset, offset + len(data[0]) if kind != 'Pad' else server['config']['chunk']
+def range_of(change, data):
+    """Where a mutation begins and ends: of a write or an append the data are given as a list of one; a pad says where it ends."""
+    return change[1], change[2] if change[0] == 'Pad' else change[1] + len(data[0])

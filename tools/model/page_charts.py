@@ -100,7 +100,7 @@ def other_messages(chart, cell):
 def other_order(drawn, cell):
     """What of an order isn't that of the row's first chunk."""
     handle = cell.chunk(cell.file(b'/f'), 0)
-    entries = state.entries(state.orders(cell.world)[handle], cell.settings['chunk'])
+    entries = state.entries(state.orders(cell.world)[handle])
     regions = ', '.join(f'{first}-{end} {"" if is_determined else "un"}determined' for first, end, is_determined in cell.regions(cell.file(b'/f'), 0))
     wanted = {
         'place': [str(it.offset) for it in entries] + [str(entries[-1].offset + len(entries[-1].content))],

@@ -81,14 +81,14 @@ def files_seen(world):
     return world['observer']['files'].items
 
 
-def entries(order, chunk):
-    return kept_of(order, lambda: [entry_of(placed, chunk) for placed in order])
+def entries(order):
+    return kept_of(order, lambda: [entry_of(placed) for placed in order])
 
 
-def entry_of(placed, chunk):
+def entry_of(placed):
     entry = placed['entry']
     kind, offset = entry['mutation'][:2]
-    content = [0] * (chunk - offset) if kind == 'Pad' else entry['mutation'][2]
+    content = [0] * (entry['mutation'][2] - offset) if kind == 'Pad' else entry['mutation'][2]
     call = entry['call']
     return Entry(number(call['client']), call['number'], placed['seq'], entry['round'], placed['serial'], kind, offset, content, entry['settled'])
 

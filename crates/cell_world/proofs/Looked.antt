@@ -26,13 +26,13 @@ Shows h file index found = found ≡ option_map handle_of (option_and_then (λ h
 
 pub no_regions_held : (h : HeldCell) (file index : ℕ) (found : Option Handle) → found ≡ None → Shows h file index found → None ≡ regions_held h file index
 no_regions_held h file index found none e =
-    sym (ap (option_map (λ x. regions_of h.config.chunk (entries_seen h.seen x))) (handle_there (handle_held h file index) found e ∙ ap (option_map (λ x. x.0)) none))
+    sym (ap (option_map (λ x. regions_of (entries_seen h.seen x))) (handle_there (handle_held h file index) found e ∙ ap (option_map (λ x. x.0)) none))
 
 pub regions_are_held : (h : HeldCell) (file index : ℕ) (found : Option Handle) (handle : Handle) (regions : List Region) → found ≡ Some handle → Shows h file index found
-    → regions ≡ regions_of h.config.chunk (entries_seen h.seen handle.0) → Some regions ≡ regions_held h file index
+    → regions ≡ regions_of (entries_seen h.seen handle.0) → Some regions ≡ regions_held h file index
 regions_are_held h file index found handle regions some e is =
     ap (λ rs. Some rs) is
-    ∙ sym (ap (option_map (λ x. regions_of h.config.chunk (entries_seen h.seen x))) (handle_there (handle_held h file index) found e ∙ ap (option_map (λ x. x.0)) some))
+    ∙ sym (ap (option_map (λ x. regions_of (entries_seen h.seen x))) (handle_there (handle_held h file index) found e ∙ ap (option_map (λ x. x.0)) some))
 
 pub no_replicas_held : (h : HeldCell) (file index : ℕ) (found : Option Handle) → found ≡ None → Shows h file index found → None ≡ replicas_held h file index
 no_replicas_held h file index found none e =

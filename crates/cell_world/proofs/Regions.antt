@@ -5,7 +5,6 @@ use Rattle.std.specs.FinMap as table
 use Rattle.gfs_types.specs.Mutations.{covers}
 use Rattle.gfs_types.specs.Image.{newer, image_length}
 use Rattle.gfs_types.specs.declared.ids.Handle.{Handle}
-use Rattle.gfs_types.specs.declared.config.Config.{Config}
 use Rattle.relaxed_file.specs.Order.{Entry, mutations_of, last_cover, order_length}
 use Rattle.relaxed_file.specs.Regions.{is_determined, joined_before, regions_from, regions_of}
 use Rattle.relaxed_file.specs.declared.region.Region.{Region}
@@ -31,10 +30,10 @@ mutations_alike (p ∷ ps) = ap (λ ms. p.entry.mutation ∷ ms) (mutations_alik
 abbrev settling : Option Entry → Option Bool
 settling o = option_map (λ e. not e.settled) o
 
-covered_alike : (size place : ℕ) (ps : List Placed) → settling (last_cover size (entries_in (map uncounted ps)) place) ≡ settling (last_cover size (entries_in ps) place)
-covered_alike size place [] = refl
-covered_alike size place (p ∷ ps) =
-    by (last_cover size (entries_in (map uncounted ps)) place) (last_cover size (entries_in ps) place) (covers size place p.entry.mutation) (covered_alike size place ps)
+covered_alike : (place : ℕ) (ps : List Placed) → settling (last_cover (entries_in (map uncounted ps)) place) ≡ settling (last_cover (entries_in ps) place)
+covered_alike place [] = refl
+covered_alike place (p ∷ ps) =
+    by (last_cover (entries_in (map uncounted ps)) place) (last_cover (entries_in ps) place) (covers place p.entry.mutation) (covered_alike place ps)
   where
     by : (a b : Option Entry) (c : Bool) → settling a ≡ settling b → settling (newer (if c then Some (uncounted p).entry else None) a) ≡ settling (newer (if c then Some p.entry else None) b)
     by None None true h = refl
@@ -43,27 +42,25 @@ covered_alike size place (p ∷ ps) =
     by (Some x) None c h = absurd cc
     by (Some x) (Some y) c h = h
 
-determined_alike : (size : ℕ) (ps : List Placed) (place : ℕ) → is_determined size (entries_in (map uncounted ps)) place ≡ is_determined size (entries_in ps) place
-determined_alike size ps place = ap (λ o. not (unwrap_or o false)) (covered_alike size place ps)
+determined_alike : (ps : List Placed) (place : ℕ) → is_determined (entries_in (map uncounted ps)) place ≡ is_determined (entries_in ps) place
+determined_alike ps place = ap (λ o. not (unwrap_or o false)) (covered_alike place ps)
 
-from_alike : (size : ℕ) (ps : List Placed) (count place : ℕ) → regions_from size (entries_in (map uncounted ps)) place count ≡ regions_from size (entries_in ps) place count
-from_alike size ps zero place = refl
-from_alike size ps (suc count) place =
-    ap (λ (b : Bool). joined_before place b (regions_from size (entries_in (map uncounted ps)) (suc place) count)) (determined_alike size ps place)
-    ∙ ap (joined_before place (is_determined size (entries_in ps) place)) (from_alike size ps count (suc place))
+from_alike : (ps : List Placed) (count place : ℕ) → regions_from (entries_in (map uncounted ps)) place count ≡ regions_from (entries_in ps) place count
+from_alike ps zero place = refl
+from_alike ps (suc count) place =
+    ap (λ (b : Bool). joined_before place b (regions_from (entries_in (map uncounted ps)) (suc place) count)) (determined_alike ps place)
+    ∙ ap (joined_before place (is_determined (entries_in ps) place)) (from_alike ps count (suc place))
 
-regions_alike : (size : ℕ) (ps : List Placed) → regions_of size (entries_in (map uncounted ps)) ≡ regions_of size (entries_in ps)
-regions_alike size ps =
-    ap (λ ms. regions_from size (entries_in (map uncounted ps)) 0 (image_length size ms)) (mutations_alike ps)
-    ∙ from_alike size ps (order_length size (entries_in ps)) 0
+regions_alike : (ps : List Placed) → regions_of (entries_in (map uncounted ps)) ≡ regions_of (entries_in ps)
+regions_alike ps =
+    ap (λ ms. regions_from (entries_in (map uncounted ps)) 0 (image_length ms)) (mutations_alike ps)
+    ∙ from_alike ps (order_length (entries_in ps)) 0
 
 -- the regions of a handle, by what was seen
 pub regions_seen : (w : WorldState) (h : HeldCell) (handle : ℕ) → IsHeldAs w h
-    → regions_of h.config.chunk (entries_seen h.seen handle) ≡ regions_of w.config.chunk (entries_in (order_of w.observer handle))
+    → regions_of (entries_seen h.seen handle) ≡ regions_of (entries_in (order_of w.observer handle))
 regions_seen w h handle g =
-    ap (λ ps. regions_of h.config.chunk (entries_in ps)) (sym (g.orders handle))
-    ∙ (regions_alike h.config.chunk (order_of w.observer handle)
-    ∙ ap (λ (c : Config). regions_of c.chunk (entries_in (order_of w.observer handle))) (sym g.config))
+    ap (λ ps. regions_of (entries_in ps)) (sym (g.orders handle)) ∙ regions_alike (order_of w.observer handle)
 
 pub handle_there : (o : Option ℕ) (found : Option Handle) → found ≡ option_map handle_of o → o ≡ option_map (λ h. h.0) found
 handle_there None found e = rw e refl
@@ -82,13 +79,13 @@ Shows h file index found = found ≡ option_map handle_of (option_and_then (λ h
 
 pub no_regions : (h : HeldCell) (file index : ℕ) (found : Option Handle) → found ≡ None → Shows h file index found → (w : WorldState) → IsHeldAs w h → None ≡ regions_at w file index
 no_regions h file index found none e w g =
-    sym (ap (option_map (λ x. regions_of w.config.chunk (entries_in (order_of w.observer x)))) (handle_held w h file index found g e ∙ ap (option_map (λ x. x.0)) none))
+    sym (ap (option_map (λ x. regions_of (entries_in (order_of w.observer x)))) (handle_held w h file index found g e ∙ ap (option_map (λ x. x.0)) none))
 
 pub shown_regions : (h : HeldCell) (file index : ℕ) (found : Option Handle) (handle : Handle) (regions : List Region) → found ≡ Some handle → Shows h file index found
-    → regions ≡ regions_of h.config.chunk (entries_seen h.seen handle.0) → (w : WorldState) → IsHeldAs w h → Some regions ≡ regions_at w file index
+    → regions ≡ regions_of (entries_seen h.seen handle.0) → (w : WorldState) → IsHeldAs w h → Some regions ≡ regions_at w file index
 shown_regions h file index found handle regions some e is w g =
     ap (λ rs. Some rs) (is ∙ regions_seen w h handle.0 g)
-    ∙ sym (ap (option_map (λ x. regions_of w.config.chunk (entries_in (order_of w.observer x)))) (handle_held w h file index found g e ∙ ap (option_map (λ x. x.0)) some))
+    ∙ sym (ap (option_map (λ x. regions_of (entries_in (order_of w.observer x)))) (handle_held w h file index found g e ∙ ap (option_map (λ x. x.0)) some))
 
 pub no_replicas : (h : HeldCell) (file index : ℕ) (found : Option Handle) → found ≡ None → Shows h file index found → (w : WorldState) → IsHeldAs w h → None ≡ replicas_at w file index
 no_replicas h file index found none e w g =

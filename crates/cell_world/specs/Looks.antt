@@ -26,7 +26,7 @@ handle_held h file index = option_and_then (λ handles. element_at handles index
 
 -- the regions of a file's chunk, by all that was seen
 abbrev pub regions_held : HeldCell → ℕ → ℕ → Option (List Region)
-regions_held h file index = option_map (λ handle. regions_of h.config.chunk (entries_seen h.seen handle)) (handle_held h file index)
+regions_held h file index = option_map (λ handle. regions_of (entries_seen h.seen handle)) (handle_held h file index)
 
 -- its handle, and its replicas on servers that are up, by rising server
 abbrev pub replicas_held : HeldCell → ℕ → ℕ → Option (ℕ × List StoredAt)

@@ -1,6 +1,6 @@
 //! An entry of a chunk's order as it was numbered.
 
-ghost use Rattle.std.specs.Prelude.{◌≡◌, ◌<◌, ◌^◌, ℕ, [], IfOk, true};
+ghost use Rattle.std.specs.Prelude.{◌≡◌, ◌<◌, ◌^◌, [], IfOk, true};
 ghost use Rattle.std.proofs.Common.{rules};
 ghost use Rattle.gfs_types.specs.Mutations.{end_of};
 ghost use Rattle.protocol.specs.Observer.{settled_as, new_entry};
@@ -65,10 +65,10 @@ impl Numbered {
         after
     }
 
-    /// The entry, for a list of entries in a chunk of a size; an end past every number finds no memory.
-    pub(crate) fn entry(&self, chunk: u64) -> Result<Entry, NoMemory>
+    /// The entry, for a list of entries; an end past every number finds no memory.
+    pub(crate) fn entry(&self) -> Result<Entry, NoMemory>
         ensures entry { IfOk result (λ e. e ≡ self.now.entry) }
-        ensures end { IfOk result (λ e. end_of chunk e.mutation < 2 ^ 64) }
+        ensures end { IfOk result (λ e. end_of e.mutation < 2 ^ 64) }
     {
         if !ends(&self.mutation) {
             return Err(NoMemory);
@@ -85,12 +85,12 @@ impl Numbered {
 
 // Whether its end is a number.
 fn ends(mutation: &Mutation) -> bool
-    ensures { result ≡ true → (chunk : ℕ) → chunk < 2 ^ 64 → end_of chunk mutation.now < 2 ^ 64 }
+    ensures { result ≡ true → end_of mutation.now < 2 ^ 64 }
 {
     match mutation {
         Mutation::Write(offset, bytes) | Mutation::Append(offset, bytes) => {
             offset.checked_add(bytes.len() as u64).is_some()
         }
-        Mutation::Pad(_) => true,
+        Mutation::Pad(_, _) => true,
     }
 }

@@ -45,8 +45,7 @@ impl<M: CellMaster, S: ReplicaStore> CellState<M, S> {
         let Some(handle) = self.master.handle_at(file, index) else {
             return Ok(None);
         };
-        let chunk = u64::from(self.config.chunk);
-        Ok(Some(self.record.sights.regions(alloc, chunk, handle)?))
+        Ok(Some(self.record.sights.regions(alloc, handle)?))
     }
 
     /// The handle of a file's chunk of this index, from 0, and each replica that is stored on a server that is up, by rising

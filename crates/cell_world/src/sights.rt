@@ -59,26 +59,21 @@ impl Sights {
         }
     }
 
-    /// The regions of a handle's chunk, of a size. It replays all that was seen.
-    pub fn regions(
-        &self,
-        alloc: Global,
-        chunk: u64,
-        handle: Handle,
-    ) -> Result<Vec<Region>, NoMemory>
-        ensures { IfOk result (λ regions. regions.items ≡ regions_of chunk (entries_seen self.now.seen handle.0)) }
+    /// The regions of a handle's chunk. It replays all that was seen.
+    pub fn regions(&self, alloc: Global, handle: Handle) -> Result<Vec<Region>, NoMemory>
+        ensures { IfOk result (λ regions. regions.items ≡ regions_of (entries_seen self.now.seen handle.0)) }
     {
-        let entries = self.entries(alloc, chunk, handle)?;
-        Ok(machine_programs::regions::regions(alloc, chunk, entries.as_slice())?)
+        let entries = self.entries(alloc, handle)?;
+        Ok(machine_programs::regions::regions(alloc, entries.as_slice())?)
     }
 
-    fn entries(&self, alloc: Global, chunk: u64, handle: Handle) -> Result<Vec<Entry>, NoMemory>
+    fn entries(&self, alloc: Global, handle: Handle) -> Result<Vec<Entry>, NoMemory>
         ensures entries { IfOk result (λ entries. entries.items ≡ entries_seen self.now.seen handle.0) }
-        ensures ends { IfOk result (λ entries. All (λ e. end_of chunk e.mutation < 2 ^ 64) entries.items) }
+        ensures ends { IfOk result (λ entries. All (λ e. end_of e.mutation < 2 ^ 64) entries.items) }
     {
         let orders = orders_of(alloc, self.steps.as_slice())?;
         let list = orders.copy_of(handle.0)?;
-        entries_of(alloc, chunk, list.as_slice())
+        entries_of(alloc, list.as_slice())
     }
 }
 
@@ -99,13 +94,13 @@ fn orders_of(alloc: Global, steps: &[SeenList]) -> Result<Orders, NoMemory>
     Ok(orders)
 }
 
-fn entries_of(alloc: Global, chunk: u64, list: &[Numbered]) -> Result<Vec<Entry>, NoMemory>
+fn entries_of(alloc: Global, list: &[Numbered]) -> Result<Vec<Entry>, NoMemory>
     ensures entries { IfOk result (λ entries. entries.items ≡ map (λ p. p.entry) list.now) }
-    ensures ends { IfOk result (λ entries. All (λ e. end_of chunk e.mutation < 2 ^ 64) entries.items) }
+    ensures ends { IfOk result (λ entries. All (λ e. end_of e.mutation < 2 ^ 64) entries.items) }
 {
     let mut entries = Vec::new(alloc);
     for one in list {
-        entries.push(one.entry(chunk)?)?;
+        entries.push(one.entry()?)?;
     }
     Ok(entries)
 }

@@ -35,27 +35,27 @@ module _ {D : Type 0} (seen : D → List ℕ) (may_leave : D → List ℕ → Ty
       still_open seen may_leave store d is disk index store.order d (ap length read) is.order rest
       (subst (λ (x : IndexState). Says l.chunk l.block l.slots x (seen disk) d) (sym same) (subst (λ (bytes : List ℕ). Says l.chunk l.block l.slots store.index bytes d) (sym read) is.says))
 
-  module _ (h : Handle) (s : Serial) (m : Mutation) (place : ℕ) (bytes : List ℕ) (at : place ≡ place_of m) (is_bytes : bytes ≡ bytes_of store.layout.chunk m) where
-    same : (d : ServerDisk) → disk_changed d (Write h s place bytes) ≡ disk_changed d (change_of store.layout.chunk h s m)
+  module _ (h : Handle) (s : Serial) (m : Mutation) (place : ℕ) (bytes : List ℕ) (at : place ≡ place_of m) (is_bytes : bytes ≡ bytes_of m) where
+    same : (d : ServerDisk) → disk_changed d (Write h s place bytes) ≡ disk_changed d (change_of h s m)
     same d =
         ap (λ (p : ℕ). disk_changed d (Write h s p bytes)) at ∙ ap (λ (b : List ℕ). disk_changed d (Write h s (place_of m) b)) is_bytes
-        ∙ change_same store.layout.chunk h s m d
+        ∙ change_same h s m d
 
     -- the range is the mutation's
-    pub writable_same : (d : ServerDisk) → is_writable_at d h.0 place (place + length bytes) ≡ is_writable_at d h.0 (place_of m) (place_of m + length (bytes_of store.layout.chunk m))
+    pub writable_same : (d : ServerDisk) → is_writable_at d h.0 place (place + length bytes) ≡ is_writable_at d h.0 (place_of m) (place_of m + length (bytes_of m))
     writable_same d =
         ap (λ (p : ℕ). is_writable_at d h.0 p (p + length bytes)) at ∙ ap (λ (b : List ℕ). is_writable_at d h.0 (place_of m) (place_of m + length b)) is_bytes
 
     -- the mutation was made
     pub applied_open : (d : ServerDisk) → IsOpen seen may_leave store d → length (seen disk) ≡ length (seen store.disk) → IsAtRest seen may_leave (area_of store.layout.chunk store.layout.block) disk
-        → Says store.layout.chunk store.layout.block store.layout.slots index (seen disk) (disk_changed d (Write h s place bytes)) → IsOpen seen may_leave then_store (disk_changed d (change_of store.layout.chunk h s m))
+        → Says store.layout.chunk store.layout.block store.layout.slots index (seen disk) (disk_changed d (Write h s place bytes)) → IsOpen seen may_leave then_store (disk_changed d (change_of h s m))
     applied_open d is size rest says =
         let l = store.layout in
-        still_open seen may_leave store d is disk index store.order (disk_changed d (change_of l.chunk h s m)) size (is.order ∙ order_stays (λ r. written_replica r s.0 place bytes) d h.0 (replica_of d h.0) ∙ ap order_of (same d)) rest
+        still_open seen may_leave store d is disk index store.order (disk_changed d (change_of h s m)) size (is.order ∙ order_stays (λ r. written_replica r s.0 place bytes) d h.0 (replica_of d h.0) ∙ ap order_of (same d)) rest
         (subst (λ (e : ServerDisk). Says l.chunk l.block l.slots index (seen disk) e) (same d) says)
 
     pub leaves_same : LeavesWritten seen moment left_since store.layout.chunk store.layout.block store.layout.slots store.disk disk store.index h.0 (Write h s place bytes)
-        → LeavesWritten seen moment left_since store.layout.chunk store.layout.block store.layout.slots store.disk disk store.index h.0 (change_of store.layout.chunk h s m)
+        → LeavesWritten seen moment left_since store.layout.chunk store.layout.block store.layout.slots store.disk disk store.index h.0 (change_of h s m)
     leaves_same written d says noticed =
         let l = store.layout in
         subst (λ (e : ServerDisk). StandsOnly seen moment left_since (area_of l.chunk l.block) store.disk disk (λ bs. IsStored l.chunk l.block l.slots bs d ⊎ IsStored l.chunk l.block l.slots bs e)) (same d) (written d says noticed)

@@ -28,25 +28,24 @@ impl<D: Disk> Store<D> {
         mutation: &Mutation,
     ) -> Result<(), StoreFault>
         requires is_open { (d : ServerDisk) × IsOpen D.seen D.may_leave self.old d }
-        requires place { place_value mutation.now ≤ self.old.layout.chunk }
-        requires within { place_value mutation.now + length (bytes_value self.old.layout.chunk mutation.now) ≤ self.old.layout.chunk }
+        requires within { place_value mutation.now + length (bytes_value mutation.now) ≤ self.old.layout.chunk }
         ensures ok { (d : ServerDisk) → IsOpen D.seen D.may_leave self.old d → IsNoticedAt d handle.0
-            → OnOk result (IsOpen D.seen D.may_leave self.new (disk_changed d (change_of self.old.layout.chunk handle serial mutation.now))) }
+            → OnOk result (IsOpen D.seen D.may_leave self.new (disk_changed d (change_of handle serial mutation.now))) }
         ensures no_chunk { (d : ServerDisk) → IsOpen D.seen D.may_leave self.old d → (IsErrOf result faults.NoChunk ↔ row_at d handle.0 ≡ None) }
         ensures version { (d : ServerDisk) → IsOpen D.seen D.may_leave self.old d → (IsErrOf result faults.Version ↔ (row : Row) × (row_at d handle.0 ≡ Some row) × (row.version ≢ version)) }
         ensures old_serial { (d : ServerDisk) → IsOpen D.seen D.may_leave self.old d
             → (IsErrOf result faults.OldSerial ↔ (row : Row) × (row_at d handle.0 ≡ Some row) × (row.version ≡ version) × (serial.0 ≤ row.serial.0)) }
         ensures corrupt { (d : ServerDisk) → IsOpen D.seen D.may_leave self.old d → IsErrOf result faults.Corrupt
-            → is_writable_at d handle.0 (place_value mutation.now) (place_value mutation.now + length (bytes_value self.old.layout.chunk mutation.now)) ≡ false }
+            → is_writable_at d handle.0 (place_value mutation.now) (place_value mutation.now + length (bytes_value mutation.now)) ≡ false }
         ensures writable { (d : ServerDisk) → IsOpen D.seen D.may_leave self.old d
-            → OnOk result (is_writable_at d handle.0 (place_value mutation.now) (place_value mutation.now + length (bytes_value self.old.layout.chunk mutation.now)) ≡ true) }
+            → OnOk result (is_writable_at d handle.0 (place_value mutation.now) (place_value mutation.now + length (bytes_value mutation.now)) ≡ true) }
         // A range that can't be written over is only looked at.
         ensures untouched { (d : ServerDisk) → IsOpen D.seen D.may_leave self.old d
-            → is_writable_at d handle.0 (place_value mutation.now) (place_value mutation.now + length (bytes_value self.old.layout.chunk mutation.now)) ≡ false
+            → is_writable_at d handle.0 (place_value mutation.now) (place_value mutation.now + length (bytes_value mutation.now)) ≡ false
             → OnlyReads D.seen D.may_leave D.moment D.left_since self.old.disk self.new.disk }
         ensures no_room { IsErrOf result faults.NoRoom → ⊥ }
         ensures refused { (d : ServerDisk) → IsOpen D.seen D.may_leave self.old d → IsRefused result → IsOpen D.seen D.may_leave self.new d }
-        ensures any_moment { LeavesWritten D.seen D.moment D.left_since self.old.layout.chunk self.old.layout.block self.old.layout.slots self.old.disk self.new.disk self.old.index handle.0 (change_of self.old.layout.chunk handle serial mutation.now) }
+        ensures any_moment { LeavesWritten D.seen D.moment D.left_since self.old.layout.chunk self.old.layout.block self.old.layout.slots self.old.disk self.new.disk self.old.index handle.0 (change_of handle serial mutation.now) }
         ensures layout { self.new.layout ≡ self.old.layout }
         ensures cause { MayFail (D.failed self.old.disk) (D.failed self.new.disk) result }
     {
@@ -59,7 +58,7 @@ impl<D: Disk> Store<D> {
         if new <= last {
             return Err(StoreFault::OldSerial);
         }
-        let bytes = bytes_of(alloc, self.layout.chunk, mutation)?;
+        let bytes = bytes_of(alloc, mutation)?;
         let place = place_of(mutation);
         let written = write(
             alloc,

@@ -56,25 +56,25 @@ or_on : (a b d : Bool) → (b ≡ true → d ≡ true) → a || b ≡ true → a
 or_on true b d go h = refl
 or_on false b d go h = go h
 
-full_order : (size : ℕ) (old new : List Entry) → OrderGrows old new → list_any (λ e. end_of size e.mutation == size) old ≡ true → list_any (λ e. end_of size e.mutation == size) new ≡ true
+full_order : (size : ℕ) (old new : List Entry) → OrderGrows old new → list_any (λ e. end_of e.mutation == size) old ≡ true → list_any (λ e. end_of e.mutation == size) new ≡ true
 full_order size [] new grows h = absurd (true≢false (sym h))
 full_order size (e ∷ old) [] grows h = absurd grows
 full_order size (e ∷ old) (f ∷ new) grows h =
-    ap (λ (b : Bool). b || list_any (λ x. end_of size x.mutation == size) new) (sym (ap (λ m. end_of size m == size) (grows.0).2))
-    ∙ or_on (end_of size e.mutation == size) (list_any (λ x. end_of size x.mutation == size) old) (list_any (λ x. end_of size x.mutation == size) new) (full_order size old new grows.1) h
+    ap (λ (b : Bool). b || list_any (λ x. end_of x.mutation == size) new) (sym (ap (λ m. end_of m == size) (grows.0).2))
+    ∙ or_on (end_of e.mutation == size) (list_any (λ x. end_of x.mutation == size) old) (list_any (λ x. end_of x.mutation == size) new) (full_order size old new grows.1) h
 
 full_stays : (m n : Machine) (file index : ℕ) → Grows m n → IsFullAt m file index → IsFullAt n file index
 full_stays m n file index grows h =
     record {
       count = let low = h.count in let more = (grows.files file).count in omega (arith, low, more);
-      full = subst (λ (size : ℕ). list_any (λ e. end_of size e.mutation == size) (chunk_at n file index).order ≡ true) (sym (ap (λ (c : Config). c.chunk) grows.config))
+      full = subst (λ (size : ℕ). list_any (λ e. end_of e.mutation == size) (chunk_at n file index).order ≡ true) (sym (ap (λ (c : Config). c.chunk) grows.config))
           (full_order m.config.chunk (chunk_at m file index).order (chunk_at n file index).order (((grows.files file).chunks index).order) h.full);
     }
 
-last_full : (n : Machine) (file past count : ℕ) → count ≤ suc past → (past < count) → IsTrue (list_any (λ e. end_of (chunk_size n file) e.mutation == chunk_size n file) (chunk_at n file past).order) → IsTrue (is_last_chunk_full n file count)
+last_full : (n : Machine) (file past count : ℕ) → count ≤ suc past → (past < count) → IsTrue (list_any (λ e. end_of e.mutation == chunk_size n file) (chunk_at n file past).order) → IsTrue (is_last_chunk_full n file count)
 last_full n file past zero most low full = absurd (omega (arith, low))
 last_full n file past (suc last) most low full =
-    let same : past ≡ last = omega (arith, most, low) in subst (λ (q : ℕ). IsTrue (list_any (λ e. end_of (chunk_size n file) e.mutation == chunk_size n file) (chunk_at n file q).order)) same full
+    let same : past ≡ last = omega (arith, most, low) in subst (λ (q : ℕ). IsTrue (list_any (λ e. end_of e.mutation == chunk_size n file) (chunk_at n file q).order)) same full
 
 none_full : (n : Machine) (file count : ℕ) → count ≤ 0 → IsTrue (is_last_chunk_full n file count)
 none_full n file zero low = refl

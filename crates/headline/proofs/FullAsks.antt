@@ -22,18 +22,18 @@ use Rattle.headline.specs.AskedChunks.{IsFullAt, AsksAreFull}
 
 module _ (size version : ℕ) where
   abbrev ends : Entry → Bool
-  ends e = end_of size e.mutation == size
+  ends e = end_of e.mutation == size
 
   abbrev within : List Entry → List Entry
   within order = filter (λ e. nat_le e.round version) order
 
-  one_within : (order : List Placed) (place : ℕ) (p : Placed) → element_at order place ≡ Some p → p.entry.round ≤ version → end_of size p.entry.mutation ≡ size → list_any ends (within (map (λ (q : Placed). q.entry) order)) ≡ true
+  one_within : (order : List Placed) (place : ℕ) (p : Placed) → element_at order place ≡ Some p → p.entry.round ≤ version → end_of p.entry.mutation ≡ size → list_any ends (within (map (λ (q : Placed). q.entry) order)) ≡ true
   one_within [] place p at low is = none_some p at
   one_within (q ∷ order) zero p at low is =
       let same : q ≡ p = same_some q p at in
       let rest : List Entry = within (map (λ (x : Placed). x.entry) order) in
       on_cond (λ (es : List Entry). list_any ends es ≡ true) (nat_le q.entry.round version) (q.entry ∷ rest) rest
-      (λ _. ap (λ (b : Bool). b || list_any ends rest) (eq-eqb (end_of size q.entry.mutation) size (ap (λ (x : Placed). end_of size x.entry.mutation) same ∙ is)))
+      (λ _. ap (λ (b : Bool). b || list_any ends rest) (eq-eqb (end_of q.entry.mutation) size (ap (λ (x : Placed). end_of x.entry.mutation) same ∙ is)))
       (λ late. absurd (let high = leb-false q.entry.round version late in let round : q.entry.round ≡ p.entry.round = ap (λ (x : Placed). x.entry.round) same in omega (arith, high, round, low)))
   one_within (q ∷ order) (suc place) p at low is =
       let rest : List Entry = within (map (λ (x : Placed). x.entry) order) in
@@ -74,7 +74,7 @@ asks_are_full config servers clients w r clocks some ss k beside client place nu
         (subst (λ (n : ℕ). HasFullEnd w.config.chunk (order_of w.observer n) l.round.0) (sym before.chunk.handle_is)
         (subst (λ (n : ℕ). HasFullEnd w.config.chunk (order_of w.observer before.handle) n) (sym before.chunk.round_is) before.ends)))
 
-    full : IsTrue (list_any (λ e. end_of size e.mutation == size) (chunk_at k.machine file.0 l.index).order)
+    full : IsTrue (list_any (λ e. end_of e.mutation == size) (chunk_at k.machine file.0 l.index).order)
     full =
         one_there size l.round.0 (chunk_at k.machine file.0 l.index).order
-        (subst (λ (es : List Entry). list_any (λ e. end_of size e.mutation == size) es ≡ true) stands.entries (one_within size l.round.0 (placed_in k.orders l.handle.0) ended.0 ended.1 ended.2 ended.3 ended.4))
+        (subst (λ (es : List Entry). list_any (λ e. end_of e.mutation == size) es ≡ true) stands.entries (one_within size l.round.0 (placed_in k.orders l.handle.0) ended.0 ended.1 ended.2 ended.3 ended.4))

@@ -34,13 +34,13 @@ bools false false = inl refl
 mutations : Decides Mutation
 mutations (Write at content) (Write place bytes) = both (same_or_not at place) (lists same_or_not content bytes) (λ one two. cc) (λ same. cc) (λ same. cc)
 mutations (Append at content) (Append place bytes) = both (same_or_not at place) (lists same_or_not content bytes) (λ one two. cc) (λ same. cc) (λ same. cc)
-mutations (Pad at) (Pad place) = elim (same_or_not at place) [ inl same ↦ inl (ap (λ (x : ℕ). Pad x) same) | inr apart ↦ inr (λ same. apart (let one : at ≡ place = cc in one)) ]
+mutations (Pad at end) (Pad place last) = both (same_or_not at place) (same_or_not end last) (λ one two. cc) (λ same. cc) (λ same. cc)
 mutations (Write at content) (Append place bytes) = inr (λ same. cc)
-mutations (Write at content) (Pad place) = inr (λ same. cc)
+mutations (Write at content) (Pad place end) = inr (λ same. cc)
 mutations (Append at content) (Write place bytes) = inr (λ same. cc)
-mutations (Append at content) (Pad place) = inr (λ same. cc)
-mutations (Pad at) (Write place bytes) = inr (λ same. cc)
-mutations (Pad at) (Append place bytes) = inr (λ same. cc)
+mutations (Append at content) (Pad place end) = inr (λ same. cc)
+mutations (Pad at end) (Write place bytes) = inr (λ same. cc)
+mutations (Pad at end) (Append place bytes) = inr (λ same. cc)
 
 calls : Decides CallId
 calls a b = both (same_or_not a.client b.client) (same_or_not a.number b.number)

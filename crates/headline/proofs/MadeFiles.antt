@@ -194,7 +194,7 @@ made_step m (Look client file index least last chosen) a h =
     (step_taken m client (λ c. record c { pieces = record { index = index; bytes = read_slice (chunk_size m file) index (a.0).asked.call chosen; round = Some least } ∷ c.pieces }) h (λ c made. made))
 made_step m (LookPast client index) a h = step_taken m client (λ c. record c { pieces = record { index = index; bytes = []; round = None } ∷ c.pieces }) h (λ c made. made)
 made_step m (Measure client file index told least last chosen) a h =
-    step_taken m client (λ c. record c { lengths = (index * chunk_size m file + image_length (chunk_size m file) (mutations_of chosen)) ∷ c.lengths }) h (λ c made. made)
+    step_taken m client (λ c. record c { lengths = (index * chunk_size m file + image_length (mutations_of chosen)) ∷ c.lengths }) h (λ c made. made)
 made_step m (MeasureNone client) a h = step_taken m client (λ c. record c { lengths = 0 ∷ c.lengths }) h (λ c made. made)
 made_step m (Pass moment) a h = record { names = h.names; clients = h.clients }
 

@@ -86,10 +86,10 @@ HasTry m id file index c mutation = Unit {0}
 left_of : (m : Machine) (id : CallId) (file index : ℕ) (c : Call) (aim : Target) (bytes : List ℕ) (x : Mutation) → IsPlacedFor aim bytes x → IsPartTo m id file index c aim → HasTry m id file index c x → HasPartLeft m id file index c x
 left_of m id file index (call.Write fd offset content) (target.Write at) bytes (Write o b) fits part try_ = (part.0, part.1, fits.0 ∙ part.2, part.3, try_)
 left_of m id file index (call.Write fd offset content) (target.Write at) bytes (Append o b) fits part try_ = absurd fits
-left_of m id file index (call.Write fd offset content) (target.Write at) bytes (Pad o) fits part try_ = absurd fits
+left_of m id file index (call.Write fd offset content) (target.Write at) bytes (Pad o end) fits part try_ = absurd fits
 left_of m id file index (call.Append fd content) target.Append bytes (Write o b) fits part try_ = absurd fits
 left_of m id file index (call.Append fd content) target.Append bytes (Append o b) fits part try_ = try_
-left_of m id file index (call.Append fd content) target.Append bytes (Pad o) fits part try_ = tt
+left_of m id file index (call.Append fd content) target.Append bytes (Pad o end) fits part try_ = tt
 left_of m id file index other aim bytes x fits part try_ = absurd part
 
 module _ (config : Config) (servers clients : ℕ) (steps : List (Event × Choice)) (settings : AreSettings config) (kept : IsTrue (is_kept (after_events (new_world config servers clients) steps)))

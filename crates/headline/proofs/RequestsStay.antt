@@ -92,7 +92,7 @@ success_stays id old new grows h =
 write_no_pad : (x : Mutation) → IsWrite x → not (is_pad x) ≡ true
 write_no_pad (Write offset bytes) h = refl
 write_no_pad (Append offset bytes) h = absurd h
-write_no_pad (Pad offset) h = absurd h
+write_no_pad (Pad offset end) h = absurd h
 
 and_both : (a b : Bool) → a ≡ true → b ≡ true → a && b ≡ true
 and_both a b one two = ap (λ (x : Bool). x && b) one ∙ two

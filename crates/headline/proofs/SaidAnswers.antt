@@ -41,7 +41,7 @@ use Rattle.protocol.specs.Choice.{Choice}
 use Rattle.protocol.specs.Client.{ClientState}
 use Rattle.protocol.specs.ClientAttempts.{is_length, is_mutation, read_start, read_count, chunk_of}
 use Rattle.protocol.specs.Observer.{order_of}
-use Rattle.protocol.specs.World.{WorldState, new_world, happens, IsReached, is_kept}
+use Rattle.protocol.specs.World.{WorldState, happens, IsReached, is_kept}
 use Rattle.laws_base.proofs.Steps.{on_cond, none_some, same_some, same_or_not}
 use Rattle.laws_base.proofs.Entries.{same_number}
 use Rattle.laws_base.proofs.MembersRecorded.{kept_place}
@@ -51,7 +51,6 @@ use Rattle.laws_steps.specs.Locations.{chunk_used}
 use Rattle.laws_steps.specs.Reads.{IsTold, IsReading, IsTrueOf, is_answer, request_to}
 use Rattle.laws_steps.proofs.ClientReads.{told_later}
 use Rattle.laws_steps.proofs.Histories.{IsGrown, step_grown, stood_before}
-use Rattle.laws_steps.proofs.Known.{same_config}
 use Rattle.laws_steps.proofs.LeasesStayOver.{reached_later}
 use Rattle.laws_steps.proofs.Lengths.{replicas_lie_within_the_chunk}
 use Rattle.laws_steps.proofs.ReadAnswers.{IsReadBy, one_request, reads_are_of_the_told_version}
@@ -142,7 +141,7 @@ row_within d size handle row low is = by_replica (replica_of d handle) refl is
 place_within : (size place : ℕ) (m : Mutation) → LiesWithin size m → place_of m ≡ Some place → place ≤ size
 place_within size place (Write offset bytes) within is = let same = same_some offset place is in omega (arith, within, same)
 place_within size place (Append offset bytes) within is = let same = same_some offset place is in omega (arith, within, same)
-place_within size place (Pad offset) within is = none_some place is
+place_within size place (Pad offset end) within is = none_some place is
 
 within_places : (size index place : ℕ) → suc index * size ≤ counter_limit → place ≤ size → IsWithinPlaces size index place
 within_places size index place whole low = let sum : suc index * size ≡ index * size + size = suc-mul index size in omega (arith, whole, low, sum)
@@ -287,13 +286,10 @@ module _ (config : Config) (servers clients : ℕ) (w : WorldState) (r : IsReach
               (subst (λ (c : ToldChunk). StandsUpTo j x.file.0 c.index c.handle.0 q.holder.version.0) q.chunk_is
               ((beside.holders (suc index) x.file.0 q.location (told_then (suc index) x.file.0 q.location q.told)).holders (length q.earlier) q.holder holder_at).1.stands)
 
-          found : (chosen : List Entry) × IsSeenAt j.machine x.file.0 chunk.index chunk.round.0 a.row.version.0 chosen × IsReadAs a.server w.config.chunk chunk.handle.0 a.row (chunk_at j.machine x.file.0 chunk.index).order chosen
+          found : (chosen : List Entry) × IsSeenAt j.machine x.file.0 chunk.index chunk.round.0 a.row.version.0 chosen × IsReadAs a.server chunk.handle.0 a.row (chunk_at j.machine x.file.0 chunk.index).order chosen
           found =
               holders_are_seen config servers clients w r kept j (beside.orders ∙ a.orders) a.index a.server a.server_is chunk.handle.0 a.row so.0 x.file.0 chunk.index chunk.round.0
               (let low = reading.1 in let same = so.1 in omega (arith, low, same)) stands
-
-          config_is : w.config ≡ config
-          config_is = subst (λ (v : WorldState). v.config ≡ config) r.1 (same_config (new_world config servers clients) r.0)
 
           seen_by : IsSeenAt n x.file.0 chunk.index chunk.round.0 a.row.version.0 found.0
           seen_by = record {
@@ -306,7 +302,7 @@ module _ (config : Config) (servers clients : ℕ) (w : WorldState) (r : IsReach
           shown =
               subst (λ (size : ℕ). IsShownAs size x found.0 y.body) (sym size_is)
               (answers_show_the_chunk a.server config.chunk x chunk a.row (chunk_at j.machine x.file.0 chunk.index).order found.0
-              (subst (λ (c : Config). IsReadAs a.server c.chunk chunk.handle.0 a.row (chunk_at j.machine x.file.0 chunk.index).order found.0) config_is found.2) y.body so.2)
+              found.2 y.body so.2)
 
           row_low : a.row.count ≤ n.config.chunk
           row_low =
@@ -366,7 +362,7 @@ module _ (config : Config) (servers clients : ℕ) (w : WorldState) (r : IsReach
             let gives = lengths_are_measured n (suc index) x p alike chunk left number stage is_long version chosen (seen_by chunk left number stage answers) in
             let looks : List Action = Measure (suc index) x.file.0 chunk.index chunk.round.0 chunk.round.0 version chosen ∷ [] in
             let size : (after_all n looks).config ≡ n.config = (looks_leave n looks refl).0 in
-            let length_is : count ≡ image_length n.config.chunk (mutations_of chosen) = subst (λ (b : Body). IsShownAs n.config.chunk x chosen b) says (shown chunk left number stage answers) in
+            let length_is : count ≡ image_length (mutations_of chosen) = subst (λ (b : Body). IsShownAs n.config.chunk x chosen b) says (shown chunk left number stage answers) in
             let told = used chunk (ap (λ (st : Stage). chunk_used st) stage) in
             let low : count ≤ n.config.chunk = subst (λ (b : Body). CountIn b ≤ n.config.chunk) says (count_low (a chunk left number stage answers).server.disk config.chunk x chunk n.config.chunk (a chunk left number stage answers).row y.body (so chunk left number stage answers).2 (row_low chunk left number stage answers)) in
             record {

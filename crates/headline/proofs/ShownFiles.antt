@@ -5,7 +5,6 @@ use Rattle.std.specs.List.{cons_option}
 use Rattle.std.specs.FinMap as table
 use Rattle.std.proofs.lemmas.Bool.{le-leb, lt-ltb}
 use Rattle.gfs_types.specs.declared.config.Config.{Config}
-use Rattle.gfs_types.specs.Image.{image_length}
 use Rattle.replica_store.specs.Replicas.{Replica, replica_of}
 use Rattle.relaxed_file.specs.Order.{Entry, IsSelection, mutations_of}
 use Rattle.relaxed_file.specs.Machine.{Machine, chunk_at, chunk_count}
@@ -132,7 +131,7 @@ module _ (config : Config) (servers clients : ℕ) (w : WorldState) (r : IsReach
             let of_entries = (replicas_are_selections config servers clients w r kept s.index s.server s.there).0 handle s.replica s.replica_is in (
               of_entries.0,
               subst (λ (es : List Entry). IsSelection x.version es of_entries.0) order (subst (λ (n : ℕ). IsSelection n (entries_of w.observer handle) of_entries.0) (sym (ap (λ (y : StoredAt). y.version) s.shown)) of_entries.1),
-              ap (λ (c : Config). image_length c.chunk (mutations_of of_entries.0)) (b.chunks.settings ∙ sym config_is) ∙ sym (length_of w.config.chunk (mutations_of of_entries.0)) ∙ ap (λ (bs : List ℕ). length bs) (sym of_entries.2)
+              sym (length_of (mutations_of of_entries.0)) ∙ ap (λ (bs : List ℕ). length bs) (sym of_entries.2)
                   ∙ sym (ap (λ (y : StoredAt). y.count) s.shown),
             )
 

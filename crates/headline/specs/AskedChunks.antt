@@ -71,7 +71,7 @@ AskedChunksMayBeAdded =
 -- an entry of the chunk ends at the chunk's end
 pub record IsFullAt (m : Machine) (file index : ℕ) : Type 0 where
   pub count : index < chunk_count m file
-  pub full : IsTrue (list_any (λ e. end_of (chunk_size m file) e.mutation == chunk_size m file) (chunk_at m file index).order)
+  pub full : IsTrue (list_any (λ e. end_of e.mutation == chunk_size m file) (chunk_at m file index).order)
 
 -- Where a client asked for a chunk past one, to append to it, that one is full at the machine.
 abbrev pub AreAsksFull : WorldState → Machine → Type 0

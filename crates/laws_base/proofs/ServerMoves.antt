@@ -30,7 +30,7 @@ use Rattle.primary_order.specs.declared.order.SerialOrder.{SerialOrder}
 use Rattle.primary_order.specs.PrimaryOrder.{place_of}
 use Rattle.primary_order.specs.SerialOrder.{new_order, denied, numbered, settled, acknowledged, refused_by, attempt_of}
 use Rattle.protocol.specs.declared.seen.Seen.TheVariants.{BecameSettled}
-use Rattle.protocol.specs.Server.{ServerState, ServerDoing, server_begins, chunk_limit, sends, refuses, stores, shows, with_primary, without_lease, takes_data, drops_corrupt, primary_of}
+use Rattle.protocol.specs.Server.{ServerState, ServerDoing, server_begins, sends, refuses, stores, shows, with_primary, without_lease, takes_data, drops_corrupt, primary_of}
 use Rattle.protocol.specs.ServerWrites.{refuses_attempt, answers_settled, denies, forward_to, forwards, settles, acknowledges, change_of, stored_as, primary_applies, nacks}
 use Rattle.protocol.specs.ServerOrders.{records}
 use Rattle.protocol.specs.ServerStep.{replica_line, lease_line, asks_no_more, counting_leases, server_ticks, server_at, server_goes}
@@ -153,10 +153,10 @@ append-two [] x ys = refl
 append-two {X} (z ∷ zs) x ys = ap (λ (vs : List X). z ∷ vs) (append-two zs x ys)
 
 -- what a mutation changes sets no order's number
-stored_is_of_replica : (chunk handle serial : ℕ) (m : Mutation) → IsOfReplica (stored_as chunk handle serial m)
-stored_is_of_replica chunk handle serial (mutation.Write offset bytes) = tt
-stored_is_of_replica chunk handle serial (mutation.Append offset bytes) = tt
-stored_is_of_replica chunk handle serial (mutation.Pad offset) = tt
+stored_is_of_replica : (handle serial : ℕ) (m : Mutation) → IsOfReplica (stored_as handle serial m)
+stored_is_of_replica handle serial (mutation.Write offset bytes) = tt
+stored_is_of_replica handle serial (mutation.Append offset bytes) = tt
+stored_is_of_replica handle serial (mutation.Pad offset end) = tt
 
 module _ (Came : Body → Type 0) (P : ServerCore → Type 0) (k : KeepsServer Came P) where
   abbrev pub Holds : ServerDoing → Type 0
@@ -219,9 +219,9 @@ module _ (Came : Body → Type 0) (P : ServerCore → Type 0) (k : KeepsServer C
   primary_holds : (d : ServerDoing) (handle : ℕ) (p : SerialOrder) (id : DataId) (m : Mutation) → IsHere d handle p.held → Holds d → Holds (primary_applies d handle p id m)
   primary_holds d handle p id m at h =
       let serial : ℕ = p.serial + 1 in
-      let x : StoreChange = stored_as (chunk_limit d.server handle) handle serial m in
+      let x : StoreChange = stored_as handle serial m in
       acks_holds (forwards (stores d x) (without p.held.members d.server.id) handle p.held.version serial id (change_of m)) handle (numbered p id.client id.seq (place_of m)) d.server.id serial at
-      (forwards_holds (stores d x) (without p.held.members d.server.id) handle p.held.version serial id (change_of m) (stores_holds d x (stored_is_of_replica (chunk_limit d.server handle) handle serial m) h))
+      (forwards_holds (stores d x) (without p.held.members d.server.id) handle p.held.version serial id (change_of m) (stores_holds d x (stored_is_of_replica handle serial m) h))
 
   nacks_holds : (d : ServerDoing) (primary : Node) (handle version serial : ℕ) (refusal : Refusal) → Holds d → Holds (nacks d primary handle version serial refusal)
   nacks_holds d primary handle version serial refusal h = says_holds d primary (body.Nacked (handle_of handle) (version_of version) (serial_of serial) refusal) refl h
@@ -241,10 +241,10 @@ module _ (Came : Body → Type 0) (P : ServerCore → Type 0) (k : KeepsServer C
       (λ handle p is. let was = mapped_cases asks_no_more left handle p is in (was.0, kept_where_cases (λ e. counts_at d.server.config.skew_ms e.1.held d.server.now) d.server.leases handle was.0 was.1, ap (λ (x : SerialOrder). x.held) was.2))
       (says_holds d Master report refl h)
 
-  written_is_of_replica : (size handle serial : ℕ) (kept : Option (List ℕ)) (named : Change) (x : StoreChange) (from end_place : ℕ) → IsStoredAs size handle serial kept named x from end_place → IsOfReplica x
-  written_is_of_replica size handle serial kept (change.Write offset) x from end_place h = subst IsOfReplica (sym h.2) tt
-  written_is_of_replica size handle serial kept (change.Append offset) x from end_place h = subst IsOfReplica (sym h.2) tt
-  written_is_of_replica size handle serial kept (change.Pad offset) x from end_place h = subst IsOfReplica (sym h.0) tt
+  written_is_of_replica : (handle serial : ℕ) (kept : Option (List ℕ)) (named : Change) (x : StoreChange) (from end_place : ℕ) → IsStoredAs handle serial kept named x from end_place → IsOfReplica x
+  written_is_of_replica handle serial kept (change.Write offset) x from end_place h = subst IsOfReplica (sym h.2) tt
+  written_is_of_replica handle serial kept (change.Append offset) x from end_place h = subst IsOfReplica (sym h.2) tt
+  written_is_of_replica handle serial kept (change.Pad offset end) x from end_place h = subst IsOfReplica (sym h.0) tt
 
   module _ (s : ServerState) (i : NodeInput) (came : IsCameIn Came i) (h : Holds (server_begins s)) where
     abbrev Begun : ServerDoing
@@ -273,7 +273,7 @@ module _ (Came : Body → Type 0) (P : ServerCore → Type 0) (k : KeepsServer C
     stored_holds : (t : Storing s i) → Holds (stores (takes_data (server_begins s) t.f.c.id) t.x)
     stored_holds t =
         stores_holds (takes_data (server_begins s) t.f.c.id) t.x
-        (written_is_of_replica s.config.chunk t.f.c.handle.0 t.f.c.serial.0 (data_of s.pushed t.f.c.id) t.f.c.named t.x t.from t.end_place t.stored) h
+        (written_is_of_replica t.f.c.handle.0 t.f.c.serial.0 (data_of s.pushed t.f.c.id) t.f.c.named t.x t.from t.end_place t.stored) h
 
     longer_holds : (c : Extending i) (q : Held s c.handle.0) → q.p.held.version ≡ c.version.0 → Holds (with_primary (server_begins s) c.handle.0 (until_later s q.p c.end_moment.0))
     longer_holds c q same =

@@ -250,20 +250,20 @@ pub record Attempting (s : ServerState) (i : NodeInput) : Type 0 where
 abbrev pub IsPlacedOf : Target → List ℕ → Mutation → Type 0
 IsPlacedOf (target.Write at) bytes (mutation.Write offset written) = (offset ≡ at) × (written ≡ bytes)
 IsPlacedOf target.Append bytes (mutation.Append offset written) = written ≡ bytes
-IsPlacedOf target.Append bytes (mutation.Pad offset) = Unit {0}
+IsPlacedOf target.Append bytes (mutation.Pad offset end) = Unit {0}
 IsPlacedOf other bytes m = ⊥
 
 -- where a mutation may be placed by a primary that has so many bytes
 abbrev pub IsPlacedAt : (size count : ℕ) → List ℕ → Mutation → Type 0
 IsPlacedAt size count bytes (mutation.Write offset written) = (written ≡ bytes) × (offset + length written ≤ size)
 IsPlacedAt size count bytes (mutation.Append offset written) = (written ≡ bytes) × (offset ≡ count) × (offset + length written ≤ size)
-IsPlacedAt size count bytes (mutation.Pad offset) = (offset ≡ count) × (count ≢ size) × (size < offset + length bytes)
+IsPlacedAt size count bytes (mutation.Pad offset end) = (offset ≡ count) × (count ≢ size) × (size < offset + length bytes) × (end ≡ size)
 
 -- an append that is placed, or a pad in its stead, is at most a quarter of a chunk; it begins below the chunk's end
 abbrev pub IsRecord : (size count : ℕ) → List ℕ → Mutation → Type 0
 IsRecord size count bytes (mutation.Write offset written) = Unit {0}
 IsRecord size count bytes (mutation.Append offset written) = (nat_lt (size / 4) (length bytes) ≡ false) × (count ≢ size)
-IsRecord size count bytes (mutation.Pad offset) = nat_lt (size / 4) (length bytes) ≡ false
+IsRecord size count bytes (mutation.Pad offset end) = nat_lt (size / 4) (length bytes) ≡ false
 
 -- a new attempt that is numbered as this mutation
 pub record Numbering (s : ServerState) (i : NodeInput) : Type 0 where
@@ -278,7 +278,7 @@ pub record Numbering (s : ServerState) (i : NodeInput) : Type 0 where
 
 -- the range that it writes can be written over
 abbrev pub is_sound : (s : ServerState) (i : NodeInput) → Numbering s i → Bool
-is_sound s i n = is_writable_at s.disk n.a.c.handle.0 (start_of n.placed) (end_of s.config.chunk n.placed)
+is_sound s i n = is_writable_at s.disk n.a.c.handle.0 (start_of n.placed) (end_of n.placed)
 
 -- a forwarded mutation of the replica's version
 pub record Found (s : ServerState) (i : NodeInput) : Type 0 where
@@ -288,13 +288,13 @@ pub record Found (s : ServerState) (i : NodeInput) : Type 0 where
   pub same : row.version.0 ≡ c.version.0
 
 -- what a member stores for a forwarded change, and where its range begins and ends
-abbrev pub IsStoredAs : (size handle serial : ℕ) → Option (List ℕ) → Change → StoreChange → ℕ → ℕ → Type 0
-IsStoredAs size handle serial kept (change.Write offset) x from end_place =
+abbrev pub IsStoredAs : (handle serial : ℕ) → Option (List ℕ) → Change → StoreChange → ℕ → ℕ → Type 0
+IsStoredAs handle serial kept (change.Write offset) x from end_place =
     (bytes : List ℕ) × (kept ≡ Some bytes) × (x ≡ Write (handle_of handle) (serial_of serial) offset bytes) × (from ≡ offset) × (end_place ≡ offset + length bytes)
-IsStoredAs size handle serial kept (change.Append offset) x from end_place =
+IsStoredAs handle serial kept (change.Append offset) x from end_place =
     (bytes : List ℕ) × (kept ≡ Some bytes) × (x ≡ Write (handle_of handle) (serial_of serial) offset bytes) × (from ≡ offset) × (end_place ≡ offset + length bytes)
-IsStoredAs size handle serial kept (change.Pad offset) x from end_place =
-    (x ≡ Zero (handle_of handle) (serial_of serial) offset (size - offset)) × (from ≡ offset) × (end_place ≡ offset + (size - offset))
+IsStoredAs handle serial kept (change.Pad offset end) x from end_place =
+    (x ≡ Zero (handle_of handle) (serial_of serial) offset (end - offset)) × (from ≡ offset) × (end_place ≡ offset + (end - offset))
 
 -- a forwarded mutation that is later than the replica, with its data, within the chunk
 pub record Storing (s : ServerState) (i : NodeInput) : Type 0 where
@@ -303,7 +303,7 @@ pub record Storing (s : ServerState) (i : NodeInput) : Type 0 where
   pub x : StoreChange
   pub from : ℕ
   pub end_place : ℕ
-  pub stored : IsStoredAs s.config.chunk f.c.handle.0 f.c.serial.0 (data_of s.pushed f.c.id) f.c.named x from end_place
+  pub stored : IsStoredAs f.c.handle.0 f.c.serial.0 (data_of s.pushed f.c.id) f.c.named x from end_place
   pub fits : end_place ≤ s.config.chunk
 
 -- a lease that is there under this handle
@@ -479,7 +479,7 @@ module _ (s : ServerState) (i : NodeInput) (P : ServerDoing → Type 0) (k : Out
       → P (places (server_begins s) a.c.handle.0 a.p a.c.id m)
   places_comes a bytes m pushed of at whole =
       on_cond P (nat_le counter_limit a.p.serial) Begun _ (λ _. k.rests)
-      (λ room. on_cond P (is_writable_at s.disk a.c.handle.0 (start_of m) (end_of s.config.chunk m)) (primary_applies (with_number s a.c.handle.0 a.p a.c.id m) a.c.handle.0 a.p a.c.id m)
+      (λ room. on_cond P (is_writable_at s.disk a.c.handle.0 (start_of m) (end_of m)) (primary_applies (with_number s a.c.handle.0 a.p a.c.id m) a.c.handle.0 a.p a.c.id m)
       (refuses_attempt (drops_corrupt (with_number s a.c.handle.0 a.p a.c.id m) a.c.handle.0) a.c.id Corrupt)
       (λ sound. k.applies (record { a = a; bytes = bytes; pushed = pushed; placed = m; of = of; at = at; whole = whole; room = room }) sound)
       (λ rotten. k.spoils (record { a = a; bytes = bytes; pushed = pushed; placed = m; of = of; at = at; whole = whole; room = room }) rotten))
@@ -493,8 +493,8 @@ module _ (s : ServerState) (i : NodeInput) (P : ServerDoing → Type 0) (k : Out
       on_cond good (nat_lt (limit / 4) (length bytes)) TooLong _ (λ _. k.is_long a)
       (λ short. on_cond good (count == limit) Full _ (λ _. k.is_full a)
       (λ apart. on_cond good (nat_lt limit (count + length bytes)) (Pad count) (At count)
-      (λ over. places_comes a bytes (mutation.Pad count) pushed (subst (λ (t : Target). IsPlacedOf t bytes (mutation.Pad count)) (sym is) tt)
-      (refl, eqb-false count limit apart, ltb-true limit (count + length bytes) over) short)
+      (λ over. places_comes a bytes (mutation.Pad count limit) pushed (subst (λ (t : Target). IsPlacedOf t bytes (mutation.Pad count limit)) (sym is) tt)
+      (refl, eqb-false count limit apart, ltb-true limit (count + length bytes) over, refl) short)
       (λ fits. places_comes a bytes (mutation.Append count bytes) pushed (subst (λ (t : Target). IsPlacedOf t bytes (mutation.Append count bytes)) (sym is) refl)
       (refl, refl, ltb-false limit (count + length bytes) fits) (short, eqb-false count limit apart))))
 
@@ -536,7 +536,7 @@ module _ (s : ServerState) (i : NodeInput) (P : ServerDoing → Type 0) (k : Out
   member_comes t false is = k.stores_rot t is
 
   applied_comes : (f : Found s i) (x : StoreChange) (from end_place : ℕ) → f.row.serial.0 < f.c.serial.0
-      → IsStoredAs s.config.chunk f.c.handle.0 f.c.serial.0 (data_of s.pushed f.c.id) f.c.named x from end_place
+      → IsStoredAs f.c.handle.0 f.c.serial.0 (data_of s.pushed f.c.id) f.c.named x from end_place
       → P (member_applies (server_begins s) f.c.m.sender f.c.handle.0 f.c.version.0 f.c.serial.0 f.c.id x from end_place)
   applied_comes f x from end_place later stored =
       on_cond P (nat_lt s.config.chunk end_place) Begun _ (λ _. k.rests)
@@ -546,7 +546,7 @@ module _ (s : ServerState) (i : NodeInput) (P : ServerDoing → Type 0) (k : Out
   -- what is stored of data that are there
   abbrev Stored : (f : Found s i) (offset : ℕ) → Type 0
   Stored f offset = (bytes : List ℕ) → data_of s.pushed f.c.id ≡ Some bytes
-      → IsStoredAs s.config.chunk f.c.handle.0 f.c.serial.0 (data_of s.pushed f.c.id) f.c.named (Write (handle_of f.c.handle.0) (serial_of f.c.serial.0) offset bytes) offset (offset + length bytes)
+      → IsStoredAs f.c.handle.0 f.c.serial.0 (data_of s.pushed f.c.id) f.c.named (Write (handle_of f.c.handle.0) (serial_of f.c.serial.0) offset bytes) offset (offset + length bytes)
 
   data_comes : (f : Found s i) (offset : ℕ) (o : Option (List ℕ)) → f.row.serial.0 < f.c.serial.0 → Stored f offset → data_of s.pushed f.c.id ≡ o
       → P (applies_data (server_begins s) f.c.m.sender f.c.handle.0 f.c.version.0 f.c.serial.0 f.c.id offset o)
@@ -556,7 +556,7 @@ module _ (s : ServerState) (i : NodeInput) (P : ServerDoing → Type 0) (k : Out
 
   -- as the change is named
   abbrev StoredAs : (f : Found s i) → Change → StoreChange → ℕ → ℕ → Type 0
-  StoredAs f c x from end_place = IsStoredAs s.config.chunk f.c.handle.0 f.c.serial.0 (data_of s.pushed f.c.id) c x from end_place
+  StoredAs f c x from end_place = IsStoredAs f.c.handle.0 f.c.serial.0 (data_of s.pushed f.c.id) c x from end_place
 
   change_comes : (f : Found s i) (c : Change) → f.c.named ≡ c → f.row.serial.0 < f.c.serial.0
       → P (applies_change (server_begins s) f.c.m.sender f.c.handle.0 f.c.version.0 f.c.serial.0 f.c.id c)
@@ -568,8 +568,8 @@ module _ (s : ServerState) (i : NodeInput) (P : ServerDoing → Type 0) (k : Out
       data_comes f offset (data_of s.pushed f.c.id) later
       (λ bytes there. subst (λ (c : Change). StoredAs f c (Write (handle_of f.c.handle.0) (serial_of f.c.serial.0) offset bytes) offset (offset + length bytes)) (sym is)
       (bytes, there, refl, refl, refl)) refl
-  change_comes f (change.Pad offset) is later =
-      let count : ℕ = s.config.chunk - offset in
+  change_comes f (change.Pad offset end) is later =
+      let count : ℕ = end - offset in
       applied_comes f (Zero (handle_of f.c.handle.0) (serial_of f.c.serial.0) offset count) offset (offset + count) later
       (subst (λ (c : Change). StoredAs f c (Zero (handle_of f.c.handle.0) (serial_of f.c.serial.0) offset count) offset (offset + count)) (sym is) (refl, refl, refl))
 

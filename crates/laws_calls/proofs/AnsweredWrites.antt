@@ -364,7 +364,7 @@ stems config servers clients w r =
 written : (at : ℕ) (bytes : List ℕ) (m : Mutation) → IsPlacedFor (target.Write at) bytes m → m ≡ mutation.Write at bytes
 written at bytes (mutation.Write offset found) fits = ap (λ (n : ℕ). mutation.Write n found) fits.0 ∙ ap (λ (x : List ℕ). mutation.Write at x) fits.1
 written at bytes (mutation.Append offset found) fits = absurd fits
-written at bytes (mutation.Pad offset) fits = absurd fits
+written at bytes (mutation.Pad offset end) fits = absurd fits
 
 same_aim : (id : DataId) (handle other : Handle) (version later : Version) (aim its : Target) (deadline end : Moment) → body.Mutate id handle version aim deadline ≡ body.Mutate id other later its end → aim ≡ its
 same_aim id handle other version later aim its deadline end g = cc

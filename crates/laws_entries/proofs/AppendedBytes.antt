@@ -299,9 +299,9 @@ stems config servers clients w r =
 fit_bytes : (aim : Target) (bytes : List ℕ) (m : Mutation) (offset : ℕ) → IsPlacedFor aim bytes m → place_of m ≡ Some offset → bytes_in m ≡ Some bytes
 fit_bytes (target.Write at) bytes (mutation.Write o written) offset fits there = ap (λ (x : List ℕ). Some x) fits.1
 fit_bytes target.Append bytes (mutation.Append o written) offset fits there = ap (λ (x : List ℕ). Some x) fits
-fit_bytes target.Append bytes (mutation.Pad o) offset fits there = none_some offset there
+fit_bytes target.Append bytes (mutation.Pad o end) offset fits there = none_some offset there
 fit_bytes (target.Write at) bytes (mutation.Append o written) offset fits there = absurd fits
-fit_bytes (target.Write at) bytes (mutation.Pad o) offset fits there = absurd fits
+fit_bytes (target.Write at) bytes (mutation.Pad o end) offset fits there = absurd fits
 fit_bytes target.Append bytes (mutation.Write o written) offset fits there = absurd fits
 
 abbrev pushed_bytes : Body → Option (List ℕ)

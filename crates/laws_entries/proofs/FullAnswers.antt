@@ -39,13 +39,13 @@ use Rattle.protocol.specs.Sending.{message, the_server, the_client, handle_of, v
 use Rattle.protocol.specs.Choice.{Choice, Ending, Goes, Lost, Stops}
 use Rattle.protocol.specs.Seen.{Taken, no_step}
 use Rattle.protocol.specs.declared.seen.Seen.TheVariants.{BecameSettled}
-use Rattle.protocol.specs.Server.{ServerState, ServerDoing, server_begins, sends, refuses, stores, shows, with_primary, takes_data, drops_corrupt, primary_of}
+use Rattle.protocol.specs.Server.{ServerState, ServerDoing, server_begins, chunk_limit, sends, refuses, stores, shows, with_primary, takes_data, drops_corrupt, primary_of}
 use Rattle.protocol.specs.ServerWrites.{refuses_attempt, answers_settled, denies, forward_to, forwards, settles, acknowledges, change_of, stored_as, primary_applies, places, mutates_under}
 use Rattle.protocol.specs.ServerStep.{replica_line, lease_line, asks_no_more, counting_leases, server_ticks, server_does, server_at, server_goes, server_ends, server_step, server_restarts, server_restart}
 use Rattle.laws_base.proofs.Steps.{on_cond, none_some, put_cases, kept_cases}
 use Rattle.laws_base.proofs.Entries.{AllOf, all_joined, mapped_cases, kept_where_cases}
 use Rattle.laws_base.proofs.MembersRecorded.{all_in_order}
-use Rattle.laws_base.proofs.ServerWalk.{Attempting, Numbering, Outcomes, is_sound, number_of, until_later, mutates_there, placed_there, does_comes}
+use Rattle.laws_base.proofs.ServerWalk.{IsPlacedAt, Attempting, Numbering, Outcomes, is_sound, number_of, until_later, mutates_there, placed_there, does_comes}
 use Rattle.laws_entries.proofs.KnownNumbers.{primary_there}
 use Rattle.laws_entries.proofs.FullOrders.{IsOther, TellsFull, IsRight, IsCaused, Causes, other_apart, refusal_caused, right_denied, right_refused, right_numbered, success_right, right_acknowledged, right_extended, right_reported, right_new}
 
@@ -54,7 +54,7 @@ AreRight F leases = (q : ℕ) (p : SerialOrder) → table.get leases q ≡ Some 
 
 -- a new attempt came to this: it is refused since the chunk is full, or a pad is placed
 abbrev pub IsFullEnd : ServerDoing → ℕ → SerialOrder → DataId → ServerDoing → Type 0
-IsFullEnd d q p id x = (x ≡ denies d q p id ChunkFull) ⊎ ((offset : ℕ) × (x ≡ places d q p id (mutation.Pad offset)) × (nat_le counter_limit p.serial ≡ false))
+IsFullEnd d q p id x = (x ≡ denies d q p id ChunkFull) ⊎ ((offset : ℕ) × (x ≡ places d q p id (mutation.Pad offset (chunk_limit d.server q))) × (nat_le counter_limit p.serial ≡ false))
 
 module _ (F : DataId → Type 0) where
   abbrev pub Fine : ServerDoing → Type 0
@@ -163,8 +163,10 @@ module _ (F : DataId → Type 0) where
     padded : (n : Numbering s i) (m : Mutation) → n.placed ≡ m → place_of m ≡ None → server_does (server_begins s) i ≡ places (server_begins s) n.a.c.handle.0 n.a.p n.a.c.id n.placed → F n.a.c.id
     padded n (mutation.Write offset bytes) is none comes = none_some offset (sym none)
     padded n (mutation.Append offset bytes) is none comes = none_some offset (sym none)
-    padded n (mutation.Pad offset) is none comes =
-        used n.a (places (server_begins s) n.a.c.handle.0 n.a.p n.a.c.id (mutation.Pad offset)) (comes ∙ ap (λ (m : Mutation). places (server_begins s) n.a.c.handle.0 n.a.p n.a.c.id m) is) (inr (offset, refl, n.room))
+    padded n (mutation.Pad offset end) is none comes =
+        let placed : IsPlacedAt s.config.chunk n.a.row.count n.bytes (mutation.Pad offset end) = subst (IsPlacedAt s.config.chunk n.a.row.count n.bytes) is n.at in
+        used n.a (places (server_begins s) n.a.c.handle.0 n.a.p n.a.c.id (mutation.Pad offset s.config.chunk))
+        (comes ∙ ap (λ (m : Mutation). places (server_begins s) n.a.c.handle.0 n.a.p n.a.c.id m) (is ∙ ap (λ (k : ℕ). mutation.Pad offset k) placed.3)) (inr (offset, refl, n.room))
 
     used_number : (n : Numbering s i) (b : Bool) → is_sound s i n ≡ b
         → server_does (server_begins s) i ≡ cond b (primary_applies (number_of s i n) n.a.c.handle.0 n.a.p n.a.c.id n.placed) (refuses_attempt (drops_corrupt (number_of s i n) n.a.c.handle.0) n.a.c.id Corrupt)
@@ -185,7 +187,7 @@ module _ (F : DataId → Type 0) where
       applied_fine n full =
           let q : ℕ = n.a.c.handle.0 in
           let serial : ℕ = n.a.p.serial + 1 in
-          let stored : ServerDoing = stores (number_of s i n) (stored_as s.config.chunk q serial n.placed) in
+          let stored : ServerDoing = stores (number_of s i n) (stored_as q serial n.placed) in
           acknowledged_fine (forwards stored (without n.a.p.held.members s.id) q n.a.p.held.version serial n.a.c.id (change_of n.placed)) q (numbered n.a.p n.a.c.id.client n.a.c.id.seq (place_of n.placed)) s.id serial
           (number_right n full) (forwards_fine stored (without n.a.p.held.members s.id) q n.a.p.held.version serial n.a.c.id (change_of n.placed) (number_fine n full))
 

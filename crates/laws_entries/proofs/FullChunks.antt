@@ -141,7 +141,7 @@ module _ (S : Seen → Type 0) (quiet : (handle version serial : ℕ) → S (Bec
   places_shown : (d : ServerDoing) (handle : ℕ) (p : SerialOrder) (id : DataId) (m : Mutation) → AreShown d → S (Numbered (handle_of handle) (version_of p.held.version) (serial_of (p.serial + 1)) id m) → AreShown (places d handle p id m)
   places_shown d handle p id m h one =
       on_cond AreShown (nat_le counter_limit p.serial) d _ (λ _. h)
-      (λ _. on_cond AreShown (is_writable_at d.server.disk handle (start_of m) (end_of (chunk_limit d.server handle) m)) (primary_applies taken handle p id m) (refuses_attempt (drops_corrupt taken handle) id Corrupt)
+      (λ _. on_cond AreShown (is_writable_at d.server.disk handle (start_of m) (end_of m)) (primary_applies taken handle p id m) (refuses_attempt (drops_corrupt taken handle) id Corrupt)
       (λ _. settles_shown (with_primary forwarded handle (acknowledged new d.server.id (p.serial + 1))) handle p.held.version (p.serial + 1) (settled new d.server.id (p.serial + 1)) more) (λ _. more))
     where
       new : SerialOrder
@@ -151,7 +151,7 @@ module _ (S : Seen → Type 0) (quiet : (handle version serial : ℕ) → S (Bec
       taken = shows (takes_data (with_primary d handle (numbered p id.client id.seq (place_of m))) id) (Numbered (handle_of handle) (version_of p.held.version) (serial_of (p.serial + 1)) id m)
 
       forwarded : ServerDoing
-      forwarded = forwards (stores taken (stored_as (chunk_limit d.server handle) handle (p.serial + 1) m)) (without p.held.members d.server.id) handle p.held.version (p.serial + 1) id (change_of m)
+      forwarded = forwards (stores taken (stored_as handle (p.serial + 1) m)) (without p.held.members d.server.id) handle p.held.version (p.serial + 1) id (change_of m)
 
       more : AllOf S (d.seen ++ Numbered (handle_of handle) (version_of p.held.version) (serial_of (p.serial + 1)) id m ∷ [])
       more = all_joined S d.seen (Numbered (handle_of handle) (version_of p.held.version) (serial_of (p.serial + 1)) id m ∷ []) h (one, tt)
@@ -167,8 +167,8 @@ module _ (id : DataId) (handle : ℕ) (p : SerialOrder) where
         | inl denied_ ↦ subst IsDone (sym denied_) (λ version. put_fit (Knows id) (knows_keeps id) handle version d.server.leases (denied p id.client id.seq ChunkFull) (own_kept id p (IsRefused ChunkFull)), all_none)
         | inr placed ↦
             subst IsDone (sym placed.1) (
-              λ version. places_fit (Knows id) (knows_keeps id) handle version id p (λ o. own_kept id p IsPending) d (mutation.Pad placed.0) placed.2,
-              places_shown (Shows id.client.0 id.seq IsPad) (λ q v n. tt) d handle p id (mutation.Pad placed.0) all_none (λ client seq. tt),
+              λ version. places_fit (Knows id) (knows_keeps id) handle version id p (λ o. own_kept id p IsPending) d (mutation.Pad placed.0 (chunk_limit d.server handle)) placed.2,
+              places_shown (Shows id.client.0 id.seq IsPad) (λ q v n. tt) d handle p id (mutation.Pad placed.0 (chunk_limit d.server handle)) all_none (λ client seq. tt),
             )
       ]
     where

@@ -74,12 +74,12 @@ module _ (s : ServerState) (handle : ℕ) (p : SerialOrder) (id : DataId) where
   taken m = shows (takes_data (with_primary (server_begins s) handle (numbered p id.client id.seq (place_of m))) id) (Numbered (handle_of handle) (version_of p.held.version) (serial_of (p.serial + 1)) id m)
 
   abbrev forwarded : Mutation → ServerDoing
-  forwarded m = forwards (stores (taken m) (stored_as (chunk_limit s handle) handle (p.serial + 1) m)) (without p.held.members s.id) handle p.held.version (p.serial + 1) id (change_of m)
+  forwarded m = forwards (stores (taken m) (stored_as handle (p.serial + 1) m)) (without p.held.members s.id) handle p.held.version (p.serial + 1) id (change_of m)
 
   pub placed_first : (m : Mutation) → nat_le counter_limit p.serial ≡ false → element_at (places (server_begins s) handle p id m).seen 0 ≡ Some (Numbered (handle_of handle) (version_of p.held.version) (serial_of (p.serial + 1)) id m)
   placed_first m room =
       on_cond (λ (e : ServerDoing). element_at e.seen 0 ≡ Some (shown m)) (nat_le counter_limit p.serial) D _ (λ full. absurd (let both : true ≡ false = sym full ∙ room in cc))
-      (λ _. on_cond (λ (e : ServerDoing). element_at e.seen 0 ≡ Some (shown m)) (is_writable_at s.disk handle (start_of m) (end_of (chunk_limit s handle) m)) (primary_applies (taken m) handle p id m) (refuses_attempt (drops_corrupt (taken m) handle) id Corrupt)
+      (λ _. on_cond (λ (e : ServerDoing). element_at e.seen 0 ≡ Some (shown m)) (is_writable_at s.disk handle (start_of m) (end_of m)) (primary_applies (taken m) handle p id m) (refuses_attempt (drops_corrupt (taken m) handle) id Corrupt)
       (λ _. settles_first (shown m) (with_primary (forwarded m) handle (acknowledged (new m) s.id (p.serial + 1))) handle p.held.version (p.serial + 1) (settled (new m) s.id (p.serial + 1)) refl) (λ _. refl))
 
   abbrev IsFull : Type 0
@@ -111,7 +111,7 @@ module _ (s : ServerState) (handle : ℕ) (p : SerialOrder) (id : DataId) where
   by_placing : (r : Row) (bytes : List ℕ) (where_ : Placing) → row_at s.disk handle ≡ Some r → placing r.count (length bytes) (chunk_limit s handle) ≡ where_ → appends_as (server_begins s) handle p id bytes where_ ≡ denies (server_begins s) handle p id ChunkFull → IsFull
   by_placing r bytes TooLong at there is = other_apart ServerTooLong (λ same. absurd (let both : ServerTooLong ≡ ChunkFull = same in cc)) (denies (server_begins s) handle p id ServerTooLong) refl is
   by_placing r bytes Full at there is = (r, at, full_length r.count (length bytes) (chunk_limit s handle) there)
-  by_placing r bytes (Pad offset) at there is = placed_apart (mutation.Pad offset) is
+  by_placing r bytes (Pad offset) at there is = placed_apart (mutation.Pad offset (chunk_limit s handle)) is
   by_placing r bytes (At offset) at there is = placed_apart (mutation.Append offset bytes) is
 
   by_target : (r : Row) (t : Target) (bytes : List ℕ) → row_at s.disk handle ≡ Some r → mutates_with (server_begins s) handle p r id t bytes ≡ denies (server_begins s) handle p id ChunkFull → IsFull

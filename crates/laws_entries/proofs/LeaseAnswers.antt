@@ -194,7 +194,7 @@ module _ (K : Seen → Type 0) where
     applied_fine n =
         let q : ℕ = n.a.c.handle.0 in
         let serial : ℕ = n.a.p.serial + 1 in
-        let stored : ServerDoing = stores (number_of s i n) (stored_as s.config.chunk q serial n.placed) in
+        let stored : ServerDoing = stores (number_of s i n) (stored_as q serial n.placed) in
         acknowledged_fine (forwards stored (without n.a.p.held.members s.id) q n.a.p.held.version serial n.a.c.id (change_of n.placed)) q (numbered n.a.p n.a.c.id.client n.a.c.id.seq (place_of n.placed)) s.id serial
         (number_right n) (forwards_fine stored (without n.a.p.held.members s.id) q n.a.p.held.version serial n.a.c.id (change_of n.placed) (number_fine n))
 

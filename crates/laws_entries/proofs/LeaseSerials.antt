@@ -167,7 +167,7 @@ module _ (handle version base : ℕ) where
           let q : ℕ = n.a.c.handle.0 in
           let serial : ℕ = n.a.p.serial + 1 in
           let both = numbers_fine n in
-          acknowledged_fine (forwards (stores (number_of s i n) (stored_as s.config.chunk q serial n.placed)) (without n.a.p.held.members s.id) q n.a.p.held.version serial n.a.c.id (change_of n.placed)) q
+          acknowledged_fine (forwards (stores (number_of s i n) (stored_as q serial n.placed)) (without n.a.p.held.members s.id) q n.a.p.held.version serial n.a.c.id (change_of n.placed)) q
           (numbered n.a.p n.a.c.id.client n.a.c.id.seq (place_of n.placed)) s.id serial both.1 both.0
 
       ticks_fine : Fine (server_ticks (server_begins s))

@@ -106,7 +106,7 @@ module _ (P : SerialOrder → Type 0) (k : KeepsOrders P) (handle version : ℕ)
       applied_fine n =
           let q : ℕ = n.a.c.handle.0 in
           let serial : ℕ = n.a.p.serial + 1 in
-          acknowledged_fine (forwards (stores (number_of s i n) (stored_as s.config.chunk q serial n.placed)) (without n.a.p.held.members s.id) q n.a.p.held.version serial n.a.c.id (change_of n.placed)) q
+          acknowledged_fine (forwards (stores (number_of s i n) (stored_as q serial n.placed)) (without n.a.p.held.members s.id) q n.a.p.held.version serial n.a.c.id (change_of n.placed)) q
           (numbered n.a.p n.a.c.id.client n.a.c.id.seq (place_of n.placed)) s.id serial (numbers_fit n) (numbers_fine n)
 
       ticks_fine : AreFit P handle version (map_values asks_no_more (counting_leases s))

@@ -49,18 +49,18 @@ IsCaused disk changes seen (body.Image handle version serial bytes) =
 IsCaused disk changes seen other = Unit {0}
 
 -- what is stored of a forwarded change has its serial
-written : (size handle serial : ℕ) (kept : Option (List ℕ)) (named : Change) (x : StoreChange) (from end_place : ℕ) → IsStoredAs size handle serial kept named x from end_place
+written : (handle serial : ℕ) (kept : Option (List ℕ)) (named : Change) (x : StoreChange) (from end_place : ℕ) → IsStoredAs handle serial kept named x from end_place
     → IsWritten (handle_of handle) (serial_of serial) x
-written size handle serial kept (change.Write offset) x from end_place h = subst (IsWritten (handle_of handle) (serial_of serial)) (sym h.2) (refl, refl)
-written size handle serial kept (change.Append offset) x from end_place h = subst (IsWritten (handle_of handle) (serial_of serial)) (sym h.2) (refl, refl)
-written size handle serial kept (change.Pad offset) x from end_place h = subst (IsWritten (handle_of handle) (serial_of serial)) (sym h.0) (refl, refl)
+written handle serial kept (change.Write offset) x from end_place h = subst (IsWritten (handle_of handle) (serial_of serial)) (sym h.2) (refl, refl)
+written handle serial kept (change.Append offset) x from end_place h = subst (IsWritten (handle_of handle) (serial_of serial)) (sym h.2) (refl, refl)
+written handle serial kept (change.Pad offset end) x from end_place h = subst (IsWritten (handle_of handle) (serial_of serial)) (sym h.0) (refl, refl)
 
 caused : (s : ServerState) (i : NodeInput) (d : ServerDoing) (receiver : Node) (b : Body) → IsSaid s i d receiver b → IsCaused s.disk d.changes d.seen b
 caused s i d receiver (body.Forward handle version serial id named) h = (h.1, h.0, h.2, h.3)
 caused s i d receiver (body.Acked handle version serial) h =
     let t = h.0 in
     let c = t.f.c in
-    let there : IsWritten c.handle c.serial t.x = written s.config.chunk c.handle.0 c.serial.0 (data_of s.pushed c.id) c.named t.x t.from t.end_place t.stored in (
+    let there : IsWritten c.handle c.serial t.x = written c.handle.0 c.serial.0 (data_of s.pushed c.id) c.named t.x t.from t.end_place t.stored in (
       t.f.row,
       t.x,
       subst (λ (q : Handle). row_at s.disk q.0 ≡ Some t.f.row) (sym h.1) t.f.found,

@@ -89,7 +89,7 @@ module _ (P : SerialOrder → Type 0) (k : KeepsOrders P) (handle version : ℕ)
   appends_noted : (d : ServerDoing) (bytes : List ℕ) (where_ : Placing) → d.seen ≡ [] → IsNoted (appends_as d handle p id bytes where_)
   appends_noted d bytes TooLong none = inl none
   appends_noted d bytes Full none = inl none
-  appends_noted d bytes (Pad offset) none = places_noted d (mutation.Pad offset) none
+  appends_noted d bytes (Pad offset) none = places_noted d (mutation.Pad offset (chunk_limit d.server handle)) none
   appends_noted d bytes (At offset) none = places_noted d (mutation.Append offset bytes) none
 
   with_noted : (d : ServerDoing) (r : Row) (t : Target) (bytes : List ℕ) → d.seen ≡ [] → IsNoted (mutates_with d handle p r id t bytes)

@@ -93,7 +93,7 @@ module _ (P : SerialOrder → Type 0) (k : KeepsOrders P) (handle version : ℕ)
     taken = shows (takes_data (with_primary d handle (numbered p id.client id.seq (place_of m))) id) (Numbered (handle_of handle) (version_of p.held.version) (serial_of (p.serial + 1)) id m)
 
     abbrev forwarded : ServerDoing
-    forwarded = forwards (stores taken (stored_as (chunk_limit d.server handle) handle (p.serial + 1) m)) (without p.held.members d.server.id) handle p.held.version (p.serial + 1) id (change_of m)
+    forwarded = forwards (stores taken (stored_as handle (p.serial + 1) m)) (without p.held.members d.server.id) handle p.held.version (p.serial + 1) id (change_of m)
 
     abbrev after : SerialOrder
     after = acknowledged new d.server.id (p.serial + 1)
@@ -111,18 +111,18 @@ module _ (P : SerialOrder → Type 0) (k : KeepsOrders P) (handle version : ℕ)
     pub places_fit : nat_le counter_limit p.serial ≡ false → Fit (places d handle p id m).server.leases
     places_fit room =
         on_cond (λ (e : ServerDoing). Fit e.server.leases) (nat_le counter_limit p.serial) d _ (λ full. absurd (true≢false (sym full ∙ room)))
-        (λ _. on_cond (λ (e : ServerDoing). Fit e.server.leases) (is_writable_at d.server.disk handle (start_of m) (end_of (chunk_limit d.server handle) m)) (primary_applies taken handle p id m) (refuses_attempt (drops_corrupt taken handle) id Corrupt) (λ _. applies_fit) (λ _. drops_fit))
+        (λ _. on_cond (λ (e : ServerDoing). Fit e.server.leases) (is_writable_at d.server.disk handle (start_of m) (end_of m)) (primary_applies taken handle p id m) (refuses_attempt (drops_corrupt taken handle) id Corrupt) (λ _. applies_fit) (λ _. drops_fit))
 
     places_noted : d.seen ≡ [] → IsNoted (places d handle p id m)
     places_noted none =
         on_cond IsNoted (nat_le counter_limit p.serial) d _ (λ _. inl none)
-        (λ _. on_cond IsNoted (is_writable_at d.server.disk handle (start_of m) (end_of (chunk_limit d.server handle) m)) (primary_applies taken handle p id m) (refuses_attempt (drops_corrupt taken handle) id Corrupt) (λ _. inr applies_fit)
+        (λ _. on_cond IsNoted (is_writable_at d.server.disk handle (start_of m) (end_of m)) (primary_applies taken handle p id m) (refuses_attempt (drops_corrupt taken handle) id Corrupt) (λ _. inr applies_fit)
         (λ _. inr drops_fit))
 
   appends_noted : (d : ServerDoing) (bytes : List ℕ) (where_ : Placing) → d.seen ≡ [] → IsNoted (appends_as d handle p id bytes where_)
   appends_noted d bytes TooLong none = inl none
   appends_noted d bytes Full none = inl none
-  appends_noted d bytes (Pad offset) none = places_noted d (mutation.Pad offset) none
+  appends_noted d bytes (Pad offset) none = places_noted d (mutation.Pad offset (chunk_limit d.server handle)) none
   appends_noted d bytes (At offset) none = places_noted d (mutation.Append offset bytes) none
 
   with_noted : (d : ServerDoing) (r : Row) (t : Target) (bytes : List ℕ) → d.seen ≡ [] → IsNoted (mutates_with d handle p r id t bytes)

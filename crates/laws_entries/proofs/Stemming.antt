@@ -127,9 +127,9 @@ held_version s version (Some q) p is = by_test ((q.held.version == version) && c
 placed_for : (aim : Target) (bytes : List ℕ) (m : Mutation) → IsPlacedOf aim bytes m → IsPlacedFor aim bytes m
 placed_for (target.Write at) bytes (mutation.Write offset written) h = h
 placed_for target.Append bytes (mutation.Append offset written) h = h
-placed_for target.Append bytes (mutation.Pad offset) h = tt
+placed_for target.Append bytes (mutation.Pad offset end) h = tt
 placed_for (target.Write at) bytes (mutation.Append offset written) h = absurd h
-placed_for (target.Write at) bytes (mutation.Pad offset) h = absurd h
+placed_for (target.Write at) bytes (mutation.Pad offset end) h = absurd h
 placed_for target.Append bytes (mutation.Write offset written) h = absurd h
 
 -- what a step shows was asked for

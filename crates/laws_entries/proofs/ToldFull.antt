@@ -135,7 +135,7 @@ module _ (config : Config) (servers clients : ℕ) (F : DataId → Type 0) (w : 
           step_is = refl;
           full = elim (end) [
             | inl denied ↦ let found = denied_full (server_at s moment) handle.0 p id t deadline.0 (primary_of (server_at s moment) handle.0 version.0) primary new denied in inl (found.0, found.1, found.2 ∙ chunk_is)
-            | inr placed ↦ inr (0, version_of p.held.version, serial_of (p.serial + 1), placed.0, ap (λ (e : ServerDoing). element_at e.seen 0) (goes_is ∙ placed.1) ∙ placed_first (server_at s moment) handle.0 p id (Pad placed.0) placed.2)
+            | inr placed ↦ inr (0, version_of p.held.version, serial_of (p.serial + 1), placed.0, ap (λ (e : ServerDoing). element_at e.seen 0) (goes_is ∙ placed.1) ∙ placed_first (server_at s moment) handle.0 p id (Pad placed.0 s.config.chunk) placed.2)
           ];
         })
       where

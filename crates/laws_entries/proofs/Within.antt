@@ -15,7 +15,7 @@ use Rattle.laws_entries.specs.PlacedEntries.{LiesWithin, EntriesLieWithinTheChun
 within : (size count : ℕ) (bytes : List ℕ) (m : Mutation) → IsPlacedBehind size count bytes m → LiesWithin size m
 within size count bytes (Write offset written) placed = placed.1
 within size count bytes (Append offset written) placed = placed.2
-within size count bytes (Pad offset) placed = placed.1
+within size count bytes (Pad offset end) placed = (placed.1, placed.3)
 
 pub entries_lie_within_the_chunk : EntriesLieWithinTheChunk
 entries_lie_within_the_chunk config servers clients steps handle place p at =

@@ -17,7 +17,7 @@ use Rattle.laws_entries.specs.AnsweredAppends.{AnswersAppend}
 abbrev pub bytes_in : Mutation → Option (List ℕ)
 bytes_in (mutation.Write offset bytes) = Some bytes
 bytes_in (mutation.Append offset bytes) = Some bytes
-bytes_in (mutation.Pad offset) = None
+bytes_in (mutation.Pad offset end) = None
 
 -- these bytes have a settled entry of this client, at this place of the file
 pub record IsPlaceOfBytes (w : WorldState) (size client offset : ℕ) (bytes : List ℕ) : Type 0 where

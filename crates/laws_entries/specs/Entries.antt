@@ -40,7 +40,7 @@ pub record IsPushed (sent : List Message) (id : DataId) (bytes : List ℕ) : Typ
 abbrev pub IsPlacedFor : Target → List ℕ → Mutation → Type 0
 IsPlacedFor (target.Write at) bytes (mutation.Write offset written) = (offset ≡ at) × (written ≡ bytes)
 IsPlacedFor target.Append bytes (mutation.Append offset written) = written ≡ bytes
-IsPlacedFor target.Append bytes (mutation.Pad offset) = Unit {0}
+IsPlacedFor target.Append bytes (mutation.Pad offset end) = Unit {0}
 IsPlacedFor other bytes m = ⊥
 
 -- This message asks a server to place the data of its own sender, which pushed them; and the server holds a lease of this version that counts, under which the number is new and the serial the next one.

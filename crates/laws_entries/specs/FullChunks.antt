@@ -15,7 +15,7 @@ use Rattle.protocol.specs.World.{WorldState, new_world, after_events, IsReached}
 use Rattle.laws_steps.specs.FewAttempts.{WasAsked, EachOf, AreApart}
 
 abbrev pub IsPad : Mutation → Type 0
-IsPad (Pad offset) = Unit {0}
+IsPad (Pad offset end) = Unit {0}
 IsPad other = ⊥
 
 -- An entry of a number to which ChunkFull was answered is a pad (section 3.3).

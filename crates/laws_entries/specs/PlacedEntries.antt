@@ -9,11 +9,11 @@ use Rattle.protocol.specs.Choice.{Choice}
 use Rattle.protocol.specs.Observer.{Placed, order_of}
 use Rattle.protocol.specs.World.{new_world, after_events}
 
--- it lies within a chunk of this size; a pad begins in it, and covers the rest
+-- it lies within a chunk of this size; a pad begins in it, and ends where it ends
 abbrev pub LiesWithin : ℕ → Mutation → Type 0
 LiesWithin size (Write offset bytes) = offset + length bytes ≤ size
 LiesWithin size (Append offset bytes) = offset + length bytes ≤ size
-LiesWithin size (Pad offset) = offset < size
+LiesWithin size (Pad offset end) = (offset < size) × (end ≡ size)
 
 -- Each entry of a chunk's order lies within the chunk (sections 2.3 and 3.3).
 abbrev pub EntriesLieWithinTheChunk : Type 0

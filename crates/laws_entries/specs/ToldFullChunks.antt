@@ -30,9 +30,9 @@ use Rattle.laws_entries.specs.ChunkOrders.{CameAbout}
 abbrev pub IsReplicaFull : ℕ → ServerState → Handle → Type 0
 IsReplicaFull size s handle = (r : Row) × (row_at s.disk handle.0 ≡ Some r) × (r.count ≡ size)
 
--- the server numbers a pad of these data, where nothing hinders its step
+-- the server numbers a pad of these data up to the chunk's end, where nothing hinders its step
 abbrev pub IsPadded : ServerState → ℕ → NodeInput → Handle → DataId → Type 0
-IsPadded s moment i handle id = (place : ℕ) × (version : Version) × (serial : Serial) × (offset : ℕ) × (element_at (server_goes s moment i).seen place ≡ Some (Numbered handle version serial id (Pad offset)))
+IsPadded s moment i handle id = (place : ℕ) × (version : Version) × (serial : Serial) × (offset : ℕ) × (element_at (server_goes s moment i).seen place ≡ Some (Numbered handle version serial id (Pad offset s.config.chunk)))
 
 -- By what happened in this world a server took the Mutate of these data, and its own replica of that chunk was full, or it placed a pad of them there.
 pub record IsFullNow (size : ℕ) (w : WorldState) (x : Happened) (id : DataId) : Type 0 where

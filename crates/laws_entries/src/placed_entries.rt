@@ -2,7 +2,7 @@
 
 ghost use Rattle.laws_entries.specs.PlacedEntries.{EntriesLieWithinTheChunk};
 
-/// Each entry of a chunk's order lies within the chunk, and a pad begins in it.
+/// Each entry of a chunk's order lies within the chunk; a pad begins in it, and ends where it ends.
 pub fn entries_lie_within_the_chunk()
     ensures { EntriesLieWithinTheChunk }
 {}

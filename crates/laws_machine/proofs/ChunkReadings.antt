@@ -43,38 +43,38 @@ selections_go_by_rounds version order other chosen same h = up version other (su
 
 -- parts of an image
 
-module _ (size : ℕ) (ms : List Mutation) where
-  as_far : (place other count more : ℕ) → place ≡ other → count ≡ more → bytes_from size ms place count ≡ bytes_from size ms other more
-  as_far place other count more same much = ap (λ (p : ℕ). bytes_from size ms p count) same ∙ ap (λ (n : ℕ). bytes_from size ms other n) much
+module _ (ms : List Mutation) where
+  as_far : (place other count more : ℕ) → place ≡ other → count ≡ more → bytes_from ms place count ≡ bytes_from ms other more
+  as_far place other count more same much = ap (λ (p : ℕ). bytes_from ms p count) same ∙ ap (λ (n : ℕ). bytes_from ms other n) much
 
-  dropped_from : (k place count : ℕ) → drop k (bytes_from size ms place count) ≡ bytes_from size ms (place + k) (count - k)
+  dropped_from : (k place count : ℕ) → drop k (bytes_from ms place count) ≡ bytes_from ms (place + k) (count - k)
   dropped_from zero place count = as_far place (place + 0) count (count - 0) (omega arith) (omega arith)
   dropped_from (suc k) place zero = as_far (place + suc k) (place + suc k) 0 (0 - suc k) refl (omega arith)
   dropped_from (suc k) place (suc count) = dropped_from k (suc place) count ∙ as_far (suc place + k) (place + suc k) (count - k) (suc count - suc k) (omega arith) (omega arith)
 
-  taken_from : (k place count : ℕ) → take k (bytes_from size ms place count) ≡ bytes_from size ms place (min k count)
+  taken_from : (k place count : ℕ) → take k (bytes_from ms place count) ≡ bytes_from ms place (min k count)
   taken_from zero place count = as_far place place 0 (min 0 count) refl (omega arith)
   taken_from (suc k) place zero = as_far place place 0 (min (suc k) 0) refl (omega arith)
   taken_from (suc k) place (suc count) =
-      ap (λ (bs : List ℕ). byte_at size ms place ∷ bs) (taken_from k (suc place) count) ∙ as_far place place (suc (min k count)) (min (suc k) (suc count)) refl (omega arith)
+      ap (λ (bs : List ℕ). byte_at ms place ∷ bs) (taken_from k (suc place) count) ∙ as_far place place (suc (min k count)) (min (suc k) (suc count)) refl (omega arith)
 
-  length_from : (place count : ℕ) → length (bytes_from size ms place count) ≡ count
+  length_from : (place count : ℕ) → length (bytes_from ms place count) ≡ count
   length_from place zero = refl
   length_from place (suc count) = ap (λ (n : ℕ). suc n) (length_from (suc place) count)
 
-  pub slice_of : (offset count : ℕ) → take count (drop offset (image size ms)) ≡ image_slice size ms offset count
+  pub slice_of : (offset count : ℕ) → take count (drop offset (image ms)) ≡ image_slice ms offset count
   slice_of offset count =
-      ap (λ (bs : List ℕ). take count bs) (dropped_from offset 0 (image_length size ms)) ∙ taken_from count (0 + offset) (image_length size ms - offset)
-      ∙ as_far (0 + offset) offset (min count (image_length size ms - offset)) (min count (image_length size ms - offset)) (omega arith) refl
+      ap (λ (bs : List ℕ). take count bs) (dropped_from offset 0 (image_length ms)) ∙ taken_from count (0 + offset) (image_length ms - offset)
+      ∙ as_far (0 + offset) offset (min count (image_length ms - offset)) (min count (image_length ms - offset)) (omega arith) refl
 
-  pub length_of : length (image size ms) ≡ image_length size ms
-  length_of = length_from 0 (image_length size ms)
+  pub length_of : length (image ms) ≡ image_length ms
+  length_of = length_from 0 (image_length ms)
 
 pub readings_are_of_the_chunk : ReadingsAreOfTheChunk
 readings_are_of_the_chunk config servers clients w reached kept index s at handle row row_is order agree = by_replica (replica_of s.disk handle) refl row_is
   where
     of_replica : (r : Replica) → replica_of s.disk handle ≡ Some r → record { version = record { 0 = r.version }; serial = record { 0 = r.serial }; count = length r.bytes } ≡ row
-        → (chosen : List Entry) × IsReadAs s w.config.chunk handle row order chosen
+        → (chosen : List Entry) × IsReadAs s handle row order chosen
     of_replica r is same =
         let selected = (replicas_are_selections config servers clients w reached kept index s at).0 handle r is in
         let version_is : r.version ≡ row.version.0 = ap (λ (x : Row). x.version.0) same in
@@ -85,11 +85,11 @@ readings_are_of_the_chunk config servers clients w reached kept index s at handl
             selection = selections_go_by_rounds row.version.0 (entries_of w.observer handle) order selected.0 agree (subst (λ (v : ℕ). IsSelection v (entries_of w.observer handle) selected.0) version_is selected.1);
             bytes = λ offset count found read.
                 reads_are_as_stored config servers clients w reached disks index s at handle r is offset count found read ∙ ap (λ (bs : List ℕ). take count (drop offset bs)) selected.2
-                ∙ slice_of w.config.chunk (mutations_of selected.0) offset count;
-            length = sym count_is ∙ ap (λ (bs : List ℕ). length bs) selected.2 ∙ length_of w.config.chunk (mutations_of selected.0);
+                ∙ slice_of (mutations_of selected.0) offset count;
+            length = sym count_is ∙ ap (λ (bs : List ℕ). length bs) selected.2 ∙ length_of (mutations_of selected.0);
           },
         )
 
-    by_replica : (o : Option Replica) → replica_of s.disk handle ≡ o → row_of o ≡ Some row → (chosen : List Entry) × IsReadAs s w.config.chunk handle row order chosen
+    by_replica : (o : Option Replica) → replica_of s.disk handle ≡ o → row_of o ≡ Some row → (chosen : List Entry) × IsReadAs s handle row order chosen
     by_replica None is at_row = none_some row at_row
     by_replica (Some r) is at_row = of_replica r is (same_some (record { version = record { 0 = r.version }; serial = record { 0 = r.serial }; count = length r.bytes }) row at_row)

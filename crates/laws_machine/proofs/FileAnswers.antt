@@ -111,7 +111,7 @@ module _ (m : Machine) (client : ℕ) (x : CurrentCall) (o : OpenCall) (h : IsFi
 
   pub measures : (chunk : ToldChunk) (left : List Holder) (number : ℕ) → x.stage ≡ SentRead chunk left number → IsTrue (is_length x.asked) → (version : ℕ) (chosen : List Entry)
       → IsSeenAt m x.file.0 chunk.index chunk.round.0 version chosen
-      → Gives m client (Measure client x.file.0 chunk.index chunk.round.0 chunk.round.0 version chosen) (λ n p. Contains p.lengths (chunk.index * m.config.chunk + image_length m.config.chunk (mutations_of chosen)))
+      → Gives m client (Measure client x.file.0 chunk.index chunk.round.0 chunk.round.0 version chosen) (λ n p. Contains p.lengths (chunk.index * m.config.chunk + image_length (mutations_of chosen)))
   measures chunk left number at is version chosen seen = (
     (o, h.is_open, (h.file_is, ap is_length_call h.call_is ∙ length_call x.asked is, here.1.last is, omega arith, (seen.count, here.1.noted, seen.version_is, seen.selection))),
     λ p now. subst (λ (c : OpenCall). Contains c.lengths found) (is_stepped m client change o h.is_open p now) (zero, omega arith, refl),
@@ -121,7 +121,7 @@ module _ (m : Machine) (client : ℕ) (x : CurrentCall) (o : OpenCall) (h : IsFi
       here = staged (SentRead chunk left number) at
 
       found : ℕ
-      found = chunk.index * m.config.chunk + image_length m.config.chunk (mutations_of chosen)
+      found = chunk.index * m.config.chunk + image_length (mutations_of chosen)
 
       change : OpenCall → OpenCall
       change c = record c { lengths = found ∷ c.lengths }

@@ -85,17 +85,17 @@ module _ (m : Machine) (id : CallId) (s : Spot) (order : List Entry) (round : �
   abbrev size : ℕ
   size = chunk_size m s.file
 
-  an_end : (at : ℕ) → IsTrue (is_an_end size order at) → IsTrue (is_an_end size (chunk_at m s.file s.index).order at)
-  an_end at is = subst (λ (es : List Entry). IsTrue (is_an_end size es at)) orders is
+  an_end : (at : ℕ) → IsTrue (is_an_end order at) → IsTrue (is_an_end (chunk_at m s.file s.index).order at)
+  an_end at is = subst (λ (es : List Entry). IsTrue (is_an_end es at)) orders is
 
   asks_for : (c : Call) (x : Mutation) (given : List ℕ) → AreDataOf size s.index c given → HasPartLeft m id s.file s.index c x → MayFollow size order round x → IsMadeOf size given x → AsksFor m id s.file s.index c x
   asks_for (call.Write fd offset bytes) (Write at content) given own left follow made = (left.0, left.1, left.2, made ∙ own, left.3, left.4)
   asks_for (call.Append fd bytes) (Append at content) given own left follow made =
       (made.0 ∙ own, quarter size given bytes own made.1, follow.0, an_end at follow.1, past_all size (chunk_at m s.file s.index).order order (chunk_at m s.file s.index).round round (chunk_at m s.file s.index).is_open (Append at content) orders rounds follow.2, left)
-  asks_for (call.Append fd bytes) (Pad at) given own left follow made =
-      (quarter size given bytes own made.0, follow.0, subst (λ (xs : List ℕ). size < at + length xs) own made.1, an_end at follow.1, past_all size (chunk_at m s.file s.index).order order (chunk_at m s.file s.index).round round (chunk_at m s.file s.index).is_open (Pad at) orders rounds follow.2)
+  asks_for (call.Append fd bytes) (Pad at end) given own left follow made =
+      (quarter size given bytes own made.0, follow.0.0, subst (λ (xs : List ℕ). size < at + length xs) own made.1, an_end at follow.0.1, past_all size (chunk_at m s.file s.index).order order (chunk_at m s.file s.index).round round (chunk_at m s.file s.index).is_open (Pad at end) orders rounds follow.0.2, follow.1)
   asks_for (call.Write fd offset bytes) (Append at content) given own left follow made = absurd left
-  asks_for (call.Write fd offset bytes) (Pad at) given own left follow made = absurd left
+  asks_for (call.Write fd offset bytes) (Pad at end) given own left follow made = absurd left
   asks_for (call.Append fd bytes) (Write at content) given own left follow made = absurd left
   asks_for other x given own left follow made = absurd own
 

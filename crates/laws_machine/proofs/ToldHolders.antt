@@ -45,12 +45,12 @@ logged_chunks_are_last_rounds k alike file handles there is_there l handle row a
 
 -- what is read of a part
 
-nothing_read : (size : ℕ) (ms : List Mutation) → image_slice size ms 0 0 ≡ []
-nothing_read size ms = ap (λ (n : ℕ). bytes_from size ms 0 n) (let none : min 0 (image_length size ms - 0) ≡ 0 = omega arith in none)
+nothing_read : (ms : List Mutation) → image_slice ms 0 0 ≡ []
+nothing_read ms = ap (λ (n : ℕ). bytes_from ms 0 n) (let none : min 0 (image_length ms - 0) ≡ 0 = omega arith in none)
 
-part_read : (size index : ℕ) (c : Call) (chosen : List Entry) → image_slice size (mutations_of chosen) (read_start size index c) (read_count size index c) ≡ read_slice size index c chosen
+part_read : (size index : ℕ) (c : Call) (chosen : List Entry) → image_slice (mutations_of chosen) (read_start size index c) (read_count size index c) ≡ read_slice size index c chosen
 part_read size index (call.Read fd offset count) chosen = refl
-part_read size index other chosen = nothing_read size (mutations_of chosen)
+part_read size index other chosen = nothing_read (mutations_of chosen)
 
 pub answers_show_the_chunk : AnswersShowTheChunk
 answers_show_the_chunk s size x chunk row order chosen read (body.Bytes number bytes) so = read.bytes (read_start size x.index x.asked) (read_count size x.index x.asked) bytes so.1 ∙ part_read size x.index x.asked chosen

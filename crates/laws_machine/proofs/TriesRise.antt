@@ -41,7 +41,7 @@ settle_tries m s place t c =
 no_pad_then : (x : Mutation) → not (is_pad x) ≡ true → IsPad x → ⊥
 no_pad_then (Write offset bytes) is pad = pad
 no_pad_then (Append offset bytes) is pad = pad
-no_pad_then (Pad offset) is pad = true≢false (sym is)
+no_pad_then (Pad offset end) is pad = true≢false (sym is)
 
 either_way : (b : Bool) → (b ≡ true) ⊎ (b ≡ false)
 either_way true = inl refl

@@ -72,9 +72,9 @@ placed_there (q ∷ ps) (suc n) p is = in_cons q.entry (map (λ r. r.entry) ps) 
 of_part : (size part index place : ℕ) (c : Call) (m : Mutation) → IsAskedOf size index c m → place_of m ≡ Some place → (IsTrue (has_index c) → index ≡ part) → IsWithinPlaces size index place → IsOfPart size part index place c m
 of_part size part index place (call.Write fd offset content) (Write at bytes) asked is same within = (same refl, tt)
 of_part size part index place (call.Write fd offset content) (Append at bytes) asked is same within = absurd asked
-of_part size part index place (call.Write fd offset content) (Pad at) asked is same within = absurd asked
+of_part size part index place (call.Write fd offset content) (Pad at end) asked is same within = absurd asked
 of_part size part index place (call.Append fd content) (Append at bytes) asked is same within = (within, same_some at place is)
-of_part size part index place (call.Append fd content) (Pad at) asked is same within = none_some place is
+of_part size part index place (call.Append fd content) (Pad at end) asked is same within = none_some place is
 of_part size part index place (call.Append fd content) (Write at bytes) asked is same within = absurd asked
 of_part size part index place other m asked is same within = tt
 

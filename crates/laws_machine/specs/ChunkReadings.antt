@@ -19,10 +19,10 @@ abbrev pub SelectionsGoByRounds : Type 0
 SelectionsGoByRounds = (version : ℕ) (order other chosen : List Entry) → AgreeUpTo version order other → IsSelection version order chosen → IsSelection version other chosen
 
 -- these are entries of the order up to the row's version, with each settled one: the bytes that are read of the replica are theirs, and its length
-pub record IsReadAs (s : ServerState) (size handle : ℕ) (row : Row) (order chosen : List Entry) : Type 0 where
+pub record IsReadAs (s : ServerState) (handle : ℕ) (row : Row) (order chosen : List Entry) : Type 0 where
   pub selection : IsSelection row.version.0 order chosen
-  pub bytes : (offset count : ℕ) (found : List ℕ) → read_at s.disk handle offset count ≡ Some found → found ≡ image_slice size (mutations_of chosen) offset count
-  pub length : row.count ≡ image_length size (mutations_of chosen)
+  pub bytes : (offset count : ℕ) (found : List ℕ) → read_at s.disk handle offset count ≡ Some found → found ≡ image_slice (mutations_of chosen) offset count
+  pub length : row.count ≡ image_length (mutations_of chosen)
 
 -- Where clocks and disks are kept: what a server reads of a replica, and its length, are of such entries of the chunk's order, and of each order that agrees with it up to the replica's version.
 abbrev pub ReadingsAreOfTheChunk : Type 0
@@ -30,4 +30,4 @@ ReadingsAreOfTheChunk =
     (config : Config) (servers clients : ℕ) (w : WorldState) → IsReached config servers clients w → IsTrue (is_kept w)
     → (index : ℕ) (s : ServerState) → element_at w.servers index ≡ Some s → (handle : ℕ) (row : Row) → row_at s.disk handle ≡ Some row
     → (order : List Entry) → AgreeUpTo row.version.0 (entries_of w.observer handle) order
-    → (chosen : List Entry) × IsReadAs s w.config.chunk handle row order chosen
+    → (chosen : List Entry) × IsReadAs s handle row order chosen

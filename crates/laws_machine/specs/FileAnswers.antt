@@ -73,7 +73,7 @@ LengthsAreMeasured =
     (m : Machine) (client : ℕ) (x : CurrentCall) (o : OpenCall) → IsFileCall m client x o → (chunk : ToldChunk) (left : List Holder) (number : ℕ) → x.stage ≡ SentRead chunk left number
     → IsTrue (is_length x.asked) → (version : ℕ) (chosen : List Entry) → IsSeenAt m x.file.0 chunk.index chunk.round.0 version chosen
     → Gives m client (Measure client x.file.0 chunk.index chunk.round.0 chunk.round.0 version chosen)
-    (λ n p. Contains p.lengths (chunk.index * m.config.chunk + image_length m.config.chunk (mutations_of chosen)))
+    (λ n p. Contains p.lengths (chunk.index * m.config.chunk + image_length (mutations_of chosen)))
 
 -- the mutation is what the call asked for in the chunk of this index, at this place if it is an append
 abbrev pub IsOfPart : ℕ → ℕ → ℕ → ℕ → Call → Mutation → Type 0

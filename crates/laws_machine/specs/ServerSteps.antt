@@ -54,7 +54,7 @@ HasPartLeft m id file index (call.Write fd offset bytes) (Write at content) =
     IsFalse (is_range_too_long offset (length bytes)) × IsTrue (has_part (chunk_size m file) offset (length bytes) index) × (at ≡ part_start (chunk_size m file) offset index)
     × AreEarlierPartsSettled m id file offset (length bytes) index × (tries_in id (chunk_at m file index) < m.config.attempts)
 HasPartLeft m id file index (call.Append fd bytes) (Append at content) = tries_below (m.files file).chunks id (chunk_count m file) < m.config.attempts
-HasPartLeft m id file index (call.Append fd bytes) (Pad at) = Unit {0}
+HasPartLeft m id file index (call.Append fd bytes) (Pad at end) = Unit {0}
 HasPartLeft m id file index other mutation = ⊥
 
 -- The client's open call at the machine is its last one, for the file of this place, and for it the data were pushed.

@@ -55,7 +55,7 @@ HoldersAreSeen =
     (config : Config) (servers clients : ℕ) (w : WorldState) → IsReached config servers clients w → IsTrue (is_kept w) → (k : ChunkSides) → k.orders ≡ w.observer.orders
     → (server : ℕ) (s : ServerState) → element_at w.servers server ≡ Some s → (handle : ℕ) (row : Row) → row_at s.disk handle ≡ Some row
     → (file index round : ℕ) → round ≤ row.version.0 → StandsUpTo k file index handle row.version.0
-    → (chosen : List Entry) × IsSeenAt k.machine file index round row.version.0 chosen × IsReadAs s w.config.chunk handle row (chunk_at k.machine file index).order chosen
+    → (chosen : List Entry) × IsSeenAt k.machine file index round row.version.0 chosen × IsReadAs s handle row (chunk_at k.machine file index).order chosen
 
 -- Where chunks are alike, a chunk of a file in the log is one that may be told, in the round that its row grants.
 abbrev pub LoggedChunksAreLastRounds : Type 0
@@ -67,13 +67,13 @@ LoggedChunksAreLastRounds =
 -- what an answer to a client's reading shows: the bytes of the part in hand, or the length, of these entries
 abbrev pub IsShownAs : ℕ → CurrentCall → List Entry → Body → Type 0
 IsShownAs size x chosen (body.Bytes number bytes) = bytes ≡ read_slice size x.index x.asked chosen
-IsShownAs size x chosen (body.LenIs number count) = count ≡ image_length size (mutations_of chosen)
+IsShownAs size x chosen (body.LenIs number count) = count ≡ image_length (mutations_of chosen)
 IsShownAs size x chosen other = Unit {0}
 
 -- An answer that is so at the server shows what is seen of the chunk.
 abbrev pub AnswersShowTheChunk : Type 0
 AnswersShowTheChunk =
-    (s : ServerState) (size : ℕ) (x : CurrentCall) (chunk : ToldChunk) (row : Row) (order chosen : List Entry) → IsReadAs s size chunk.handle.0 row order chosen
+    (s : ServerState) (size : ℕ) (x : CurrentCall) (chunk : ToldChunk) (row : Row) (order chosen : List Entry) → IsReadAs s chunk.handle.0 row order chosen
     → (answer : Body) → IsTrueOf s.disk row size x chunk answer → IsShownAs size x chosen answer
 
 -- a version up to which a location says that its handle stands for the chunk

@@ -133,9 +133,9 @@ said_or_idle s moment i choice idle =
     ends (Stops made) = inl refl
 
 -- replicas that acknowledged in the step have it as their last serial
-module _ (s : ServerState) (moment : ℕ) (i : NodeInput) (choice : Choice) (idle : s.under_way ≡ []) (sent : List Message) (k index size : ℕ) (orders : Table (List Placed)) where
+module _ (s : ServerState) (moment : ℕ) (i : NodeInput) (choice : Choice) (idle : s.under_way ≡ []) (sent : List Message) (k index : ℕ) (orders : Table (List Placed)) where
   pub said_kept : (handle : ℕ) (x : Replica) (decided : List Bool) → replica_of (disk_changed_by_all (server_step s moment i choice).state.disk (decided_changes decided (server_step s moment i choice).state.under_way)) handle ≡ Some x
-      → (g : IsImageOf size (placed_in orders handle) x.version x.serial x.bytes) → Kept sent index handle x.version (marked g.marks (placed_in orders handle))
+      → (g : IsImageOf (placed_in orders handle) x.version x.serial x.bytes) → Kept sent index handle x.version (marked g.marks (placed_in orders handle))
       → Kept (sent ++ stamped k (server_step s moment i choice).out.sent) index handle x.version (marked g.marks (placed_in orders handle))
   said_kept handle x decided is g = kept_more sent (server_step s moment i choice).out.sent k index handle x.version (marked g.marks (placed_in orders handle)) fresh
     where

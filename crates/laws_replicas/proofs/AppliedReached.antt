@@ -11,7 +11,7 @@ use Rattle.gfs_types.specs.declared.ids.Handle.{Handle}
 use Rattle.gfs_types.specs.declared.ids.Version.{Version}
 use Rattle.gfs_types.specs.declared.ids.Serial.{Serial}
 use Rattle.gfs_types.specs.declared.ids.Node.TheVariants as node
-use Rattle.gfs_types.specs.Mutations.{start_of}
+use Rattle.gfs_types.specs.Mutations.{start_of, end_of}
 use Rattle.messages.specs.declared.event.Event.{Event}
 use Rattle.messages.specs.declared.event.NodeInput.{NodeInput}
 use Rattle.messages.specs.declared.event.NodeInput.TheVariants as input
@@ -44,13 +44,12 @@ use Rattle.laws_replicas.proofs.Rising.{orders_rise}
 use Rattle.laws_entries.proofs.Within.{entries_lie_within_the_chunk}
 use Rattle.laws_entries.proofs.RoundsPassed.{server_shown}
 use Rattle.laws_entries.proofs.CountedRounds.{set_split, comes_in}
-use Rattle.laws_steps.proofs.Lengths.{settings_stay}
 use Rattle.laws_entries.proofs.Forwards.{images_are_of_replicas}
 use Rattle.laws_replicas.proofs.KeptDisks.{none_more, replicas_are_read_as_stored}
 use Rattle.laws_replicas.specs.CopiedEntries.{Follows}
 use Rattle.laws_replicas.proofs.OrdersGrow.{IsAny, same_follows, orders_grow}
 use Rattle.laws_replicas.specs.ReplicaImages.{marked, IsImageOf}
-use Rattle.laws_replicas.proofs.Images.{Carried, Holds, AreIn, holds_grown, IsImageSaid, starts_within, Carries}
+use Rattle.laws_replicas.proofs.Images.{Carried, Holds, AreIn, holds_grown, IsImageSaid, starts_before_end, Carries}
 use Rattle.laws_replicas.proofs.ImagesReached.{IsGood, step_done, answered_kept}
 
 -- what is said, in a world, of the entries that a server's replica at a version has applied
@@ -65,12 +64,12 @@ ShownBy = WorldState → Carried
 abbrev pub IsFound : ServerState → ℕ → Replica → Type 0
 IsFound s handle x = (decided : List Bool) × (replica_of (disk_changed_by_all s.disk (decided_changes decided s.under_way)) handle ≡ Some x)
 
-pub record AreAppliedIn (J : Carried) (K : ℕ → Carried) (size : ℕ) (orders : Table (List Placed)) (servers : List ServerState) (sent : List Message) : Type 0 where
-  pub each : (index : ℕ) (s : ServerState) → element_at servers index ≡ Some s → IsGood (K index) size orders s
-  pub said : (m : Message) → IsSent sent m → IsImageSaid J size orders m.body
+pub record AreAppliedIn (J : Carried) (K : ℕ → Carried) (orders : Table (List Placed)) (servers : List ServerState) (sent : List Message) : Type 0 where
+  pub each : (index : ℕ) (s : ServerState) → element_at servers index ≡ Some s → IsGood (K index) orders s
+  pub said : (m : Message) → IsSent sent m → IsImageSaid J orders m.body
 
 abbrev pub AreApplied : ShownBy → AppliedBy → WorldState → Type 0
-AreApplied J K w = AreAppliedIn (J w) (K w) w.config.chunk w.observer.orders w.servers w.sent
+AreApplied J K w = AreAppliedIn (J w) (K w) w.observer.orders w.servers w.sent
 
 -- what is kept of the replicas of some servers, as they were before, and of the Images that were sent
 pub record StaysIn (J L : Carried) (K M : ℕ → Carried) (Other : ℕ → Type 0) (servers : List ServerState) (sent : List Message) : Type 0 where
@@ -93,7 +92,7 @@ pub record Keeps (J : ShownBy) (K : AppliedBy) (config : Config) (servers client
   -- the replicas that a step of a server leaves
   pub served : (e : Event) (index moment : ℕ) (s : ServerState) (i : NodeInput) (choice : Choice) → element_at w.servers index ≡ Some s → IsGiven w e (the_server (suc index)) moment i → IsTrue s.up
       → Later (after_server w index moment (server_step s moment i choice)).world → (handle : ℕ) (x : Replica) → IsFound (server_step s moment i choice).state handle x
-      → (g : IsImageOf w.config.chunk (placed_in (after_server w index moment (server_step s moment i choice)).world.observer.orders handle) x.version x.serial x.bytes)
+      → (g : IsImageOf (placed_in (after_server w index moment (server_step s moment i choice)).world.observer.orders handle) x.version x.serial x.bytes)
       → K w index handle x.version (marked g.marks (placed_in (after_server w index moment (server_step s moment i choice)).world.observer.orders handle))
       → K (after_server w index moment (server_step s moment i choice)).world index handle x.version (marked g.marks (placed_in (after_server w index moment (server_step s moment i choice)).world.observer.orders handle))
   -- an Image that it sends
@@ -122,22 +121,22 @@ IsLater config servers clients v = IsReached config servers clients v × IsTrue 
 
 -- from orders to others that have grown
 
-good_on : (K M : Carried) (size : ℕ) (from to : Table (List Placed)) (s : ServerState) → ((handle : ℕ) → Follows IsAny (placed_in from handle) (placed_in to handle))
-    → ((handle : ℕ) (x : Replica) → IsFound s handle x → (ps : List Placed) → K handle x.version ps → M handle x.version ps) → IsGood K size from s → IsGood M size to s
-good_on K M size from to s grown go h =
+good_on : (K M : Carried) (from to : Table (List Placed)) (s : ServerState) → ((handle : ℕ) → Follows IsAny (placed_in from handle) (placed_in to handle))
+    → ((handle : ℕ) (x : Replica) → IsFound s handle x → (ps : List Placed) → K handle x.version ps → M handle x.version ps) → IsGood K from s → IsGood M to s
+good_on K M from to s grown go h =
     record {
       found = λ decided handle x is.
-          let one = holds_grown K size (placed_in from handle) (placed_in to handle) handle x.version x.serial x.bytes (grown handle) (h.found decided handle x is) in
+          let one = holds_grown K (placed_in from handle) (placed_in to handle) handle x.version x.serial x.bytes (grown handle) (h.found decided handle x is) in
           (one.0, go handle x (decided, is) (marked one.0.marks (placed_in to handle)) one.1);
       idle = h.idle;
     }
 
-said_on : (J L : Carried) (size : ℕ) (from to : Table (List Placed)) (b : Body) → ((handle : ℕ) → Follows IsAny (placed_in from handle) (placed_in to handle))
-    → ((handle : Handle) (version : Version) (serial : Serial) (bytes : List ℕ) → b ≡ body.Image handle version serial bytes → (ps : List Placed) → J handle.0 version.0 ps → L handle.0 version.0 ps) → IsImageSaid J size from b → IsImageSaid L size to b
-said_on J L size from to (body.Image handle version serial bytes) grown go h =
-    let one = holds_grown J size (placed_in from handle.0) (placed_in to handle.0) handle.0 version.0 serial.0 bytes (grown handle.0) h in
+said_on : (J L : Carried) (from to : Table (List Placed)) (b : Body) → ((handle : ℕ) → Follows IsAny (placed_in from handle) (placed_in to handle))
+    → ((handle : Handle) (version : Version) (serial : Serial) (bytes : List ℕ) → b ≡ body.Image handle version serial bytes → (ps : List Placed) → J handle.0 version.0 ps → L handle.0 version.0 ps) → IsImageSaid J from b → IsImageSaid L to b
+said_on J L from to (body.Image handle version serial bytes) grown go h =
+    let one = holds_grown J (placed_in from handle.0) (placed_in to handle.0) handle.0 version.0 serial.0 bytes (grown handle.0) h in
     (one.0, go handle version serial bytes refl (marked one.0.marks (placed_in to handle.0)) one.1)
-said_on J L size from to other grown go h = tt
+said_on J L from to other grown go h = tt
 
 -- who says no Image
 
@@ -145,9 +144,9 @@ abbrev IsNoImage : Body → Type 0
 IsNoImage (body.Image handle version serial bytes) = ⊥
 IsNoImage other = Unit {0}
 
-none_said : (L : Carried) (size : ℕ) (orders : Table (List Placed)) (b : Body) → IsNoImage b → IsImageSaid L size orders b
-none_said L size orders (body.Image handle version serial bytes) none = absurd none
-none_said L size orders other none = tt
+none_said : (L : Carried) (orders : Table (List Placed)) (b : Body) → IsNoImage b → IsImageSaid L orders b
+none_said L orders (body.Image handle version serial bytes) none = absurd none
+none_said L orders other none = tt
 
 masters_none : (b : Body) → is_masters b ≡ true → IsNoImage b
 masters_none (body.Image handle version serial bytes) is = absurd (let both : false ≡ true = is in cc)
@@ -167,27 +166,27 @@ restarted_none P s moment choice Lost = tt
 restarted_none P s moment choice (Stops made) = tt
 
 -- a restart finds what was carried
-restart_good : (M : Carried) (size : ℕ) (orders : Table (List Placed)) (s : ServerState) (moment : ℕ) (choice : Choice) (e : Ending) → IsGood M size orders s → IsGood M size orders (server_restarts s moment choice e).state
-restart_good M size orders s moment choice Lost g = record { found = g.found; idle = λ on. absurd (true≢false (sym on)) }
-restart_good M size orders s moment choice (Stops made) g = record { found = λ decided. subst (AreIn M size orders) (sym (none_more (found_disk s choice) decided)) (g.found choice.decided); idle = λ on. refl }
-restart_good M size orders s moment choice Goes g = record { found = λ decided. subst (AreIn M size orders) (sym (none_more (found_disk s choice) decided)) (g.found choice.decided); idle = λ on. refl }
+restart_good : (M : Carried) (orders : Table (List Placed)) (s : ServerState) (moment : ℕ) (choice : Choice) (e : Ending) → IsGood M orders s → IsGood M orders (server_restarts s moment choice e).state
+restart_good M orders s moment choice Lost g = record { found = g.found; idle = λ on. absurd (true≢false (sym on)) }
+restart_good M orders s moment choice (Stops made) g = record { found = λ decided. subst (AreIn M orders) (sym (none_more (found_disk s choice) decided)) (g.found choice.decided); idle = λ on. refl }
+restart_good M orders s moment choice Goes g = record { found = λ decided. subst (AreIn M orders) (sym (none_more (found_disk s choice) decided)) (g.found choice.decided); idle = λ on. refl }
 
 -- rot changes no byte that was stored
-rotten_good : (M : Carried) (size : ℕ) (orders : Table (List Placed)) (s : ServerState) (handle : ℕ) (x : Replica) (place byte : ℕ) → replica_of s.disk handle ≡ Some x → IsTrue s.up → IsGood M size orders s
-    → IsGood M size orders (record s { disk = with_replica s.disk handle (rotten_replica x place byte) })
-rotten_good M size orders s handle x place byte there up g =
+rotten_good : (M : Carried) (orders : Table (List Placed)) (s : ServerState) (handle : ℕ) (x : Replica) (place byte : ℕ) → replica_of s.disk handle ≡ Some x → IsTrue s.up → IsGood M orders s
+    → IsGood M orders (record s { disk = with_replica s.disk handle (rotten_replica x place byte) })
+rotten_good M orders s handle x place byte there up g =
     record {
       found = λ decided.
-          subst (λ (xs : List StoreChange). AreIn M size orders (disk_changed_by_all (with_replica s.disk handle (rotten_replica x place byte)) (decided_changes decided xs))) (sym (g.idle up))
-          (subst (AreIn M size orders) (sym (none_more (with_replica s.disk handle (rotten_replica x place byte)) decided)) rotten);
+          subst (λ (xs : List StoreChange). AreIn M orders (disk_changed_by_all (with_replica s.disk handle (rotten_replica x place byte)) (decided_changes decided xs))) (sym (g.idle up))
+          (subst (AreIn M orders) (sym (none_more (with_replica s.disk handle (rotten_replica x place byte)) decided)) rotten);
       idle = λ on. g.idle up;
     }
   where
-    rotten : AreIn M size orders (with_replica s.disk handle (rotten_replica x place byte))
+    rotten : AreIn M orders (with_replica s.disk handle (rotten_replica x place byte))
     rotten q y is =
         elim (put_cases s.disk.replicas handle (rotten_replica x place byte) q y is) [
-          | inl same ↦ subst (λ (n : ℕ). Holds M size (placed_in orders n) n y.version y.serial y.bytes) (sym same.0)
-              (subst (λ (z : Replica). Holds M size (placed_in orders handle) handle z.version z.serial z.bytes) same.1 (g.found [] handle x there))
+          | inl same ↦ subst (λ (n : ℕ). Holds M (placed_in orders n) n y.version y.serial y.bytes) (sym same.0)
+              (subst (λ (z : Replica). Holds M (placed_in orders handle) handle z.version z.serial z.bytes) same.1 (g.found [] handle x there))
           | inr old ↦ g.found [] q y old
         ]
 
@@ -214,27 +213,27 @@ module _ (J : ShownBy) (K : AppliedBy) (config : Config) (servers clients : ℕ)
     was_kept moment is = kept_of w.observer.are_clocks_kept (nat_le w.observer.greatest (moment + w.config.skew_ms)) w.observer.are_disks_kept is
 
     module _ (L : Carried) (M : ℕ → Carried) (Other : ℕ → Type 0) (stays : StaysIn (J w) L (K w) M Other w.servers w.sent) (orders : Table (List Placed)) (grown : (handle : ℕ) → Follows IsAny (placed_in w.observer.orders handle) (placed_in orders handle)) where
-      stay_good : (index : ℕ) (s : ServerState) → element_at w.servers index ≡ Some s → Other index → IsGood (M index) w.config.chunk orders s
-      stay_good index s at other = good_on (K w index) (M index) w.config.chunk w.observer.orders orders s grown (stays.each index s at other) (h.each index s at)
+      stay_good : (index : ℕ) (s : ServerState) → element_at w.servers index ≡ Some s → Other index → IsGood (M index) orders s
+      stay_good index s at other = good_on (K w index) (M index) w.observer.orders orders s grown (stays.each index s at other) (h.each index s at)
 
-      stay_said : (m : Message) → IsSent w.sent m → IsImageSaid L w.config.chunk orders m.body
-      stay_said m there = said_on (J w) L w.config.chunk w.observer.orders orders m.body grown (stays.said m there) (h.said m there)
+      stay_said : (m : Message) → IsSent w.sent m → IsImageSaid L orders m.body
+      stay_said m there = said_on (J w) L w.observer.orders orders m.body grown (stays.said m there) (h.said m there)
 
-      more_said : (k : ℕ) (ms : List Message) → ((x : Message) → IsSent ms x → IsImageSaid L w.config.chunk orders x.body) → (m : Message) → IsSent (w.sent ++ stamped k ms) m → IsImageSaid L w.config.chunk orders m.body
+      more_said : (k : ℕ) (ms : List Message) → ((x : Message) → IsSent ms x → IsImageSaid L orders x.body) → (m : Message) → IsSent (w.sent ++ stamped k ms) m → IsImageSaid L orders m.body
       more_said k ms new m there =
           elim (sent_cases w.sent (stamped k ms) m there) [
             | inl old ↦ stay_said m old
-            | inr now ↦ let was = numbered_sent k ms now.0 m now.1 in subst (λ (b : Body). IsImageSaid L w.config.chunk orders b) (was.2).2 (new was.0 was.1)
+            | inr now ↦ let was = numbered_sent k ms now.0 m now.1 in subst (λ (b : Body). IsImageSaid L orders b) (was.2).2 (new was.0 was.1)
           ]
 
-      silent_said : (k : ℕ) (ms : List Message) → AllOf (λ m. IsNoImage m.body) ms → (m : Message) → IsSent (w.sent ++ stamped k ms) m → IsImageSaid L w.config.chunk orders m.body
-      silent_said k ms none = more_said k ms (λ x there. none_said L w.config.chunk orders x.body (all_at (λ (m : Message). IsNoImage m.body) ms there.0 x none there.1))
+      silent_said : (k : ℕ) (ms : List Message) → AllOf (λ m. IsNoImage m.body) ms → (m : Message) → IsSent (w.sent ++ stamped k ms) m → IsImageSaid L orders m.body
+      silent_said k ms none = more_said k ms (λ x there. none_said L orders x.body (all_at (λ (m : Message). IsNoImage m.body) ms there.0 x none there.1))
 
       -- one server is another
-      one_good : (index : ℕ) (t : ServerState) → ((other : ℕ) → Apart index other → Other other) → IsGood (M index) w.config.chunk orders t → (other : ℕ) (u : ServerState) → element_at (with_at w.servers index t) other ≡ Some u → IsGood (M other) w.config.chunk orders u
+      one_good : (index : ℕ) (t : ServerState) → ((other : ℕ) → Apart index other → Other other) → IsGood (M index) orders t → (other : ℕ) (u : ServerState) → element_at (with_at w.servers index t) other ≡ Some u → IsGood (M other) orders u
       one_good index t apart new other u there =
           elim (set_split w.servers index t other u there) [
-            | inl both ↦ subst (λ (n : ℕ). IsGood (M n) w.config.chunk orders u) (sym both.0) (subst (λ (x : ServerState). IsGood (M index) w.config.chunk orders x) (sym both.1) new)
+            | inl both ↦ subst (λ (n : ℕ). IsGood (M n) orders u) (sym both.0) (subst (λ (x : ServerState). IsGood (M index) orders x) (sym both.1) new)
             | inr old ↦ stay_good other u old.1 (apart other old.0)
           ]
 
@@ -259,12 +258,11 @@ module _ (J : ShownBy) (K : AppliedBy) (config : Config) (servers clients : ℕ)
       both_kept = and_parts w.observer.are_clocks_kept w.observer.are_disks_kept kept
 
       module _ (later : Later v) where
-        entry_within : (handle place : ℕ) (p : Placed) → element_at (order_of v.observer handle) place ≡ Some p → start_of p.entry.mutation ≤ w.config.chunk
+        entry_within : (handle place : ℕ) (p : Placed) → element_at (order_of v.observer handle) place ≡ Some p → start_of p.entry.mutation ≤ end_of p.entry.mutation
         entry_within handle place p there =
-            subst (λ (c : Config). start_of p.entry.mutation ≤ c.chunk) (sym (settings_stay config servers clients w r))
-            (starts_within config.chunk p.entry.mutation (entries_lie_within_the_chunk config servers clients later.0.0 handle place p (ap (λ (u : WorldState). element_at (order_of u.observer handle) place) later.0.1 ∙ there)))
+            starts_before_end config.chunk p.entry.mutation (entries_lie_within_the_chunk config servers clients later.0.0 handle place p (ap (λ (u : WorldState). element_at (order_of u.observer handle) place) later.0.1 ∙ there))
 
-        stepped : IsGood (K w index) w.config.chunk v.observer.orders t
+        stepped : IsGood (K w index) v.observer.orders t
         stepped =
             step_done (J w) (K w index) config servers clients w r both_kept.0 both_kept.1 h.said index moment s i choice at up ((h.each index s at).found []) ((h.each index s at).idle up) (λ m same. let sent = came m same in (sent.0, sent.1))
             (keeps.carries index s i at up came)
@@ -274,22 +272,22 @@ module _ (J : ShownBy) (K : AppliedBy) (config : Config) (servers clients : ℕ)
               within = λ handle place p p_there. entry_within handle place p p_there;
             })
 
-        here : IsGood (K v index) w.config.chunk v.observer.orders t
+        here : IsGood (K v index) v.observer.orders t
         here =
             record {
               found = λ decided handle x is. let one = stepped.found decided handle x is in (one.0, keeps.served e index moment s i choice at given up later handle x (decided, is) one.0 one.1);
               idle = stepped.idle;
             }
 
-        says : (m : Message) → IsSent (server_step s moment i choice).out.sent m → (b : Body) → m.body ≡ b → IsImageSaid (J v) w.config.chunk v.observer.orders b
+        says : (m : Message) → IsSent (server_step s moment i choice).out.sent m → (b : Body) → m.body ≡ b → IsImageSaid (J v) v.observer.orders b
         says m there (body.Image handle version serial bytes) is =
             let of = images_are_of_replicas s moment i choice there.0 m there.1 handle version serial bytes is in
             let same : bytes ≡ of.0.bytes = (replicas_are_read_as_stored config servers clients w r both_kept.1 index s at handle.0 of.0 of.1).0 bytes of.4 in
-            let was : Holds (K w index) w.config.chunk (placed_in w.observer.orders handle.0) handle.0 version.0 serial.0 bytes =
-            subst (λ (n : ℕ). Holds (K w index) w.config.chunk (placed_in w.observer.orders handle.0) handle.0 n serial.0 bytes) of.2
-            (subst (λ (n : ℕ). Holds (K w index) w.config.chunk (placed_in w.observer.orders handle.0) handle.0 of.0.version n bytes) of.3
-            (subst (λ (bs : List ℕ). Holds (K w index) w.config.chunk (placed_in w.observer.orders handle.0) handle.0 of.0.version of.0.serial bs) (sym same) ((h.each index s at).found [] handle.0 of.0 of.1))) in
-            let one = holds_grown (K w index) w.config.chunk (placed_in w.observer.orders handle.0) (placed_in v.observer.orders handle.0) handle.0 version.0 serial.0 bytes (grown_on handle.0) was in
+            let was : Holds (K w index) (placed_in w.observer.orders handle.0) handle.0 version.0 serial.0 bytes =
+            subst (λ (n : ℕ). Holds (K w index) (placed_in w.observer.orders handle.0) handle.0 n serial.0 bytes) of.2
+            (subst (λ (n : ℕ). Holds (K w index) (placed_in w.observer.orders handle.0) handle.0 of.0.version n bytes) of.3
+            (subst (λ (bs : List ℕ). Holds (K w index) (placed_in w.observer.orders handle.0) handle.0 of.0.version of.0.serial bs) (sym same) ((h.each index s at).found [] handle.0 of.0 of.1))) in
+            let one = holds_grown (K w index) (placed_in w.observer.orders handle.0) (placed_in v.observer.orders handle.0) handle.0 version.0 serial.0 bytes (grown_on handle.0) was in
             (one.0, keeps.shown e index moment s i choice at given up later m there handle version serial bytes is of.0 of.1 of.2 (marked one.0.marks (placed_in v.observer.orders handle.0)) one.1)
         says m there other is = tt
 
@@ -348,7 +346,7 @@ module _ (J : ShownBy) (K : AppliedBy) (config : Config) (servers clients : ℕ)
                 let more = grow.restarts e index moment s choice at in
                 record {
                   each = one_good w r (h before) (J v) (K v) Each stays v.observer.orders more index (server_restart s moment choice).state (λ other apart. tt)
-                      (restart_good (K v index) w.config.chunk v.observer.orders s moment choice choice.ending (stay_good w r (h before) (J v) (K v) Each stays v.observer.orders more index s at tt));
+                      (restart_good (K v index) v.observer.orders s moment choice choice.ending (stay_good w r (h before) (J v) (K v) Each stays v.observer.orders more index s at tt));
                   said = silent_said w r (h before) (J v) (K v) Each stays v.observer.orders more k (server_restart s moment choice).out.sent (restarted_none (λ m. IsNoImage m.body) s moment choice choice.ending);
                 };
             steps = λ e index moment s i choice at is up later kept.
@@ -386,7 +384,7 @@ module _ (J : ShownBy) (K : AppliedBy) (config : Config) (servers clients : ℕ)
                 let more : (n : ℕ) → Follows IsAny (placed_in w.observer.orders n) (placed_in w.observer.orders n) = λ n. same_follows IsAny (placed_in w.observer.orders n) in
                 record {
                   each = one_good w r (h before) (J v) (K v) Each stays w.observer.orders more index _ (λ other apart. tt)
-                      (rotten_good (K v index) w.config.chunk w.observer.orders s handle x place byte x_there up (stay_good w r (h before) (J v) (K v) Each stays w.observer.orders more index s at tt));
+                      (rotten_good (K v index) w.observer.orders s handle x place byte x_there up (stay_good w r (h before) (J v) (K v) Each stays w.observer.orders more index s at tt));
                   said = stay_said w r (h before) (J v) (K v) Each stays w.observer.orders more;
                 };
           }
@@ -401,7 +399,7 @@ module _ (J : ShownBy) (K : AppliedBy) (config : Config) (servers clients : ℕ)
     new_applied kept =
         record {
           each = λ index s at.
-              subst (IsGood (K (new_world config servers clients) index) config.chunk table.empty) (sym (numbered_from (λ n. started_server config n (new_server_disk config.block) 0) servers index s at))
+              subst (IsGood (K (new_world config servers clients) index) table.empty) (sym (numbered_from (λ n. started_server config n (new_server_disk config.block) 0) servers index s at))
               (record { found = λ decided handle x is. none_some x (sym (table.get-empty nat_cmp handle) ∙ ap (λ (d : ServerDisk). replica_of d handle) (sym (none_more (new_server_disk config.block) decided)) ∙ is); idle = λ on. refl });
           said = λ m there. none_sent m there;
         }

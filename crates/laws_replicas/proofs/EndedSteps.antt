@@ -38,7 +38,7 @@ use Rattle.laws_base.proofs.Steps.{none_some, same_some, put_cases, gone_split}
 use Rattle.laws_base.proofs.Entries.{AllOf}
 use Rattle.laws_base.proofs.MessagesSent.{IsSent}
 use Rattle.laws_entries.specs.ChunkOrders.{unsettled}
-use Rattle.laws_steps.proofs.Lengths.{all_taken, length-joined, length-alike, length-left, servers_within, settings_stay}
+use Rattle.laws_steps.proofs.Lengths.{all_taken, length-joined, length-alike, length-left}
 use Rattle.laws_steps.proofs.HeldReplicas.{IsNumber, numbers_quiet, changed_last, leases_have_their_replica}
 use Rattle.laws_entries.specs.CausedWords.{IsNamedIn}
 use Rattle.laws_entries.proofs.Forwards.{forwards_name_entries}
@@ -81,10 +81,10 @@ written_ends old offset new = elim (cases_lt (length old) (offset + length new))
         omega (arith, whole, front, begin, filled, taken, left)
 
 -- what a mutation writes ends where it ends
-written_end : (size : ℕ) (m : Mutation) → start_of m ≤ size → start_of m + length (written_by size m) ≡ end_of size m
-written_end size (mutation.Write offset bytes) within = refl
-written_end size (mutation.Append offset bytes) within = refl
-written_end size (mutation.Pad offset) within = let filled = length-alike (size - offset) 0 in omega (arith, filled, within)
+written_end : (m : Mutation) → start_of m ≤ end_of m → start_of m + length (written_by m) ≡ end_of m
+written_end (mutation.Write offset bytes) within = refl
+written_end (mutation.Append offset bytes) within = refl
+written_end (mutation.Pad offset end) within = let filled = length-alike (end - offset) 0 in omega (arith, filled, within)
 
 take_whole : (xs : List ℕ) (n : ℕ) → length xs ≤ n → length (take n xs) ≡ length xs
 take_whole xs n long = let taken = length-first n xs in omega (arith, taken, long)
@@ -102,110 +102,107 @@ read_long block handle r bytes is = by_test (is_readable block r 0 (length r.byt
 
 -- in orders that have grown, and at later versions
 
-pub ends_grown : (size : ℕ) (from to : List Placed) (version count : ℕ) → Follows IsAny from to → EndsAtEntry size from version count → EndsAtEntry size to version count
-ends_grown size from to version count f (inl none) = inl none
-ends_grown size from to version count f (inr h) =
+pub ends_grown : (from to : List Placed) (version count : ℕ) → Follows IsAny from to → EndsAtEntry from version count → EndsAtEntry to version count
+ends_grown from to version count f (inl none) = inl none
+ends_grown from to version count f (inr h) =
     let there = f h.0 h.1 h.2 tt in
     let round = ap (λ (x : Placed). x.entry.round) there.2 in
     let low = h.3 in
-    inr (h.0, there.0, there.1, omega (arith, round, low), ap (λ (x : Placed). end_of size x.entry.mutation) there.2 ∙ h.4)
+    inr (h.0, there.0, there.1, omega (arith, round, low), ap (λ (x : Placed). end_of x.entry.mutation) there.2 ∙ h.4)
 
-ends_raised : (size : ℕ) (order : List Placed) (version later count : ℕ) → version ≤ later → EndsAtEntry size order version count → EndsAtEntry size order later count
-ends_raised size order version later count rises (inl none) = inl none
-ends_raised size order version later count rises (inr h) = let low = h.3 in inr (h.0, h.1, h.2, omega (arith, low, rises), h.4)
+ends_raised : (order : List Placed) (version later count : ℕ) → version ≤ later → EndsAtEntry order version count → EndsAtEntry order later count
+ends_raised order version later count rises (inl none) = inl none
+ends_raised order version later count rises (inr h) = let low = h.3 in inr (h.0, h.1, h.2, omega (arith, low, rises), h.4)
 
 -- each replica ends so in these orders
-abbrev pub AreEndedIn : ℕ → Table (List Placed) → ServerDisk → Type 0
-AreEndedIn size orders d = (handle : ℕ) (r : Replica) → replica_of d handle ≡ Some r → EndsAtEntry size (placed_in orders handle) r.version (length r.bytes)
+abbrev pub AreEndedIn : Table (List Placed) → ServerDisk → Type 0
+AreEndedIn orders d = (handle : ℕ) (r : Replica) → replica_of d handle ≡ Some r → EndsAtEntry (placed_in orders handle) r.version (length r.bytes)
 
-put_in : (size : ℕ) (orders : Table (List Placed)) (d : ServerDisk) (k : ℕ) (new : Replica) → EndsAtEntry size (placed_in orders k) new.version (length new.bytes) → AreEndedIn size orders d → AreEndedIn size orders (with_replica d k new)
-put_in size orders d k new one h handle r is =
+put_in : (orders : Table (List Placed)) (d : ServerDisk) (k : ℕ) (new : Replica) → EndsAtEntry (placed_in orders k) new.version (length new.bytes) → AreEndedIn orders d → AreEndedIn orders (with_replica d k new)
+put_in orders d k new one h handle r is =
     elim (put_cases d.replicas k new handle r is) [
-      | inl same ↦ subst (λ (n : ℕ). EndsAtEntry size (placed_in orders n) r.version (length r.bytes)) (sym same.0) (subst (λ (x : Replica). EndsAtEntry size (placed_in orders k) x.version (length x.bytes)) same.1 one)
+      | inl same ↦ subst (λ (n : ℕ). EndsAtEntry (placed_in orders n) r.version (length r.bytes)) (sym same.0) (subst (λ (x : Replica). EndsAtEntry (placed_in orders k) x.version (length x.bytes)) same.1 one)
       | inr before ↦ h handle r before
     ]
 
-becomes_in : (size : ℕ) (orders : Table (List Placed)) (f : Replica → Replica) (d : ServerDisk) (k : ℕ) (o : Option Replica) → ((r : Replica) → o ≡ Some r → EndsAtEntry size (placed_in orders k) (f r).version (length (f r).bytes)) → AreEndedIn size orders d
-    → AreEndedIn size orders (replica_becomes f d k o)
-becomes_in size orders f d k None new h = h
-becomes_in size orders f d k (Some r) new h = put_in size orders d k (f r) (new r refl) h
+becomes_in : (orders : Table (List Placed)) (f : Replica → Replica) (d : ServerDisk) (k : ℕ) (o : Option Replica) → ((r : Replica) → o ≡ Some r → EndsAtEntry (placed_in orders k) (f r).version (length (f r).bytes)) → AreEndedIn orders d
+    → AreEndedIn orders (replica_becomes f d k o)
+becomes_in orders f d k None new h = h
+becomes_in orders f d k (Some r) new h = put_in orders d k (f r) (new r refl) h
 
 -- what Images say
-abbrev pub IsImageEnded : ℕ → Table (List Placed) → Body → Type 0
-IsImageEnded size orders (body.Image handle version serial bytes) = EndsAtEntry size (placed_in orders handle.0) version.0 (length bytes)
-IsImageEnded size orders other = Unit {0}
+abbrev pub IsImageEnded : Table (List Placed) → Body → Type 0
+IsImageEnded orders (body.Image handle version serial bytes) = EndsAtEntry (placed_in orders handle.0) version.0 (length bytes)
+IsImageEnded orders other = Unit {0}
 
--- A step of a server: the orders that it leaves have what they had, lie within the chunk, and have what was numbered.
+-- A step of a server: the orders that it leaves have what they had, have no entry that begins past its end, and have what was numbered.
 pub record LeavesOrders (w : WorldState) (trace : List Visible) (seen : List Seen) (orders : Table (List Placed)) : Type 0 where
   pub grown : (handle : ℕ) → Follows IsAny (placed_in w.observer.orders handle) (placed_in orders handle)
-  pub within : (handle place : ℕ) (p : Placed) → element_at (placed_in orders handle) place ≡ Some p → start_of p.entry.mutation ≤ w.config.chunk
+  pub within : (handle place : ℕ) (p : Placed) → element_at (placed_in orders handle) place ≡ Some p → start_of p.entry.mutation ≤ end_of p.entry.mutation
   pub shown : (place : ℕ) (handle : Handle) (version : Version) (serial : Serial) (id : DataId) (m : Mutation) → element_at seen place ≡ Some (Numbered handle version serial id m)
       → (n : ℕ) × (p : Placed) × (element_at (placed_in orders handle.0) n ≡ Some p) × (unsettled p ≡ new_entry trace version.0 serial.0 id m)
 
-module _ (config : Config) (servers clients : ℕ) (w : WorldState) (r : IsReached config servers clients w) (clocks : IsTrue w.observer.are_clocks_kept) (said : (m : Message) → IsSent w.sent m → IsImageEnded w.config.chunk w.observer.orders m.body)
-    (index : ℕ) (s : ServerState) (at : element_at w.servers index ≡ Some s) (here : AreEndedIn w.config.chunk w.observer.orders s.disk) (moment : ℕ) (i : NodeInput) (came : (m : Message) → i ≡ input.Deliver m → IsSent w.sent m) where
-  size_is : s.config.chunk ≡ w.config.chunk
-  size_is = ap (λ (c : Config). c.chunk) ((servers_within config servers clients w r index s at).set ∙ sym (settings_stay config servers clients w r))
-
+module _ (config : Config) (servers clients : ℕ) (w : WorldState) (r : IsReached config servers clients w) (clocks : IsTrue w.observer.are_clocks_kept) (said : (m : Message) → IsSent w.sent m → IsImageEnded w.observer.orders m.body)
+    (index : ℕ) (s : ServerState) (at : element_at w.servers index ≡ Some s) (here : AreEndedIn w.observer.orders s.disk) (moment : ℕ) (i : NodeInput) (came : (m : Message) → i ≡ input.Deliver m → IsSent w.sent m) where
   module _ (trace : List Visible) (orders : Table (List Placed)) (l : LeavesOrders w trace (server_goes s moment i).seen orders) where
     abbrev Good : ServerDisk → Type 0
-    Good d = AreEndedIn w.config.chunk orders d
+    Good d = AreEndedIn orders d
 
     stays : Good s.disk
-    stays handle x is = ends_grown w.config.chunk (placed_in w.observer.orders handle) (placed_in orders handle) x.version (length x.bytes) (l.grown handle) (here handle x is)
+    stays handle x is = ends_grown (placed_in w.observer.orders handle) (placed_in orders handle) x.version (length x.bytes) (l.grown handle) (here handle x is)
 
     same : (e : ServerDisk) → e.replicas ≡ s.disk.replicas → Good e
     same e is handle x there = stays handle x (ap (λ (t : Table Replica). table.get t handle) (sym is) ∙ there)
 
     -- an entry is applied
     applied : (handle : ℕ) (y : Replica) → replica_of s.disk handle ≡ Some y → (place : ℕ) (p : Placed) → element_at (placed_in orders handle) place ≡ Some p → p.entry.round ≤ y.version
-        → (offset : ℕ) (content : List ℕ) → start_of p.entry.mutation ≡ offset → written_by w.config.chunk p.entry.mutation ≡ content → EndsAtEntry w.config.chunk (placed_in orders handle) y.version (length (with_bytes y.bytes offset content))
+        → (offset : ℕ) (content : List ℕ) → start_of p.entry.mutation ≡ offset → written_by p.entry.mutation ≡ content → EndsAtEntry (placed_in orders handle) y.version (length (with_bytes y.bytes offset content))
     applied handle y y_there place p there low offset content start content_is =
         elim (written_ends y.bytes offset content) [
-          | inl same_long ↦ subst (λ (n : ℕ). EndsAtEntry w.config.chunk (placed_in orders handle) y.version n) (sym same_long) (stays handle y y_there)
+          | inl same_long ↦ subst (λ (n : ℕ). EndsAtEntry (placed_in orders handle) y.version n) (sym same_long) (stays handle y y_there)
           | inr end ↦ inr (place, p, there, low, sym (end ∙ ends))
         ]
       where
-        ends : offset + length content ≡ end_of w.config.chunk p.entry.mutation
+        ends : offset + length content ≡ end_of p.entry.mutation
         ends =
-            sym (ap (λ (n : ℕ). n + length (written_by w.config.chunk p.entry.mutation)) start ∙ ap (λ (bs : List ℕ). offset + length bs) content_is)
-            ∙ written_end w.config.chunk p.entry.mutation (l.within handle place p there)
+            sym (ap (λ (n : ℕ). n + length (written_by p.entry.mutation)) start ∙ ap (λ (bs : List ℕ). offset + length bs) content_is)
+            ∙ written_end p.entry.mutation (l.within handle place p there)
 
     written : (e : ServerDisk) → e.replicas ≡ s.disk.replicas → (handle serial offset : ℕ) (content : List ℕ)
-        → ((y : Replica) → replica_of s.disk handle ≡ Some y → EndsAtEntry w.config.chunk (placed_in orders handle) y.version (length (with_bytes y.bytes offset content)))
+        → ((y : Replica) → replica_of s.disk handle ≡ Some y → EndsAtEntry (placed_in orders handle) y.version (length (with_bytes y.bytes offset content)))
         → Good (replica_becomes (λ y. written_replica y serial offset content) e handle (replica_of e handle))
     written e is handle serial offset content new =
-        becomes_in w.config.chunk orders (λ y. written_replica y serial offset content) e handle (replica_of e handle) (λ y there. new y (ap (λ (t : Table Replica). table.get t handle) (sym is) ∙ there)) (same e is)
+        becomes_in orders (λ y. written_replica y serial offset content) e handle (replica_of e handle) (λ y there. new y (ap (λ (t : Table Replica). table.get t handle) (sym is) ∙ there)) (same e is)
 
     -- a member, on a Forward
 
     member : (handle : Handle) (version : Version) (serial : Serial) (id : DataId) (c : Change) (named : IsNamedIn (order_of w.observer handle.0) version serial id c) (row : Row) → row_at s.disk handle.0 ≡ Some row → row.version.0 ≡ version.0
-        → (offset : ℕ) (content : List ℕ) → change_start c ≡ offset → written_by w.config.chunk named.p.entry.mutation ≡ content → (y : Replica) → replica_of s.disk handle.0 ≡ Some y
-        → EndsAtEntry w.config.chunk (placed_in orders handle.0) y.version (length (with_bytes y.bytes offset content))
+        → (offset : ℕ) (content : List ℕ) → change_start c ≡ offset → written_by named.p.entry.mutation ≡ content → (y : Replica) → replica_of s.disk handle.0 ≡ Some y
+        → EndsAtEntry (placed_in orders handle.0) y.version (length (with_bytes y.bytes offset content))
     member handle version serial id c named row row_there version_is offset content start content_is y there =
         let entry = l.grown handle.0 named.place named.p named.at tt in
         let of = row_is s.disk handle.0 row y row_there there in
         let mutation_is : entry.0.entry.mutation ≡ named.p.entry.mutation = ap (λ (x : Placed). x.entry.mutation) entry.2 in
         let round = ap (λ (x : Placed). x.entry.round) entry.2 ∙ named.round_is ∙ sym version_is ∙ sym of.0 in
-        applied handle.0 y there named.place entry.0 entry.1 (omega (arith, round)) offset content (ap start_of mutation_is ∙ start_is named.p.entry.mutation c named.change_is ∙ start) (ap (written_by w.config.chunk) mutation_is ∙ content_is)
+        applied handle.0 y there named.place entry.0 entry.1 (omega (arith, round)) offset content (ap start_of mutation_is ∙ start_is named.p.entry.mutation c named.change_is ∙ start) (ap written_by mutation_is ∙ content_is)
 
     carried : (handle : Handle) (version : Version) (serial : Serial) (id : DataId) (c : Change) (named : IsNamedIn (order_of w.observer handle.0) version serial id c) (bytes : List ℕ) → data_of s.pushed id ≡ Some bytes → IsCarried bytes named.p.entry.mutation
     carried handle version serial id c named bytes kept = kept_is_carried config servers clients w r index s at id bytes kept handle.0 named.place named.p named.at named.client_is named.seq_is
 
     forwarded_as : (e : ServerDisk) → e.replicas ≡ s.disk.replicas → (handle : Handle) (version : Version) (serial : Serial) (id : DataId) (c : Change) → IsNamedIn (order_of w.observer handle.0) version serial id c
-        → (row : Row) → row_at s.disk handle.0 ≡ Some row → row.version.0 ≡ version.0 → (x : StoreChange) → IsMadeOf s.config.chunk handle.0 serial.0 (data_of s.pushed id) c x → Good (disk_changed e x)
+        → (row : Row) → row_at s.disk handle.0 ≡ Some row → row.version.0 ≡ version.0 → (x : StoreChange) → IsMadeOf handle.0 serial.0 (data_of s.pushed id) c x → Good (disk_changed e x)
     forwarded_as e is handle version serial id (change.Write offset) named row there version_is x made =
         subst (λ (y : StoreChange). Good (disk_changed e y)) (sym made.2)
         (written e is handle.0 serial.0 offset made.0 (member handle version serial id (change.Write offset) named row there version_is offset made.0 refl
-        (written_is w.config.chunk named.p.entry.mutation offset made.0 (inl named.change_is) (carried handle version serial id (change.Write offset) named made.0 made.1))))
+        (written_is named.p.entry.mutation offset made.0 (inl named.change_is) (carried handle version serial id (change.Write offset) named made.0 made.1))))
     forwarded_as e is handle version serial id (change.Append offset) named row there version_is x made =
         subst (λ (y : StoreChange). Good (disk_changed e y)) (sym made.2)
         (written e is handle.0 serial.0 offset made.0 (member handle version serial id (change.Append offset) named row there version_is offset made.0 refl
-        (written_is w.config.chunk named.p.entry.mutation offset made.0 (inr named.change_is) (carried handle version serial id (change.Append offset) named made.0 made.1))))
-    forwarded_as e is handle version serial id (change.Pad offset) named row there version_is x made =
+        (written_is named.p.entry.mutation offset made.0 (inr named.change_is) (carried handle version serial id (change.Append offset) named made.0 made.1))))
+    forwarded_as e is handle version serial id (change.Pad offset end) named row there version_is x made =
         subst (λ (y : StoreChange). Good (disk_changed e y)) (sym made)
-        (written e is handle.0 serial.0 offset (replicate (s.config.chunk - offset) 0) (member handle version serial id (change.Pad offset) named row there version_is offset (replicate (s.config.chunk - offset) 0) refl
-        (padded_is w.config.chunk named.p.entry.mutation offset named.change_is ∙ ap (λ (n : ℕ). replicate (n - offset) 0) (sym size_is))))
+        (written e is handle.0 serial.0 offset (replicate (end - offset) 0) (member handle version serial id (change.Pad offset end) named row there version_is offset (replicate (end - offset) 0) refl
+        (padded_is named.p.entry.mutation offset end named.change_is)))
 
     forwarded : (e : ServerDisk) → e.replicas ≡ s.disk.replicas → (m : Message) → i ≡ input.Deliver m → (x : StoreChange) → IsForwarded (server_at s moment) m.body x → Good (disk_changed e x)
     forwarded e is m taken x f =
@@ -215,11 +212,11 @@ module _ (config : Config) (servers clients : ℕ) (w : WorldState) (r : IsReach
     -- the primary
 
     numbered_as : (e : ServerDisk) → e.replicas ≡ s.disk.replicas → (handle serial : ℕ) (m : Mutation)
-        → ((y : Replica) → replica_of s.disk handle ≡ Some y → EndsAtEntry w.config.chunk (placed_in orders handle) y.version (length (with_bytes y.bytes (start_of m) (written_by s.config.chunk m))))
-        → Good (disk_changed e (stored_as s.config.chunk handle serial m))
+        → ((y : Replica) → replica_of s.disk handle ≡ Some y → EndsAtEntry (placed_in orders handle) y.version (length (with_bytes y.bytes (start_of m) (written_by m))))
+        → Good (disk_changed e (stored_as handle serial m))
     numbered_as e is handle serial (mutation.Write offset bytes) new = written e is handle serial offset bytes new
     numbered_as e is handle serial (mutation.Append offset bytes) new = written e is handle serial offset bytes new
-    numbered_as e is handle serial (mutation.Pad offset) new = written e is handle serial offset (replicate (s.config.chunk - offset) 0) new
+    numbered_as e is handle serial (mutation.Pad offset end) new = written e is handle serial offset (replicate (end - offset) 0) new
 
     numbered : (e : ServerDisk) → e.replicas ≡ s.disk.replicas → (x : StoreChange) → IsNumbered (server_at s moment) (server_goes s moment i).seen x → Good (disk_changed e x)
     numbered e is x n =
@@ -231,19 +228,19 @@ module _ (config : Config) (servers clients : ℕ) (w : WorldState) (r : IsReach
         there : (k : ℕ) × (p : Placed) × (element_at (placed_in orders n.handle) k ≡ Some p) × (unsettled p ≡ new_entry trace n.lease.held.version (n.lease.serial + 1) n.id n.m)
         there = l.shown n.place (handle_of n.handle) (version_of n.lease.held.version) (serial_of (n.lease.serial + 1)) n.id n.m n.shown
 
-        new : (y : Replica) → replica_of s.disk n.handle ≡ Some y → EndsAtEntry w.config.chunk (placed_in orders n.handle) y.version (length (with_bytes y.bytes (start_of n.m) (written_by s.config.chunk n.m)))
+        new : (y : Replica) → replica_of s.disk n.handle ≡ Some y → EndsAtEntry (placed_in orders n.handle) y.version (length (with_bytes y.bytes (start_of n.m) (written_by n.m)))
         new y y_there =
             let one : held.0 ≡ y = same_some held.0 y (sym held.1 ∙ y_there) in
             let round : there.1.entry.round ≡ y.version = ap (λ (x : Placed). x.entry.round) there.3 ∙ (sym held.2 ∙ ap (λ (x : Replica). x.version) one) in
-            applied n.handle y y_there there.0 there.1 there.2 (omega (arith, round)) (start_of n.m) (written_by s.config.chunk n.m)
-            (ap (λ (x : Placed). start_of x.entry.mutation) there.3) (ap (λ (x : Placed). written_by w.config.chunk x.entry.mutation) there.3 ∙ ap (λ (k : ℕ). written_by k n.m) (sym size_is))
+            applied n.handle y y_there there.0 there.1 there.2 (omega (arith, round)) (start_of n.m) (written_by n.m)
+            (ap (λ (x : Placed). start_of x.entry.mutation) there.3) (ap (λ (x : Placed). written_by x.entry.mutation) there.3)
 
     -- other changes
 
     copied : (e : ServerDisk) → e.replicas ≡ s.disk.replicas → (m : Message) → i ≡ input.Deliver m → (order : OrderNo) (handle : Handle) (from : Version) (copy : Handle) (version : Version) (row : Row)
         → m.body ≡ body.CopyLocal order handle from copy version → row_at s.disk handle.0 ≡ Some row → row.version.0 ≡ from.0 → Good (disk_changed e (Copy handle copy version))
     copied e is m taken order handle from copy version row body_is there same_version =
-        becomes_in w.config.chunk orders (λ x. stored_replica version.0 0 (bytes_on_disk x)) e copy.0 (replica_of e handle.0) one (same e is)
+        becomes_in orders (λ x. stored_replica version.0 0 (bytes_on_disk x)) e copy.0 (replica_of e handle.0) one (same e is)
       where
         sent : IsSent w.sent m
         sent = came m taken
@@ -252,39 +249,39 @@ module _ (config : Config) (servers clients : ℕ) (w : WorldState) (r : IsReach
         above = copies_go_above_their_source config servers clients w r sent.0 m sent.1 order handle from copy version body_is
 
         -- an entry up to the version that is copied is the copy's
-        copy_ends : (version_of_x count : ℕ) → version_of_x ≡ from.0 → EndsAtEntry w.config.chunk (placed_in w.observer.orders handle.0) version_of_x count → EndsAtEntry w.config.chunk (placed_in w.observer.orders copy.0) version.0 count
+        copy_ends : (version_of_x count : ℕ) → version_of_x ≡ from.0 → EndsAtEntry (placed_in w.observer.orders handle.0) version_of_x count → EndsAtEntry (placed_in w.observer.orders copy.0) version.0 count
         copy_ends version_of_x count version_is (inl none) = inl none
         copy_ends version_of_x count version_is (inr h) =
             let low = h.3 in
             let over = copies_have_their_sources_entries config servers clients w r clocks sent.0 m sent.1 order handle from copy version body_is h.0 h.1 h.2 (omega (arith, low, version_is)) in
             let round = ap (λ (x : Placed). x.entry.round) over.2 in
-            inr (h.0, over.0, over.1, omega (arith, round, low, version_is, above), ap (λ (x : Placed). end_of w.config.chunk x.entry.mutation) over.2 ∙ h.4)
+            inr (h.0, over.0, over.1, omega (arith, round, low, version_is, above), ap (λ (x : Placed). end_of x.entry.mutation) over.2 ∙ h.4)
 
-        one : (x : Replica) → replica_of e handle.0 ≡ Some x → EndsAtEntry w.config.chunk (placed_in orders copy.0) version.0 (length (bytes_on_disk x))
+        one : (x : Replica) → replica_of e handle.0 ≡ Some x → EndsAtEntry (placed_in orders copy.0) version.0 (length (bytes_on_disk x))
         one x e_there =
             let x_there : replica_of s.disk handle.0 ≡ Some x = ap (λ (t : Table Replica). table.get t handle.0) (sym is) ∙ e_there in
             let version_is : x.version ≡ from.0 = (row_is s.disk handle.0 row x there x_there).0 ∙ same_version in
-            subst (λ (n : ℕ). EndsAtEntry w.config.chunk (placed_in orders copy.0) version.0 n) (sym (others_long (table.entries x.changed) x.bytes))
-            (ends_grown w.config.chunk (placed_in w.observer.orders copy.0) (placed_in orders copy.0) version.0 (length x.bytes) (l.grown copy.0) (copy_ends x.version (length x.bytes) version_is (here handle.0 x x_there)))
+            subst (λ (n : ℕ). EndsAtEntry (placed_in orders copy.0) version.0 n) (sym (others_long (table.entries x.changed) x.bytes))
+            (ends_grown (placed_in w.observer.orders copy.0) (placed_in orders copy.0) version.0 (length x.bytes) (l.grown copy.0) (copy_ends x.version (length x.bytes) version_is (here handle.0 x x_there)))
 
     changed : (e : ServerDisk) → e.replicas ≡ s.disk.replicas → (m : Message) → i ≡ input.Deliver m → (x : StoreChange) → IsStoredFor (server_at s moment) m.body (server_goes s moment i).seen x → Good (disk_changed e x)
     changed e is m taken (SetOrder order) cause = absurd cause
     changed e is m taken (Remove handle) cause = λ k x there. same e is k x (gone_split e.replicas handle.0 k x there).1
     changed e is m taken (Put handle version serial bytes) cause =
-        put_in w.config.chunk orders e handle.0 (stored_replica version.0 serial.0 bytes)
+        put_in orders e handle.0 (stored_replica version.0 serial.0 bytes)
         (elim (cause.1) [
           | inl made ↦ inl (ap (λ (bs : List ℕ). length bs) made.3)
-          | inr image ↦ ends_grown w.config.chunk (placed_in w.observer.orders handle.0) (placed_in orders handle.0) version.0 (length bytes) (l.grown handle.0) (subst (λ (b : Body). IsImageEnded w.config.chunk w.observer.orders b) image (said m (came m taken)))
+          | inr image ↦ ends_grown (placed_in w.observer.orders handle.0) (placed_in orders handle.0) version.0 (length bytes) (l.grown handle.0) (subst (λ (b : Body). IsImageEnded w.observer.orders b) image (said m (came m taken)))
         ])
         (same e is)
     changed e is m taken (Raise handle version) cause =
-        becomes_in w.config.chunk orders (λ x. raised_replica x version.0) e handle.0 (replica_of e handle.0)
+        becomes_in orders (λ x. raised_replica x version.0) e handle.0 (replica_of e handle.0)
         (λ x e_there.
         let sent = came m taken in
         let x_there : replica_of s.disk handle.0 ≡ Some x = ap (λ (t : Table Replica). table.get t handle.0) (sym is) ∙ e_there in
         let base : x.version ≡ cause.1.0 = (row_is s.disk handle.0 cause.2 x cause.4 x_there).0 ∙ cause.5 in
         let above : cause.1.0 < version.0 = raises_go_above_their_base config servers clients w r sent.0 m sent.1 cause.0 handle version cause.1 cause.3 in
-        ends_raised w.config.chunk (placed_in orders handle.0) x.version version.0 (length x.bytes) (omega (arith, base, above)) (stays handle.0 x x_there))
+        ends_raised (placed_in orders handle.0) x.version version.0 (length x.bytes) (omega (arith, base, above)) (stays handle.0 x x_there))
         (same e is)
     changed e is m taken (Copy handle copy version) cause = copied e is m taken cause.0 handle cause.1 copy version cause.2 cause.3 cause.4 cause.5
     changed e is m taken (Write handle serial offset bytes) cause = elim (cause) [ inl f ↦ forwarded e is m taken (Write handle serial offset bytes) f | inr n ↦ numbered e is (Write handle serial offset bytes) n ]

@@ -72,11 +72,11 @@ row_there None row is = none_some row is
 row_there (Some r) row is = (r, refl, ap (λ (x : Row). x.count) (same_some _ row is))
 
 -- where an entry ends there, the test says so
-listed : (size : ℕ) (order : List Placed) (place : ℕ) (p : Placed) → element_at order place ≡ Some p → end_of size p.entry.mutation ≡ size → IsTrue (list_any (λ q. end_of size q.entry.mutation == size) order)
+listed : (size : ℕ) (order : List Placed) (place : ℕ) (p : Placed) → element_at order place ≡ Some p → end_of p.entry.mutation ≡ size → IsTrue (list_any (λ q. end_of q.entry.mutation == size) order)
 listed size [] place p at is = none_some p at
 listed size (q ∷ order) zero p at is =
-    ap (λ (b : Bool). b || list_any (λ x. end_of size x.entry.mutation == size) order) (eq-eqb (end_of size q.entry.mutation) size (ap (λ (x : Placed). end_of size x.entry.mutation) (same_some q p at) ∙ is))
-listed size (q ∷ order) (suc place) p at is = or_right (end_of size q.entry.mutation == size) (list_any (λ x. end_of size x.entry.mutation == size) order) (listed size order place p at is)
+    ap (λ (b : Bool). b || list_any (λ x. end_of x.entry.mutation == size) order) (eq-eqb (end_of q.entry.mutation) size (ap (λ (x : Placed). end_of x.entry.mutation) (same_some q p at) ∙ is))
+listed size (q ∷ order) (suc place) p at is = or_right (end_of q.entry.mutation == size) (list_any (λ x. end_of x.entry.mutation == size) order) (listed size order place p at is)
 
 -- the data were to be placed in a chunk whose order has such an entry
 record IsEnded (size : ℕ) (w : WorldState) (id : DataId) : Type 0 where
@@ -92,7 +92,7 @@ record IsEnded (size : ℕ) (w : WorldState) (id : DataId) : Type 0 where
 ends_on : (size version : ℕ) (from to : List Placed) → Follows IsAny from to → HasFullEnd size from version → HasFullEnd size to version
 ends_on size version from to follows h =
     let there = follows h.0 h.1 h.2 tt in
-    (h.0, there.0, there.1, subst (λ (n : ℕ). n ≤ version) (sym (ap (λ (x : Placed). x.entry.round) there.2)) h.3, ap (λ (x : Placed). end_of size x.entry.mutation) there.2 ∙ h.4)
+    (h.0, there.0, there.1, subst (λ (n : ℕ). n ≤ version) (sym (ap (λ (x : Placed). x.entry.round) there.2)) h.3, ap (λ (x : Placed). end_of x.entry.mutation) there.2 ∙ h.4)
 
 ended_on : (size : ℕ) (w v : WorldState) (more : List Message) → v.sent ≡ w.sent ++ more → HaveGrown w v → (id : DataId) → IsEnded size w id → IsEnded size v id
 ended_on size w v more sent grown id h =
@@ -184,8 +184,8 @@ module _ (config : Config) (servers clients : ℕ) (some : 1 ≤ config.chunk) w
             one : (x : Replica) × (replica_of s.disk handle.0 ≡ Some x) × (length x.bytes ≡ found.0.count)
             one = row_there (replica_of s.disk handle.0) found.0 found.1
 
-            ends : EndsAtEntry config.chunk (order_of w.observer handle.0) one.0.version (length one.0.bytes)
-            ends = subst (λ (c : Config). EndsAtEntry c.chunk (order_of w.observer handle.0) one.0.version (length one.0.bytes)) (settings_stay config servers clients w r) ((replicas_end_at_entries config servers clients w r kept index s at).0 handle.0 one.0 one.1)
+            ends : EndsAtEntry (order_of w.observer handle.0) one.0.version (length one.0.bytes)
+            ends = (replicas_end_at_entries config servers clients w r kept index s at).0 handle.0 one.0 one.1
 
             long : length one.0.bytes ≡ config.chunk
             long = one.2 ∙ found.2
@@ -196,17 +196,17 @@ module _ (config : Config) (servers clients : ℕ) (some : 1 ≤ config.chunk) w
                 let has = leases_have_their_replica config servers clients w r index s at handle.0 p held.0 in
                 ap (λ (x : Replica). x.version) (same_some one.0 has.0 (sym one.1 ∙ has.1)) ∙ (has.2 ∙ held.1)
 
-            there : EndsAtEntry config.chunk (order_of w.observer handle.0) one.0.version (length one.0.bytes) → HasFullEnd config.chunk (order_of w.observer handle.0) version
+            there : EndsAtEntry (order_of w.observer handle.0) one.0.version (length one.0.bytes) → HasFullEnd config.chunk (order_of w.observer handle.0) version
             there (inl none) = absurd (omega (arith, none, long, some))
             there (inr entry) = (entry.0, entry.1, entry.2, subst (λ (n : ℕ). (entry.1).entry.round ≤ n) version_is entry.3, entry.4 ∙ long)
 
         -- a pad is placed
-        by_pad : (handle version : ℕ) (p : SerialOrder) (id : DataId) (offset : ℕ) (handle_is : Handle) → handle_is.0 ≡ handle → p.held.version ≡ version → (place : ℕ) → element_at (server_step s moment i choice).seen place ≡ Some (Numbered handle_is (version_of p.held.version) (serial_of (p.serial + 1)) id (Pad offset))
+        by_pad : (handle version : ℕ) (p : SerialOrder) (id : DataId) (offset : ℕ) (handle_is : Handle) → handle_is.0 ≡ handle → p.held.version ≡ version → (place : ℕ) → element_at (server_step s moment i choice).seen place ≡ Some (Numbered handle_is (version_of p.held.version) (serial_of (p.serial + 1)) id (Pad offset config.chunk))
             → HasFullEnd config.chunk (order_of After.world.observer handle) version
         by_pad handle version p id offset named same under place shown =
-            let there = numbered_there (observed_moment w.config.skew_ms w.observer moment).trace w.observer.orders (server_step s moment i choice).seen place named (version_of p.held.version) (serial_of (p.serial + 1)) id (Pad offset) (server_shown s moment i choice) shown in
+            let there = numbered_there (observed_moment w.config.skew_ms w.observer moment).trace w.observer.orders (server_step s moment i choice).seen place named (version_of p.held.version) (serial_of (p.serial + 1)) id (Pad offset config.chunk) (server_shown s moment i choice) shown in
             let round : (there.1).entry.round ≡ version = ap (λ (x : Placed). x.entry.round) there.3 ∙ under in
-            subst (λ (n : ℕ). HasFullEnd config.chunk (order_of After.world.observer n) version) same (there.0, there.1, there.2, omega (arith, round), ap (λ (x : Placed). end_of config.chunk x.entry.mutation) there.3)
+            subst (λ (n : ℕ). HasFullEnd config.chunk (order_of After.world.observer n) version) same (there.0, there.1, there.2, omega (arith, round), ap (λ (x : Placed). end_of x.entry.mutation) there.3)
 
         whole_step : server_step s moment i choice ≡ server_ends s (server_goes s moment i) choice choice.ending
         whole_step = ap (λ (b : Bool). cond b (server_ends s (server_goes s moment i) choice choice.ending) (no_step s)) up
@@ -227,7 +227,8 @@ module _ (config : Config) (servers clients : ℕ) (some : 1 ≤ config.chunk) w
                 | inl denied ↦
                     let found = denied_full (server_at s moment) handle.0 p id t deadline.0 (primary_of (server_at s moment) handle.0 version.0) primary new denied in
                     ends_on config.chunk version.0 (order_of w.observer handle.0) (order_of After.world.observer handle.0) (grown handle.0) (by_replica handle version.0 p primary (found.0, found.1, found.2 ∙ chunk_is))
-                | inr placed ↦ by_pad handle.0 version.0 p id placed.0 handle refl (primary_there (server_at s moment) version.0 (table.get s.leases handle.0) p primary).1 0 (shown ∙ (ap (λ (e : ServerDoing). element_at e.seen 0) (goes_is ∙ placed.1) ∙ placed_first (server_at s moment) handle.0 p id (Pad placed.0) placed.2))
+                | inr placed ↦ by_pad handle.0 version.0 p id placed.0 handle refl (primary_there (server_at s moment) version.0 (table.get s.leases handle.0) p primary).1 0 (shown ∙ (ap (λ (e : ServerDoing). element_at e.seen 0) (goes_is ∙ placed.1) ∙ placed_first (server_at s moment) handle.0 p id (Pad placed.0 s.config.chunk) placed.2
+                    ∙ ap (λ (n : ℕ). Some (Numbered handle (version_of p.held.version) (serial_of (p.serial + 1)) id (Pad placed.0 n))) chunk_is))
               ];
             }
           where
@@ -354,7 +355,7 @@ full_chunks_have_a_full_order config servers clients w r kept some place client 
       sent_is = one.sent_is;
       sender_is = subst (λ (b : Body). IsOwn (one.asked).sender b) one.body_is (mutates_are_own config servers clients w r (one.sent_is).0 one.asked (one.sent_is).1);
       body_is = one.body_is;
-      full = subst (λ (n : ℕ). IsTrue (list_any (λ (q : Placed). end_of n q.entry.mutation == n) (order_of w.observer one.handle.0))) (sym (ap (λ (c : Config). c.chunk) (settings_stay config servers clients w r)))
+      full = subst (λ (n : ℕ). IsTrue (list_any (λ (q : Placed). end_of q.entry.mutation == n) (order_of w.observer one.handle.0))) (sym (ap (λ (c : Config). c.chunk) (settings_stay config servers clients w r)))
           (listed config.chunk (order_of w.observer one.handle.0) (one.ends).0 (one.ends).1 (one.ends).2 (one.ends).4);
       ends = subst (λ (n : ℕ). HasFullEnd n (order_of w.observer one.handle.0) one.version.0) (sym (ap (λ (c : Config). c.chunk) (settings_stay config servers clients w r))) one.ends;
     }

@@ -40,7 +40,7 @@ use Rattle.laws_entries.specs.ChunkOrders.{unsettled}
 use Rattle.laws_entries.proofs.Placing.{all_placed, Holds, AreAll, all_keep, same_orders}
 use Rattle.laws_entries.proofs.Numbering.{restarted_shown}
 use Rattle.laws_steps.specs.Replicas.{IsPlacedBehind, IsPlacedByReplica, applied, IsApplied}
-use Rattle.laws_steps.proofs.Lengths.{length-joined, length-alike, settings_stay, servers_within}
+use Rattle.laws_steps.proofs.Lengths.{length-joined, length-alike}
 use Rattle.laws_steps.proofs.HeldReplicas.{leases_have_their_replica}
 use Rattle.laws_steps.proofs.Placings.{mutations_are_placed_by_replicas}
 use Rattle.laws_steps.proofs.Applied.{primaries_apply_what_they_number}
@@ -72,19 +72,19 @@ written_reach old offset new =
     let taken = length-first offset old in
     omega (arith, whole, front, begin, filled, taken)
 
-applied_reach : (size serial : ℕ) (m : Mutation) (r : Replica) → end_of size m ≤ length (applied size serial m r).bytes
-applied_reach size serial (Write offset bytes) r = written_reach r.bytes offset bytes
-applied_reach size serial (Append offset bytes) r = written_reach r.bytes offset bytes
-applied_reach size serial (Pad offset) r =
-    let reach = written_reach r.bytes offset (replicate (size - offset) 0) in
-    let alike = length-alike (size - offset) 0 in
+applied_reach : (serial : ℕ) (m : Mutation) (r : Replica) → end_of m ≤ length (applied serial m r).bytes
+applied_reach serial (Write offset bytes) r = written_reach r.bytes offset bytes
+applied_reach serial (Append offset bytes) r = written_reach r.bytes offset bytes
+applied_reach serial (Pad offset end) r =
+    let reach = written_reach r.bytes offset (replicate (end - offset) 0) in
+    let alike = length-alike (end - offset) 0 in
     omega (arith, reach, alike)
 
 -- The entry ends within the replica of each server that holds a lease of its round.
-abbrev IsHeldBy : ℕ → List ServerState → ℕ → Placed → Type 0
-IsHeldBy size servers handle e =
+abbrev IsHeldBy : List ServerState → ℕ → Placed → Type 0
+IsHeldBy servers handle e =
     (index : ℕ) (s : ServerState) → element_at servers index ≡ Some s → (p : SerialOrder) → table.get s.leases handle ≡ Some p → e.entry.round ≡ p.held.version
-    → (r : Replica) → replica_of s.disk handle ≡ Some r → end_of size e.entry.mutation ≤ length r.bytes
+    → (r : Replica) → replica_of s.disk handle ≡ Some r → end_of e.entry.mutation ≤ length r.bytes
 
 -- what is delivered to a server was sent to it
 sent_to : (w : WorldState) (e : Event) (server moment : ℕ) (i : NodeInput) → IsGiven w e (the_server server) moment i → IsSentTo w.sent (the_server server) i
@@ -92,32 +92,32 @@ sent_to w e server moment (input.Deliver m) given = comes_in w e server moment (
 sent_to w e server moment input.Tick given = tt
 
 module _ (config : Config) (servers clients : ℕ) (w : WorldState) (r : IsReached config servers clients w) where
-  module _ (h : AreAll (IsHeldBy w.config.chunk w.servers) w.observer.orders) where
+  module _ (h : AreAll (IsHeldBy w.servers) w.observer.orders) where
     base : IsOfWaits w.sent w.master
     base = sent_reached IsOfWaits waits_kept config servers clients w r
 
-    master_held : (trace : List Visible) (moment : ℕ) (i : NodeInput) (choice : Choice) → AreAll (IsHeldBy w.config.chunk w.servers) (orders_after_all trace w.observer.orders (master_step w.master moment i choice).seen)
+    master_held : (trace : List Visible) (moment : ℕ) (i : NodeInput) (choice : Choice) → AreAll (IsHeldBy w.servers) (orders_after_all trace w.observer.orders (master_step w.master moment i choice).seen)
     master_held trace moment i choice =
         elim (step_shows w.master moment i choice base.base.logged base.waits) [
-          | inl none ↦ subst (λ (xs : List Seen). AreAll (IsHeldBy w.config.chunk w.servers) (orders_after_all trace w.observer.orders xs)) (sym none) h
-          | inr shows ↦ subst (λ (xs : List Seen). AreAll (IsHeldBy w.config.chunk w.servers) (orders_after_all trace w.observer.orders xs)) (sym shows.seen)
-              (put_all (IsHeldBy w.config.chunk w.servers) w.observer.orders shows.copy (placed_in w.observer.orders shows.source) h
-              (all_placed (Holds (IsHeldBy w.config.chunk w.servers) shows.copy) (placed_in w.observer.orders shows.source)
+          | inl none ↦ subst (λ (xs : List Seen). AreAll (IsHeldBy w.servers) (orders_after_all trace w.observer.orders xs)) (sym none) h
+          | inr shows ↦ subst (λ (xs : List Seen). AreAll (IsHeldBy w.servers) (orders_after_all trace w.observer.orders xs)) (sym shows.seen)
+              (put_all (IsHeldBy w.servers) w.observer.orders shows.copy (placed_in w.observer.orders shows.source) h
+              (all_placed (Holds (IsHeldBy w.servers) shows.copy) (placed_in w.observer.orders shows.source)
               (λ place e at index s there p is. none_some p (sym ((unused_is_new config servers clients w r shows.up shows.copy shows.new).leased index s there) ∙ is))))
         ]
 
     -- servers that changed, of entries that were there
-    placed_on : (U : ℕ → Placed → Type 0) → ((handle place : ℕ) (e : Placed) → element_at (placed_in w.observer.orders handle) place ≡ Some e → IsHeldBy w.config.chunk w.servers handle (unsettled e) → U handle (unsettled e)) → AreAll U w.observer.orders
+    placed_on : (U : ℕ → Placed → Type 0) → ((handle place : ℕ) (e : Placed) → element_at (placed_in w.observer.orders handle) place ≡ Some e → IsHeldBy w.servers handle (unsettled e) → U handle (unsettled e)) → AreAll U w.observer.orders
     placed_on U go handle =
         all_placed (Holds U handle) (placed_in w.observer.orders handle)
-        (λ place e at. go handle place e at (all_at (Holds (IsHeldBy w.config.chunk w.servers) handle) (placed_in w.observer.orders handle) place e (h handle) at))
+        (λ place e at. go handle place e at (all_at (Holds (IsHeldBy w.servers) handle) (placed_in w.observer.orders handle) place e (h handle) at))
 
     one_server : (index : ℕ) (s t : ServerState) → element_at w.servers index ≡ Some s
         → ((handle place : ℕ) (e : Placed) → element_at (placed_in w.observer.orders handle) place ≡ Some e → (p : SerialOrder) → table.get t.leases handle ≡ Some p → e.entry.round ≡ p.held.version
-        → (x : Replica) → replica_of t.disk handle ≡ Some x → IsHeldBy w.config.chunk w.servers handle (unsettled e) → end_of w.config.chunk e.entry.mutation ≤ length x.bytes)
-        → AreAll (IsHeldBy w.config.chunk (with_at w.servers index t)) w.observer.orders
+        → (x : Replica) → replica_of t.disk handle ≡ Some x → IsHeldBy w.servers handle (unsettled e) → end_of e.entry.mutation ≤ length x.bytes)
+        → AreAll (IsHeldBy (with_at w.servers index t)) w.observer.orders
     one_server index s t at go =
-        placed_on (IsHeldBy w.config.chunk (with_at w.servers index t))
+        placed_on (IsHeldBy (with_at w.servers index t))
         (λ handle place e there was other u is p lease round x replica. elim (set_split w.servers index t other u is) [
           | inl both ↦ go handle place e there p (ap (λ (y : ServerState). table.get y.leases handle) (sym both.1) ∙ lease) round x (ap (λ (y : ServerState). replica_of y.disk handle) (sym both.1) ∙ replica) was
           | inr apart ↦ was other u apart.1 p lease round x replica
@@ -127,7 +127,7 @@ module _ (config : Config) (servers clients : ℕ) (w : WorldState) (r : IsReach
       abbrev t : ServerState
       t = (server_step s moment i choice).state
 
-      old_held : AreAll (IsHeldBy w.config.chunk (with_at w.servers index (server_step s moment i choice).state)) w.observer.orders
+      old_held : AreAll (IsHeldBy (with_at w.servers index (server_step s moment i choice).state)) w.observer.orders
       old_held =
           one_server index s (server_step s moment i choice).state at
           (λ handle place x there p lease round now replica was.
@@ -143,7 +143,7 @@ module _ (config : Config) (servers clients : ℕ) (w : WorldState) (r : IsReach
       -- what it numbers it applies, or it has no lease
       new_held : (place : ℕ) (handle : Handle) (version : Version) (serial : Serial) (id : DataId) (m : Mutation) → element_at (server_step s moment i choice).seen place ≡ Some (Numbered handle version serial id m)
           → (other : ℕ) (u : ServerState) → element_at (with_at w.servers index (server_step s moment i choice).state) other ≡ Some u → (p : SerialOrder) → table.get u.leases handle.0 ≡ Some p → version.0 ≡ p.held.version
-          → (now : Replica) → replica_of u.disk handle.0 ≡ Some now → end_of w.config.chunk m ≤ length now.bytes
+          → (now : Replica) → replica_of u.disk handle.0 ≡ Some now → end_of m ≤ length now.bytes
       new_held place handle version serial id m seen other u is p lease round now replica =
           elim (set_split w.servers index t other u is) [
             | inl both ↦ elim (primaries_apply_what_they_number s moment i choice place handle version serial id m seen) [
@@ -156,21 +156,21 @@ module _ (config : Config) (servers clients : ℕ) (w : WorldState) (r : IsReach
           by : IsPlacedByReplica config.chunk s handle.0 version.0 serial.0 id m
           by = mutations_are_placed_by_replicas config servers clients w r index s at moment i choice place handle version serial id m seen
 
-          reach : IsApplied s.config.chunk s.disk (server_step s moment i choice).state.disk handle.0 serial.0 m → replica_of (server_step s moment i choice).state.disk handle.0 ≡ Some now → end_of w.config.chunk m ≤ length now.bytes
+          reach : IsApplied s.disk (server_step s moment i choice).state.disk handle.0 serial.0 m → replica_of (server_step s moment i choice).state.disk handle.0 ≡ Some now → end_of m ≤ length now.bytes
           reach done there =
-              subst (λ (x : Replica). end_of w.config.chunk m ≤ length x.bytes) (same_some (applied s.config.chunk serial.0 m done.0) now (sym done.2 ∙ there))
-              (subst (λ (c : Config). end_of c.chunk m ≤ length (applied s.config.chunk serial.0 m done.0).bytes) ((servers_within config servers clients w r index s at).set ∙ sym (settings_stay config servers clients w r)) (applied_reach s.config.chunk serial.0 m done.0))
+              subst (λ (x : Replica). end_of m ≤ length x.bytes) (same_some (applied serial.0 m done.0) now (sym done.2 ∙ there))
+              (applied_reach serial.0 m done.0)
 
       abbrev IsSeenNow : Seen → Type 0
       IsSeenNow (Numbered handle version serial id m) =
           (other : ℕ) (u : ServerState) → element_at (with_at w.servers index (server_step s moment i choice).state) other ≡ Some u → (p : SerialOrder) → table.get u.leases handle.0 ≡ Some p → version.0 ≡ p.held.version
-          → (now : Replica) → replica_of u.disk handle.0 ≡ Some now → end_of w.config.chunk m ≤ length now.bytes
+          → (now : Replica) → replica_of u.disk handle.0 ≡ Some now → end_of m ≤ length now.bytes
       IsSeenNow (BecameSettled handle version serial) = Unit {0}
       IsSeenNow (CopyStarted handle copy) = ⊥
 
-      server_held : (trace : List Visible) → AreAll (IsHeldBy w.config.chunk (with_at w.servers index (server_step s moment i choice).state)) (orders_after_all trace w.observer.orders (server_step s moment i choice).seen)
+      server_held : (trace : List Visible) → AreAll (IsHeldBy (with_at w.servers index (server_step s moment i choice).state)) (orders_after_all trace w.observer.orders (server_step s moment i choice).seen)
       server_held trace =
-          all_keep trace IsSeenNow (IsHeldBy w.config.chunk (with_at w.servers index (server_step s moment i choice).state))
+          all_keep trace IsSeenNow (IsHeldBy (with_at w.servers index (server_step s moment i choice).state))
           (record { numbers = λ handle version serial id m now. now; copies = λ handle copy now p u. absurd now })
           w.observer.orders (server_step s moment i choice).seen
           (all_placed IsSeenNow (server_step s moment i choice).seen (λ place y there. one place y there (all_at IsOfServers (server_step s moment i choice).seen place y (server_shown s moment i choice) there))) old_held
@@ -180,7 +180,7 @@ module _ (config : Config) (servers clients : ℕ) (w : WorldState) (r : IsReach
           one place (BecameSettled handle version serial) there is = tt
           one place (CopyStarted handle copy) there is = absurd is
 
-    restarted : (index moment : ℕ) (s : ServerState) (choice : Choice) (e : Ending) → element_at w.servers index ≡ Some s → AreAll (IsHeldBy w.config.chunk (with_at w.servers index (server_restarts s moment choice e).state)) w.observer.orders
+    restarted : (index moment : ℕ) (s : ServerState) (choice : Choice) (e : Ending) → element_at w.servers index ≡ Some s → AreAll (IsHeldBy (with_at w.servers index (server_restarts s moment choice e).state)) w.observer.orders
     restarted index moment s choice e at = one_server index s (server_restarts s moment choice e).state at (λ handle place x there p lease round now replica was. none_some p (sym (by_ending e handle) ∙ lease))
       where
         by_ending : (f : Ending) (handle : ℕ) → table.get (server_restarts s moment choice f).state.leases handle ≡ None
@@ -189,44 +189,43 @@ module _ (config : Config) (servers clients : ℕ) (w : WorldState) (r : IsReach
         by_ending (Stops made) handle = table.get-empty nat_cmp handle
 
     rotten : (index q : ℕ) (s : ServerState) (x : Replica) (place byte : ℕ) → element_at w.servers index ≡ Some s → replica_of s.disk q ≡ Some x
-        → AreAll (IsHeldBy w.config.chunk (with_at w.servers index (record s { disk = with_replica s.disk q (rotten_replica x place byte) }))) w.observer.orders
+        → AreAll (IsHeldBy (with_at w.servers index (record s { disk = with_replica s.disk q (rotten_replica x place byte) }))) w.observer.orders
     rotten index q s x place byte at there =
         one_server index s (record s { disk = with_replica s.disk q (rotten_replica x place byte) }) at
         (λ handle n e here p lease round now replica was. elim (put_cases s.disk.replicas q (rotten_replica x place byte) handle now replica) [
-          | inl same ↦ subst (λ (y : Replica). end_of w.config.chunk e.entry.mutation ≤ length y.bytes) same.1 (was index s at p lease round x (ap (λ (k : ℕ). replica_of s.disk k) same.0 ∙ there))
+          | inl same ↦ subst (λ (y : Replica). end_of e.entry.mutation ≤ length y.bytes) same.1 (was index s at p lease round x (ap (λ (k : ℕ). replica_of s.disk k) same.0 ∙ there))
           | inr before ↦ was index s at p lease round now before
         ])
 
-    each_held : HoldsAfter w (λ e x. AreAll (IsHeldBy x.world.config.chunk x.world.servers) x.world.observer.orders)
+    each_held : HoldsAfter w (λ e x. AreAll (IsHeldBy x.world.servers) x.world.observer.orders)
     each_held =
         record {
           nothing = λ e. h;
           masters = λ e moment i choice is up. master_held (observed_moment w.config.skew_ms w.observer moment).trace moment i choice;
           opens = λ e moment choice.
-              subst (λ (xs : List Seen). AreAll (IsHeldBy w.config.chunk w.servers) (orders_after_all (observed_moment w.config.skew_ms w.observer moment).trace w.observer.orders xs)) (sym (restart_shown w.master moment choice)) h;
+              subst (λ (xs : List Seen). AreAll (IsHeldBy w.servers) (orders_after_all (observed_moment w.config.skew_ms w.observer moment).trace w.observer.orders xs)) (sym (restart_shown w.master moment choice)) h;
           serves = λ e index moment s i choice at is up. server_held e index moment s i choice at is (observed_moment w.config.skew_ms w.observer moment).trace;
           restarts = λ e index moment s choice at.
-              subst (λ (xs : List Seen). AreAll (IsHeldBy w.config.chunk (with_at w.servers index (server_restart s moment choice).state)) (orders_after_all (observed_moment w.config.skew_ms w.observer moment).trace w.observer.orders xs))
+              subst (λ (xs : List Seen). AreAll (IsHeldBy (with_at w.servers index (server_restart s moment choice).state)) (orders_after_all (observed_moment w.config.skew_ms w.observer moment).trace w.observer.orders xs))
               (sym (restarted_shown s moment choice choice.ending)) (restarted index moment s choice choice.ending at);
-          steps = λ e index moment s i choice at is up. subst (λ (orders : Table (List Placed)). AreAll (IsHeldBy w.config.chunk w.servers) orders) (sym (same_orders _ (suc index) (client_step s moment i choice).out.answer)) h;
-          calls = λ e index moment s c choice at may. subst (λ (orders : Table (List Placed)). AreAll (IsHeldBy w.config.chunk w.servers) orders) (sym (same_orders _ (suc index) (client_call s moment c choice).out.answer)) h;
+          steps = λ e index moment s i choice at is up. subst (λ (orders : Table (List Placed)). AreAll (IsHeldBy w.servers) orders) (sym (same_orders _ (suc index) (client_step s moment i choice).out.answer)) h;
+          calls = λ e index moment s c choice at may. subst (λ (orders : Table (List Placed)). AreAll (IsHeldBy w.servers) orders) (sym (same_orders _ (suc index) (client_call s moment c choice).out.answer)) h;
           rots = λ e index q s x place byte is_kept at there up. rotten index q s x place byte at there;
         }
 
 -- the laws
 
 abbrev AreHeld : WorldState → Type 0
-AreHeld w = AreAll (IsHeldBy w.config.chunk w.servers) w.observer.orders
+AreHeld w = AreAll (IsHeldBy w.servers) w.observer.orders
 
 none_placed : (T : ℕ → Placed → Type 0) → AreAll T table.empty
 none_placed T handle = subst (λ (o : Option (List Placed)). AllOf (Holds T handle) (unwrap_or o [])) (sym (table.get-empty nat_cmp handle)) tt
 
 -- an entry of the round of a lease ends within the replica
-ends_within : (config : Config) (servers clients : ℕ) (w : WorldState) → IsReached config servers clients w → (handle place : ℕ) (e : Placed) → element_at (placed_in w.observer.orders handle) place ≡ Some e → IsHeldBy config.chunk w.servers handle (unsettled e)
+ends_within : (config : Config) (servers clients : ℕ) (w : WorldState) → IsReached config servers clients w → (handle place : ℕ) (e : Placed) → element_at (placed_in w.observer.orders handle) place ≡ Some e → IsHeldBy w.servers handle (unsettled e)
 ends_within config servers clients w r handle place e at =
-    subst (λ (c : Config). IsHeldBy c.chunk w.servers handle (unsettled e)) (settings_stay config servers clients w r)
-    (all_at (Holds (IsHeldBy w.config.chunk w.servers) handle) (placed_in w.observer.orders handle) place e
-    (held_reached AreHeld each_held config servers clients (none_placed (IsHeldBy config.chunk (new_world config servers clients).servers)) w r handle) at)
+    all_at (Holds (IsHeldBy w.servers) handle) (placed_in w.observer.orders handle) place e
+    (held_reached AreHeld each_held config servers clients (none_placed (IsHeldBy (new_world config servers clients).servers)) w r handle) at
 
 pub held_rounds_are_applied : HeldRoundsAreApplied
 held_rounds_are_applied config servers clients w r index s at handle p is place e there round =
@@ -239,10 +238,10 @@ records_come_behind_their_round config servers clients w r index s at moment i c
     by : IsPlacedByReplica config.chunk s handle.0 version.0 serial.0 id m
     by = mutations_are_placed_by_replicas config servers clients w r index s at moment i choice shown handle version serial id m seen
 
-    low : end_of config.chunk e.entry.mutation ≤ length (by.replica).bytes
+    low : end_of e.entry.mutation ≤ length (by.replica).bytes
     low = ends_within config servers clients w r handle.0 place e there index s at by.lease by.lease_is (round ∙ by.version_is) by.replica by.replica_is
 
-    behind : (x : Mutation) → IsPlacedBehind config.chunk (length (by.replica).bytes) by.bytes x → ComesBehind (end_of config.chunk e.entry.mutation) x
+    behind : (x : Mutation) → IsPlacedBehind config.chunk (length (by.replica).bytes) by.bytes x → ComesBehind (end_of e.entry.mutation) x
     behind (Write offset bytes) placed = tt
     behind (Append offset bytes) placed = let start = placed.1 in let bound = low in omega (arith, start, bound)
-    behind (Pad offset) placed = let start = placed.0 in let bound = low in omega (arith, start, bound)
+    behind (Pad offset end) placed = let start = placed.0 in let bound = low in omega (arith, start, bound)

@@ -12,7 +12,7 @@ use Rattle.gfs_types.specs.declared.ids.Serial.{Serial}
 use Rattle.gfs_types.specs.declared.ids.OrderNo.{OrderNo}
 use Rattle.gfs_types.specs.declared.mutation.Mutation.{Mutation}
 use Rattle.gfs_types.specs.declared.mutation.Mutation.TheVariants as mutation
-use Rattle.gfs_types.specs.Mutations.{start_of}
+use Rattle.gfs_types.specs.Mutations.{start_of, end_of}
 use Rattle.messages.specs.declared.event.NodeInput.{NodeInput}
 use Rattle.messages.specs.declared.event.NodeInput.TheVariants as input
 use Rattle.messages.specs.declared.message.Body.{Body}
@@ -44,7 +44,7 @@ use Rattle.laws_entries.specs.PlacedEntries.{LiesWithin}
 use Rattle.laws_entries.proofs.RoundsPassed.{IsOfServers}
 use Rattle.laws_entries.specs.CountedSerials.{serials_of}
 use Rattle.laws_entries.proofs.CountedRounds.{leases_count_their_serials}
-use Rattle.laws_steps.proofs.Lengths.{all_taken, servers_within, settings_stay}
+use Rattle.laws_steps.proofs.Lengths.{all_taken}
 use Rattle.laws_steps.proofs.HeldReplicas.{IsNumber, numbers_quiet, changed_last, leases_have_their_replica}
 use Rattle.laws_entries.specs.CausedWords.{IsNamedIn}
 use Rattle.laws_entries.proofs.Forwards.{forwards_name_entries}
@@ -62,23 +62,29 @@ use Rattle.laws_replicas.proofs.KeptData.{IsCarried, kept_is_carried}
 pub start_is : (m : Mutation) (c : Change) → change_of m ≡ c → start_of m ≡ change_start c
 start_is (mutation.Write offset bytes) c is = ap change_start is
 start_is (mutation.Append offset bytes) c is = ap change_start is
-start_is (mutation.Pad offset) c is = ap change_start is
+start_is (mutation.Pad offset end) c is = ap change_start is
 
-pub written_is : (size : ℕ) (m : Mutation) (offset : ℕ) (bytes : List ℕ) → (change_of m ≡ change.Write offset) ⊎ (change_of m ≡ change.Append offset) → IsCarried bytes m → written_by size m ≡ bytes
-written_is size (mutation.Write at written) offset bytes is carried = carried
-written_is size (mutation.Append at written) offset bytes is carried = carried
-written_is size (mutation.Pad at) offset bytes (inl is) carried = absurd (let both : change.Pad at ≡ change.Write offset = is in cc)
-written_is size (mutation.Pad at) offset bytes (inr is) carried = absurd (let both : change.Pad at ≡ change.Append offset = is in cc)
+pub written_is : (m : Mutation) (offset : ℕ) (bytes : List ℕ) → (change_of m ≡ change.Write offset) ⊎ (change_of m ≡ change.Append offset) → IsCarried bytes m → written_by m ≡ bytes
+written_is (mutation.Write at written) offset bytes is carried = carried
+written_is (mutation.Append at written) offset bytes is carried = carried
+written_is (mutation.Pad at end) offset bytes (inl is) carried = absurd (let both : change.Pad at end ≡ change.Write offset = is in cc)
+written_is (mutation.Pad at end) offset bytes (inr is) carried = absurd (let both : change.Pad at end ≡ change.Append offset = is in cc)
 
-pub padded_is : (size : ℕ) (m : Mutation) (offset : ℕ) → change_of m ≡ change.Pad offset → written_by size m ≡ replicate (size - offset) 0
-padded_is size (mutation.Write at written) offset is = absurd (let both : change.Write at ≡ change.Pad offset = is in cc)
-padded_is size (mutation.Append at written) offset is = absurd (let both : change.Append at ≡ change.Pad offset = is in cc)
-padded_is size (mutation.Pad at) offset is = ap (λ (n : ℕ). replicate (size - n) 0) (ap change_start is)
+-- where a pad that is forwarded ends
+abbrev change_end : Change → ℕ
+change_end (change.Write offset) = 0
+change_end (change.Append offset) = 0
+change_end (change.Pad offset end) = end
 
-pub starts_within : (size : ℕ) (m : Mutation) → LiesWithin size m → start_of m ≤ size
-starts_within size (mutation.Write offset bytes) within = omega (arith, within)
-starts_within size (mutation.Append offset bytes) within = omega (arith, within)
-starts_within size (mutation.Pad offset) within = omega (arith, within)
+pub padded_is : (m : Mutation) (offset end : ℕ) → change_of m ≡ change.Pad offset end → written_by m ≡ replicate (end - offset) 0
+padded_is (mutation.Write at written) offset end is = absurd (let both : change.Write at ≡ change.Pad offset end = is in cc)
+padded_is (mutation.Append at written) offset end is = absurd (let both : change.Append at ≡ change.Pad offset end = is in cc)
+padded_is (mutation.Pad at last) offset end is = ap (λ (c : Change). replicate (change_end c - change_start c) 0) is
+
+pub starts_before_end : (size : ℕ) (m : Mutation) → LiesWithin size m → start_of m ≤ end_of m
+starts_before_end size (mutation.Write offset bytes) within = omega arith
+starts_before_end size (mutation.Append offset bytes) within = omega arith
+starts_before_end size (mutation.Pad offset end) within = let start = within.0 in let ends = within.1 in omega (arith, start, ends)
 
 -- the serials of a round that are counted
 
@@ -134,41 +140,41 @@ abbrev pub Carried : Type 1
 Carried = (handle version : ℕ) → List Placed → Type 0
 
 -- an image, of whose entries that holds
-abbrev pub Holds : Carried → ℕ → List Placed → (handle version serial : ℕ) → List ℕ → Type 0
-Holds K size order handle version serial bytes = (g : IsImageOf size order version serial bytes) × K handle version (marked g.marks order)
+abbrev pub Holds : Carried → List Placed → (handle version serial : ℕ) → List ℕ → Type 0
+Holds K order handle version serial bytes = (g : IsImageOf order version serial bytes) × K handle version (marked g.marks order)
 
 -- images in these orders
-abbrev pub AreIn : Carried → ℕ → Table (List Placed) → ServerDisk → Type 0
-AreIn K size orders d = (handle : ℕ) (r : Replica) → replica_of d handle ≡ Some r → Holds K size (placed_in orders handle) handle r.version r.serial r.bytes
+abbrev pub AreIn : Carried → Table (List Placed) → ServerDisk → Type 0
+AreIn K orders d = (handle : ℕ) (r : Replica) → replica_of d handle ≡ Some r → Holds K (placed_in orders handle) handle r.version r.serial r.bytes
 
 -- in orders that have grown
-pub holds_grown : (K : Carried) (size : ℕ) (from to : List Placed) (handle version serial : ℕ) (bytes : List ℕ) → Follows IsAny from to → Holds K size from handle version serial bytes → Holds K size to handle version serial bytes
-holds_grown K size from to handle version serial bytes f h =
-    let now = image_on IsAny size from to version serial bytes f (λ p is. tt) h.0 in
+pub holds_grown : (K : Carried) (from to : List Placed) (handle version serial : ℕ) (bytes : List ℕ) → Follows IsAny from to → Holds K from handle version serial bytes → Holds K to handle version serial bytes
+holds_grown K from to handle version serial bytes f h =
+    let now = image_on IsAny from to version serial bytes f (λ p is. tt) h.0 in
     (now.0, subst (K handle version) (sym now.1) h.1)
 
-put_in : (K : Carried) (size : ℕ) (orders : Table (List Placed)) (d : ServerDisk) (k : ℕ) (new : Replica) → Holds K size (placed_in orders k) k new.version new.serial new.bytes → AreIn K size orders d → AreIn K size orders (with_replica d k new)
-put_in K size orders d k new one h handle r is =
+put_in : (K : Carried) (orders : Table (List Placed)) (d : ServerDisk) (k : ℕ) (new : Replica) → Holds K (placed_in orders k) k new.version new.serial new.bytes → AreIn K orders d → AreIn K orders (with_replica d k new)
+put_in K orders d k new one h handle r is =
     elim (put_cases d.replicas k new handle r is) [
-      | inl same ↦ subst (λ (n : ℕ). Holds K size (placed_in orders n) n r.version r.serial r.bytes) (sym same.0) (subst (λ (x : Replica). Holds K size (placed_in orders k) k x.version x.serial x.bytes) same.1 one)
+      | inl same ↦ subst (λ (n : ℕ). Holds K (placed_in orders n) n r.version r.serial r.bytes) (sym same.0) (subst (λ (x : Replica). Holds K (placed_in orders k) k x.version x.serial x.bytes) same.1 one)
       | inr before ↦ h handle r before
     ]
 
-becomes_in : (K : Carried) (size : ℕ) (orders : Table (List Placed)) (f : Replica → Replica) (d : ServerDisk) (k : ℕ) (o : Option Replica)
-    → ((r : Replica) → o ≡ Some r → Holds K size (placed_in orders k) k (f r).version (f r).serial (f r).bytes) → AreIn K size orders d → AreIn K size orders (replica_becomes f d k o)
-becomes_in K size orders f d k None new h = h
-becomes_in K size orders f d k (Some r) new h = put_in K size orders d k (f r) (new r refl) h
+becomes_in : (K : Carried) (orders : Table (List Placed)) (f : Replica → Replica) (d : ServerDisk) (k : ℕ) (o : Option Replica)
+    → ((r : Replica) → o ≡ Some r → Holds K (placed_in orders k) k (f r).version (f r).serial (f r).bytes) → AreIn K orders d → AreIn K orders (replica_becomes f d k o)
+becomes_in K orders f d k None new h = h
+becomes_in K orders f d k (Some r) new h = put_in K orders d k (f r) (new r refl) h
 
 -- what Images say
-abbrev pub IsImageSaid : Carried → ℕ → Table (List Placed) → Body → Type 0
-IsImageSaid J size orders (body.Image handle version serial bytes) = Holds J size (placed_in orders handle.0) handle.0 version.0 serial.0 bytes
-IsImageSaid J size orders other = Unit {0}
+abbrev pub IsImageSaid : Carried → Table (List Placed) → Body → Type 0
+IsImageSaid J orders (body.Image handle version serial bytes) = Holds J (placed_in orders handle.0) handle.0 version.0 serial.0 bytes
+IsImageSaid J orders other = Unit {0}
 
--- A step of a server: the orders that it leaves have what they had, rise, lie within the chunk, and have what was numbered.
+-- A step of a server: the orders that it leaves have what they had, rise, have no entry that begins past its end, and have what was numbered.
 pub record Leaves (w : WorldState) (trace : List Visible) (seen : List Seen) (orders : Table (List Placed)) : Type 0 where
   pub grown : (handle : ℕ) → Follows IsAny (placed_in w.observer.orders handle) (placed_in orders handle)
   pub rising : (handle : ℕ) → AreRising (placed_in orders handle)
-  pub within : (handle place : ℕ) (p : Placed) → element_at (placed_in orders handle) place ≡ Some p → start_of p.entry.mutation ≤ w.config.chunk
+  pub within : (handle place : ℕ) (p : Placed) → element_at (placed_in orders handle) place ≡ Some p → start_of p.entry.mutation ≤ end_of p.entry.mutation
   pub shown : (place : ℕ) (handle : Handle) (version : Version) (serial : Serial) (id : DataId) (m : Mutation) → element_at seen place ≡ Some (Numbered handle version serial id m)
       → (n : ℕ) × (p : Placed) × (element_at (placed_in orders handle.0) n ≡ Some p) × (unsettled p ≡ new_entry trace version.0 serial.0 id m)
 
@@ -183,40 +189,37 @@ pub record Carries (s : ServerState) (i : NodeInput) (J K : Carried) : Type 0 wh
       → (ps : List Placed) → K handle.0 from.0 ps → K copy.0 version.0 ps
 
 module _ (J K : Carried) (config : Config) (servers clients : ℕ) (w : WorldState) (r : IsReached config servers clients w) (clocks : IsTrue w.observer.are_clocks_kept) (disks : IsTrue w.observer.are_disks_kept)
-    (said : (m : Message) → IsSent w.sent m → IsImageSaid J w.config.chunk w.observer.orders m.body) (index : ℕ) (s : ServerState) (at : element_at w.servers index ≡ Some s) (here : AreIn K w.config.chunk w.observer.orders s.disk)
+    (said : (m : Message) → IsSent w.sent m → IsImageSaid J w.observer.orders m.body) (index : ℕ) (s : ServerState) (at : element_at w.servers index ≡ Some s) (here : AreIn K w.observer.orders s.disk)
     (moment : ℕ) (i : NodeInput) (came : (m : Message) → i ≡ input.Deliver m → IsSent w.sent m) (k : Carries s i J K) where
-  size_is : s.config.chunk ≡ w.config.chunk
-  size_is = ap (λ (c : Config). c.chunk) ((servers_within config servers clients w r index s at).set ∙ sym (settings_stay config servers clients w r))
-
   module _ (trace : List Visible) (orders : Table (List Placed)) (l : Leaves w trace (server_goes s moment i).seen orders) where
     abbrev Good : ServerDisk → Type 0
-    Good d = AreIn K w.config.chunk orders d
+    Good d = AreIn K orders d
 
     stays : Good s.disk
-    stays handle x is = holds_grown K w.config.chunk (placed_in w.observer.orders handle) (placed_in orders handle) handle x.version x.serial x.bytes (l.grown handle) (here handle x is)
+    stays handle x is = holds_grown K (placed_in w.observer.orders handle) (placed_in orders handle) handle x.version x.serial x.bytes (l.grown handle) (here handle x is)
 
     same : (e : ServerDisk) → e.replicas ≡ s.disk.replicas → Good e
     same e is handle x there = stays handle x (ap (λ (t : Table Replica). table.get t handle) (sym is) ∙ there)
 
     -- an entry that comes behind what was applied is applied
-    applied : (handle : ℕ) (y : Replica) (h : Holds K w.config.chunk (placed_in orders handle) handle y.version y.serial y.bytes) (place : ℕ) (p : Placed) → element_at (placed_in orders handle) place ≡ Some p → p.entry.round ≡ y.version
-        → AllByRecursion (λ q. q.entry.round ≡ y.version → q.serial < p.serial) (marked h.0.marks (placed_in orders handle)) → (serial offset : ℕ) (content : List ℕ) → p.serial ≡ serial → start_of p.entry.mutation ≡ offset → written_by w.config.chunk p.entry.mutation ≡ content
-        → Holds K w.config.chunk (placed_in orders handle) handle y.version serial (with_bytes y.bytes offset content)
+    applied : (handle : ℕ) (y : Replica) (h : Holds K (placed_in orders handle) handle y.version y.serial y.bytes) (place : ℕ) (p : Placed) → element_at (placed_in orders handle) place ≡ Some p → p.entry.round ≡ y.version
+        → AllByRecursion (λ q. q.entry.round ≡ y.version → q.serial < p.serial) (marked h.0.marks (placed_in orders handle)) → (serial offset : ℕ) (content : List ℕ) → p.serial ≡ serial → start_of p.entry.mutation ≡ offset → written_by p.entry.mutation ≡ content
+        → Holds K (placed_in orders handle) handle y.version serial (with_bytes y.bytes offset content)
     applied handle y h place p there round later serial offset content serial_is start content_is =
-        subst (λ (n : ℕ). Holds K w.config.chunk (placed_in orders handle) handle y.version n (with_bytes y.bytes offset content)) serial_is
-        (subst (λ (n : ℕ). Holds K w.config.chunk (placed_in orders handle) handle y.version p.serial (with_bytes y.bytes n content)) start
-        (subst (λ (bs : List ℕ). Holds K w.config.chunk (placed_in orders handle) handle y.version p.serial (with_bytes y.bytes (start_of p.entry.mutation) bs)) content_is
+        subst (λ (n : ℕ). Holds K (placed_in orders handle) handle y.version n (with_bytes y.bytes offset content)) serial_is
+        (subst (λ (n : ℕ). Holds K (placed_in orders handle) handle y.version p.serial (with_bytes y.bytes n content)) start
+        (subst (λ (bs : List ℕ). Holds K (placed_in orders handle) handle y.version p.serial (with_bytes y.bytes (start_of p.entry.mutation) bs)) content_is
         (one.0, subst (K handle y.version) (sym one.1) (k.more handle y.version (marked h.0.marks (placed_in orders handle)) (unsettled p) h.1))))
       where
-        one : (g : IsImageOf w.config.chunk (placed_in orders handle) y.version p.serial (with_bytes y.bytes (start_of p.entry.mutation) (written_by w.config.chunk p.entry.mutation)))
+        one : (g : IsImageOf (placed_in orders handle) y.version p.serial (with_bytes y.bytes (start_of p.entry.mutation) (written_by p.entry.mutation)))
             × (marked g.marks (placed_in orders handle) ≡ marked h.0.marks (placed_in orders handle) ++ unsettled p ∷ [])
-        one = image_more w.config.chunk (placed_in orders handle) y.version y.serial y.bytes h.0 (l.rising handle) place p there round later (l.within handle place p there)
+        one = image_more (placed_in orders handle) y.version y.serial y.bytes h.0 (l.rising handle) place p there round later (l.within handle place p there)
 
     written : (e : ServerDisk) → e.replicas ≡ s.disk.replicas → (handle serial offset : ℕ) (content : List ℕ)
-        → ((y : Replica) → replica_of s.disk handle ≡ Some y → Holds K w.config.chunk (placed_in orders handle) handle y.version serial (with_bytes y.bytes offset content))
+        → ((y : Replica) → replica_of s.disk handle ≡ Some y → Holds K (placed_in orders handle) handle y.version serial (with_bytes y.bytes offset content))
         → Good (replica_becomes (λ y. written_replica y serial offset content) e handle (replica_of e handle))
     written e is handle serial offset content new =
-        becomes_in K w.config.chunk orders (λ y. written_replica y serial offset content) e handle (replica_of e handle) (λ y there. new y (ap (λ (t : Table Replica). table.get t handle) (sym is) ∙ there)) (same e is)
+        becomes_in K orders (λ y. written_replica y serial offset content) e handle (replica_of e handle) (λ y there. new y (ap (λ (t : Table Replica). table.get t handle) (sym is) ∙ there)) (same e is)
 
     -- a member, on a Forward
 
@@ -225,8 +228,8 @@ module _ (J K : Carried) (config : Config) (servers clients : ℕ) (w : WorldSta
       entry : (q : Placed) × (element_at (placed_in orders handle.0) named.place ≡ Some q) × (unsettled q ≡ unsettled named.p)
       entry = l.grown handle.0 named.place named.p named.at tt
 
-      member : (offset : ℕ) (content : List ℕ) → change_start c ≡ offset → written_by w.config.chunk named.p.entry.mutation ≡ content → (y : Replica) → replica_of s.disk handle.0 ≡ Some y
-          → Holds K w.config.chunk (placed_in orders handle.0) handle.0 y.version serial.0 (with_bytes y.bytes offset content)
+      member : (offset : ℕ) (content : List ℕ) → change_start c ≡ offset → written_by named.p.entry.mutation ≡ content → (y : Replica) → replica_of s.disk handle.0 ≡ Some y
+          → Holds K (placed_in orders handle.0) handle.0 y.version serial.0 (with_bytes y.bytes offset content)
       member offset content start content_is y there =
           let of = row_is s.disk handle.0 row y row_there there in
           let q : Placed = entry.0 in
@@ -236,25 +239,25 @@ module _ (J K : Carried) (config : Config) (servers clients : ℕ) (w : WorldSta
           let h = stays handle.0 y there in
           applied handle.0 y h named.place q entry.1 (ap (λ (x : Placed). x.entry.round) entry.2 ∙ named.round_is ∙ sym version_is ∙ sym of.0)
           (all_elements (IsWithin y.version y.serial) (λ x. x.entry.round ≡ y.version → x.serial < q.serial) (λ x is round. let most = is.1 round in omega (arith, most, low)) (marked h.0.marks (placed_in orders handle.0)) h.0.applied)
-          serial.0 offset content serial_is (ap start_of mutation_is ∙ start_is named.p.entry.mutation c named.change_is ∙ start) (ap (written_by w.config.chunk) mutation_is ∙ content_is)
+          serial.0 offset content serial_is (ap start_of mutation_is ∙ start_is named.p.entry.mutation c named.change_is ∙ start) (ap written_by mutation_is ∙ content_is)
 
     carried : (handle : Handle) (version : Version) (serial : Serial) (id : DataId) (c : Change) (named : IsNamedIn (order_of w.observer handle.0) version serial id c) (bytes : List ℕ) → data_of s.pushed id ≡ Some bytes → IsCarried bytes named.p.entry.mutation
     carried handle version serial id c named bytes kept = kept_is_carried config servers clients w r index s at id bytes kept handle.0 named.place named.p named.at named.client_is named.seq_is
 
     forwarded_as : (e : ServerDisk) → e.replicas ≡ s.disk.replicas → (handle : Handle) (version : Version) (serial : Serial) (id : DataId) (c : Change) → IsNamedIn (order_of w.observer handle.0) version serial id c
-        → (row : Row) → row_at s.disk handle.0 ≡ Some row → row.version.0 ≡ version.0 → row.serial.0 < serial.0 → (x : StoreChange) → IsMadeOf s.config.chunk handle.0 serial.0 (data_of s.pushed id) c x → Good (disk_changed e x)
+        → (row : Row) → row_at s.disk handle.0 ≡ Some row → row.version.0 ≡ version.0 → row.serial.0 < serial.0 → (x : StoreChange) → IsMadeOf handle.0 serial.0 (data_of s.pushed id) c x → Good (disk_changed e x)
     forwarded_as e is handle version serial id (change.Write offset) named row there version_is later x made =
         subst (λ (y : StoreChange). Good (disk_changed e y)) (sym made.2)
         (written e is handle.0 serial.0 offset made.0 (member handle version serial id (change.Write offset) named row there version_is later offset made.0 refl
-        (written_is w.config.chunk named.p.entry.mutation offset made.0 (inl named.change_is) (carried handle version serial id (change.Write offset) named made.0 made.1))))
+        (written_is named.p.entry.mutation offset made.0 (inl named.change_is) (carried handle version serial id (change.Write offset) named made.0 made.1))))
     forwarded_as e is handle version serial id (change.Append offset) named row there version_is later x made =
         subst (λ (y : StoreChange). Good (disk_changed e y)) (sym made.2)
         (written e is handle.0 serial.0 offset made.0 (member handle version serial id (change.Append offset) named row there version_is later offset made.0 refl
-        (written_is w.config.chunk named.p.entry.mutation offset made.0 (inr named.change_is) (carried handle version serial id (change.Append offset) named made.0 made.1))))
-    forwarded_as e is handle version serial id (change.Pad offset) named row there version_is later x made =
+        (written_is named.p.entry.mutation offset made.0 (inr named.change_is) (carried handle version serial id (change.Append offset) named made.0 made.1))))
+    forwarded_as e is handle version serial id (change.Pad offset end) named row there version_is later x made =
         subst (λ (y : StoreChange). Good (disk_changed e y)) (sym made)
-        (written e is handle.0 serial.0 offset (replicate (s.config.chunk - offset) 0) (member handle version serial id (change.Pad offset) named row there version_is later offset (replicate (s.config.chunk - offset) 0) refl
-        (padded_is w.config.chunk named.p.entry.mutation offset named.change_is ∙ ap (λ (n : ℕ). replicate (n - offset) 0) (sym size_is))))
+        (written e is handle.0 serial.0 offset (replicate (end - offset) 0) (member handle version serial id (change.Pad offset end) named row there version_is later offset (replicate (end - offset) 0) refl
+        (padded_is named.p.entry.mutation offset end named.change_is)))
 
     forwarded : (e : ServerDisk) → e.replicas ≡ s.disk.replicas → (m : Message) → i ≡ input.Deliver m → (x : StoreChange) → IsForwarded (server_at s moment) m.body x → Good (disk_changed e x)
     forwarded e is m taken x f =
@@ -264,11 +267,11 @@ module _ (J K : Carried) (config : Config) (servers clients : ℕ) (w : WorldSta
     -- the primary
 
     numbered_as : (e : ServerDisk) → e.replicas ≡ s.disk.replicas → (handle serial : ℕ) (m : Mutation)
-        → ((y : Replica) → replica_of s.disk handle ≡ Some y → Holds K w.config.chunk (placed_in orders handle) handle y.version serial (with_bytes y.bytes (start_of m) (written_by s.config.chunk m)))
-        → Good (disk_changed e (stored_as s.config.chunk handle serial m))
+        → ((y : Replica) → replica_of s.disk handle ≡ Some y → Holds K (placed_in orders handle) handle y.version serial (with_bytes y.bytes (start_of m) (written_by m)))
+        → Good (disk_changed e (stored_as handle serial m))
     numbered_as e is handle serial (mutation.Write offset bytes) new = written e is handle serial offset bytes new
     numbered_as e is handle serial (mutation.Append offset bytes) new = written e is handle serial offset bytes new
-    numbered_as e is handle serial (mutation.Pad offset) new = written e is handle serial offset (replicate (s.config.chunk - offset) 0) new
+    numbered_as e is handle serial (mutation.Pad offset end) new = written e is handle serial offset (replicate (end - offset) 0) new
 
     numbered : (e : ServerDisk) → e.replicas ≡ s.disk.replicas → (x : StoreChange) → IsNumbered (server_at s moment) (server_goes s moment i).seen x → Good (disk_changed e x)
     numbered e is x n =
@@ -290,15 +293,15 @@ module _ (J K : Carried) (config : Config) (servers clients : ℕ) (w : WorldSta
             let one = serial_there n.lease.held.version (placed_in w.observer.orders n.handle) place q q_at round in
             number_low n.lease.serial one.0 q.serial (ap (λ (xs : List ℕ). element_at xs one.0) (sym (leases_count_their_serials config servers clients w r index s at n.handle n.lease n.there)) ∙ one.1))
 
-        new : (y : Replica) → replica_of s.disk n.handle ≡ Some y → Holds K w.config.chunk (placed_in orders n.handle) n.handle y.version (n.lease.serial + 1) (with_bytes y.bytes (start_of n.m) (written_by s.config.chunk n.m))
+        new : (y : Replica) → replica_of s.disk n.handle ≡ Some y → Holds K (placed_in orders n.handle) n.handle y.version (n.lease.serial + 1) (with_bytes y.bytes (start_of n.m) (written_by n.m))
         new y y_there =
             let one : held.0 ≡ y = same_some held.0 y (sym held.1 ∙ y_there) in
-            subst (λ (z : Replica). Holds K w.config.chunk (placed_in orders n.handle) n.handle z.version (n.lease.serial + 1) (with_bytes z.bytes (start_of n.m) (written_by s.config.chunk n.m))) one
-            (applied n.handle held.0 (kept.0, subst (K n.handle held.0.version) (sym kept.1) (here n.handle held.0 held.1).1) there.0 there.1 there.2 (ap (λ (x : Placed). x.entry.round) there.3 ∙ sym held.2) later (n.lease.serial + 1) (start_of n.m) (written_by s.config.chunk n.m) serial_is
-            (ap (λ (x : Placed). start_of x.entry.mutation) there.3) (ap (λ (x : Placed). written_by w.config.chunk x.entry.mutation) there.3 ∙ ap (λ (k : ℕ). written_by k n.m) (sym size_is)))
+            subst (λ (z : Replica). Holds K (placed_in orders n.handle) n.handle z.version (n.lease.serial + 1) (with_bytes z.bytes (start_of n.m) (written_by n.m))) one
+            (applied n.handle held.0 (kept.0, subst (K n.handle held.0.version) (sym kept.1) (here n.handle held.0 held.1).1) there.0 there.1 there.2 (ap (λ (x : Placed). x.entry.round) there.3 ∙ sym held.2) later (n.lease.serial + 1) (start_of n.m) (written_by n.m) serial_is
+            (ap (λ (x : Placed). start_of x.entry.mutation) there.3) (ap (λ (x : Placed). written_by x.entry.mutation) there.3))
           where
-            kept : (g : IsImageOf w.config.chunk (placed_in orders n.handle) held.0.version held.0.serial held.0.bytes) × (marked g.marks (placed_in orders n.handle) ≡ marked (here n.handle held.0 held.1).0.marks (placed_in w.observer.orders n.handle))
-            kept = image_on IsAny w.config.chunk (placed_in w.observer.orders n.handle) (placed_in orders n.handle) held.0.version held.0.serial held.0.bytes (l.grown n.handle) (λ p is. tt) (here n.handle held.0 held.1).0
+            kept : (g : IsImageOf (placed_in orders n.handle) held.0.version held.0.serial held.0.bytes) × (marked g.marks (placed_in orders n.handle) ≡ marked (here n.handle held.0 held.1).0.marks (placed_in w.observer.orders n.handle))
+            kept = image_on IsAny (placed_in w.observer.orders n.handle) (placed_in orders n.handle) held.0.version held.0.serial held.0.bytes (l.grown n.handle) (λ p is. tt) (here n.handle held.0 held.1).0
 
             later : AllByRecursion (λ q. q.entry.round ≡ held.0.version → q.serial < there.1.serial) (marked kept.0.marks (placed_in orders n.handle))
             later =
@@ -311,22 +314,22 @@ module _ (J K : Carried) (config : Config) (servers clients : ℕ) (w : WorldSta
     copied : (e : ServerDisk) → e.replicas ≡ s.disk.replicas → (m : Message) → i ≡ input.Deliver m → (order : OrderNo) (handle : Handle) (from : Version) (copy : Handle) (version : Version) (row : Row)
         → m.body ≡ body.CopyLocal order handle from copy version → row_at s.disk handle.0 ≡ Some row → row.version.0 ≡ from.0 → IsTrue (is_copyable_at s.disk handle.0) → is_new_order s.disk order.epoch order.count ≡ true → Good (disk_changed e (Copy handle copy version))
     copied e is m taken order handle from copy version row body_is there same_version copyable new =
-        becomes_in K w.config.chunk orders (λ x. stored_replica version.0 0 (bytes_on_disk x)) e copy.0 (replica_of e handle.0) one (same e is)
+        becomes_in K orders (λ x. stored_replica version.0 0 (bytes_on_disk x)) e copy.0 (replica_of e handle.0) one (same e is)
       where
         sent : IsSent w.sent m
         sent = came m taken
 
-        one : (x : Replica) → replica_of e handle.0 ≡ Some x → Holds K w.config.chunk (placed_in orders copy.0) copy.0 version.0 0 (bytes_on_disk x)
+        one : (x : Replica) → replica_of e handle.0 ≡ Some x → Holds K (placed_in orders copy.0) copy.0 version.0 0 (bytes_on_disk x)
         one x e_there =
             let x_there : replica_of s.disk handle.0 ≡ Some x = ap (λ (t : Table Replica). table.get t handle.0) (sym is) ∙ e_there in
             let version_is : x.version ≡ from.0 = (row_is s.disk handle.0 row x there x_there).0 ∙ same_version in
             let above : from.0 < version.0 = copies_go_above_their_source config servers clients w r sent.0 m sent.1 order handle from copy version body_is in
             let was = here handle.0 x x_there in
-            let over = image_on (IsUpTo from.0) w.config.chunk (placed_in w.observer.orders handle.0) (placed_in w.observer.orders copy.0) x.version x.serial x.bytes
+            let over = image_on (IsUpTo from.0) (placed_in w.observer.orders handle.0) (placed_in w.observer.orders copy.0) x.version x.serial x.bytes
             (copies_have_their_sources_entries config servers clients w r clocks sent.0 m sent.1 order handle from copy version body_is) (λ p within. let low = within.0 in omega (arith, low, version_is)) was.0 in
-            let raised = image_raised w.config.chunk (placed_in w.observer.orders copy.0) x.version x.serial version.0 x.bytes (omega (arith, version_is, above)) over.0 in
-            subst (λ (bs : List ℕ). Holds K w.config.chunk (placed_in orders copy.0) copy.0 version.0 0 bs) (sym ((replicas_are_read_as_stored config servers clients w r disks index s at handle.0 x x_there).1 copyable))
-            (holds_grown K w.config.chunk (placed_in w.observer.orders copy.0) (placed_in orders copy.0) copy.0 version.0 0 x.bytes (l.grown copy.0) (
+            let raised = image_raised (placed_in w.observer.orders copy.0) x.version x.serial version.0 x.bytes (omega (arith, version_is, above)) over.0 in
+            subst (λ (bs : List ℕ). Holds K (placed_in orders copy.0) copy.0 version.0 0 bs) (sym ((replicas_are_read_as_stored config servers clients w r disks index s at handle.0 x x_there).1 copyable))
+            (holds_grown K (placed_in w.observer.orders copy.0) (placed_in orders copy.0) copy.0 version.0 0 x.bytes (l.grown copy.0) (
               raised.0,
               subst (K copy.0 version.0) (sym over.1 ∙ sym raised.1)
                   (k.copied m taken order handle from copy version body_is new (marked was.0.marks (placed_in w.observer.orders handle.0)) (subst (λ (n : ℕ). K handle.0 n (marked was.0.marks (placed_in w.observer.orders handle.0))) version_is was.1)),
@@ -336,26 +339,26 @@ module _ (J K : Carried) (config : Config) (servers clients : ℕ) (w : WorldSta
     changed e is m taken (SetOrder order) cause = absurd cause
     changed e is m taken (Remove handle) cause = λ k x there. same e is k x (gone_split e.replicas handle.0 k x there).1
     changed e is m taken (Put handle version serial bytes) cause =
-        put_in K w.config.chunk orders e handle.0 (stored_replica version.0 serial.0 bytes)
+        put_in K orders e handle.0 (stored_replica version.0 serial.0 bytes)
         (elim (cause.1) [
           | inl made ↦
-              let none = none_applied w.config.chunk (placed_in orders handle.0) version.0 serial.0 bytes made.2 made.3 in
+              let none = none_applied (placed_in orders handle.0) version.0 serial.0 bytes made.2 made.3 in
               (none.0, subst (K handle.0 version.0) (sym none.1) (k.created m taken made.0 handle version made.1 made.4))
           | inr image ↦
-              let g = subst (λ (b : Body). IsImageSaid J w.config.chunk w.observer.orders b) image (said m (came m taken)) in
-              holds_grown K w.config.chunk (placed_in w.observer.orders handle.0) (placed_in orders handle.0) handle.0 version.0 serial.0 bytes (l.grown handle.0)
+              let g = subst (λ (b : Body). IsImageSaid J w.observer.orders b) image (said m (came m taken)) in
+              holds_grown K (placed_in w.observer.orders handle.0) (placed_in orders handle.0) handle.0 version.0 serial.0 bytes (l.grown handle.0)
               (g.0, k.imaged m taken handle version serial bytes image (marked g.0.marks (placed_in w.observer.orders handle.0)) g.1)
         ])
         (same e is)
     changed e is m taken (Raise handle version) cause =
-        becomes_in K w.config.chunk orders (λ x. raised_replica x version.0) e handle.0 (replica_of e handle.0)
+        becomes_in K orders (λ x. raised_replica x version.0) e handle.0 (replica_of e handle.0)
         (λ x e_there.
         let sent = came m taken in
         let x_there : replica_of s.disk handle.0 ≡ Some x = ap (λ (t : Table Replica). table.get t handle.0) (sym is) ∙ e_there in
         let base : x.version ≡ cause.1.0 = (row_is s.disk handle.0 cause.2 x cause.4 x_there).0 ∙ cause.5 in
         let above : cause.1.0 < version.0 = raises_go_above_their_base config servers clients w r sent.0 m sent.1 cause.0 handle version cause.1 cause.3 in
         let was = stays handle.0 x x_there in
-        let one = image_raised w.config.chunk (placed_in orders handle.0) x.version x.serial version.0 x.bytes (omega (arith, base, above)) was.0 in
+        let one = image_raised (placed_in orders handle.0) x.version x.serial version.0 x.bytes (omega (arith, base, above)) was.0 in
         (one.0, subst (K handle.0 version.0) (sym one.1) (k.raised m taken cause.0 handle version cause.1 cause.3 cause.6 (marked was.0.marks (placed_in orders handle.0)) (subst (λ (n : ℕ). K handle.0 n (marked was.0.marks (placed_in orders handle.0))) base was.1))))
         (same e is)
     changed e is m taken (Copy handle copy version) cause = copied e is m taken cause.0 handle cause.1 copy version cause.2 cause.3 cause.4 cause.5 cause.6 cause.8

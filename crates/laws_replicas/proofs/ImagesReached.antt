@@ -7,7 +7,7 @@ use Rattle.std.specs.Ordering.{nat_cmp}
 use Rattle.std.proofs.lemmas.Bool.{and_parts, true≢false}
 use Rattle.gfs_types.specs.declared.answer.Answer.{Answer}
 use Rattle.gfs_types.specs.declared.config.Config.{Config}
-use Rattle.gfs_types.specs.Mutations.{start_of}
+use Rattle.gfs_types.specs.Mutations.{start_of, end_of}
 use Rattle.messages.specs.declared.event.Event.{Event}
 use Rattle.messages.specs.declared.event.NodeInput.{NodeInput}
 use Rattle.messages.specs.declared.event.NodeInput.TheVariants as input
@@ -45,14 +45,13 @@ use Rattle.protocol_invariant.specs.Versions.{AreRising}
 use Rattle.laws_replicas.proofs.Rising.{orders_rise}
 use Rattle.laws_entries.proofs.Within.{entries_lie_within_the_chunk}
 use Rattle.laws_entries.proofs.RoundsPassed.{IsOfServers, server_shown}
-use Rattle.laws_steps.proofs.Lengths.{settings_stay}
 use Rattle.laws_entries.proofs.Forwards.{images_are_of_replicas}
 use Rattle.laws_steps.proofs.Events.{HoldsExactly, holds_exactly}
 use Rattle.laws_replicas.proofs.KeptDisks.{none_more, found_made, take_whole, frame_kept, replicas_are_read_as_stored}
 use Rattle.laws_replicas.specs.CopiedEntries.{Follows}
 use Rattle.laws_replicas.proofs.OrdersGrow.{IsAny, same_follows, all_grow, orders_grow}
 use Rattle.laws_replicas.specs.ReplicaImages.{ReplicasAreImages, SentImagesAreImages}
-use Rattle.laws_replicas.proofs.Images.{Carried, Holds, AreIn, holds_grown, IsImageSaid, starts_within, numbered_there, Leaves, Carries, after}
+use Rattle.laws_replicas.proofs.Images.{Carried, Holds, AreIn, holds_grown, IsImageSaid, starts_before_end, numbered_there, Leaves, Carries, after}
 
 -- what is seen
 
@@ -80,38 +79,38 @@ plain_carried s i =
     }
 
 -- a server's replicas, however what is under way is decided; one that is up has nothing under way
-pub record IsGood (K : Carried) (size : ℕ) (orders : Table (List Placed)) (s : ServerState) : Type 0 where
-  pub found : (decided : List Bool) → AreIn K size orders (disk_changed_by_all s.disk (decided_changes decided s.under_way))
+pub record IsGood (K : Carried) (orders : Table (List Placed)) (s : ServerState) : Type 0 where
+  pub found : (decided : List Bool) → AreIn K orders (disk_changed_by_all s.disk (decided_changes decided s.under_way))
   pub idle : s.up ≡ true → s.under_way ≡ []
 
-pub grown_good : (K : Carried) (size : ℕ) (from to : Table (List Placed)) (s : ServerState) → ((handle : ℕ) → Follows IsAny (placed_in from handle) (placed_in to handle)) → IsGood K size from s → IsGood K size to s
-grown_good K size from to s grown h =
+pub grown_good : (K : Carried) (from to : Table (List Placed)) (s : ServerState) → ((handle : ℕ) → Follows IsAny (placed_in from handle) (placed_in to handle)) → IsGood K from s → IsGood K to s
+grown_good K from to s grown h =
     record {
-      found = λ decided handle x is. holds_grown K size (placed_in from handle) (placed_in to handle) handle x.version x.serial x.bytes (grown handle) (h.found decided handle x is);
+      found = λ decided handle x is. holds_grown K (placed_in from handle) (placed_in to handle) handle x.version x.serial x.bytes (grown handle) (h.found decided handle x is);
       idle = h.idle;
     }
 
-said_on : (size : ℕ) (from to : Table (List Placed)) (b : Body) → ((handle : ℕ) → Follows IsAny (placed_in from handle) (placed_in to handle)) → IsImageSaid Plain size from b → IsImageSaid Plain size to b
-said_on size from to (body.Image handle version serial bytes) grown h = holds_grown Plain size (placed_in from handle.0) (placed_in to handle.0) handle.0 version.0 serial.0 bytes (grown handle.0) h
-said_on size from to other grown h = tt
+said_on : (from to : Table (List Placed)) (b : Body) → ((handle : ℕ) → Follows IsAny (placed_in from handle) (placed_in to handle)) → IsImageSaid Plain from b → IsImageSaid Plain to b
+said_on from to (body.Image handle version serial bytes) grown h = holds_grown Plain (placed_in from handle.0) (placed_in to handle.0) handle.0 version.0 serial.0 bytes (grown handle.0) h
+said_on from to other grown h = tt
 
 record AreSelections (w : WorldState) : Type 0 where
-  servers : (index : ℕ) (s : ServerState) → element_at w.servers index ≡ Some s → IsGood Plain w.config.chunk w.observer.orders s
-  sent : (m : Message) → IsSent w.sent m → IsImageSaid Plain w.config.chunk w.observer.orders m.body
+  servers : (index : ℕ) (s : ServerState) → element_at w.servers index ≡ Some s → IsGood Plain w.observer.orders s
+  sent : (m : Message) → IsSent w.sent m → IsImageSaid Plain w.observer.orders m.body
 
 -- who says no Image
 
-masters_said : (size : ℕ) (orders : Table (List Placed)) (b : Body) → is_masters b ≡ true → IsImageSaid Plain size orders b
-masters_said size orders (body.Image handle version serial bytes) is = absurd (let both : false ≡ true = is in cc)
-masters_said size orders other is = tt
+masters_said : (orders : Table (List Placed)) (b : Body) → is_masters b ≡ true → IsImageSaid Plain orders b
+masters_said orders (body.Image handle version serial bytes) is = absurd (let both : false ≡ true = is in cc)
+masters_said orders other is = tt
 
-clients_said : (size : ℕ) (orders : Table (List Placed)) (s t : ClientState) (b : Body) → IsSaid s t b → IsImageSaid Plain size orders b
-clients_said size orders s t (body.Image handle version serial bytes) said = absurd said
-clients_said size orders s t other said = tt
+clients_said : (orders : Table (List Placed)) (s t : ClientState) (b : Body) → IsSaid s t b → IsImageSaid Plain orders b
+clients_said orders s t (body.Image handle version serial bytes) said = absurd said
+clients_said orders s t other said = tt
 
-client_said : (size : ℕ) (orders : Table (List Placed)) (s : ClientState) (d : ClientDoing) (o : Option Message) → IsStepOf s d → d.sent ≡ o → AllOf (λ m. IsImageSaid Plain size orders m.body) (option_to_list o)
-client_said size orders s d None step is = tt
-client_said size orders s d (Some m) step is = (clients_said size orders s d.client m.body (step.says m is).1, tt)
+client_said : (orders : Table (List Placed)) (s : ClientState) (d : ClientDoing) (o : Option Message) → IsStepOf s d → d.sent ≡ o → AllOf (λ m. IsImageSaid Plain orders m.body) (option_to_list o)
+client_said orders s d None step is = tt
+client_said orders s d (Some m) step is = (clients_said orders s d.client m.body (step.says m is).1, tt)
 
 pub restarted_said : (P : Message → Type 0) (s : ServerState) (moment : ℕ) (choice : Choice) (e : Ending) → AllOf P (server_restarts s moment choice e).out.sent
 restarted_said P s moment choice Goes = tt
@@ -125,8 +124,8 @@ answered_kept o n (Some reply) h = h
 -- a step of a server
 
 module _ (J K : Carried) (config : Config) (servers clients : ℕ) (w : WorldState) (r : IsReached config servers clients w) (clocks : IsTrue w.observer.are_clocks_kept) (disks : IsTrue w.observer.are_disks_kept)
-    (said : (m : Message) → IsSent w.sent m → IsImageSaid J w.config.chunk w.observer.orders m.body) (index moment : ℕ) (s : ServerState) (i : NodeInput) (choice : Choice) (at : element_at w.servers index ≡ Some s) (up : IsTrue s.up)
-    (here : AreIn K w.config.chunk w.observer.orders s.disk) (idle : s.under_way ≡ []) (came : (m : Message) → i ≡ input.Deliver m → IsSent w.sent m) (k : Carries s i J K) where
+    (said : (m : Message) → IsSent w.sent m → IsImageSaid J w.observer.orders m.body) (index moment : ℕ) (s : ServerState) (i : NodeInput) (choice : Choice) (at : element_at w.servers index ≡ Some s) (up : IsTrue s.up)
+    (here : AreIn K w.observer.orders s.disk) (idle : s.under_way ≡ []) (came : (m : Message) → i ≡ input.Deliver m → IsSent w.sent m) (k : Carries s i J K) where
   abbrev trace : List Visible
   trace = (observed_moment w.config.skew_ms w.observer moment).trace
 
@@ -137,7 +136,7 @@ module _ (J K : Carried) (config : Config) (servers clients : ℕ) (w : WorldSta
   pub record AreLawful (seen : List Seen) : Type 0 where
     pub of : AllOf IsOfServers seen
     pub rising : (handle : ℕ) → AreRising (placed_in (Orders seen) handle)
-    pub within : (handle place : ℕ) (p : Placed) → element_at (placed_in (Orders seen) handle) place ≡ Some p → start_of p.entry.mutation ≤ w.config.chunk
+    pub within : (handle place : ℕ) (p : Placed) → element_at (placed_in (Orders seen) handle) place ≡ Some p → start_of p.entry.mutation ≤ end_of p.entry.mutation
 
   grown : (seen : List Seen) → AllOf IsOfServers seen → (handle : ℕ) → Follows IsAny (placed_in w.observer.orders handle) (placed_in (Orders seen) handle)
   grown seen of handle = all_grow trace w.observer.orders seen handle of
@@ -155,33 +154,33 @@ module _ (J K : Carried) (config : Config) (servers clients : ℕ) (w : WorldSta
 
   -- what a restart finds after some of the changes
   after_some : (seen : List Seen) → AreLawful seen → ((place : ℕ) (x : Seen) → element_at (server_goes s moment i).seen place ≡ Some x → is_numbering x ≡ true → (n : ℕ) × (element_at seen n ≡ Some x)) → (n : ℕ)
-      → AreIn K w.config.chunk (Orders seen) (disk_changed_by_all s.disk (take n (server_goes s moment i).changes))
+      → AreIn K (Orders seen) (disk_changed_by_all s.disk (take n (server_goes s moment i).changes))
   after_some seen l kept n = after J K config servers clients w r clocks disks said index s at here moment i came k trace (Orders seen) (leaves seen l kept) n
 
   abbrev IsDone : Taken ServerState → Type 0
-  IsDone t = AreLawful t.seen → IsGood K w.config.chunk (Orders t.seen) t.state
+  IsDone t = AreLawful t.seen → IsGood K (Orders t.seen) t.state
 
   ends_done : (e : Ending) → IsDone (server_ends s (server_goes s moment i) choice e)
   ends_done Goes l =
       let d : ServerDoing = server_goes s moment i in
       let frame = frame_kept s moment i in
-      let all : AreIn K w.config.chunk (Orders d.seen) (disk_changed_by_all d.server.disk d.changes) =
-      subst (λ (x : ServerDisk). AreIn K w.config.chunk (Orders d.seen) (disk_changed_by_all x d.changes)) (sym frame.0)
-      (subst (λ (xs : List StoreChange). AreIn K w.config.chunk (Orders d.seen) (disk_changed_by_all s.disk xs)) (take_whole d.changes) (after_some d.seen l (λ place x is _. (place, is)) (length d.changes))) in
+      let all : AreIn K (Orders d.seen) (disk_changed_by_all d.server.disk d.changes) =
+      subst (λ (x : ServerDisk). AreIn K (Orders d.seen) (disk_changed_by_all x d.changes)) (sym frame.0)
+      (subst (λ (xs : List StoreChange). AreIn K (Orders d.seen) (disk_changed_by_all s.disk xs)) (take_whole d.changes) (after_some d.seen l (λ place x is _. (place, is)) (length d.changes))) in
       record {
         found = λ decided.
-            subst (λ (xs : List StoreChange). AreIn K w.config.chunk (Orders d.seen) (disk_changed_by_all (disk_changed_by_all d.server.disk d.changes) (decided_changes decided xs))) (sym (frame.1 ∙ idle))
-            (subst (AreIn K w.config.chunk (Orders d.seen)) (sym (none_more (disk_changed_by_all d.server.disk d.changes) decided)) all);
+            subst (λ (xs : List StoreChange). AreIn K (Orders d.seen) (disk_changed_by_all (disk_changed_by_all d.server.disk d.changes) (decided_changes decided xs))) (sym (frame.1 ∙ idle))
+            (subst (AreIn K (Orders d.seen)) (sym (none_more (disk_changed_by_all d.server.disk d.changes) decided)) all);
         idle = λ _. frame.1 ∙ idle;
       }
   ends_done Lost l =
-      record { found = λ decided. subst (AreIn K w.config.chunk w.observer.orders) (sym (none_more s.disk decided)) here; idle = λ on. refl }
+      record { found = λ decided. subst (AreIn K w.observer.orders) (sym (none_more s.disk decided)) here; idle = λ on. refl }
   ends_done (Stops made) l =
       let d : ServerDoing = server_goes s moment i in
       record {
         found = λ decided.
             let one = found_made s.disk decided made d.changes in
-            subst (AreIn K w.config.chunk (Orders (filter is_numbering d.seen))) (sym one.1) (after_some (filter is_numbering d.seen) l (λ place x is numbering. kept_filtered d.seen place x is numbering) one.0);
+            subst (AreIn K (Orders (filter is_numbering d.seen))) (sym one.1) (after_some (filter is_numbering d.seen) l (λ place x is numbering. kept_filtered d.seen place x is numbering) one.0);
         idle = λ on. absurd (true≢false (sym on));
       }
 
@@ -192,69 +191,69 @@ module _ (J K : Carried) (config : Config) (servers clients : ℕ) (w : WorldSta
 module _ (config : Config) (servers clients : ℕ) (w : WorldState) (r : IsReached config servers clients w) (clocks : IsTrue w.observer.are_clocks_kept) (disks : IsTrue w.observer.are_disks_kept) (h : AreSelections w) where
   module _ (index moment : ℕ) (s : ServerState) (i : NodeInput) (choice : Choice) (at : element_at w.servers index ≡ Some s) where
     -- what it says
-    says_images : (orders : Table (List Placed)) → ((handle : ℕ) → Follows IsAny (placed_in w.observer.orders handle) (placed_in orders handle)) → AllOf (λ m. IsImageSaid Plain w.config.chunk orders m.body) (server_step s moment i choice).out.sent
+    says_images : (orders : Table (List Placed)) → ((handle : ℕ) → Follows IsAny (placed_in w.observer.orders handle) (placed_in orders handle)) → AllOf (λ m. IsImageSaid Plain orders m.body) (server_step s moment i choice).out.sent
     says_images orders more =
-        all_placed (λ m. IsImageSaid Plain w.config.chunk orders m.body) (server_step s moment i choice).out.sent (λ place m is. one place m is m.body refl)
+        all_placed (λ m. IsImageSaid Plain orders m.body) (server_step s moment i choice).out.sent (λ place m is. one place m is m.body refl)
       where
-        one : (place : ℕ) (m : Message) → element_at (server_step s moment i choice).out.sent place ≡ Some m → (b : Body) → m.body ≡ b → IsImageSaid Plain w.config.chunk orders b
+        one : (place : ℕ) (m : Message) → element_at (server_step s moment i choice).out.sent place ≡ Some m → (b : Body) → m.body ≡ b → IsImageSaid Plain orders b
         one place m is (body.Image handle version serial bytes) body_is =
             let of = images_are_of_replicas s moment i choice place m is handle version serial bytes body_is in
             let same : bytes ≡ of.0.bytes = (replicas_are_read_as_stored config servers clients w r disks index s at handle.0 of.0 of.1).0 bytes of.4 in
-            holds_grown Plain w.config.chunk (placed_in w.observer.orders handle.0) (placed_in orders handle.0) handle.0 version.0 serial.0 bytes (more handle.0)
-            (subst (λ (n : ℕ). Holds Plain w.config.chunk (placed_in w.observer.orders handle.0) handle.0 n serial.0 bytes) of.2
-            (subst (λ (n : ℕ). Holds Plain w.config.chunk (placed_in w.observer.orders handle.0) handle.0 of.0.version n bytes) of.3
-            (subst (λ (bs : List ℕ). Holds Plain w.config.chunk (placed_in w.observer.orders handle.0) handle.0 of.0.version of.0.serial bs) (sym same) ((h.servers index s at).found [] handle.0 of.0 of.1))))
+            holds_grown Plain (placed_in w.observer.orders handle.0) (placed_in orders handle.0) handle.0 version.0 serial.0 bytes (more handle.0)
+            (subst (λ (n : ℕ). Holds Plain (placed_in w.observer.orders handle.0) handle.0 n serial.0 bytes) of.2
+            (subst (λ (n : ℕ). Holds Plain (placed_in w.observer.orders handle.0) handle.0 of.0.version n bytes) of.3
+            (subst (λ (bs : List ℕ). Holds Plain (placed_in w.observer.orders handle.0) handle.0 of.0.version of.0.serial bs) (sym same) ((h.servers index s at).found [] handle.0 of.0 of.1))))
         one place m is other body_is = tt
 
   -- what stays over an event
 
-  kept_servers : (orders : Table (List Placed)) → ((handle : ℕ) → Follows IsAny (placed_in w.observer.orders handle) (placed_in orders handle)) → (index : ℕ) (s : ServerState) → element_at w.servers index ≡ Some s → IsGood Plain w.config.chunk orders s
-  kept_servers orders more index s at = grown_good Plain w.config.chunk w.observer.orders orders s more (h.servers index s at)
+  kept_servers : (orders : Table (List Placed)) → ((handle : ℕ) → Follows IsAny (placed_in w.observer.orders handle) (placed_in orders handle)) → (index : ℕ) (s : ServerState) → element_at w.servers index ≡ Some s → IsGood Plain orders s
+  kept_servers orders more index s at = grown_good Plain w.observer.orders orders s more (h.servers index s at)
 
-  one_server : (orders : Table (List Placed)) → ((handle : ℕ) → Follows IsAny (placed_in w.observer.orders handle) (placed_in orders handle)) → (index : ℕ) (t : ServerState) → IsGood Plain w.config.chunk orders t
-      → (other : ℕ) (u : ServerState) → element_at (with_at w.servers index t) other ≡ Some u → IsGood Plain w.config.chunk orders u
+  one_server : (orders : Table (List Placed)) → ((handle : ℕ) → Follows IsAny (placed_in w.observer.orders handle) (placed_in orders handle)) → (index : ℕ) (t : ServerState) → IsGood Plain orders t
+      → (other : ℕ) (u : ServerState) → element_at (with_at w.servers index t) other ≡ Some u → IsGood Plain orders u
   one_server orders more index t new other u is =
       elim (set_cases w.servers index t other u is) [
-        | inl both ↦ subst (IsGood Plain w.config.chunk orders) (sym both.1) new
+        | inl both ↦ subst (IsGood Plain orders) (sym both.1) new
         | inr there ↦ kept_servers orders more other u there
       ]
 
-  more_said : (orders : Table (List Placed)) → ((handle : ℕ) → Follows IsAny (placed_in w.observer.orders handle) (placed_in orders handle)) → (k : ℕ) (ms : List Message) → AllOf (λ m. IsImageSaid Plain w.config.chunk orders m.body) ms
-      → (m : Message) → IsSent (w.sent ++ stamped k ms) m → IsImageSaid Plain w.config.chunk orders m.body
+  more_said : (orders : Table (List Placed)) → ((handle : ℕ) → Follows IsAny (placed_in w.observer.orders handle) (placed_in orders handle)) → (k : ℕ) (ms : List Message) → AllOf (λ m. IsImageSaid Plain orders m.body) ms
+      → (m : Message) → IsSent (w.sent ++ stamped k ms) m → IsImageSaid Plain orders m.body
   more_said orders more k ms all m there =
       elim (sent_cases w.sent (stamped k ms) m there) [
-        | inl old ↦ said_on w.config.chunk w.observer.orders orders m.body more (h.sent m old)
+        | inl old ↦ said_on w.observer.orders orders m.body more (h.sent m old)
         | inr now ↦
             let was = numbered_sent k ms now.0 m now.1 in
-            subst (λ (b : Body). IsImageSaid Plain w.config.chunk orders b) (was.2).2 (all_at (λ (x : Message). IsImageSaid Plain w.config.chunk orders x.body) ms (was.1).0 was.0 all (was.1).1)
+            subst (λ (b : Body). IsImageSaid Plain orders b) (was.2).2 (all_at (λ (x : Message). IsImageSaid Plain orders x.body) ms (was.1).0 was.0 all (was.1).1)
       ]
 
   restart_good : (orders : Table (List Placed)) → ((handle : ℕ) → Follows IsAny (placed_in w.observer.orders handle) (placed_in orders handle)) → (index moment : ℕ) (s : ServerState) (choice : Choice) → element_at w.servers index ≡ Some s → (e : Ending)
-      → IsGood Plain w.config.chunk orders (server_restarts s moment choice e).state
+      → IsGood Plain orders (server_restarts s moment choice e).state
   restart_good orders more index moment s choice at Lost = record { found = (kept_servers orders more index s at).found; idle = λ on. absurd (true≢false (sym on)) }
   restart_good orders more index moment s choice at (Stops made) =
-      record { found = λ decided. subst (AreIn Plain w.config.chunk orders) (sym (none_more (found_disk s choice) decided)) ((kept_servers orders more index s at).found choice.decided); idle = λ on. refl }
+      record { found = λ decided. subst (AreIn Plain orders) (sym (none_more (found_disk s choice) decided)) ((kept_servers orders more index s at).found choice.decided); idle = λ on. refl }
   restart_good orders more index moment s choice at Goes =
-      record { found = λ decided. subst (AreIn Plain w.config.chunk orders) (sym (none_more (found_disk s choice) decided)) ((kept_servers orders more index s at).found choice.decided); idle = λ on. refl }
+      record { found = λ decided. subst (AreIn Plain orders) (sym (none_more (found_disk s choice) decided)) ((kept_servers orders more index s at).found choice.decided); idle = λ on. refl }
 
   -- rot changes no byte that was stored
   rotten_good : (index handle : ℕ) (s : ServerState) (x : Replica) (place byte : ℕ) → element_at w.servers index ≡ Some s → replica_of s.disk handle ≡ Some x → IsTrue s.up
-      → IsGood Plain w.config.chunk w.observer.orders (record s { disk = with_replica s.disk handle (rotten_replica x place byte) })
+      → IsGood Plain w.observer.orders (record s { disk = with_replica s.disk handle (rotten_replica x place byte) })
   rotten_good index handle s x place byte at there up =
       let good = h.servers index s at in
       let none = good.idle up in
       record {
         found = λ decided.
-            subst (λ (xs : List StoreChange). AreIn Plain w.config.chunk w.observer.orders (disk_changed_by_all (with_replica s.disk handle (rotten_replica x place byte)) (decided_changes decided xs))) (sym none)
-            (subst (AreIn Plain w.config.chunk w.observer.orders) (sym (none_more (with_replica s.disk handle (rotten_replica x place byte)) decided)) rotten);
+            subst (λ (xs : List StoreChange). AreIn Plain w.observer.orders (disk_changed_by_all (with_replica s.disk handle (rotten_replica x place byte)) (decided_changes decided xs))) (sym none)
+            (subst (AreIn Plain w.observer.orders) (sym (none_more (with_replica s.disk handle (rotten_replica x place byte)) decided)) rotten);
         idle = λ on. none;
       }
     where
-      rotten : AreIn Plain w.config.chunk w.observer.orders (with_replica s.disk handle (rotten_replica x place byte))
+      rotten : AreIn Plain w.observer.orders (with_replica s.disk handle (rotten_replica x place byte))
       rotten k y is =
           elim (put_cases s.disk.replicas handle (rotten_replica x place byte) k y is) [
-            | inl same ↦ subst (λ (n : ℕ). Holds Plain w.config.chunk (placed_in w.observer.orders n) n y.version y.serial y.bytes) (sym same.0)
-                (subst (λ (z : Replica). Holds Plain w.config.chunk (placed_in w.observer.orders handle) handle z.version z.serial z.bytes) same.1 ((h.servers index s at).found [] handle x there))
+            | inl same ↦ subst (λ (n : ℕ). Holds Plain (placed_in w.observer.orders n) n y.version y.serial y.bytes) (sym same.0)
+                (subst (λ (z : Replica). Holds Plain (placed_in w.observer.orders handle) handle z.version z.serial z.bytes) same.1 ((h.servers index s at).found [] handle x there))
             | inr before ↦ (h.servers index s at).found [] k y before
           ]
 
@@ -291,7 +290,7 @@ module _ (config : Config) (servers clients : ℕ) (w : WorldState) (r : IsReach
             record {
               servers = kept_servers config servers clients w r both.0 both.1 (h before) orders more;
               sent = more_said config servers clients w r both.0 both.1 (h before) orders more k (master_step w.master moment i choice).out.sent
-                  (master_said (λ m. IsImageSaid Plain w.config.chunk orders m.body) (record { plain = λ receiver b is. masters_said w.config.chunk orders b is; locates = λ receiver number l current. tt }) w.master moment i choice);
+                  (master_said (λ m. IsImageSaid Plain orders m.body) (record { plain = λ receiver b is. masters_said orders b is; locates = λ receiver number l current. tt }) w.master moment i choice);
             };
         opens = λ e moment choice later kept.
             let before = was_kept moment kept in
@@ -301,7 +300,7 @@ module _ (config : Config) (servers clients : ℕ) (w : WorldState) (r : IsReach
             record {
               servers = kept_servers config servers clients w r both.0 both.1 (h before) orders more;
               sent = more_said config servers clients w r both.0 both.1 (h before) orders more k (master_restart w.master moment choice).out.sent
-                  (restart_said (λ m. IsImageSaid Plain w.config.chunk orders m.body) (record { plain = λ receiver b is. masters_said w.config.chunk orders b is; locates = λ receiver number l current. tt }) w.master moment choice);
+                  (restart_said (λ m. IsImageSaid Plain orders m.body) (record { plain = λ receiver b is. masters_said orders b is; locates = λ receiver number l current. tt }) w.master moment choice);
             };
         serves = λ e index moment s i choice at is up later kept.
             let before = was_kept moment kept in
@@ -324,7 +323,7 @@ module _ (config : Config) (servers clients : ℕ) (w : WorldState) (r : IsReach
             let more = grow.restarts e index moment s choice at in
             record {
               servers = one_server config servers clients w r both.0 both.1 (h before) orders more index (server_restart s moment choice).state (restart_good config servers clients w r both.0 both.1 (h before) orders more index moment s choice at choice.ending);
-              sent = more_said config servers clients w r both.0 both.1 (h before) orders more k (server_restart s moment choice).out.sent (restarted_said (λ m. IsImageSaid Plain w.config.chunk orders m.body) s moment choice choice.ending);
+              sent = more_said config servers clients w r both.0 both.1 (h before) orders more k (server_restart s moment choice).out.sent (restarted_said (λ m. IsImageSaid Plain orders m.body) s moment choice choice.ending);
             };
         steps = λ e index moment s i choice at is up later kept.
             let before = was_kept moment (answered_kept (observed_moment w.config.skew_ms w.observer moment) (suc index) (client_step s moment i choice).out.answer kept) in
@@ -334,8 +333,8 @@ module _ (config : Config) (servers clients : ℕ) (w : WorldState) (r : IsReach
             record {
               servers = kept_servers config servers clients w r both.0 both.1 (h before) orders more;
               sent = more_said config servers clients w r both.0 both.1 (h before) orders more k (client_step s moment i choice).out.sent
-                  (of_step (λ t xs. AllOf (λ m. IsImageSaid Plain w.config.chunk orders m.body) xs) s moment i choice ((numbered_reached config servers clients w r).each index s at).named
-                  (λ d step. client_said w.config.chunk orders (client_at s moment) d d.sent step refl) tt tt);
+                  (of_step (λ t xs. AllOf (λ m. IsImageSaid Plain orders m.body) xs) s moment i choice ((numbered_reached config servers clients w r).each index s at).named
+                  (λ d step. client_said orders (client_at s moment) d d.sent step refl) tt tt);
             };
         calls = λ e index moment s c choice at may later kept.
             let seen : Observer = observed_call (observed_moment w.config.skew_ms w.observer moment) (suc index) c in
@@ -347,8 +346,8 @@ module _ (config : Config) (servers clients : ℕ) (w : WorldState) (r : IsReach
             record {
               servers = kept_servers config servers clients w r both.0 both.1 (h before) orders more;
               sent = more_said config servers clients w r both.0 both.1 (h before) orders more k (client_call s moment c choice).out.sent
-                  (of_call (λ t xs. AllOf (λ m. IsImageSaid Plain w.config.chunk orders m.body) xs) s moment c choice ((numbered_reached config servers clients w r).each index s at).named
-                  (λ d step. client_said w.config.chunk orders (client_at s moment) d d.sent step refl) tt);
+                  (of_call (λ t xs. AllOf (λ m. IsImageSaid Plain orders m.body) xs) s moment c choice ((numbered_reached config servers clients w r).each index s at).named
+                  (λ d step. client_said orders (client_at s moment) d d.sent step refl) tt);
             };
         rots = λ e index handle s x place byte at there up later kept.
             let parts = and_parts w.observer.are_clocks_kept (w.observer.are_disks_kept && not _) kept in
@@ -360,10 +359,9 @@ module _ (config : Config) (servers clients : ℕ) (w : WorldState) (r : IsReach
             };
       }
     where
-      entry_within : (v : WorldState) → IsReached config servers clients v → (handle place : ℕ) (p : Placed) → element_at (order_of v.observer handle) place ≡ Some p → start_of p.entry.mutation ≤ w.config.chunk
+      entry_within : (v : WorldState) → IsReached config servers clients v → (handle place : ℕ) (p : Placed) → element_at (order_of v.observer handle) place ≡ Some p → start_of p.entry.mutation ≤ end_of p.entry.mutation
       entry_within v later handle place p there =
-          subst (λ (c : Config). start_of p.entry.mutation ≤ c.chunk) (sym (settings_stay config servers clients w r))
-          (starts_within config.chunk p.entry.mutation (entries_lie_within_the_chunk config servers clients later.0 handle place p (ap (λ (u : WorldState). element_at (order_of u.observer handle) place) later.1 ∙ there)))
+          starts_before_end config.chunk p.entry.mutation (entries_lie_within_the_chunk config servers clients later.0 handle place p (ap (λ (u : WorldState). element_at (order_of u.observer handle) place) later.1 ∙ there))
 
       kept_both : (a b : Bool) → IsTrue a → IsTrue b → IsTrue (a && b)
       kept_both true b x y = y
@@ -380,7 +378,7 @@ new_images : (config : Config) (servers clients : ℕ) → AreSelections (new_wo
 new_images config servers clients =
     record {
       servers = λ index s at.
-          subst (IsGood Plain config.chunk table.empty) (sym (numbered_from (λ n. started_server config n (new_server_disk config.block) 0) servers index s at))
+          subst (IsGood Plain table.empty) (sym (numbered_from (λ n. started_server config n (new_server_disk config.block) 0) servers index s at))
           (record { found = λ decided handle x is. none_some x (sym (table.get-empty nat_cmp handle) ∙ ap (λ (d : ServerDisk). replica_of d handle) (sym (none_more (new_server_disk config.block) decided)) ∙ is); idle = λ on. refl });
       sent = λ m there. none_sent m there;
     }
@@ -388,7 +386,7 @@ new_images config servers clients =
 images_reached : (config : Config) (servers clients : ℕ) (w : WorldState) → IsReached config servers clients w → Images w
 images_reached config servers clients w r = subst Images r.1 (images_on config servers clients (new_world config servers clients) r.0 ([], refl) (λ kept. new_images config servers clients))
 
-pub said_reached : (config : Config) (servers clients : ℕ) (w : WorldState) → IsReached config servers clients w → IsTrue (is_kept w) → (m : Message) → IsSent w.sent m → IsImageSaid Plain w.config.chunk w.observer.orders m.body
+pub said_reached : (config : Config) (servers clients : ℕ) (w : WorldState) → IsReached config servers clients w → IsTrue (is_kept w) → (m : Message) → IsSent w.sent m → IsImageSaid Plain w.observer.orders m.body
 said_reached config servers clients w r kept = (images_reached config servers clients w r kept).sent
 
 pub replicas_are_images : ReplicasAreImages
@@ -398,4 +396,4 @@ replicas_are_images config servers clients w r kept index s at =
 
 pub sent_images_are_images : SentImagesAreImages
 sent_images_are_images config servers clients w r kept place m at handle version serial bytes is =
-    (subst (λ (b : Body). IsImageSaid Plain w.config.chunk w.observer.orders b) is ((images_reached config servers clients w r kept).sent m (place, at))).0
+    (subst (λ (b : Body). IsImageSaid Plain w.observer.orders b) is ((images_reached config servers clients w r kept).sent m (place, at))).0

@@ -118,7 +118,7 @@ module _ (config : Config) (servers clients : ℕ) (w : WorldState) (r : IsReach
             let t : ServerState = (server_step s moment i choice).state in
             let orders : Table (List Placed) = orders_after_all (trace_at moment) w.observer.orders (server_step s moment i choice).seen in
             let ps : List Placed = marked g.marks (placed_in orders handle) in
-            joint_on (server_step s moment i choice).out.sent (with_at w.servers index t) orders index handle x.version ps (said_kept s moment i choice (idle index s at up) w.sent k index w.config.chunk orders handle x found.0 found.1 g)
+            joint_on (server_step s moment i choice).out.sent (with_at w.servers index t) orders index handle x.version ps (said_kept s moment i choice (idle index s at up) w.sent k index orders handle x found.0 found.1 g)
             (λ has. rounds_at w.servers orders index t index handle x.version ps
             (λ here p held same. own_round config servers clients w r index s at i e moment choice given (trace_at moment) (idle index s at up) handle x found ps g.last has p held same) (λ apart. absurd (apart refl)));
         shown = λ e index moment s i choice at given up later m there handle version serial bytes is x x_there version_is ps h. tt;

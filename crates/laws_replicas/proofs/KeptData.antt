@@ -233,14 +233,14 @@ same_data config servers clients w r id other bytes more one two client seq =
 abbrev pub IsCarried : List ℕ → Mutation → Type 0
 IsCarried bytes (mutation.Write offset written) = written ≡ bytes
 IsCarried bytes (mutation.Append offset written) = written ≡ bytes
-IsCarried bytes (mutation.Pad offset) = Unit {0}
+IsCarried bytes (mutation.Pad offset end) = Unit {0}
 
 placed_carried : (aim : Target) (bytes : List ℕ) (m : Mutation) → IsPlacedFor aim bytes m → IsCarried bytes m
 placed_carried (target.Write at) bytes (mutation.Write offset written) h = h.1
 placed_carried target.Append bytes (mutation.Append offset written) h = h
-placed_carried target.Append bytes (mutation.Pad offset) h = tt
+placed_carried target.Append bytes (mutation.Pad offset end) h = tt
 placed_carried (target.Write at) bytes (mutation.Append offset written) h = absurd h
-placed_carried (target.Write at) bytes (mutation.Pad offset) h = absurd h
+placed_carried (target.Write at) bytes (mutation.Pad offset end) h = absurd h
 placed_carried target.Append bytes (mutation.Write offset written) h = absurd h
 
 -- what a Push carries its client pushed

@@ -156,23 +156,23 @@ module _ (s : ServerState) (here : IsAllRotNoticed s.disk.block s.disk) (moment 
   forwarded e is (Copy handle copy version) can = absurd can
   forwarded e is (Remove handle) can = absurd can
 
-  -- a pad within the chunk ends with it, and one past it writes nothing
-  padded : (r : Replica) (size offset : ℕ) → is_writable s.disk.block r offset size ≡ true → is_writable s.disk.block r offset (offset + length (zeros (size - offset))) ≡ true
-  padded r size offset can =
-      let long = alike_long (size - offset) in
-      elim (cases_lt size offset) [
-        | inl past ↦ nothing (offset + length (zeros (size - offset))) (omega (arith, past, long))
+  -- a pad ends where it says, and one that begins past that writes nothing
+  padded : (r : Replica) (end offset : ℕ) → is_writable s.disk.block r offset end ≡ true → is_writable s.disk.block r offset (offset + length (zeros (end - offset))) ≡ true
+  padded r end offset can =
+      let long = alike_long (end - offset) in
+      elim (cases_lt end offset) [
+        | inl past ↦ nothing (offset + length (zeros (end - offset))) (omega (arith, past, long))
         | inr within ↦ subst (λ (n : ℕ). is_writable s.disk.block r offset n ≡ true) (omega (arith, within, long)) can
       ]
     where
       nothing : (stop : ℕ) → stop ≤ offset → is_writable s.disk.block r offset stop ≡ true
       nothing stop low = or_left (nat_le stop offset || _) _ (or_left (nat_le stop offset) _ (le-leb stop offset low))
 
-  numbered_as : (e : ServerDisk) → e.replicas ≡ s.disk.replicas → (handle serial : ℕ) (m : Mutation) → is_writable_at s.disk handle (start_of m) (end_of s.config.chunk m) ≡ true → Good (disk_changed e (stored_as s.config.chunk handle serial m))
+  numbered_as : (e : ServerDisk) → e.replicas ≡ s.disk.replicas → (handle serial : ℕ) (m : Mutation) → is_writable_at s.disk handle (start_of m) (end_of m) ≡ true → Good (disk_changed e (stored_as handle serial m))
   numbered_as e is handle serial (mutation.Write offset bytes) can = written e is handle serial offset bytes (λ r there. writable_there s.disk handle offset (offset + length bytes) r there can)
   numbered_as e is handle serial (mutation.Append offset bytes) can = written e is handle serial offset bytes (λ r there. writable_there s.disk handle offset (offset + length bytes) r there can)
-  numbered_as e is handle serial (mutation.Pad offset) can =
-      written e is handle serial offset (replicate (s.config.chunk - offset) 0) (λ r there. padded r s.config.chunk offset (writable_there s.disk handle offset s.config.chunk r there can))
+  numbered_as e is handle serial (mutation.Pad offset end) can =
+      written e is handle serial offset (replicate (end - offset) 0) (λ r there. padded r end offset (writable_there s.disk handle offset end r there can))
 
   numbered : (e : ServerDisk) → e.replicas ≡ s.disk.replicas → (seen : List Seen) (x : StoreChange) → IsNumbered (server_at s moment) seen x → Good (disk_changed e x)
   numbered e is seen x n = subst (λ (y : StoreChange). Good (disk_changed e y)) (sym n.change_is) (numbered_as e is n.handle (n.lease.serial + 1) n.m n.writable)

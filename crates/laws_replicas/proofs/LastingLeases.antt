@@ -128,8 +128,8 @@ within_at version serial (x ∷ ps) zero q all at = subst (λ (y : Placed). IsWi
 within_at version serial (x ∷ ps) (suc n) q all at = within_at version serial ps n q all.1 at
 
 -- the last serial of the image of an order, of which all entries of the round were applied
-same_serial : (size : ℕ) (order : List Placed) (version serial count : ℕ) (bytes : List ℕ) → (g : IsImageOf size order version serial bytes) → HasRound order version (marked g.marks order) → serials_of version order ≡ first_numbers count → serial ≡ count
-same_serial size order version serial count bytes g has counted = omega (arith, upper, lower)
+same_serial : (order : List Placed) (version serial count : ℕ) (bytes : List ℕ) → (g : IsImageOf order version serial bytes) → HasRound order version (marked g.marks order) → serials_of version order ≡ first_numbers count → serial ≡ count
+same_serial order version serial count bytes g has counted = omega (arith, upper, lower)
   where
     ps : List Placed
     ps = marked g.marks order
@@ -166,7 +166,7 @@ primaries_have_their_serial config servers clients w r kept index s at handle p 
       round.2,
       elim (round.3) [
         | inl over ↦ absurd (over.lease.held index p (s, at, held, less) (sym round.2))
-        | inr has ↦ same_serial w.config.chunk (order_of w.observer handle) (round.0).version (round.0).serial p.serial (round.0).bytes has.0 has.1
+        | inr has ↦ same_serial (order_of w.observer handle) (round.0).version (round.0).serial p.serial (round.0).bytes has.0 has.1
             (ap (λ (n : ℕ). serials_of n (order_of w.observer handle)) round.2 ∙ leases_count_their_serials config servers clients w r index s at handle p held)
       ],
     )

@@ -118,11 +118,11 @@ module _ (v n : ℕ) where
       on_cond (λ (x : Placed). IsTrue x.entry.settled → IsTrue p.entry.settled ⊎ (p.entry.round ≡ v)) (is_placed_as v n p) (record p { entry = record p.entry { settled = true } }) p
       (λ placed _. inr (eqb-true p.entry.round v (and_parts (p.entry.round == v) (p.serial == n) placed).0)) (λ _ was. inl was)
 
-  ends_same : (size at : ℕ) (ps : List Placed) → list_any (λ e. end_of size e.mutation == at) (entries_in (map now_settled ps)) ≡ list_any (λ e. end_of size e.mutation == at) (entries_in ps)
-  ends_same size at [] = refl
-  ends_same size at (p ∷ ps) =
-      ap (λ (m : Mutation). (end_of size m == at) || list_any (λ e. end_of size e.mutation == at) (entries_in (map now_settled ps))) (same_mutation p)
-      ∙ ap (λ (b : Bool). (end_of size p.entry.mutation == at) || b) (ends_same size at ps)
+  ends_same : (at : ℕ) (ps : List Placed) → list_any (λ e. end_of e.mutation == at) (entries_in (map now_settled ps)) ≡ list_any (λ e. end_of e.mutation == at) (entries_in ps)
+  ends_same at [] = refl
+  ends_same at (p ∷ ps) =
+      ap (λ (m : Mutation). (end_of m == at) || list_any (λ e. end_of e.mutation == at) (entries_in (map now_settled ps))) (same_mutation p)
+      ∙ ap (λ (b : Bool). (end_of p.entry.mutation == at) || b) (ends_same at ps)
 
   rounds_settled : (round : ℕ) (ps : List Placed) → AllOf (λ e. e.entry.round ≤ round) ps → AllOf (λ e. e.entry.round ≤ round) (map now_settled ps)
   rounds_settled round [] low = tt
@@ -131,10 +131,10 @@ module _ (v n : ℕ) where
   -- no entry before it is of a later round, and it is of no later one than what becomes settled
   module _ (size round : ℕ) (top : round ≤ v) where
     abbrev IsPast : ℕ → Entry → Type 0
-    IsPast start e = (IsTrue e.settled ⊎ (e.round ≡ round)) → end_of size e.mutation ≤ start
+    IsPast start e = (IsTrue e.settled ⊎ (e.round ≡ round)) → end_of e.mutation ≤ start
 
     one_past : (start : ℕ) (p : Placed) → p.entry.round ≤ round → IsPast start p.entry → IsPast start (now_settled p).entry
-    one_past start p low h which = subst (λ (m : Mutation). end_of size m ≤ start) (sym (same_mutation p)) (h before)
+    one_past start p low h which = subst (λ (m : Mutation). end_of m ≤ start) (sym (same_mutation p)) (h before)
       where
         before : IsTrue p.entry.settled ⊎ (p.entry.round ≡ round)
         before =
@@ -148,12 +148,12 @@ module _ (v n : ℕ) where
     past_settled start (p ∷ ps) low h = (one_past start p low.0 h.0, past_settled start ps low.1 h.1)
 
     place_settled : (x : Mutation) (ps : List Placed) → AllOf (λ e. e.entry.round ≤ round) ps → IsPlaceBehind size (entries_in ps) round x → IsPlaceBehind size (entries_in (map now_settled ps)) round x
-    place_settled x ps low h = (h.0, subst (λ (b : Bool). IsTrue ((start_of x == 0) || b)) (sym (ends_same size (start_of x) ps)) h.1, (past_settled (start_of x) ps low h.2.0, h.2.1))
+    place_settled x ps low h = (h.0, subst (λ (b : Bool). IsTrue ((start_of x == 0) || b)) (sym (ends_same (start_of x) ps)) h.1, (past_settled (start_of x) ps low h.2.0, h.2.1))
 
     follows_settled : (x : Mutation) (ps : List Placed) → AllOf (λ e. e.entry.round ≤ round) ps → MayFollow size (entries_in ps) round x → MayFollow size (entries_in (map now_settled ps)) round x
     follows_settled (Write offset bytes) ps low h = h
     follows_settled (Append offset bytes) ps low h = place_settled (Append offset bytes) ps low h
-    follows_settled (Pad offset) ps low h = place_settled (Pad offset) ps low h
+    follows_settled (Pad offset end) ps low h = (place_settled (Pad offset end) ps low h.0, h.1)
 
   behind_settled : (size : ℕ) (ps : List Placed) (p : Placed) → p.entry.round ≤ v → IsBehind size ps p → IsBehind size (map now_settled ps) (now_settled p)
   behind_settled size ps p top h = (

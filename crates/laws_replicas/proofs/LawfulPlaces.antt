@@ -27,7 +27,7 @@ use Rattle.protocol.specs.World.{WorldState, IsReached}
 use Rattle.laws_base.proofs.Entries.{same_number}
 use Rattle.laws_base.proofs.Steps.{same_some}
 use Rattle.laws_steps.specs.Replicas.{IsPlacedBehind, IsPlacedByReplica}
-use Rattle.laws_steps.proofs.Lengths.{servers_within, settings_stay}
+use Rattle.laws_steps.proofs.Lengths.{servers_within}
 use Rattle.laws_steps.proofs.Placings.{mutations_are_placed_by_replicas}
 use Rattle.laws_entries.specs.Entries.{IsAmong, IsPushed}
 use Rattle.laws_replicas.specs.HeldRounds.{ComesBehind}
@@ -54,19 +54,19 @@ greater : (a b : ℕ) → (max a b ≡ a) ⊎ (max a b ≡ b)
 greater a b = elim (cases_lt a b) [ inl less ↦ inr (omega (arith, less)) | inr least ↦ inl (omega (arith, least)) ]
 
 -- a selection's image ends at 0 or at an entry's end
-ends_at : (size last : ℕ) {order chosen : List Entry} → IsSelection last order chosen → IsTrue (is_an_end size order (image_length size (mutations_of chosen)))
-ends_at size last empty = refl
-ends_at size last (takes {e} {order} {chosen} low rest) =
-    let n : ℕ = image_length size (mutations_of chosen) in
-    let at : ℕ = end_of size e.mutation in
+ends_at : (last : ℕ) {order chosen : List Entry} → IsSelection last order chosen → IsTrue (is_an_end order (image_length (mutations_of chosen)))
+ends_at last empty = refl
+ends_at last (takes {e} {order} {chosen} low rest) =
+    let n : ℕ = image_length (mutations_of chosen) in
+    let at : ℕ = end_of e.mutation in
     elim (greater at n) [
-      | inl here ↦ subst (λ (k : ℕ). IsTrue ((k == 0) || ((at == k) || list_any (λ x. end_of size x.mutation == k) order))) (sym here) (this_end (at == 0) (at == at) (list_any (λ x. end_of size x.mutation == at) order) (same_number at))
-      | inr there ↦ subst (λ (k : ℕ). IsTrue ((k == 0) || ((at == k) || list_any (λ x. end_of size x.mutation == k) order))) (sym there)
-          (one_more_end (n == 0) (at == n) (list_any (λ x. end_of size x.mutation == n) order) (ends_at size last rest))
+      | inl here ↦ subst (λ (k : ℕ). IsTrue ((k == 0) || ((at == k) || list_any (λ x. end_of x.mutation == k) order))) (sym here) (this_end (at == 0) (at == at) (list_any (λ x. end_of x.mutation == at) order) (same_number at))
+      | inr there ↦ subst (λ (k : ℕ). IsTrue ((k == 0) || ((at == k) || list_any (λ x. end_of x.mutation == k) order))) (sym there)
+          (one_more_end (n == 0) (at == n) (list_any (λ x. end_of x.mutation == n) order) (ends_at last rest))
     ]
-ends_at size last (leaves {e} {order} {chosen} late rest) =
-    let n : ℕ = image_length size (mutations_of chosen) in
-    one_more_end (n == 0) (end_of size e.mutation == n) (list_any (λ x. end_of size x.mutation == n) order) (ends_at size last rest)
+ends_at last (leaves {e} {order} {chosen} late rest) =
+    let n : ℕ = image_length (mutations_of chosen) in
+    one_more_end (n == 0) (end_of e.mutation == n) (list_any (λ x. end_of x.mutation == n) order) (ends_at last rest)
 
 -- each entry of an order, without its serial
 pub all_entries : (P : Entry → Type 0) (ps : List Placed) → ((place : ℕ) (p : Placed) → element_at ps place ≡ Some p → P p.entry) → AllByRecursion P (map (λ p. p.entry) ps)
@@ -76,7 +76,7 @@ all_entries P (p ∷ ps) each = (each zero p refl, all_entries P ps (λ place q 
 made_of : (size count : ℕ) (bytes : List ℕ) (m : Mutation) → IsPlacedBehind size count bytes m → IsShort size bytes m → IsMadeOf size bytes m
 made_of size count bytes (Write offset written) by short = by.0
 made_of size count bytes (Append offset written) by short = (by.0, short.0)
-made_of size count bytes (Pad offset) by short = (short, by.2)
+made_of size count bytes (Pad offset end) by short = (short, by.2)
 
 module _ (config : Config) (servers clients : ℕ) (w : WorldState) (r : IsReached config servers clients w) (index : ℕ) (s : ServerState) (at : element_at w.servers index ≡ Some s) (moment : ℕ) (i : NodeInput) (choice : Choice)
     (came : (m : Message) → i ≡ input.Deliver m → IsAmong w.sent m) (shown : ℕ) (handle : Handle) (version : Version) (serial : Serial) (id : DataId) (m : Mutation)
@@ -107,33 +107,32 @@ numbered_mutations_may_follow config servers clients w r kept index s at moment 
     count : ℕ
     count = length (by.replica).bytes
 
-    an_end : IsTrue (is_an_end config.chunk order count)
+    an_end : IsTrue (is_an_end order count)
     an_end =
         let selected = (replicas_are_selections config servers clients w r kept index s at).0 handle.0 by.replica by.replica_is in
-        let long : count ≡ image_length w.config.chunk (mutations_of selected.0) =
-        ap (λ (bs : List ℕ). length bs) selected.2 ∙ length_from w.config.chunk (mutations_of selected.0) 0 (image_length w.config.chunk (mutations_of selected.0)) in
-        subst (λ (c : Config). IsTrue (is_an_end c.chunk order count)) (settings_stay config servers clients w r)
-        (subst (λ (n : ℕ). IsTrue (is_an_end w.config.chunk order n)) (sym long) (ends_at w.config.chunk (by.replica).version selected.1))
+        let long : count ≡ image_length (mutations_of selected.0) =
+        ap (λ (bs : List ℕ). length bs) selected.2 ∙ length_from (mutations_of selected.0) 0 (image_length (mutations_of selected.0)) in
+        subst (λ (n : ℕ). IsTrue (is_an_end order n)) (sym long) (ends_at (by.replica).version selected.1)
 
-    behind : (place : ℕ) (e : Placed) → element_at (order_of w.observer handle.0) place ≡ Some e → IsTrue e.entry.settled ⊎ (e.entry.round ≡ version.0) → ComesBehind (end_of config.chunk e.entry.mutation) m
+    behind : (place : ℕ) (e : Placed) → element_at (order_of w.observer handle.0) place ≡ Some e → IsTrue e.entry.settled ⊎ (e.entry.round ≡ version.0) → ComesBehind (end_of e.entry.mutation) m
     behind place e there which =
         elim (which) [
           | inl settled ↦ records_come_behind_settled_entries config servers clients w r kept index s at moment i choice came clocks shown handle version serial id m seen place e there settled
           | inr round ↦ records_come_behind_their_round config servers clients w r index s at moment i choice shown handle version serial id m seen place e there round
         ]
 
-    past : (start : ℕ) → ((place : ℕ) (e : Placed) → element_at (order_of w.observer handle.0) place ≡ Some e → IsTrue e.entry.settled ⊎ (e.entry.round ≡ version.0) → end_of config.chunk e.entry.mutation ≤ start)
-        → AllByRecursion (λ e. (IsTrue e.settled ⊎ (e.round ≡ version.0)) → end_of config.chunk e.mutation ≤ start) order
-    past start each = all_entries (λ e. (IsTrue e.settled ⊎ (e.round ≡ version.0)) → end_of config.chunk e.mutation ≤ start) (order_of w.observer handle.0) each
+    past : (start : ℕ) → ((place : ℕ) (e : Placed) → element_at (order_of w.observer handle.0) place ≡ Some e → IsTrue e.entry.settled ⊎ (e.entry.round ≡ version.0) → end_of e.entry.mutation ≤ start)
+        → AllByRecursion (λ e. (IsTrue e.settled ⊎ (e.round ≡ version.0)) → end_of e.mutation ≤ start) order
+    past start each = all_entries (λ e. (IsTrue e.settled ⊎ (e.round ≡ version.0)) → end_of e.mutation ≤ start) (order_of w.observer handle.0) each
 
-    end_here : (offset : ℕ) → offset ≡ count → IsTrue (is_an_end config.chunk order offset)
-    end_here offset same = subst (λ (n : ℕ). IsTrue (is_an_end config.chunk order n)) (sym same) an_end
+    end_here : (offset : ℕ) → offset ≡ count → IsTrue (is_an_end order offset)
+    end_here offset same = subst (λ (n : ℕ). IsTrue (is_an_end order n)) (sym same) an_end
 
     below : (offset long : ℕ) → offset + long ≤ config.chunk → (offset ≡ config.chunk → ⊥) → offset < config.chunk
     below offset long fits apart = elim (cases_lt offset config.chunk) [ inl less ↦ less | inr least ↦ absurd (apart (omega (arith, least, fits))) ]
 
     follows : (x : Mutation) → IsPlacedBehind config.chunk count by.bytes x → IsShort config.chunk by.bytes x
-        → ((place : ℕ) (e : Placed) → element_at (order_of w.observer handle.0) place ≡ Some e → IsTrue e.entry.settled ⊎ (e.entry.round ≡ version.0) → ComesBehind (end_of config.chunk e.entry.mutation) x) → MayFollow config.chunk order version.0 x
+        → ((place : ℕ) (e : Placed) → element_at (order_of w.observer handle.0) place ≡ Some e → IsTrue e.entry.settled ⊎ (e.entry.round ≡ version.0) → ComesBehind (end_of e.entry.mutation) x) → MayFollow config.chunk order version.0 x
     follows (Write offset bytes) where_ small each = where_.1
     follows (Append offset bytes) where_ small each = (below offset (length bytes) where_.2 small.1, end_here offset where_.1, (past offset each, where_.2))
-    follows (Pad offset) where_ small each = (where_.1, end_here offset where_.0, (past offset each, omega arith))
+    follows (Pad offset end) where_ small each = ((where_.1, end_here offset where_.0, (past offset each, let ends = where_.3 in omega (arith, ends))), where_.3)

@@ -3,7 +3,7 @@ use Rattle.std.proofs.Common.{◌≡◌, ◌⊎◌, ℕ, zero, suc, ◌≤◌, �
 use Rattle.std.specs.List.{AllByRecursion}
 use Rattle.std.proofs.lemmas.Bool.{cases_lt}
 use Rattle.gfs_types.specs.declared.mutation.Mutation.{Mutation}
-use Rattle.gfs_types.specs.Mutations.{start_of}
+use Rattle.gfs_types.specs.Mutations.{start_of, end_of}
 use Rattle.gfs_types.specs.Image.{image}
 use Rattle.replica_store.specs.Replicas.{with_bytes}
 use Rattle.protocol.specs.Tables.{element_at}
@@ -90,17 +90,17 @@ marked_more (false ∷ marks) (q ∷ order) (suc place) p at rising all = let re
 
 -- images
 
-pub none_applied : (size : ℕ) (order : List Placed) (version serial : ℕ) (bytes : List ℕ) → serial ≡ 0 → bytes ≡ [] → (g : IsImageOf size order version serial bytes) × (marked g.marks order ≡ [])
-none_applied size order version serial bytes none empty = (record { marks = []; bytes_are = empty; applied = tt; last = inl none }, refl)
+pub none_applied : (order : List Placed) (version serial : ℕ) (bytes : List ℕ) → serial ≡ 0 → bytes ≡ [] → (g : IsImageOf order version serial bytes) × (marked g.marks order ≡ [])
+none_applied order version serial bytes none empty = (record { marks = []; bytes_are = empty; applied = tt; last = inl none }, refl)
 
 -- the same entries make it in another order that has them at their places
-pub image_on : (T : Placed → Type 0) (size : ℕ) (from to : List Placed) (version serial : ℕ) (bytes : List ℕ) → Follows T from to → ((p : Placed) → IsWithin version serial p → T p) → (h : IsImageOf size from version serial bytes)
-    → (g : IsImageOf size to version serial bytes) × (marked g.marks to ≡ marked h.marks from)
-image_on T size from to version serial bytes f go h =
+pub image_on : (T : Placed → Type 0) (from to : List Placed) (version serial : ℕ) (bytes : List ℕ) → Follows T from to → ((p : Placed) → IsWithin version serial p → T p) → (h : IsImageOf from version serial bytes)
+    → (g : IsImageOf to version serial bytes) × (marked g.marks to ≡ marked h.marks from)
+image_on T from to version serial bytes f go h =
     let others = marked_on T h.marks from to f (all_elements (IsWithin version serial) T go (marked h.marks from) h.applied) in (
       record {
         marks = others.0;
-        bytes_are = h.bytes_are ∙ ap (λ (ps : List Placed). image size (mutations_in ps)) (sym others.1);
+        bytes_are = h.bytes_are ∙ ap (λ (ps : List Placed). image (mutations_in ps)) (sym others.1);
         applied = subst (λ (ps : List Placed). AllByRecursion (IsWithin version serial) ps) (sym others.1) h.applied;
         last = subst (λ (ps : List Placed). (serial ≡ 0) ⊎ HasEntry ps version serial) (sym others.1) h.last;
       },
@@ -108,8 +108,8 @@ image_on T size from to version serial bytes f go h =
     )
 
 -- under a higher version the serials begin anew
-pub image_raised : (size : ℕ) (order : List Placed) (version serial higher : ℕ) (bytes : List ℕ) → version < higher → (h : IsImageOf size order version serial bytes) → (g : IsImageOf size order higher 0 bytes) × (marked g.marks order ≡ marked h.marks order)
-image_raised size order version serial higher bytes less h = (
+pub image_raised : (order : List Placed) (version serial higher : ℕ) (bytes : List ℕ) → version < higher → (h : IsImageOf order version serial bytes) → (g : IsImageOf order higher 0 bytes) × (marked g.marks order ≡ marked h.marks order)
+image_raised order version serial higher bytes less h = (
   record {
     marks = h.marks;
     bytes_are = h.bytes_are;
@@ -120,17 +120,17 @@ image_raised size order version serial higher bytes less h = (
 )
 
 -- one more entry is applied, behind all that were
-pub image_more : (size : ℕ) (order : List Placed) (version serial : ℕ) (bytes : List ℕ) (h : IsImageOf size order version serial bytes) → AreRising order → (place : ℕ) (p : Placed) → element_at order place ≡ Some p → p.entry.round ≡ version
-    → AllByRecursion (λ q. q.entry.round ≡ version → q.serial < p.serial) (marked h.marks order) → start_of p.entry.mutation ≤ size
-    → (g : IsImageOf size order version p.serial (with_bytes bytes (start_of p.entry.mutation) (written_by size p.entry.mutation))) × (marked g.marks order ≡ marked h.marks order ++ unsettled p ∷ [])
-image_more size order version serial bytes h rising place p at round later within = (
+pub image_more : (order : List Placed) (version serial : ℕ) (bytes : List ℕ) (h : IsImageOf order version serial bytes) → AreRising order → (place : ℕ) (p : Placed) → element_at order place ≡ Some p → p.entry.round ≡ version
+    → AllByRecursion (λ q. q.entry.round ≡ version → q.serial < p.serial) (marked h.marks order) → start_of p.entry.mutation ≤ end_of p.entry.mutation
+    → (g : IsImageOf order version p.serial (with_bytes bytes (start_of p.entry.mutation) (written_by p.entry.mutation))) × (marked g.marks order ≡ marked h.marks order ++ unsettled p ∷ [])
+image_more order version serial bytes h rising place p at round later within = (
   record {
     marks = others.0;
     bytes_are =
-        ap (λ (bs : List ℕ). with_bytes bs (start_of p.entry.mutation) (written_by size p.entry.mutation)) h.bytes_are
-        ∙ sym (images_are_written_to size (mutations_in (marked h.marks order)) p.entry.mutation within)
-        ∙ ap (λ (ms : List Mutation). image size ms) (sym (mutations_more (marked h.marks order) (unsettled p)))
-        ∙ ap (λ (ps : List Placed). image size (mutations_in ps)) (sym others.1);
+        ap (λ (bs : List ℕ). with_bytes bs (start_of p.entry.mutation) (written_by p.entry.mutation)) h.bytes_are
+        ∙ sym (images_are_written_to (mutations_in (marked h.marks order)) p.entry.mutation within)
+        ∙ ap (λ (ms : List Mutation). image ms) (sym (mutations_more (marked h.marks order) (unsettled p)))
+        ∙ ap (λ (ps : List Placed). image (mutations_in ps)) (sym others.1);
     applied = subst (λ (ps : List Placed). AllByRecursion (IsWithin version p.serial) ps) (sym others.1) (all_more (IsWithin version p.serial) (marked h.marks order) (unsettled p) low (omega (arith, round), λ same. omega arith));
     last =
         let end = last_element (marked h.marks order) (unsettled p) in

@@ -31,7 +31,7 @@ use Rattle.laws_entries.specs.Entries.{IsAmong}
 abbrev pub IsShort : (size : ℕ) → List ℕ → Mutation → Type 0
 IsShort size bytes (mutation.Write offset written) = Unit {0}
 IsShort size bytes (mutation.Append offset written) = (4 * length bytes ≤ size) × (offset ≢ size)
-IsShort size bytes (mutation.Pad offset) = 4 * length bytes ≤ size
+IsShort size bytes (mutation.Pad offset end) = 4 * length bytes ≤ size
 
 quarter : (size count : ℕ) → nat_lt (size / 4) count ≡ false → 4 * count ≤ size
 quarter size count short =
@@ -48,7 +48,7 @@ IsShown s (CopyStarted handle copy) = Unit {0}
 short_record : (size count : ℕ) (bytes : List ℕ) (m : Mutation) → IsPlacedAt size count bytes m → IsRecord size count bytes m → IsShort size bytes m
 short_record size count bytes (mutation.Write offset written) at whole = tt
 short_record size count bytes (mutation.Append offset written) at whole = (quarter size (length bytes) whole.0, λ same. whole.1 (sym at.1 ∙ same))
-short_record size count bytes (mutation.Pad offset) at whole = quarter size (length bytes) whole
+short_record size count bytes (mutation.Pad offset end) at whole = quarter size (length bytes) whole
 
 shown_short : (s : ServerState) (i : NodeInput) (x : Seen) → IsNoted s i x → IsShown s x
 shown_short s i (Numbered handle version serial id m) h =

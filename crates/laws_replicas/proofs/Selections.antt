@@ -261,7 +261,7 @@ replicas_have_settled_entries = have_settled
 
 pub images_have_settled_entries : ImagesHaveSettledEntries
 images_have_settled_entries config servers clients w r kept place m at handle version serial bytes is =
-    subst (λ (b : Body). IsImageSaid (Shown w) w.config.chunk w.observer.orders b) is ((selected config servers clients w r kept).said m (place, at))
+    subst (λ (b : Body). IsImageSaid (Shown w) w.observer.orders b) is ((selected config servers clients w r kept).said m (place, at))
 
 -- what is applied is a selection
 as_selections : (config : Config) (servers clients : ℕ) (w : WorldState) → IsReached config servers clients w → IsTrue (is_kept w) → (d : ServerDisk) → HaveSettled w d → AreSelections w d
@@ -271,7 +271,7 @@ as_selections config servers clients w r kept d h handle x is =
     let rising = orders_rise config servers clients w r (and_parts w.observer.are_clocks_kept w.observer.are_disks_kept kept).0 handle in (
       chosen (one.0).marks order,
       is_selection x.version x.serial (one.0).marks order rising (one.0).applied one.1,
-      (one.0).bytes_are ∙ ap (λ (ms : List Mutation). image w.config.chunk ms) (chosen_mutations (one.0).marks order),
+      (one.0).bytes_are ∙ ap (λ (ms : List Mutation). image ms) (chosen_mutations (one.0).marks order),
     )
 
 pub replicas_are_selections : ReplicasAreSelections

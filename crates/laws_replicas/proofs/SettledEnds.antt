@@ -17,7 +17,6 @@ use Rattle.laws_base.proofs.Steps.{none_some, same_some}
 use Rattle.laws_steps.proofs.EndedLeases.{over_leases_number_nothing}
 use Rattle.laws_entries.specs.ChunkOrders.{unsettled}
 use Rattle.laws_steps.specs.Replicas.{IsPlacedBehind, IsPlacedByReplica}
-use Rattle.laws_steps.proofs.Lengths.{settings_stay}
 use Rattle.laws_steps.proofs.Placings.{mutations_are_placed_by_replicas}
 use Rattle.laws_entries.proofs.SentGrants.{counted_one}
 use Rattle.laws_entries.proofs.RisingRounds.{IsUnderLease, leased_granted, under_lease, lower_leases_are_over, entries_are_of_granted_rounds}
@@ -28,19 +27,19 @@ use Rattle.laws_replicas.specs.Selections.{HasSettled, RecordsComeBehindSettledE
 use Rattle.laws_replicas.proofs.Selections.{replicas_have_settled_entries}
 
 -- as many bytes as are asked for
-pub length_from : (size : ℕ) (ms : List Mutation) (place count : ℕ) → length (bytes_from size ms place count) ≡ count
-length_from size ms place zero = refl
-length_from size ms place (suc count) = ap (λ (n : ℕ). suc n) (length_from size ms (suc place) count)
+pub length_from : (ms : List Mutation) (place count : ℕ) → length (bytes_from ms place count) ≡ count
+length_from ms place zero = refl
+length_from ms place (suc count) = ap (λ (n : ℕ). suc n) (length_from ms (suc place) count)
 
 -- an image reaches to the end of each of its mutations
-reaches_end : (size : ℕ) (ps : List Placed) (n : ℕ) (q : Placed) → element_at ps n ≡ Some q → end_of size q.entry.mutation ≤ image_length size (mutations_in ps)
-reaches_end size [] n q at = none_some q at
-reaches_end size (p ∷ ps) zero q at =
-    let first = le-max_left (end_of size p.entry.mutation) (image_length size (mutations_in ps)) in
-    subst (λ (x : Placed). end_of size x.entry.mutation ≤ max (end_of size p.entry.mutation) (image_length size (mutations_in ps))) (same_some p q at) first
-reaches_end size (p ∷ ps) (suc n) q at =
-    let rest = reaches_end size ps n q at in
-    let second = le-max_right (end_of size p.entry.mutation) (image_length size (mutations_in ps)) in
+reaches_end : (ps : List Placed) (n : ℕ) (q : Placed) → element_at ps n ≡ Some q → end_of q.entry.mutation ≤ image_length (mutations_in ps)
+reaches_end [] n q at = none_some q at
+reaches_end (p ∷ ps) zero q at =
+    let first = le-max_left (end_of p.entry.mutation) (image_length (mutations_in ps)) in
+    subst (λ (x : Placed). end_of x.entry.mutation ≤ max (end_of p.entry.mutation) (image_length (mutations_in ps))) (same_some p q at) first
+reaches_end (p ∷ ps) (suc n) q at =
+    let rest = reaches_end ps n q at in
+    let second = le-max_right (end_of p.entry.mutation) (image_length (mutations_in ps)) in
     omega (arith, rest, second)
 
 -- what is marked stands in the order
@@ -54,7 +53,7 @@ marked_from (true ∷ marks) (p ∷ order) (suc n) q at = let rest = marked_from
 module _ (config : Config) (servers clients : ℕ) (w : WorldState) (r : IsReached config servers clients w) where
   -- an entry that is among the marked ones ends within their image
   ends_within : (handle : ℕ) (marks : List Bool) (place : ℕ) (e : Placed) → element_at (order_of w.observer handle) place ≡ Some e → HasEntry (marked marks (order_of w.observer handle)) e.entry.round e.serial
-      → end_of w.config.chunk e.entry.mutation ≤ length (image w.config.chunk (mutations_in (marked marks (order_of w.observer handle))))
+      → end_of e.entry.mutation ≤ length (image (mutations_in (marked marks (order_of w.observer handle))))
   ends_within handle marks place e there h =
       let ps : List Placed = marked marks (order_of w.observer handle) in
       let from = marked_from marks (order_of w.observer handle) h.0 h.1 h.2 in
@@ -62,9 +61,9 @@ module _ (config : Config) (servers clients : ℕ) (w : WorldState) (r : IsReach
       serials_have_one_entry config servers clients w r handle from.0 place from.1 e from.2 there (ap (λ (x : Placed). x.entry.round) from.3 ∙ h.3) (ap (λ (x : Placed). x.serial) from.3 ∙ h.4) in
       let one : from.1 ≡ e = same_some from.1 e (sym from.2 ∙ ap (λ (n : ℕ). element_at (order_of w.observer handle) n) same ∙ there) in
       let mutation_is : (h.1).entry.mutation ≡ e.entry.mutation = sym (ap (λ (x : Placed). x.entry.mutation) from.3) ∙ ap (λ (x : Placed). x.entry.mutation) one in
-      let far = reaches_end w.config.chunk ps h.0 h.1 h.2 in
-      let count = length_from w.config.chunk (mutations_in ps) 0 (image_length w.config.chunk (mutations_in ps)) in
-      let end_is = ap (λ (m : Mutation). end_of w.config.chunk m) mutation_is in
+      let far = reaches_end ps h.0 h.1 h.2 in
+      let count = length_from (mutations_in ps) 0 (image_length (mutations_in ps)) in
+      let end_is = ap (λ (m : Mutation). end_of m) mutation_is in
       omega (arith, far, count, end_is)
 
   -- under a lease that counts no entry is of a later round
@@ -92,7 +91,7 @@ records_come_behind_settled_entries config servers clients w r kept index s at m
     by : IsPlacedByReplica config.chunk s handle.0 version.0 serial.0 id m
     by = mutations_are_placed_by_replicas config servers clients w r index s at moment i choice shown handle version serial id m seen
 
-    have : (g : IsImageOf w.config.chunk (order_of w.observer handle.0) (by.replica).version (by.replica).serial (by.replica).bytes) × HasSettled (order_of w.observer handle.0) (by.replica).version (marked g.marks (order_of w.observer handle.0))
+    have : (g : IsImageOf (order_of w.observer handle.0) (by.replica).version (by.replica).serial (by.replica).bytes) × HasSettled (order_of w.observer handle.0) (by.replica).version (marked g.marks (order_of w.observer handle.0))
     have = (replicas_have_settled_entries config servers clients w r kept index s at).0 handle.0 by.replica by.replica_is
 
     round : e.entry.round ≤ (by.replica).version
@@ -102,12 +101,11 @@ records_come_behind_settled_entries config servers clients w r kept index s at m
         let same = by.replica_version in
         omega (arith, low, same)
 
-    low : end_of config.chunk e.entry.mutation ≤ length (by.replica).bytes
+    low : end_of e.entry.mutation ≤ length (by.replica).bytes
     low =
-        subst (λ (c : Config). end_of c.chunk e.entry.mutation ≤ length (by.replica).bytes) (settings_stay config servers clients w r)
-        (subst (λ (bs : List ℕ). end_of w.config.chunk e.entry.mutation ≤ length bs) (sym (have.0).bytes_are) (ends_within config servers clients w r handle.0 (have.0).marks place e there (have.1 place e there settled round)))
+        subst (λ (bs : List ℕ). end_of e.entry.mutation ≤ length bs) (sym (have.0).bytes_are) (ends_within config servers clients w r handle.0 (have.0).marks place e there (have.1 place e there settled round))
 
-    behind : (x : Mutation) → IsPlacedBehind config.chunk (length (by.replica).bytes) by.bytes x → ComesBehind (end_of config.chunk e.entry.mutation) x
+    behind : (x : Mutation) → IsPlacedBehind config.chunk (length (by.replica).bytes) by.bytes x → ComesBehind (end_of e.entry.mutation) x
     behind (Write offset bytes) placed = tt
     behind (Append offset bytes) placed = let start = placed.1 in let bound = low in omega (arith, start, bound)
-    behind (Pad offset) placed = let start = placed.0 in let bound = low in omega (arith, start, bound)
+    behind (Pad offset end) placed = let start = placed.0 in let bound = low in omega (arith, start, bound)

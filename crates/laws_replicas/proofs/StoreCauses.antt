@@ -38,16 +38,16 @@ use Rattle.laws_base.proofs.MembersRecorded.{kept_place}
 use Rattle.laws_steps.proofs.HeldReplicas.{IsNumber}
 
 -- what a member stores for a forwarded change, of the data that it keeps
-abbrev pub IsMadeOf : (size handle serial : ℕ) → Option (List ℕ) → Change → StoreChange → Type 0
-IsMadeOf size handle serial kept (change.Write offset) x = (bytes : List ℕ) × (kept ≡ Some bytes) × (x ≡ Write (handle_of handle) (serial_of serial) offset bytes)
-IsMadeOf size handle serial kept (change.Append offset) x = (bytes : List ℕ) × (kept ≡ Some bytes) × (x ≡ Write (handle_of handle) (serial_of serial) offset bytes)
-IsMadeOf size handle serial kept (change.Pad offset) x = x ≡ Zero (handle_of handle) (serial_of serial) offset (size - offset)
+abbrev pub IsMadeOf : (handle serial : ℕ) → Option (List ℕ) → Change → StoreChange → Type 0
+IsMadeOf handle serial kept (change.Write offset) x = (bytes : List ℕ) × (kept ≡ Some bytes) × (x ≡ Write (handle_of handle) (serial_of serial) offset bytes)
+IsMadeOf handle serial kept (change.Append offset) x = (bytes : List ℕ) × (kept ≡ Some bytes) × (x ≡ Write (handle_of handle) (serial_of serial) offset bytes)
+IsMadeOf handle serial kept (change.Pad offset end) x = x ≡ Zero (handle_of handle) (serial_of serial) offset (end - offset)
 
 -- where a forwarded change begins
 abbrev pub change_start : Change → ℕ
 change_start (change.Write offset) = offset
 change_start (change.Append offset) = offset
-change_start (change.Pad offset) = offset
+change_start (change.Pad offset end) = offset
 
 -- the range that a change writes can be written over, and lies within the chunk
 abbrev pub IsWritable : ServerState → StoreChange → Type 0
@@ -67,7 +67,7 @@ pub record IsForwarded (s : ServerState) (b : Body) (x : StoreChange) : Type 0 w
   pub there : row_at s.disk handle.0 ≡ Some row
   pub version_is : row.version.0 ≡ version.0
   pub later : row.serial.0 < serial.0
-  pub made : IsMadeOf s.config.chunk handle.0 serial.0 (data_of s.pushed id) c x
+  pub made : IsMadeOf handle.0 serial.0 (data_of s.pushed id) c x
   pub writable : IsWritable s x
 
 -- the primary applies what it numbers
@@ -79,8 +79,8 @@ pub record IsNumbered (s : ServerState) (seen : List Seen) (x : StoreChange) : T
   pub there : table.get s.leases handle ≡ Some lease
   pub place : ℕ
   pub shown : element_at seen place ≡ Some (Numbered (handle_of handle) (version_of lease.held.version) (serial_of (lease.serial + 1)) id m)
-  pub change_is : x ≡ stored_as s.config.chunk handle (lease.serial + 1) m
-  pub writable : is_writable_at s.disk handle (start_of m) (end_of s.config.chunk m) ≡ true
+  pub change_is : x ≡ stored_as handle (lease.serial + 1) m
+  pub writable : is_writable_at s.disk handle (start_of m) (end_of m) ≡ true
 
 -- why a step on this message changes a replica so
 abbrev pub IsStoredFor : ServerState → Body → List Seen → StoreChange → Type 0
@@ -154,10 +154,10 @@ module _ (s : ServerState) (b : Body) where
   acks_fine : (d : ServerDoing) (handle : ℕ) (p : SerialOrder) (member serial : ℕ) → Fine d → Fine (acknowledges d handle p member serial)
   acks_fine d handle p member serial h = settles_fine (with_primary d handle (acknowledged p member serial)) handle p.held.version serial (settled p member serial) h
 
-  stored_cause : (seen : List Seen) (handle serial : ℕ) (m : Mutation) → IsNumbered s seen (stored_as s.config.chunk handle serial m) → IsStoredFor s b seen (stored_as s.config.chunk handle serial m)
+  stored_cause : (seen : List Seen) (handle serial : ℕ) (m : Mutation) → IsNumbered s seen (stored_as handle serial m) → IsStoredFor s b seen (stored_as handle serial m)
   stored_cause seen handle serial (mutation.Write offset bytes) n = inr n
   stored_cause seen handle serial (mutation.Append offset bytes) n = inr n
-  stored_cause seen handle serial (mutation.Pad offset) n = inr n
+  stored_cause seen handle serial (mutation.Pad offset end) n = inr n
 
 -- what a step changes on its input: on a tick no replica
 abbrev pub AreMadeOn : ServerState → NodeInput → List StoreChange → List Seen → Type 0
@@ -165,14 +165,14 @@ AreMadeOn s (input.Deliver m) changes seen = AreMade s m.body changes seen
 AreMadeOn s input.Tick changes seen = AllOf IsNumber changes
 
 -- what a member stores, as the statement has it
-made_of : (size handle serial : ℕ) (kept : Option (List ℕ)) (named : Change) (x : StoreChange) (from end_place : ℕ)
-    → IsStoredAs size handle serial kept named x from end_place → IsMadeOf size handle serial kept named x
-made_of size handle serial kept (change.Write offset) x from end_place h = (h.0, h.1, h.2)
-made_of size handle serial kept (change.Append offset) x from end_place h = (h.0, h.1, h.2)
-made_of size handle serial kept (change.Pad offset) x from end_place h = h.0
+made_of : (handle serial : ℕ) (kept : Option (List ℕ)) (named : Change) (x : StoreChange) (from end_place : ℕ)
+    → IsStoredAs handle serial kept named x from end_place → IsMadeOf handle serial kept named x
+made_of handle serial kept (change.Write offset) x from end_place h = (h.0, h.1, h.2)
+made_of handle serial kept (change.Append offset) x from end_place h = (h.0, h.1, h.2)
+made_of handle serial kept (change.Pad offset end) x from end_place h = h.0
 
 -- the range that it writes
-writes : (s : ServerState) (handle serial : ℕ) (kept : Option (List ℕ)) (named : Change) (x : StoreChange) (from end_place : ℕ) → IsStoredAs s.config.chunk handle serial kept named x from end_place
+writes : (s : ServerState) (handle serial : ℕ) (kept : Option (List ℕ)) (named : Change) (x : StoreChange) (from end_place : ℕ) → IsStoredAs handle serial kept named x from end_place
     → is_writable_at s.disk handle from end_place ≡ true → end_place ≤ s.config.chunk → IsWritable s x
 writes s handle serial kept (change.Write offset) x from end_place h sound fits =
     subst (IsWritable s) (sym h.2)
@@ -180,16 +180,16 @@ writes s handle serial kept (change.Write offset) x from end_place h sound fits 
 writes s handle serial kept (change.Append offset) x from end_place h sound fits =
     subst (IsWritable s) (sym h.2)
     (subst (λ (n : ℕ). is_writable_at s.disk handle offset n ≡ true) h.4 (subst (λ (n : ℕ). is_writable_at s.disk handle n end_place ≡ true) h.3 sound), subst (λ (n : ℕ). n ≤ s.config.chunk) h.4 fits)
-writes s handle serial kept (change.Pad offset) x from end_place h sound fits =
+writes s handle serial kept (change.Pad offset end) x from end_place h sound fits =
     subst (IsWritable s) (sym h.0)
     (subst (λ (n : ℕ). is_writable_at s.disk handle offset n ≡ true) h.2 (subst (λ (n : ℕ). is_writable_at s.disk handle n end_place ≡ true) h.1 sound), subst (λ (n : ℕ). n ≤ s.config.chunk) h.2 fits)
 
 -- a forwarded change is stored for that
 stored_for : (s : ServerState) (b : Body) (seen : List Seen) (handle serial : ℕ) (kept : Option (List ℕ)) (named : Change) (x : StoreChange) (from end_place : ℕ)
-    → IsStoredAs s.config.chunk handle serial kept named x from end_place → IsForwarded s b x → IsStoredFor s b seen x
+    → IsStoredAs handle serial kept named x from end_place → IsForwarded s b x → IsStoredFor s b seen x
 stored_for s b seen handle serial kept (change.Write offset) x from end_place h forwarded = subst (IsStoredFor s b seen) (sym h.2) (inl (subst (IsForwarded s b) h.2 forwarded))
 stored_for s b seen handle serial kept (change.Append offset) x from end_place h forwarded = subst (IsStoredFor s b seen) (sym h.2) (inl (subst (IsForwarded s b) h.2 forwarded))
-stored_for s b seen handle serial kept (change.Pad offset) x from end_place h forwarded = subst (IsStoredFor s b seen) (sym h.0) (inl (subst (IsForwarded s b) h.0 forwarded))
+stored_for s b seen handle serial kept (change.Pad offset end) x from end_place h forwarded = subst (IsStoredFor s b seen) (sym h.0) (inl (subst (IsForwarded s b) h.0 forwarded))
 
 -- a step that changes no replica
 quiet_on : (s : ServerState) (i : NodeInput) (changes : List StoreChange) (seen : List Seen) → AllOf IsNumber changes → AreMadeOn s i changes seen
@@ -208,10 +208,10 @@ module _ (s : ServerState) (i : NodeInput) where
   drops_on m d handle came quiet = made_by m m.body (drops_corrupt d handle) came refl (dropped s m.body d handle quiet)
 
   numbers_on : (n : Numbering s i) → is_sound s i n ≡ true
-      → AreMade s n.a.c.m.body (stores (number_of s i n) (stored_as s.config.chunk n.a.c.handle.0 (n.a.p.serial + 1) n.placed)).changes (number_of s i n).seen
+      → AreMade s n.a.c.m.body (stores (number_of s i n) (stored_as n.a.c.handle.0 (n.a.p.serial + 1) n.placed)).changes (number_of s i n).seen
   numbers_on n sound =
       let c = n.a.c in
-      done s c.m.body (number_of s i n) (stored_as s.config.chunk c.handle.0 (n.a.p.serial + 1) n.placed)
+      done s c.m.body (number_of s i n) (stored_as c.handle.0 (n.a.p.serial + 1) n.placed)
       (stored_cause s c.m.body (number_of s i n).seen c.handle.0 (n.a.p.serial + 1) n.placed
       (record {
         handle = c.handle.0;
@@ -232,7 +232,7 @@ module _ (s : ServerState) (i : NodeInput) where
       let q : ℕ = n.a.c.handle.0 in
       let serial : ℕ = n.a.p.serial + 1 in
       made_by n.a.c.m n.a.c.m.body (primary_applies (number_of s i n) n.a.c.handle.0 n.a.p n.a.c.id n.placed) n.a.c.came refl
-      (acks_fine s n.a.c.m.body (forwards (stores (number_of s i n) (stored_as s.config.chunk q serial n.placed)) (without n.a.p.held.members s.id) q n.a.p.held.version serial n.a.c.id (change_of n.placed)) q
+      (acks_fine s n.a.c.m.body (forwards (stores (number_of s i n) (stored_as q serial n.placed)) (without n.a.p.held.members s.id) q n.a.p.held.version serial n.a.c.id (change_of n.placed)) q
       (numbered n.a.p n.a.c.id.client n.a.c.id.seq (place_of n.placed)) s.id serial (numbers_on n sound))
 
   stored_on : (t : Storing s i) → is_writable_at s.disk t.f.c.handle.0 t.from t.end_place ≡ true → AreMadeOn s i (t.x ∷ []) []
@@ -253,7 +253,7 @@ module _ (s : ServerState) (i : NodeInput) where
         there = t.f.found;
         version_is = t.f.same;
         later = t.later;
-        made = made_of s.config.chunk c.handle.0 c.serial.0 kept c.named t.x t.from t.end_place t.stored;
+        made = made_of c.handle.0 c.serial.0 kept c.named t.x t.from t.end_place t.stored;
         writable = writes s c.handle.0 c.serial.0 kept c.named t.x t.from t.end_place t.stored sound t.fits;
       }))
       tt)

@@ -165,7 +165,7 @@ module _ (A : ℕ → ℕ → ℕ → ℕ → Type 0) (me : ℕ) where
         applied_done n =
             let q : ℕ = n.a.c.handle.0 in
             let serial : ℕ = n.a.p.serial + 1 in
-            acknowledged_fine (forwards (stores (number_of s i n) (stored_as s.config.chunk q serial n.placed)) (without n.a.p.held.members s.id) q n.a.p.held.version serial n.a.c.id (change_of n.placed)) q
+            acknowledged_fine (forwards (stores (number_of s i n) (stored_as q serial n.placed)) (without n.a.p.held.members s.id) q n.a.p.held.version serial n.a.c.id (change_of n.placed)) q
             (numbered n.a.p n.a.c.id.client n.a.c.id.seq (place_of n.placed)) s.id serial (number_counting n) (inl h.0.1) n.a.p (fit n.a.c.handle.0 n.a.c.version.0 n.a.p n.a.primary h).0.1 refl (number_begun n)
 
         denies_done : (a : Attempting s i) (refusal : Refusal) → Done (denies (server_begins s) a.c.handle.0 a.p a.c.id refusal)

@@ -11,12 +11,12 @@ use Rattle.protocol.specs.ServerStep.{found_disk}
 use Rattle.protocol.specs.World.{WorldState, IsReached}
 
 -- so many bytes are none, or end where an entry of the order ends that is of a round up to this version
-abbrev pub EndsAtEntry : (size : ℕ) → List Placed → (version count : ℕ) → Type 0
-EndsAtEntry size order version count = (count ≡ 0) ⊎ ((place : ℕ) × (p : Placed) × (element_at order place ≡ Some p) × (p.entry.round ≤ version) × (end_of size p.entry.mutation ≡ count))
+abbrev pub EndsAtEntry : List Placed → (version count : ℕ) → Type 0
+EndsAtEntry order version count = (count ≡ 0) ⊎ ((place : ℕ) × (p : Placed) × (element_at order place ≡ Some p) × (p.entry.round ≤ version) × (end_of p.entry.mutation ≡ count))
 
 -- so does each replica
 abbrev pub AreEnded : WorldState → ServerDisk → Type 0
-AreEnded w d = (handle : ℕ) (r : Replica) → replica_of d handle ≡ Some r → EndsAtEntry w.config.chunk (order_of w.observer handle) r.version (length r.bytes)
+AreEnded w d = (handle : ℕ) (r : Replica) → replica_of d handle ≡ Some r → EndsAtEntry (order_of w.observer handle) r.version (length r.bytes)
 
 -- Where clocks are kept, each replica ends where an entry of its chunk's order ends, or has no bytes: on the disk of a server, and on what a restart finds there, however the change under way is decided; also where bytes rot unnoticed (sections 2.7.1 and 3.1).
 abbrev pub ReplicasEndAtEntries : Type 0

@@ -19,7 +19,7 @@ use Rattle.protocol_invariant.specs.AttemptParts.{is_full}
 
 -- an entry of the order, of a round up to this version, ends at the end of a chunk of this size
 abbrev pub HasFullEnd : (size : ℕ) → List Placed → (version : ℕ) → Type 0
-HasFullEnd size order version = (place : ℕ) × (p : Placed) × (element_at order place ≡ Some p) × (p.entry.round ≤ version) × (end_of size p.entry.mutation ≡ size)
+HasFullEnd size order version = (place : ℕ) × (p : Placed) × (element_at order place ≡ Some p) × (p.entry.round ≤ version) × (end_of p.entry.mutation ≡ size)
 
 -- The client of these data asked to place them in a chunk, under a version, and that chunk's order has an entry of a round up to it that ends at the chunk's end.
 pub record IsOfFullOrder (w : WorldState) (id : DataId) : Type 0 where

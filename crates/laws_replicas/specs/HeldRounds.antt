@@ -27,13 +27,13 @@ HeldRoundsAreApplied =
     (config : Config) (servers clients : ℕ) (w : WorldState) → IsReached config servers clients w → (index : ℕ) (s : ServerState) → element_at w.servers index ≡ Some s
     → (handle : ℕ) (p : SerialOrder) → table.get s.leases handle ≡ Some p
     → (place : ℕ) (e : Placed) → element_at (order_of w.observer handle) place ≡ Some e → e.entry.round ≡ p.held.version
-    → (r : Replica) × (replica_of s.disk handle ≡ Some r) × (r.version ≡ p.held.version) × (end_of config.chunk e.entry.mutation ≤ length r.bytes)
+    → (r : Replica) × (replica_of s.disk handle ≡ Some r) × (r.version ≡ p.held.version) × (end_of e.entry.mutation ≤ length r.bytes)
 
 -- a record or a pad begins at this place or behind it
 abbrev pub ComesBehind : ℕ → Mutation → Type 0
 ComesBehind place (Write offset bytes) = Unit {0}
 ComesBehind place (Append offset bytes) = place ≤ offset
-ComesBehind place (Pad offset) = place ≤ offset
+ComesBehind place (Pad offset end) = place ≤ offset
 
 -- As a server numbers a record or a pad, it begins past each entry of its round (section 3.3).
 abbrev pub RecordsComeBehindTheirRound : Type 0
@@ -42,7 +42,7 @@ RecordsComeBehindTheirRound =
     → (moment : ℕ) (i : NodeInput) (choice : Choice) (shown : ℕ) (handle : Handle) (version : Version) (serial : Serial) (id : DataId) (m : Mutation)
     → element_at (server_step s moment i choice).seen shown ≡ Some (Numbered handle version serial id m)
     → (place : ℕ) (e : Placed) → element_at (order_of w.observer handle.0) place ≡ Some e → e.entry.round ≡ version.0
-    → ComesBehind (end_of config.chunk e.entry.mutation) m
+    → ComesBehind (end_of e.entry.mutation) m
 
 -- Where clocks are kept, rounds never fall in a chunk's order, and serials rise within a round (section 3.1).
 abbrev pub OrdersRise : Type 0

@@ -33,19 +33,19 @@ open_chunk order round = record { order = order; round = round; is_open = true }
 
 -- It begins below the chunk's end, at 0 or at an entry's end, at or past the end of each entry that is settled or of this round, and ends within the chunk: what the machine asks of a record or a pad.
 abbrev pub IsPlaceBehind : (size : ℕ) → List Entry → (round : ℕ) → Mutation → Type 0
-IsPlaceBehind size order round m = (start_of m < size) × IsTrue (is_an_end size order (start_of m)) × IsPastAll size (open_chunk order round) m
+IsPlaceBehind size order round m = (start_of m < size) × IsTrue (is_an_end order (start_of m)) × IsPastAll size (open_chunk order round) m
 
--- In a chunk of this size the mutation may follow these entries in this round: a write lies within the chunk, wherever the caller wants it.
+-- In a chunk of this size the mutation may follow these entries in this round: a write lies within the chunk, wherever the caller wants it; a pad ends where the chunk does.
 abbrev pub MayFollow : (size : ℕ) → List Entry → (round : ℕ) → Mutation → Type 0
 MayFollow size order round (Write offset bytes) = offset + length bytes ≤ size
 MayFollow size order round (Append offset bytes) = IsPlaceBehind size order round (Append offset bytes)
-MayFollow size order round (Pad offset) = IsPlaceBehind size order round (Pad offset)
+MayFollow size order round (Pad offset end) = IsPlaceBehind size order round (Pad offset end) × (end ≡ size)
 
 -- It is made of these data: a record is at most a quarter of the chunk, and a pad comes only where that record doesn't fit.
 abbrev pub IsMadeOf : (size : ℕ) → List ℕ → Mutation → Type 0
 IsMadeOf size bytes (Write offset written) = written ≡ bytes
 IsMadeOf size bytes (Append offset written) = (written ≡ bytes) × (4 * length bytes ≤ size)
-IsMadeOf size bytes (Pad offset) = (4 * length bytes ≤ size) × (size < offset + length bytes)
+IsMadeOf size bytes (Pad offset end) = (4 * length bytes ≤ size) × (size < offset + length bytes)
 
 -- it is made of what its client pushed under its number
 pub record HasData (size : ℕ) (sent : List Message) (p : Placed) : Type 0 where

@@ -7,7 +7,7 @@ use Rattle.gfs_types.specs.declared.ids.Version.{Version}
 use Rattle.gfs_types.specs.declared.ids.Serial.{Serial}
 use Rattle.gfs_types.specs.declared.mutation.Mutation.{Mutation}
 use Rattle.gfs_types.specs.declared.mutation.Mutation.TheVariants.{Write, Append, Pad}
-use Rattle.gfs_types.specs.Mutations.{start_of}
+use Rattle.gfs_types.specs.Mutations.{start_of, end_of}
 use Rattle.gfs_types.specs.Image.{image}
 use Rattle.messages.specs.declared.message.Message.{Message}
 use Rattle.messages.specs.declared.message.Body.TheVariants as body
@@ -20,15 +20,15 @@ use Rattle.protocol.specs.ServerStep.{found_disk}
 use Rattle.protocol.specs.World.{WorldState, IsReached, is_kept}
 use Rattle.laws_entries.specs.ChunkOrders.{unsettled}
 
--- the bytes that a mutation writes in a chunk of this size; a pad writes zeros up to its end
-abbrev pub written_by : ℕ → Mutation → List ℕ
-written_by size (Write offset bytes) = bytes
-written_by size (Append offset bytes) = bytes
-written_by size (Pad offset) = replicate (size - offset) 0
+-- the bytes that a mutation writes; a pad writes zeros up to its end
+abbrev pub written_by : Mutation → List ℕ
+written_by (Write offset bytes) = bytes
+written_by (Append offset bytes) = bytes
+written_by (Pad offset end) = replicate (end - offset) 0
 
 -- The bytes of a chunk after mutations and one more are those after the first ones, with what the last one writes from its place on (section 2.7.1).
 abbrev pub ImagesAreWrittenTo : Type 0
-ImagesAreWrittenTo = (size : ℕ) (ms : List Mutation) (m : Mutation) → start_of m ≤ size → image size (ms ++ m ∷ []) ≡ with_bytes (image size ms) (start_of m) (written_by size m)
+ImagesAreWrittenTo = (ms : List Mutation) (m : Mutation) → start_of m ≤ end_of m → image (ms ++ m ∷ []) ≡ with_bytes (image ms) (start_of m) (written_by m)
 
 -- the marked entries of an order, as they stand in it, whatever is settled
 abbrev pub marked : List Bool → List Placed → List Placed
@@ -48,15 +48,15 @@ abbrev pub HasEntry : List Placed → (version serial : ℕ) → Type 0
 HasEntry ps version serial = (place : ℕ) × (p : Placed) × (element_at ps place ≡ Some p) × (p.entry.round ≡ version) × (p.serial ≡ serial)
 
 -- These bytes, at a version with a last serial, are the image of some entries of the order, in its order, none of a later round. Of the version's own round none has a later serial, and the last serial is that of one of them, or none was applied under this version.
-pub record IsImageOf (size : ℕ) (order : List Placed) (version serial : ℕ) (bytes : List ℕ) : Type 0 where
+pub record IsImageOf (order : List Placed) (version serial : ℕ) (bytes : List ℕ) : Type 0 where
   pub marks : List Bool
-  pub bytes_are : bytes ≡ image size (mutations_in (marked marks order))
+  pub bytes_are : bytes ≡ image (mutations_in (marked marks order))
   pub applied : AllByRecursion (IsWithin version serial) (marked marks order)
   pub last : (serial ≡ 0) ⊎ HasEntry (marked marks order) version serial
 
 -- so is each replica
 abbrev pub AreImages : WorldState → ServerDisk → Type 0
-AreImages w d = (handle : ℕ) (r : Replica) → replica_of d handle ≡ Some r → IsImageOf w.config.chunk (order_of w.observer handle) r.version r.serial r.bytes
+AreImages w d = (handle : ℕ) (r : Replica) → replica_of d handle ≡ Some r → IsImageOf (order_of w.observer handle) r.version r.serial r.bytes
 
 -- Where clocks and disks are kept, each replica is the image of some entries of its chunk's order up to its version: on the disk of a server, and on what a restart finds there, however the change under way is decided (sections 2.7.1 and 3.1).
 abbrev pub ReplicasAreImages : Type 0
@@ -69,4 +69,4 @@ abbrev pub SentImagesAreImages : Type 0
 SentImagesAreImages =
     (config : Config) (servers clients : ℕ) (w : WorldState) → IsReached config servers clients w → IsTrue (is_kept w)
     → (place : ℕ) (m : Message) → element_at w.sent place ≡ Some m → (handle : Handle) (version : Version) (serial : Serial) (bytes : List ℕ) → m.body ≡ body.Image handle version serial bytes
-    → IsImageOf w.config.chunk (order_of w.observer handle.0) version.0 serial.0 bytes
+    → IsImageOf (order_of w.observer handle.0) version.0 serial.0 bytes

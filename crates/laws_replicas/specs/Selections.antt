@@ -32,7 +32,7 @@ HasSettled order version ps = (place : ℕ) (p : Placed) → element_at order pl
 abbrev pub HaveSettled : WorldState → ServerDisk → Type 0
 HaveSettled w d =
     (handle : ℕ) (r : Replica) → replica_of d handle ≡ Some r
-    → (g : IsImageOf w.config.chunk (order_of w.observer handle) r.version r.serial r.bytes) × HasSettled (order_of w.observer handle) r.version (marked g.marks (order_of w.observer handle))
+    → (g : IsImageOf (order_of w.observer handle) r.version r.serial r.bytes) × HasSettled (order_of w.observer handle) r.version (marked g.marks (order_of w.observer handle))
 
 -- Where clocks and disks are kept, so it is on the disk of each server, and on what a restart finds there, however the change under way is decided (sections 2.7.1 and 3.1).
 abbrev pub ReplicasHaveSettledEntries : Type 0
@@ -45,12 +45,12 @@ abbrev pub ImagesHaveSettledEntries : Type 0
 ImagesHaveSettledEntries =
     (config : Config) (servers clients : ℕ) (w : WorldState) → IsReached config servers clients w → IsTrue (is_kept w)
     → (place : ℕ) (m : Message) → element_at w.sent place ≡ Some m → (handle : Handle) (version : Version) (serial : Serial) (bytes : List ℕ) → m.body ≡ body.Image handle version serial bytes
-    → (g : IsImageOf w.config.chunk (order_of w.observer handle.0) version.0 serial.0 bytes) × HasSettled (order_of w.observer handle.0) version.0 (marked g.marks (order_of w.observer handle.0))
+    → (g : IsImageOf (order_of w.observer handle.0) version.0 serial.0 bytes) × HasSettled (order_of w.observer handle.0) version.0 (marked g.marks (order_of w.observer handle.0))
 
 -- each replica is the image of a selection of its chunk's order up to its version: entries of rounds up to it, in order, with no settled one left out
 abbrev pub AreSelections : WorldState → ServerDisk → Type 0
 AreSelections w d =
-    (handle : ℕ) (r : Replica) → replica_of d handle ≡ Some r → (chosen : List Entry) × IsSelection r.version (entries_of w.observer handle) chosen × (r.bytes ≡ image w.config.chunk (mutations_of chosen))
+    (handle : ℕ) (r : Replica) → replica_of d handle ≡ Some r → (chosen : List Entry) × IsSelection r.version (entries_of w.observer handle) chosen × (r.bytes ≡ image (mutations_of chosen))
 
 -- Where clocks and disks are kept, so it is on the disk of each server, and on what a restart finds there (sections 2.7.1 and 3.1).
 abbrev pub ReplicasAreSelections : Type 0
@@ -64,4 +64,4 @@ RecordsComeBehindSettledEntries =
     (config : Config) (servers clients : ℕ) (w : WorldState) → IsReached config servers clients w → IsTrue (is_kept w) → (index : ℕ) (s : ServerState) → element_at w.servers index ≡ Some s
     → (moment : ℕ) (i : NodeInput) (choice : Choice) → ((m : Message) → i ≡ Deliver m → (at : ℕ) × (element_at w.sent at ≡ Some m)) → IsTrue (observed_moment w.config.skew_ms w.observer moment).are_clocks_kept
     → (shown : ℕ) (handle : Handle) (version : Version) (serial : Serial) (id : DataId) (m : Mutation) → element_at (server_step s moment i choice).seen shown ≡ Some (Numbered handle version serial id m)
-    → (place : ℕ) (e : Placed) → element_at (order_of w.observer handle.0) place ≡ Some e → e.entry.settled ≡ true → ComesBehind (end_of config.chunk e.entry.mutation) m
+    → (place : ℕ) (e : Placed) → element_at (order_of w.observer handle.0) place ≡ Some e → e.entry.settled ≡ true → ComesBehind (end_of e.entry.mutation) m

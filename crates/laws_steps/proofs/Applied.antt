@@ -3,7 +3,6 @@ use Rattle.std.proofs.Common.{◌≡◌, ◌⊎◌, ℕ, ◌+◌, ◌-◌, List,
 use Rattle.std.specs.Prelude.{filter}
 use Rattle.std.specs.FinMap as table
 use Rattle.std.specs.Ordering.{nat_cmp}
-use Rattle.gfs_types.specs.declared.config.Config.{Config}
 use Rattle.gfs_types.specs.declared.ids.DataId.{DataId}
 use Rattle.gfs_types.specs.declared.mutation.Mutation.{Mutation}
 use Rattle.gfs_types.specs.declared.mutation.Mutation.TheVariants as mutation
@@ -46,15 +45,15 @@ row_replica d handle row there = by_replica (replica_of d handle) refl there
 becomes_there : (f : Replica → Replica) (d : ServerDisk) (handle : ℕ) (r : Replica) → replica_of d handle ≡ Some r → replica_of (replica_becomes f d handle (replica_of d handle)) handle ≡ Some (f r)
 becomes_there f d handle r is = subst (λ (o : Option Replica). replica_of (replica_becomes f d handle o) handle ≡ Some (f r)) (sym is) (put_there d.replicas handle (f r) handle refl)
 
-stored_applied : (size : ℕ) (d : ServerDisk) (handle serial : ℕ) (m : Mutation) (r : Replica) → replica_of d handle ≡ Some r → replica_of (disk_changed d (stored_as size handle serial m)) handle ≡ Some (applied size serial m r)
-stored_applied size d handle serial (mutation.Write offset bytes) r is = becomes_there (λ x. written_replica x serial offset bytes) d handle r is
-stored_applied size d handle serial (mutation.Append offset bytes) r is = becomes_there (λ x. written_replica x serial offset bytes) d handle r is
-stored_applied size d handle serial (mutation.Pad offset) r is = becomes_there (λ x. written_replica x serial offset (replicate (size - offset) 0)) d handle r is
+stored_applied : (d : ServerDisk) (handle serial : ℕ) (m : Mutation) (r : Replica) → replica_of d handle ≡ Some r → replica_of (disk_changed d (stored_as handle serial m)) handle ≡ Some (applied serial m r)
+stored_applied d handle serial (mutation.Write offset bytes) r is = becomes_there (λ x. written_replica x serial offset bytes) d handle r is
+stored_applied d handle serial (mutation.Append offset bytes) r is = becomes_there (λ x. written_replica x serial offset bytes) d handle r is
+stored_applied d handle serial (mutation.Pad offset end) r is = becomes_there (λ x. written_replica x serial offset (replicate (end - offset) 0)) d handle r is
 
 module _ (s : ServerState) where
   -- after these changes the replica is what the mutation makes of it, or there is no lease
   abbrev IsMade : Table SerialOrder → ServerDisk → ℕ → ℕ → Mutation → Type 0
-  IsMade leases d handle serial m = (table.get leases handle ≡ None) ⊎ IsApplied s.config.chunk s.disk d handle serial m
+  IsMade leases d handle serial m = (table.get leases handle ≡ None) ⊎ IsApplied s.disk d handle serial m
 
   abbrev IsShown : Table SerialOrder → ServerDisk → Seen → Type 0
   IsShown leases d (Numbered handle version serial id m) = IsMade leases d handle.0 serial.0 m
@@ -83,15 +82,15 @@ module _ (s : ServerState) where
   silent c none = unseen c.leases (disk_changed_by_all c.disk c.changes) c.seen none
 
   seen_now : (c : Acting) (handle : ℕ) (p : SerialOrder) (id : DataId) (m : Mutation) → IsNumbering s.pushed c handle p id m → Before c
-      → IsApplied s.config.chunk s.disk (disk_changed_by_all c.disk (c.changes ++ stored_as c.config.chunk handle (p.serial + 1) m ∷ [])) handle (p.serial + 1) m
+      → IsApplied s.disk (disk_changed_by_all c.disk (c.changes ++ stored_as handle (p.serial + 1) m ∷ [])) handle (p.serial + 1) m
   seen_now c handle p id m n h =
       let r = row_replica c.disk handle n.row n.there in
       let d : ServerDisk = disk_changed_by_all c.disk c.changes in
       let here : replica_of d handle ≡ Some r.0 = ap (λ (t : Table Replica). table.get t handle) (numbers_quiet c.disk c.changes h.2) ∙ r.1 in
-      let made : replica_of (disk_changed d (stored_as c.config.chunk handle (p.serial + 1) m)) handle ≡ Some (applied c.config.chunk (p.serial + 1) m r.0) = stored_applied c.config.chunk d handle (p.serial + 1) m r.0 here in (
+      let made : replica_of (disk_changed d (stored_as handle (p.serial + 1) m)) handle ≡ Some (applied (p.serial + 1) m r.0) = stored_applied d handle (p.serial + 1) m r.0 here in (
         r.0,
         subst (λ (e : ServerDisk). replica_of e handle ≡ Some r.0) h.1 r.1,
-        ap (λ (e : ServerDisk). replica_of e handle) (changed_last c.disk c.changes (stored_as c.config.chunk handle (p.serial + 1) m)) ∙ made ∙ ap (λ (x : Config). Some (applied x.chunk (p.serial + 1) m r.0)) h.0,
+        ap (λ (e : ServerDisk). replica_of e handle) (changed_last c.disk c.changes (stored_as handle (p.serial + 1) m)) ∙ made,
       )
 
   acts_made : KeepsActs s.pushed Before After
@@ -107,7 +106,7 @@ module _ (s : ServerState) where
         holds = λ c leases from h. fewer c.leases leases (disk_changed_by_all c.disk c.changes) from c.seen h;
         settles = λ c handle version serial h. all_joined (IsShown c.leases (disk_changed_by_all c.disk c.changes)) c.seen (BecameSettled _ _ _ ∷ []) h (tt, tt);
         numbers = λ c handle p id m n h.
-            one_shown (numbers_on c handle p id m).leases (disk_changed_by_all c.disk (c.changes ++ stored_as c.config.chunk handle (p.serial + 1) m ∷ [])) c.seen (shown_as handle p id m) h.3 (inr (seen_now c handle p id m n h));
+            one_shown (numbers_on c handle p id m).leases (disk_changed_by_all c.disk (c.changes ++ stored_as handle (p.serial + 1) m ∷ [])) c.seen (shown_as handle p id m) h.3 (inr (seen_now c handle p id m n h));
         spoils = λ c handle p id m n h.
             one_shown (table.remove (numbers_on c handle p id m).leases handle) (disk_changed_by_all c.disk (c.changes ++ Remove (handle_of handle) ∷ [])) c.seen (shown_as handle p id m) h.3 (inl (gone_there (numbers_on c handle p id m).leases handle handle refl));
         applies = λ c handle serial r x there less writing h. silent (with_change c x) h.3;

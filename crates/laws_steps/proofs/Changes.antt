@@ -141,10 +141,10 @@ module _ (seen : List Seen) (before d : ServerDisk) (same : d.replicas ≡ befor
       → Changed seen before (replica_becomes (λ r. written_replica r serial offset bytes) d handle (replica_of d handle))
   written_changed handle serial offset bytes go = becomes_changed (λ r. written_replica r serial offset bytes) handle (λ r is. (written_long r.bytes offset bytes, inr (inr (refl, go r is))))
 
-  numbered_changed : (size handle serial : ℕ) (m : Mutation) → IsNumberedIn seen handle serial → Changed seen before (disk_changed d (stored_as size handle serial m))
-  numbered_changed size handle serial (mutation.Write offset bytes) is = written_changed handle serial offset bytes (λ r at. inr is)
-  numbered_changed size handle serial (mutation.Append offset bytes) is = written_changed handle serial offset bytes (λ r at. inr is)
-  numbered_changed size handle serial (mutation.Pad offset) is = written_changed handle serial offset (replicate (size - offset) 0) (λ r at. inr is)
+  numbered_changed : (handle serial : ℕ) (m : Mutation) → IsNumberedIn seen handle serial → Changed seen before (disk_changed d (stored_as handle serial m))
+  numbered_changed handle serial (mutation.Write offset bytes) is = written_changed handle serial offset bytes (λ r at. inr is)
+  numbered_changed handle serial (mutation.Append offset bytes) is = written_changed handle serial offset bytes (λ r at. inr is)
+  numbered_changed handle serial (mutation.Pad offset end) is = written_changed handle serial offset (replicate (end - offset) 0) (λ r at. inr is)
 
   applied_changed : (size handle serial : ℕ) (x : StoreChange) → ((r : Replica) → replica_of before handle ≡ Some r → r.serial < serial) → IsWriting size handle serial x → Changed seen before (disk_changed d x)
   applied_changed size handle serial (Write h n offset bytes) less is =
@@ -220,8 +220,8 @@ module _ (s : ServerState) where
               h.2,
             );
         numbers = λ c handle p id m n h.
-            after_one c (stored_as c.config.chunk handle (p.serial + 1) m) (numbers_on c handle p id m).leases (c.seen ++ shown_as handle p id m ∷ []) h
-            (λ d same. numbered_changed (c.seen ++ shown_as handle p id m ∷ []) c.disk d same c.config.chunk handle (p.serial + 1) m (last_numbered c.seen handle p id m));
+            after_one c (stored_as handle (p.serial + 1) m) (numbers_on c handle p id m).leases (c.seen ++ shown_as handle p id m ∷ []) h
+            (λ d same. numbered_changed (c.seen ++ shown_as handle p id m ∷ []) c.disk d same handle (p.serial + 1) m (last_numbered c.seen handle p id m));
         spoils = λ c handle p id m n h.
             after_one c (Remove (handle_of handle)) (table.remove (numbers_on c handle p id m).leases handle) (c.seen ++ shown_as handle p id m ∷ []) h
             (λ d same. removed_changed (c.seen ++ shown_as handle p id m ∷ []) c.disk d same handle);

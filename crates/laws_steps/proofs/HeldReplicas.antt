@@ -127,10 +127,10 @@ After c = AreTied c.leases (disk_changed_by_all c.disk c.changes)
 after_one : (c : Acting) (x : StoreChange) (leases : Table SerialOrder) → AllOf IsNumber c.changes → ((d : ServerDisk) → d.replicas ≡ c.disk.replicas → AreTied leases (disk_changed d x)) → AreTied leases (disk_changed_by_all c.disk (c.changes ++ x ∷ []))
 after_one c x leases idle change = subst (λ (d : ServerDisk). AreTied leases d) (sym (changed_last c.disk c.changes x)) (change (disk_changed_by_all c.disk c.changes) (numbers_quiet c.disk c.changes idle))
 
-written_tied : (leases : Table SerialOrder) (d : ServerDisk) (size handle serial : ℕ) (m : Mutation) → AreTied leases d → AreTied leases (disk_changed d (stored_as size handle serial m))
-written_tied leases d size handle serial (mutation.Write offset bytes) h = same_version leases (λ r. written_replica r serial offset bytes) d handle (λ r. refl) h
-written_tied leases d size handle serial (mutation.Append offset bytes) h = same_version leases (λ r. written_replica r serial offset bytes) d handle (λ r. refl) h
-written_tied leases d size handle serial (mutation.Pad offset) h = same_version leases (λ r. written_replica r serial offset (replicate (size - offset) 0)) d handle (λ r. refl) h
+written_tied : (leases : Table SerialOrder) (d : ServerDisk) (handle serial : ℕ) (m : Mutation) → AreTied leases d → AreTied leases (disk_changed d (stored_as handle serial m))
+written_tied leases d handle serial (mutation.Write offset bytes) h = same_version leases (λ r. written_replica r serial offset bytes) d handle (λ r. refl) h
+written_tied leases d handle serial (mutation.Append offset bytes) h = same_version leases (λ r. written_replica r serial offset bytes) d handle (λ r. refl) h
+written_tied leases d handle serial (mutation.Pad offset end) h = same_version leases (λ r. written_replica r serial offset (replicate (end - offset) 0)) d handle (λ r. refl) h
 
 applied_tied : (leases : Table SerialOrder) (d : ServerDisk) (size handle serial : ℕ) (x : StoreChange) → IsWriting size handle serial x → AreTied leases d → AreTied leases (disk_changed d x)
 applied_tied leases d size handle serial (Write h n offset bytes) is tied = same_version leases (λ r. written_replica r n.0 offset bytes) d h.0 (λ r. refl) tied
@@ -171,7 +171,7 @@ acts_tied kept =
       settles = λ c handle version serial h. h;
       numbers = λ c handle p id m n h.
           after_one c _ (table.insert c.leases handle (numbered p id.client id.seq (place_of m))) h.1
-          (λ d same. written_tied _ d c.config.chunk handle (p.serial + 1) m
+          (λ d same. written_tied _ d handle (p.serial + 1) m
           (same_tied _ c.disk d same (put_lease c.leases c.disk handle (numbered p id.client id.seq (place_of m)) (h.0 handle p n.lease) h.0)));
       spoils = λ c handle p id m n h.
           let more : Table SerialOrder = table.insert c.leases handle (numbered p id.client id.seq (place_of m)) in

@@ -146,10 +146,10 @@ row_within size d handle r there h = by_replica (replica_of d handle) refl there
         count_of None = 0
         count_of (Some y) = y.count
 
-placed_short : (size handle serial count : ℕ) (bytes : List ℕ) (m : Mutation) → count ≤ size → IsPlacedAt size count bytes m → IsShort size (stored_as size handle serial m)
+placed_short : (size handle serial count : ℕ) (bytes : List ℕ) (m : Mutation) → count ≤ size → IsPlacedAt size count bytes m → IsShort size (stored_as handle serial m)
 placed_short size handle serial count bytes (mutation.Write offset written) low placed = placed.1
 placed_short size handle serial count bytes (mutation.Append offset written) low placed = placed.2
-placed_short size handle serial count bytes (mutation.Pad offset) low placed = let at = placed.0 in omega (arith, low, at)
+placed_short size handle serial count bytes (mutation.Pad offset end) low placed = let at = placed.0 in let ends = placed.3 in omega (arith, low, at, ends)
 
 writing_short : (size handle serial : ℕ) (x : StoreChange) → IsWriting size handle serial x → IsShort size x
 writing_short size handle serial (Write h n offset bytes) is = is.2
@@ -174,8 +174,7 @@ acts_within config kept =
       settles = λ c handle version serial h. h;
       numbers = λ c handle p id m n h.
           more_within config c _
-          (subst (λ (x : Config). IsShort config.chunk (stored_as x.chunk handle (p.serial + 1) m)) (sym h.0)
-          (placed_short config.chunk handle (p.serial + 1) n.row.count n.bytes m (row_within config.chunk c.disk handle n.row n.there h.1) (subst (λ (x : Config). IsPlacedAt x.chunk n.row.count n.bytes m) h.0 n.placed))) h;
+          (placed_short config.chunk handle (p.serial + 1) n.row.count n.bytes m (row_within config.chunk c.disk handle n.row n.there h.1) (subst (λ (x : Config). IsPlacedAt x.chunk n.row.count n.bytes m) h.0 n.placed)) h;
       spoils = λ c handle p id m n h. more_within config c _ tt h;
       applies = λ c handle serial r x there less writing h. more_within config c x (writing_short config.chunk handle serial x (subst (λ (y : Config). IsWriting y.chunk handle serial x) h.0 writing)) h;
     }

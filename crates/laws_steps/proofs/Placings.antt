@@ -101,7 +101,7 @@ row_count (Some x) r row is there = ap (λ (y : Replica). length y.bytes) (sym (
 placed_behind : (size count : ℕ) (bytes : List ℕ) (m : Mutation) → count ≤ size → IsPlacedAt size count bytes m → IsPlacedBehind size count bytes m
 placed_behind size count bytes (mutation.Write offset written) low h = h
 placed_behind size count bytes (mutation.Append offset written) low h = h
-placed_behind size count bytes (mutation.Pad offset) low h = let at = h.0 in let apart : count ≡ size → ⊥ = h.1 in (at, below offset count size at low apart, h.2)
+placed_behind size count bytes (mutation.Pad offset end) low h = let at = h.0 in let apart : count ≡ size → ⊥ = h.1 in (at, below offset count size at low apart, h.2, h.3)
   where
     below : (a b c : ℕ) → a ≡ b → b ≤ c → (b ≡ c → ⊥) → a < c
     below a b c same low apart = omega (arith, same, low, apart)

@@ -91,7 +91,7 @@ pub record KeepsActs (kept : PushBuffer) (B P : Acting → Type 0) : Type 0 wher
   pub holds : (c : Acting) (leases : Table SerialOrder) → AreFrom c.leases leases → P c → P (record c { leases = leases })
   pub settles : (c : Acting) (handle version serial : ℕ) → P c → P (with_seen c (BecameSettled (handle_of handle) (version_of version) (serial_of serial)))
   pub numbers : (c : Acting) (handle : ℕ) (p : SerialOrder) (id : DataId) (m : Mutation) → IsNumbering kept c handle p id m → B c
-      → P (with_change (numbers_on c handle p id m) (stored_as c.config.chunk handle (p.serial + 1) m))
+      → P (with_change (numbers_on c handle p id m) (stored_as handle (p.serial + 1) m))
   pub spoils : (c : Acting) (handle : ℕ) (p : SerialOrder) (id : DataId) (m : Mutation) → IsNumbering kept c handle p id m → B c
       → P (record (with_change (numbers_on c handle p id m) (Remove (handle_of handle))) { leases = table.remove (numbers_on c handle p id m).leases handle })
   pub applies : (c : Acting) (handle serial : ℕ) (r : Row) (x : StoreChange) → row_at c.disk handle ≡ Some r → r.serial.0 < serial
@@ -110,11 +110,11 @@ less_from : (leases : Table SerialOrder) (handle : ℕ) → AreFrom leases (tabl
 less_from leases handle h x at = (x, kept_cases leases handle h x at, refl, refl)
 
 -- what is stored of a forwarded change lies within the chunk
-writes : (size handle serial : ℕ) (kept : Option (List ℕ)) (named : Change) (x : StoreChange) (from end_place : ℕ) → IsStoredAs size handle serial kept named x from end_place → end_place ≤ size
+writes : (size handle serial : ℕ) (kept : Option (List ℕ)) (named : Change) (x : StoreChange) (from end_place : ℕ) → IsStoredAs handle serial kept named x from end_place → end_place ≤ size
     → IsWriting size handle serial x
 writes size handle serial kept (change.Write offset) x from end_place h fits = subst (IsWriting size handle serial) (sym h.2) (refl, refl, subst (λ (n : ℕ). n ≤ size) h.4 fits)
 writes size handle serial kept (change.Append offset) x from end_place h fits = subst (IsWriting size handle serial) (sym h.2) (refl, refl, subst (λ (n : ℕ). n ≤ size) h.4 fits)
-writes size handle serial kept (change.Pad offset) x from end_place h fits = subst (IsWriting size handle serial) (sym h.0) (refl, refl, subst (λ (n : ℕ). n ≤ size) h.2 fits)
+writes size handle serial kept (change.Pad offset end) x from end_place h fits = subst (IsWriting size handle serial) (sym h.0) (refl, refl, subst (λ (n : ℕ). n ≤ size) h.2 fits)
 
 extended_same : (skew : ℕ) (q : SerialOrder) (until now : ℕ) → (extended skew q.held until now).version ≡ q.held.version
 extended_same skew q until now = on_cond (λ (l : LeaseHeld). l.version ≡ q.held.version) (counts_at skew q.held now && nat_lt q.held.until until) _ q.held (λ _. refl) (λ _. refl)
@@ -167,7 +167,7 @@ module _ (s : ServerState) (i : NodeInput) (B P : Acting → Type 0) (k : KeepsA
       let handle : ℕ = n.a.c.handle.0 in
       let serial : ℕ = n.a.p.serial + 1 in
       let new : SerialOrder = numbered n.a.p n.a.c.id.client n.a.c.id.seq (place_of n.placed) in
-      acks_fine (forwards (stores (number_of s i n) (stored_as s.config.chunk handle serial n.placed)) (without n.a.p.held.members s.id) handle n.a.p.held.version serial n.a.c.id (change_of n.placed)) handle new s.id serial
+      acks_fine (forwards (stores (number_of s i n) (stored_as handle serial n.placed)) (without n.a.p.held.members s.id) handle n.a.p.held.version serial n.a.c.id (change_of n.placed)) handle new s.id serial
       (put_there s.leases handle new handle refl) (k.numbers Begun handle n.a.p n.a.c.id n.placed (numbering n) h)
 
   ticked_from : AreFrom s.leases (map_values asks_no_more (counting_leases s))

@@ -134,7 +134,7 @@ module _ (s : ServerState) (i : NodeInput) (B : DataId × List ℕ → Type 0) (
   abbrev forwarded : Numbering s i → ServerDoing
   forwarded n =
       with_primary
-      (forwards (stores (number_of s i n) (stored_as s.config.chunk n.a.c.handle.0 (n.a.p.serial + 1) n.placed)) (without n.a.p.held.members s.id) n.a.c.handle.0 n.a.p.held.version (n.a.p.serial + 1) n.a.c.id (change_of n.placed))
+      (forwards (stores (number_of s i n) (stored_as n.a.c.handle.0 (n.a.p.serial + 1) n.placed)) (without n.a.p.held.members s.id) n.a.c.handle.0 n.a.p.held.version (n.a.p.serial + 1) n.a.c.id (change_of n.placed))
       n.a.c.handle.0 (acknowledged (numbered n.a.p n.a.c.id.client n.a.c.id.seq (place_of n.placed)) s.id (n.a.p.serial + 1))
 
   abbrev settled_at_once : Numbering s i → ServerDoing

@@ -43,7 +43,7 @@ LeasesHaveTheirReplica =
 abbrev pub IsPlacedBehind : (size count : ℕ) → List ℕ → Mutation → Type 0
 IsPlacedBehind size count bytes (Write offset written) = (written ≡ bytes) × (offset + length written ≤ size)
 IsPlacedBehind size count bytes (Append offset written) = (written ≡ bytes) × (offset ≡ count) × (offset + length written ≤ size)
-IsPlacedBehind size count bytes (Pad offset) = (offset ≡ count) × (offset < size) × (size < offset + length bytes)
+IsPlacedBehind size count bytes (Pad offset end) = (offset ≡ count) × (offset < size) × (size < offset + length bytes) × (end ≡ size)
 
 -- how a server numbers a mutation: under a lease that it holds, of data that it keeps, and by its own replica of that version
 pub record IsPlacedByReplica (size : ℕ) (s : ServerState) (handle version serial : ℕ) (id : DataId) (m : Mutation) : Type 0 where
@@ -66,19 +66,19 @@ MutationsArePlacedByReplicas =
     → element_at (server_step s moment i choice).seen place ≡ Some (Numbered handle version serial id m)
     → IsPlacedByReplica config.chunk s handle.0 version.0 serial.0 id m
 
--- what a mutation makes of a replica in a chunk of this size
-abbrev pub applied : (size serial : ℕ) → Mutation → Replica → Replica
-applied size serial (Write offset bytes) r = written_replica r serial offset bytes
-applied size serial (Append offset bytes) r = written_replica r serial offset bytes
-applied size serial (Pad offset) r = written_replica r serial offset (replicate (size - offset) 0)
+-- what a mutation makes of a replica
+abbrev pub applied : (serial : ℕ) → Mutation → Replica → Replica
+applied serial (Write offset bytes) r = written_replica r serial offset bytes
+applied serial (Append offset bytes) r = written_replica r serial offset bytes
+applied serial (Pad offset end) r = written_replica r serial offset (replicate (end - offset) 0)
 
 -- the replica became so between these states of a disk
-abbrev pub IsApplied : (size : ℕ) → ServerDisk → ServerDisk → (handle serial : ℕ) → Mutation → Type 0
-IsApplied size before after handle serial m = (r : Replica) × (replica_of before handle ≡ Some r) × (replica_of after handle ≡ Some (applied size serial m r))
+abbrev pub IsApplied : ServerDisk → ServerDisk → (handle serial : ℕ) → Mutation → Type 0
+IsApplied before after handle serial m = (r : Replica) × (replica_of before handle ≡ Some r) × (replica_of after handle ≡ Some (applied serial m r))
 
 -- A server that numbers a mutation applies it in the same step, or holds no lease of the chunk after it (section 3.1).
 abbrev pub PrimariesApplyWhatTheyNumber : Type 0
 PrimariesApplyWhatTheyNumber =
     (s : ServerState) (moment : ℕ) (i : NodeInput) (choice : Choice) (place : ℕ) (handle : Handle) (version : Version) (serial : Serial) (id : DataId) (m : Mutation)
     → element_at (server_step s moment i choice).seen place ≡ Some (Numbered handle version serial id m)
-    → (table.get (server_step s moment i choice).state.leases handle.0 ≡ None) ⊎ IsApplied s.config.chunk s.disk (server_step s moment i choice).state.disk handle.0 serial.0 m
+    → (table.get (server_step s moment i choice).state.leases handle.0 ≡ None) ⊎ IsApplied s.disk (server_step s moment i choice).state.disk handle.0 serial.0 m

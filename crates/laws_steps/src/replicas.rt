@@ -12,7 +12,7 @@ pub fn leases_have_their_replica()
     ensures { LeasesHaveTheirReplica }
 {}
 
-/// A server numbers a mutation under the next serial of a lease that it holds, of data that it keeps, within the chunk: a record just behind the bytes of its own replica of that version where it fits, and else a pad there, unless that replica is full.
+/// A server numbers a mutation under the next serial of a lease that it holds, of data that it keeps, within the chunk: a record just behind the bytes of its own replica of that version where it fits, and else a pad from there to the chunk's end, unless that replica is full.
 pub fn mutations_are_placed_by_replicas()
     ensures { MutationsArePlacedByReplicas }
 {}

@@ -235,10 +235,10 @@ module _ (sent : List Message) (server : ℕ) where
     acks_holds d handle p member serial h =
         settles_holds (with_primary d handle (acknowledged p member serial)) handle p.held.version serial (settled p member serial) (again d _ refl refl refl refl h)
 
-    stored_sound : (e : ServerDisk) (chunk handle serial : ℕ) (m : Mutation) → IsOfTakenOrder e (stored_as chunk handle serial m)
-    stored_sound e chunk handle serial (mutation.Write offset bytes) = tt
-    stored_sound e chunk handle serial (mutation.Append offset bytes) = tt
-    stored_sound e chunk handle serial (mutation.Pad offset) = tt
+    stored_sound : (e : ServerDisk) (handle serial : ℕ) (m : Mutation) → IsOfTakenOrder e (stored_as handle serial m)
+    stored_sound e handle serial (mutation.Write offset bytes) = tt
+    stored_sound e handle serial (mutation.Append offset bytes) = tt
+    stored_sound e handle serial (mutation.Pad offset end) = tt
 
     clone_holds : (handle version source : ℕ) (d : ServerDoing) → IsTaken version_cloned sent server (after d).epoch (after d).count handle version → Holds d
         → Holds (takes_clone d handle version source)
@@ -256,11 +256,11 @@ module _ (sent : List Message) (server : ℕ) where
           idle = h.idle;
         }
 
-    written_sound : (e : ServerDisk) (size handle serial : ℕ) (kept : Option (List ℕ)) (named : Change) (x : StoreChange) (from end_place : ℕ)
-        → IsStoredAs size handle serial kept named x from end_place → IsOfTakenOrder e x
-    written_sound e size handle serial kept (change.Write offset) x from end_place h = subst (IsOfTakenOrder e) (sym h.2) tt
-    written_sound e size handle serial kept (change.Append offset) x from end_place h = subst (IsOfTakenOrder e) (sym h.2) tt
-    written_sound e size handle serial kept (change.Pad offset) x from end_place h = subst (IsOfTakenOrder e) (sym h.0) tt
+    written_sound : (e : ServerDisk) (handle serial : ℕ) (kept : Option (List ℕ)) (named : Change) (x : StoreChange) (from end_place : ℕ)
+        → IsStoredAs handle serial kept named x from end_place → IsOfTakenOrder e x
+    written_sound e handle serial kept (change.Write offset) x from end_place h = subst (IsOfTakenOrder e) (sym h.2) tt
+    written_sound e handle serial kept (change.Append offset) x from end_place h = subst (IsOfTakenOrder e) (sym h.2) tt
+    written_sound e handle serial kept (change.Pad offset end) x from end_place h = subst (IsOfTakenOrder e) (sym h.0) tt
 
   -- the step on a message that was sent to this server
   module _ (s : ServerState) (i : NodeInput) (is : IsSentHere sent server i) (h : Holds s.disk (server_begins s)) where
@@ -295,12 +295,12 @@ module _ (sent : List Message) (server : ℕ) where
     applied_holds n =
         let q : ℕ = n.a.c.handle.0 in
         let serial : ℕ = n.a.p.serial + 1 in
-        let x : StoreChange = stored_as s.config.chunk q serial n.placed in
+        let x : StoreChange = stored_as q serial n.placed in
         acks_holds s.disk (forwards (stores (number_of s i n) x) (without n.a.p.held.members s.id) q n.a.p.held.version serial n.a.c.id (change_of n.placed)) q (numbered n.a.p n.a.c.id.client n.a.c.id.seq (place_of n.placed)) s.id serial
-        (again s.disk (stores (server_begins s) x) _ refl refl refl refl (stores_holds s.disk (server_begins s) x (stored_sound s.disk s.disk s.config.chunk q serial n.placed) h))
+        (again s.disk (stores (server_begins s) x) _ refl refl refl refl (stores_holds s.disk (server_begins s) x (stored_sound s.disk s.disk q serial n.placed) h))
 
     member_sound : (t : Storing s i) → IsOfTakenOrder s.disk t.x
-    member_sound t = written_sound s.disk s.disk s.config.chunk t.f.c.handle.0 t.f.c.serial.0 (data_of s.pushed t.f.c.id) t.f.c.named t.x t.from t.end_place t.stored
+    member_sound t = written_sound s.disk s.disk t.f.c.handle.0 t.f.c.serial.0 (data_of s.pushed t.f.c.id) t.f.c.named t.x t.from t.end_place t.stored
 
     installed_holds : (c : Imaging i) → table.get s.clones c.handle.0 ≡ Some c.version.0
         → Holds s.disk (sends (installed s c.handle.0 c.version.0 c.serial.0 c.bytes) Master (body.Cloned (handle_of c.handle.0) (version_of c.version.0)))

@@ -122,7 +122,7 @@ module _ (m n : Machine) (h : AreNamesOf m n) where
   looks_past client index may = one_step m n client may.0 (λ c. record c { pieces = a_piece index [] None ∷ c.pieces }) (λ c. refl) h may.1 (offered_call client may.0 (NoSuchChunk index) may.1 may.2)
 
   measures : (client file index told least last : ℕ) (chosen : List Entry) → Allows m (Measure client file index told least last chosen) → AreNamesOf (after m (Measure client file index told least last chosen)) n
-  measures client file index told least last chosen may = one_step m n client may.0 (λ c. record c { lengths = (index * chunk_size m file + image_length (chunk_size m file) (mutations_of chosen)) ∷ c.lengths }) (λ c. refl) h may.1 (its_file client file may.0 may.1 may.2.0)
+  measures client file index told least last chosen may = one_step m n client may.0 (λ c. record c { lengths = (index * chunk_size m file + image_length (mutations_of chosen)) ∷ c.lengths }) (λ c. refl) h may.1 (its_file client file may.0 may.1 may.2.0)
 
   measures_none : (client : ℕ) → Allows m (MeasureNone client) → AreNamesOf (after m (MeasureNone client)) n
   measures_none client may = one_step m n client may.0 (λ c. record c { lengths = 0 ∷ c.lengths }) (λ c. refl) h may.1 (offered_call client may.0 (NoSuchChunk 0) may.1 may.2.1)

@@ -12,25 +12,25 @@ use relaxed_file::region::Region;
 use std::alloc::{AllocError, Global};
 
 /// The greatest end of all entries, and 0 where there is none.
-pub fn order_length(chunk: u64, entries: &[Entry]) -> u64
-    requires { All (λ e. change.end_of chunk e.mutation < 2 ^ 64) entries.now }
-    ensures { result ≡ order.order_length chunk entries.now }
+pub fn order_length(entries: &[Entry]) -> u64
+    requires { All (λ e. change.end_of e.mutation < 2 ^ 64) entries.now }
+    ensures { result ≡ order.order_length entries.now }
 {
     let mut greatest = 0;
     for entry in entries {
-        greatest = greatest.max(end_of(chunk, entry.mutation()));
+        greatest = greatest.max(end_of(entry.mutation()));
     }
     greatest
 }
 
 /// Whether the byte at a place is determined: the last entry that covers it is settled, or none does.
-pub fn is_determined(chunk: u64, entries: &[Entry], place: u64) -> bool
-    requires { All (λ e. change.end_of chunk e.mutation < 2 ^ 64) entries.now }
-    ensures { result ≡ spec.is_determined chunk entries.now place }
+pub fn is_determined(entries: &[Entry], place: u64) -> bool
+    requires { All (λ e. change.end_of e.mutation < 2 ^ 64) entries.now }
+    ensures { result ≡ spec.is_determined entries.now place }
 {
     let mut settled = None;
     for entry in entries {
-        if covers(chunk, place, entry.mutation()) {
+        if covers(place, entry.mutation()) {
             settled = Some(entry.is_settled());
         }
     }
@@ -48,15 +48,15 @@ fn paint(marks: &mut [bool], start: u64, end: u64, settled: bool)
 }
 
 /// Whether each place below an end is determined: all are until the entries, in order, overwrite their ranges.
-fn marks(alloc: Global, chunk: u64, entries: &[Entry], end: u64) -> Result<Vec<bool>, AllocError>
-    requires { All (λ e. change.end_of chunk e.mutation < 2 ^ 64) entries.now }
+fn marks(alloc: Global, entries: &[Entry], end: u64) -> Result<Vec<bool>, AllocError>
+    requires { All (λ e. change.end_of e.mutation < 2 ^ 64) entries.now }
     ensures length { IfOk result (λ marks. length marks.items ≡ end) }
-    ensures marks { IfOk result (λ marks. (place : ℕ) → place < end → get_or marks.items place true ≡ spec.is_determined chunk entries.now place) }
+    ensures marks { IfOk result (λ marks. (place : ℕ) → place < end → get_or marks.items place true ≡ spec.is_determined entries.now place) }
 {
     let mut marks = vec![in alloc; true; end as usize]?;
     for entry in entries {
         let start = start_of(entry.mutation());
-        let end = end_of(chunk, entry.mutation());
+        let end = end_of(entry.mutation());
         paint(&mut marks, start, end, entry.is_settled());
     }
     Ok(marks)
@@ -87,13 +87,13 @@ fn join_before(regions: &mut Vec<Region>, place: u64, determined: bool) -> Resul
 }
 
 /// The maximal ranges of places that are all determined or all undetermined, from the first place to the greatest end of the entries.
-pub fn regions(alloc: Global, chunk: u64, entries: &[Entry]) -> Result<Vec<Region>, AllocError>
-    requires { All (λ e. change.end_of chunk e.mutation < 2 ^ 64) entries.now }
-    ensures { IfOk result (λ regions. regions.items ≡ spec.regions_of chunk entries.now) }
+pub fn regions(alloc: Global, entries: &[Entry]) -> Result<Vec<Region>, AllocError>
+    requires { All (λ e. change.end_of e.mutation < 2 ^ 64) entries.now }
+    ensures { IfOk result (λ regions. regions.items ≡ spec.regions_of entries.now) }
 {
     let mut regions = Vec::new(alloc);
-    let end = order_length(chunk, entries);
-    let marks = marks(alloc, chunk, entries, end)?;
+    let end = order_length(entries);
+    let marks = marks(alloc, entries, end)?;
     for passed in 0..end {
         let place = end - 1 - passed;
         join_before(&mut regions, place, marks[place as usize])?;

@@ -156,7 +156,7 @@ module _ (path : Path) (node : Option Node) where
   calls_step m (Look who f i least last chosen) a q h = at_some AreCalmCalls (λ current. looked m who current f i least chosen) m _ a.0 a.1
       (step_taken m who (λ c. record c { pieces = record { index = i; bytes = read_slice (chunk_size m f) i (a.0).asked.call chosen; round = Some least } ∷ c.pieces }) (λ c there calm. calm) h.calls)
   calls_step m (LookPast who i) a q h = step_taken m who (λ c. record c { pieces = record { index = i; bytes = []; round = None } ∷ c.pieces }) (λ c there calm. calm) h.calls
-  calls_step m (Measure who f i told least last chosen) a q h = step_taken m who (λ c. record c { lengths = (i * chunk_size m f + image_length (chunk_size m f) (mutations_of chosen)) ∷ c.lengths }) (λ c there calm. calm) h.calls
+  calls_step m (Measure who f i told least last chosen) a q h = step_taken m who (λ c. record c { lengths = (i * chunk_size m f + image_length (mutations_of chosen)) ∷ c.lengths }) (λ c there calm. calm) h.calls
   calls_step m (MeasureNone who) a q h = step_taken m who (λ c. record c { lengths = 0 ∷ c.lengths }) (λ c there calm. calm) h.calls
   calls_step m other a q h = h.calls
 

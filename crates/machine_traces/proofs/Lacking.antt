@@ -33,7 +33,7 @@ module _ (x : ℕ) where
   abbrev pub LackedBy : Mutation → Type 0
   LackedBy (Write offset bytes) = Lacks x bytes
   LackedBy (Append offset bytes) = Lacks x bytes
-  LackedBy (Pad offset) = Unit {0}
+  LackedBy (Pad offset end) = Unit {0}
 
   abbrev pub AreLacking : List Entry → Type 0
   AreLacking order = AllByRecursion (λ e. LackedBy e.mutation) order
@@ -56,7 +56,7 @@ module _ (x : ℕ) where
   asked_lacks : (size index : ℕ) (c : Call) (mutation : Mutation) → IsAskedOf size index c mutation → WritesNone x c → LackedBy mutation
   asked_lacks size index (call.Write fd offset bytes) (Write at content) asked h = subst (Lacks x) (sym asked.1) (lacks_take (part_length size offset (length bytes) index) (drop (index * size - offset) bytes) (lacks_drop (index * size - offset) bytes h))
   asked_lacks size index (call.Append fd bytes) (Append at content) asked h = subst (Lacks x) (sym asked.0) h
-  asked_lacks size index (call.Append fd bytes) (Pad at) asked h = tt
+  asked_lacks size index (call.Append fd bytes) (Pad at end) asked h = tt
   asked_lacks size index other mutation asked h = absurd asked
 
   settled_lacking : (place : ℕ) (order : List Entry) → AreLacking order → AreLacking (settled_at place order)
@@ -202,7 +202,7 @@ module _ (x : ℕ) where
     byte_lacks : (place : ℕ) (m : Mutation) → LackedBy m → byte_of place m ≡ x → ⊥
     byte_lacks place (Write offset bytes) h is = at_index bytes (place - offset) h is
     byte_lacks place (Append offset bytes) h is = at_index bytes (place - offset) h is
-    byte_lacks place (Pad offset) h is = other (sym is)
+    byte_lacks place (Pad offset end) h is = other (sym is)
 
     abbrev FoundLacks : Option Mutation → Type 0
     FoundLacks None = Unit {0}
@@ -213,20 +213,20 @@ module _ (x : ℕ) where
     newer_lacks false m None h g = g
     newer_lacks b m (Some later) h g = g
 
-    last_lacks : (size place : ℕ) (order : List Entry) → AreLacking order → FoundLacks (last_that (covers size place) (mutations_of order))
-    last_lacks size place [] h = tt
-    last_lacks size place (e ∷ rest) h = newer_lacks (covers size place e.mutation) e.mutation _ h.0 (last_lacks size place rest h.1)
+    last_lacks : (place : ℕ) (order : List Entry) → AreLacking order → FoundLacks (last_that (covers place) (mutations_of order))
+    last_lacks place [] h = tt
+    last_lacks place (e ∷ rest) h = newer_lacks (covers place e.mutation) e.mutation _ h.0 (last_lacks place rest h.1)
 
     found_lacks : (place : ℕ) (o : Option Mutation) → FoundLacks o → unwrap_or (option_map (byte_of place) o) 0 ≡ x → ⊥
     found_lacks place None h is = other (sym is)
     found_lacks place (Some m) h is = byte_lacks place m h is
 
-    bytes_lack : (size : ℕ) (order : List Entry) (place count : ℕ) → AreLacking order → Lacks x (bytes_from size (mutations_of order) place count)
-    bytes_lack size order place zero h = tt
-    bytes_lack size order place (suc count) h = (found_lacks place (last_that (covers size place) (mutations_of order)) (last_lacks size place order h), bytes_lack size order (suc place) count h)
+    bytes_lack : (order : List Entry) (place count : ℕ) → AreLacking order → Lacks x (bytes_from (mutations_of order) place count)
+    bytes_lack order place zero h = tt
+    bytes_lack order place (suc count) h = (found_lacks place (last_that (covers place) (mutations_of order)) (last_lacks place order h), bytes_lack order (suc place) count h)
 
     slice_lacks : (size index : ℕ) (c : Call) (chosen : List Entry) → AreLacking chosen → Lacks x (read_slice size index c chosen)
-    slice_lacks size index (call.Read fd offset count) chosen h = bytes_lack size chosen _ _ h
+    slice_lacks size index (call.Read fd offset count) chosen h = bytes_lack chosen _ _ h
     slice_lacks size index other_call chosen h = tt
 
     pub look_lacks : (size index last : ℕ) (c : Call) (order chosen : List Entry) → IsSelection last order chosen → AreLacking order → Lacks x (read_slice size index c chosen)

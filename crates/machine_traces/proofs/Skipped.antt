@@ -142,12 +142,12 @@ module _ (config : Config) (one two : ℕ) (fd fe : Fd) (bytes : List ℕ) (x ro
   given : 0 < length (read_slice config.chunk it.index (call.Read fe x (length bytes)) look_two.chosen)
   given =
       let there : Contains look_two.chosen it.entry = chosen_has in
-      let far : end_of config.chunk (it.entry).mutation ≤ image_length config.chunk (mutations_of look_two.chosen) = reaches_end config.chunk there.0 look_two.chosen it.entry there.1 there.2 in
-      let end_is : end_of config.chunk (it.entry).mutation ≡ it.offset + length bytes = ap (end_of config.chunk) it.what in
-      let enough : 0 < min (part_length config.chunk x (length bytes) it.index) (image_length config.chunk (mutations_of look_two.chosen) - part_start config.chunk x it.index) =
+      let far : end_of (it.entry).mutation ≤ image_length (mutations_of look_two.chosen) = reaches_end there.0 look_two.chosen it.entry there.1 there.2 in
+      let end_is : end_of (it.entry).mutation ≡ it.offset + length bytes = ap end_of it.what in
+      let enough : 0 < min (part_length config.chunk x (length bytes) it.index) (image_length (mutations_of look_two.chosen) - part_start config.chunk x it.index) =
       part_bytes_there config.chunk it.index it.offset (length bytes) x _ it.is it.room some (omega (arith, far, end_is)) in
-      let count : length (image_slice config.chunk (mutations_of look_two.chosen) (part_start config.chunk x it.index) (part_length config.chunk x (length bytes) it.index))
-      ≡ min (part_length config.chunk x (length bytes) it.index) (image_length config.chunk (mutations_of look_two.chosen) - part_start config.chunk x it.index) = length_from config.chunk (mutations_of look_two.chosen) _ _ in
+      let count : length (image_slice (mutations_of look_two.chosen) (part_start config.chunk x it.index) (part_length config.chunk x (length bytes) it.index))
+      ≡ min (part_length config.chunk x (length bytes) it.index) (image_length (mutations_of look_two.chosen) - part_start config.chunk x it.index) = length_from (mutations_of look_two.chosen) _ _ in
       omega (arith, enough, count)
 
   skipped : ⊥

@@ -29,7 +29,7 @@ new_primary held = record { held = held; serial = 0; was_used_since_report = fal
 abbrev pub place_of : Mutation → Option ℕ
 place_of (Write offset bytes) = Some offset
 place_of (Append offset bytes) = Some offset
-place_of (Pad offset) = None
+place_of (Pad offset end) = None
 
 -- what a repeated attempt is answered
 abbrev pub answer_by : ClientId → ℕ → Standing → Accept

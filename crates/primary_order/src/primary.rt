@@ -203,6 +203,6 @@ fn place(mutation: &Mutation) -> Option<u64>
     match mutation {
         Mutation::Write(offset, _) => Some(*offset),
         Mutation::Append(offset, _) => Some(*offset),
-        Mutation::Pad(_) => None,
+        Mutation::Pad(_, _) => None,
     }
 }

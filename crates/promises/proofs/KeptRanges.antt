@@ -44,13 +44,13 @@ not_there : {A : Type 0} (b : Bool) (x : A) → cond b (Some x) None ≡ None �
 not_there true x is = absurd (none-some x (sym is))
 not_there false x is = refl
 
-none_covers : (size place : ℕ) (old new : List Entry) → OrderGrows old new → last_cover size new place ≡ None → last_cover size old place ≡ None
-none_covers size place [] new grown none = refl
-none_covers size place (e ∷ old) [] grown none = absurd grown
-none_covers size place (e ∷ old) (f ∷ new) grown none =
-    let both = none_of_newer (cond (covers size place f.mutation) (Some f) None) (last_cover size new place) none in
-    let left : covers size place e.mutation ≡ false = ap (covers size place) (grown.0).2 ∙ not_there (covers size place f.mutation) f both.0 in
-    ap (λ o. newer (cond (covers size place e.mutation) (Some e) None) o) (none_covers size place old new grown.1 both.1) ∙ ap (λ b. cond b (Some e) None) left
+none_covers : (place : ℕ) (old new : List Entry) → OrderGrows old new → last_cover new place ≡ None → last_cover old place ≡ None
+none_covers place [] new grown none = refl
+none_covers place (e ∷ old) [] grown none = absurd grown
+none_covers place (e ∷ old) (f ∷ new) grown none =
+    let both = none_of_newer (cond (covers place f.mutation) (Some f) None) (last_cover new place) none in
+    let left : covers place e.mutation ≡ false = ap (covers place) (grown.0).2 ∙ not_there (covers place f.mutation) f both.0 in
+    ap (λ o. newer (cond (covers place e.mutation) (Some e) None) o) (none_covers place old new grown.1 both.1) ∙ ap (λ b. cond b (Some e) None) left
 
 later_grows : (before after : List Entry) (e f : Entry) (old new : List Entry) → length before ≡ length after → OrderGrows (before ++ e ∷ old) (after ++ f ∷ new) → OrderGrows old new
 later_grows [] [] e f old new same grown = grown.1
@@ -69,8 +69,8 @@ pub record IsKept (size : ℕ) (s : Machine) (file index offset : ℕ) (bytes : 
   pub there : slice_get (chunk_at s file index).order place ≡ Some entry
   pub settled : IsTrue entry.settled
   pub room : offset + length bytes ≤ size
-  pub keeps : (last : ℕ) (before later chosen : List Entry) → entry.round ≤ last → LeaveAlone size offset (length bytes) later → IsSelection last (before ++ entry ∷ later) chosen
-      → image_slice size (mutations_of chosen) offset (length bytes) ≡ bytes
+  pub keeps : (last : ℕ) (before later chosen : List Entry) → entry.round ≤ last → LeaveAlone offset (length bytes) later → IsSelection last (before ++ entry ∷ later) chosen
+      → image_slice (mutations_of chosen) offset (length bytes) ≡ bytes
 
 -- where it stands at the end
 abbrev pub CutAt : Machine → ℕ → ℕ → Entry → ℕ → Type 0
@@ -190,7 +190,7 @@ module _ (config : Config) (trace : List Visible) (m : Machine) (run : IsRunTo c
       chosen : List Entry
       look : IsLook look_since reader file index place.named last chosen
       named_is : slice_get rounds (index - first) ≡ Some place.named
-      gave : (place.piece).bytes ≡ image_slice size (mutations_of chosen) (part_start size offset index) (part_length size offset count index)
+      gave : (place.piece).bytes ≡ image_slice (mutations_of chosen) (part_start size offset index) (part_length size offset count index)
 
     looked_by : (c : OpenCall) → c.asked ≡ (at_two.current).asked → IsPieceOf look_since reader c place.piece → IsLookOf
     looked_by c same (by_none i gone is) = absurd (none-some place.named (ap (λ (p : Piece). p.round) (sym is) ∙ place.round_is))
@@ -215,7 +215,7 @@ module _ (config : Config) (trace : List Visible) (m : Machine) (run : IsRunTo c
     reaches : ReachRound → (kept.entry).round ≤ place.named
     reaches rounds_reach = rounds_reach look_since place.named looked.last looked.chosen to_look looked.look looked.named_is
 
-    shown_whole : LeaveAlone size o (length bytes) at_end.1 → ReachRound → take (length bytes) (drop (x - offset) found) ≡ bytes
+    shown_whole : LeaveAlone o (length bytes) at_end.1 → ReachRound → take (length bytes) (drop (x - offset) found) ≡ bytes
     shown_whole alone rounds_reach =
         let up_to : (kept.entry).round ≤ looked.last = let l : place.named ≤ looked.last = (looked.look).2 in omega (arith, reaches rounds_reach, l) in
         let known : Known look_since = known_when_reached config look_since (leads_on (new_machine config) past_one look_since reached_past_one to_look) in
@@ -224,18 +224,18 @@ module _ (config : Config) (trace : List Visible) (m : Machine) (run : IsRunTo c
         let parts : OrderGrows (cut.0 ++ kept.entry ∷ cut.1) (at_end.0 ++ kept.entry ∷ at_end.1) =
         subst (λ l. OrderGrows l (at_end.0 ++ kept.entry ∷ at_end.1)) cut.2 (subst (OrderGrows (chunk_at look_since file index).order) at_end.2 grown) in
         let later : OrderGrows cut.1 at_end.1 = later_grows cut.0 at_end.0 kept.entry kept.entry cut.1 at_end.1 (cut.3 ∙ sym at_end.3) parts in
-        let there : image_slice size (mutations_of looked.chosen) o (length bytes) ≡ bytes =
-        kept.keeps looked.last cut.0 cut.1 looked.chosen up_to (λ p from until. none_covers size p cut.1 at_end.1 later (alone p from until)) (subst (λ l. IsSelection looked.last l looked.chosen) cut.2 (looked.look).3) in
+        let there : image_slice (mutations_of looked.chosen) o (length bytes) ≡ bytes =
+        kept.keeps looked.last cut.0 cut.1 looked.chosen up_to (λ p from until. none_covers p cut.1 at_end.1 later (alone p from until)) (subst (λ l. IsSelection looked.last l looked.chosen) cut.2 (looked.look).3) in
         ap (λ l. take (length bytes) (drop (x - offset) l)) done.4 ∙ ap (λ k. take (length bytes) (drop (x - k) (bytes_of done.2))) (sym begin_is) ∙ place.bytes_are
         ∙ ap (λ l. take (length bytes) (drop (o - part_start size offset index) l)) looked.gave
-        ∙ slice_there size o (part_start size offset index) (part_length size offset count index) (length bytes) (mutations_of looked.chosen) bytes place.starts
+        ∙ slice_there o (part_start size offset index) (part_length size offset count index) (length bytes) (mutations_of looked.chosen) bytes place.starts
         (subst (λ l. (o - part_start size offset index) + length bytes ≤ length l) looked.gave place.long) refl there
 
     -- the read names a round of the chunk that is no earlier than the entry's
     pub round_named : ReachRound → (named : ℕ) × (slice_get rounds (index - first) ≡ Some named) × ((kept.entry).round ≤ named)
     round_named rounds_reach = (place.named, looked.named_is, reaches rounds_reach)
 
-  pub is_shown : LeaveAlone size o (length bytes) at_end.1 → ReachRound → take (length bytes) (drop (x - offset) found) ≡ bytes
+  pub is_shown : LeaveAlone o (length bytes) at_end.1 → ReachRound → take (length bytes) (drop (x - offset) found) ≡ bytes
   is_shown alone rounds_reach = elim (cases_lt 0 (length bytes)) [
     | inl some ↦ shown_whole some alone rounds_reach
     | inr none ↦ no_bytes bytes _ (omega (arith, none))

@@ -96,11 +96,11 @@ module _ (config : Config) (trace : List Visible) (m : Machine) (run : IsRunTo c
       (f, may.0, λ same. subst (λ g. Fits (offer_of (after_all past_one done) g i)) (sym same) (offer_fits (after_all past_one done) i _ (leads_to past_one at_two.front done left at_two.lawful is) refl))
 
   -- a look at the last chunk reaches the record's end
-  long_enough : (k : Machine) → LeadsTo past_one k → (f i round least last : ℕ) (chosen : List Entry) → f ≡ file → (n : ℕ) → n ≡ i * k.config.chunk + image_length k.config.chunk (mutations_of chosen)
+  long_enough : (k : Machine) → LeadsTo past_one k → (f i round least last : ℕ) (chosen : List Entry) → f ≡ file → (n : ℕ) → n ≡ i * k.config.chunk + image_length (mutations_of chosen)
       → round ≤ least → least ≤ last → IsSelection last (chunk_at k f i).order chosen → Fits (Told i round (suc i)) → x + length bytes ≤ n
   long_enough k way f i round least last chosen same n n_is told_least least_last selection fits =
       let size_is : k.config.chunk ≡ config.chunk = ap (λ (c : Config). c.chunk) (settings config k (reached_then k way)) in
-      let n_here : n ≡ i * config.chunk + image_length config.chunk (mutations_of chosen) = n_is ∙ ap (λ s. i * s + image_length s (mutations_of chosen)) size_is in
+      let n_here : n ≡ i * config.chunk + image_length (mutations_of chosen) = n_is ∙ ap (λ s. i * s + image_length (mutations_of chosen)) size_is in
       let x_is : x ≡ it.index * config.chunk + it.offset = it.is in
       let room : it.offset + length bytes ≤ config.chunk = it.room in
       let up_to : it.index < suc i = fits.0 in
@@ -114,8 +114,8 @@ module _ (config : Config) (trace : List Visible) (m : Machine) (run : IsRunTo c
             let rounds : (it.entry).round ≤ round = fits.1 here in
             let chosen_from : IsSelection last (chunk_at k file it.index).order chosen = subst (λ g. IsSelection last (chunk_at k g it.index).order chosen) same (subst (λ j. IsSelection last (chunk_at k f j).order chosen) here selection) in
             let has : Contains chosen it.entry = has_place chosen it.entry (selected last chosen_from (it.there).0 it.entry (there k way) it.settled (omega (arith, rounds, told_least, least_last))) in
-            let far : end_of config.chunk (it.entry).mutation ≤ image_length config.chunk (mutations_of chosen) = reaches_end config.chunk has.0 chosen it.entry has.1 has.2 in
-            let end_is : end_of config.chunk (it.entry).mutation ≡ it.offset + length bytes = ap (end_of config.chunk) it.what in
+            let far : end_of (it.entry).mutation ≤ image_length (mutations_of chosen) = reaches_end has.0 chosen it.entry has.1 has.2 in
+            let end_is : end_of (it.entry).mutation ≡ it.offset + length bytes = ap end_of it.what in
             omega (arith, n_here, x_is, prod, far, end_is)
       ]
 

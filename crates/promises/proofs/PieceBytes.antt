@@ -12,18 +12,18 @@ use Rattle.relaxed_file.specs.Machine.{Piece}
 use Rattle.relaxed_file.specs.Answers.{ArePieces}
 use Rattle.relaxed_file.proofs.Tables.{contained}
 
-pub bytes_from_drop : (size : ℕ) (ms : List Mutation) (k place count : ℕ) → k ≤ count → drop k (bytes_from size ms place count) ≡ bytes_from size ms (place + k) (count - k)
-bytes_from_drop size ms zero place count l = let same : place ≡ place + 0 = omega arith in let all : count ≡ count - 0 = omega arith in λ i. bytes_from size ms (same i) (all i)
-bytes_from_drop size ms (suc k) place zero l = absurd (omega (arith, l))
-bytes_from_drop size ms (suc k) place (suc count) l =
+pub bytes_from_drop : (ms : List Mutation) (k place count : ℕ) → k ≤ count → drop k (bytes_from ms place count) ≡ bytes_from ms (place + k) (count - k)
+bytes_from_drop ms zero place count l = let same : place ≡ place + 0 = omega arith in let all : count ≡ count - 0 = omega arith in λ i. bytes_from ms (same i) (all i)
+bytes_from_drop ms (suc k) place zero l = absurd (omega (arith, l))
+bytes_from_drop ms (suc k) place (suc count) l =
     let same : suc place + k ≡ place + suc k = omega arith in
     let left : count - k ≡ suc count - suc k = omega arith in
-    bytes_from_drop size ms k (suc place) count (omega (arith, l)) ∙ (λ i. bytes_from size ms (same i) (left i))
+    bytes_from_drop ms k (suc place) count (omega (arith, l)) ∙ (λ i. bytes_from ms (same i) (left i))
 
-pub bytes_from_take : (size : ℕ) (ms : List Mutation) (len place count : ℕ) → len ≤ count → take len (bytes_from size ms place count) ≡ bytes_from size ms place len
-bytes_from_take size ms zero place count l = refl
-bytes_from_take size ms (suc len) place zero l = absurd (omega (arith, l))
-bytes_from_take size ms (suc len) place (suc count) l = λ i. byte_at size ms place ∷ bytes_from_take size ms len (suc place) count (omega (arith, l)) i
+pub bytes_from_take : (ms : List Mutation) (len place count : ℕ) → len ≤ count → take len (bytes_from ms place count) ≡ bytes_from ms place len
+bytes_from_take ms zero place count l = refl
+bytes_from_take ms (suc len) place zero l = absurd (omega (arith, l))
+bytes_from_take ms (suc len) place (suc count) l = λ i. byte_at ms place ∷ bytes_from_take ms len (suc place) count (omega (arith, l)) i
 
 -- a part of the first of two lists, and one of the second
 take_front : (len k : ℕ) (p q : List ℕ) → k + len ≤ length p → take len (drop k (p ++ q)) ≡ take len (drop k p)

@@ -70,7 +70,7 @@ abbrev PutHere : Call → ℕ → ℕ → Type 0
 PutHere c place byte = (fd : Fd) × (fd_of c ≡ Some fd) × Puts c place byte
 
 -- what a mutation has at a place, its call put there, but for the zeros of a pad
-put_there : (size index o : ℕ) (c : Call) (mutation : Mutation) → IsAskedOf size index c mutation → covers size o mutation ≡ true
+put_there : (size index o : ℕ) (c : Call) (mutation : Mutation) → IsAskedOf size index c mutation → covers o mutation ≡ true
     → (byte_of o mutation ≡ 0) ⊎ PutHere c (index * size + o) (byte_of o mutation)
 put_there size index o (call.Write fd offset bytes) (Write start content) asked covered =
     let both = and_parts _ _ covered in
@@ -88,7 +88,7 @@ put_there size index o (call.Append fd bytes) (Append start content) asked cover
     let until : o < start + length content = ltb-true _ _ both.1 in
     let there : slice_get content (o - start) ≡ Some (get_or content (o - start) 0) = slice_get-get_or content (o - start) 0 (omega (arith, from, until)) in
     inr (fd, refl, subst (λ l. Contains l (get_or content (o - start) 0)) asked.0 (contains_byte content (o - start) _ there))
-put_there size index o c (Pad start) asked covered = inl refl
+put_there size index o c (Pad start end) asked covered = inl refl
 put_there size index o c mutation asked covered = absurd asked
 
 -- chunks without a place give no byte
@@ -177,14 +177,14 @@ module _ (config : Config) (trace : List Visible) (m : Machine) (run : IsRunTo c
         sym piece_at.bytes_are ∙ ap (λ k. take 1 (drop k (bytes_of done.2))) skip ∙ ap (λ l. take 1 (drop place l)) (sym done.4) ∙ one_at found place byte is_read
 
     -- by what the machine says of a place of a selection
-    by_entry : (d left : List Action) → at_read.front ≡ d ++ left → (chosen order : List Entry) → byte ≡ byte_at (after_all first_machine d).config.chunk (mutations_of chosen) o
+    by_entry : (d left : List Action) → at_read.front ≡ d ++ left → (chosen order : List Entry) → byte ≡ byte_at (mutations_of chosen) o
         → ComesFrom (after_all first_machine d) (sources_of config d file) t order chosen o → Comes
     by_entry d left is chosen order byte_is (inl none) = inl (byte_is ∙ none.1)
     by_entry d left is chosen order byte_is (inr (e, there, cover, at_place, put)) =
         let parts = lawful_parts first_machine d left (subst (IsLawful first_machine) is at_read.lawful) in
         let asked : Asked = put.0 in
         let same : byte ≡ byte_of o e.mutation = byte_is ∙ at_place in
-        let covered : covers (after_all first_machine d).config.chunk o e.mutation ≡ true = last_passes (λ f. covers (after_all first_machine d).config.chunk o f.mutation) chosen e cover in
+        let covered : covers o e.mutation ≡ true = last_passes (λ f. covers o f.mutation) chosen e cover in
         elim (put_there (after_all first_machine d).config.chunk t o asked.call e.mutation put.5 covered) [
           | inl zeros ↦ inl (same ∙ zeros)
           | inr puts ↦ inr (record {
@@ -211,14 +211,14 @@ module _ (config : Config) (trace : List Visible) (m : Machine) (run : IsRunTo c
         let index_is : i ≡ t = ap (λ (p : Piece). p.index) (sym is_piece) ∙ piece_at.index_is in
         let file_same : f ≡ file = from_some (sym may.0 ∙ ap (λ (a : Asked). a.file) same ∙ done.1) ∙ file_is in
         let call_is : c.asked.call ≡ call.Read fd offset count = ap (λ (a : Asked). a.call) same ∙ at_read.call_is in
-        let given : (piece_at.piece).bytes ≡ image_slice size (mutations_of chosen) (part_start size offset t) (part_length size offset count t) =
+        let given : (piece_at.piece).bytes ≡ image_slice (mutations_of chosen) (part_start size offset t) (part_length size offset count t) =
         ap (λ (p : Piece). p.bytes) is_piece ∙ (λ j. read_slice (sized d left is j) (index_is j) (call_is j) chosen) in
-        let slice : take 1 (drop (o - part_start size offset t) (piece_at.piece).bytes) ≡ byte_at size (mutations_of chosen) o ∷ [] =
+        let slice : take 1 (drop (o - part_start size offset t) (piece_at.piece).bytes) ≡ byte_at (mutations_of chosen) o ∷ [] =
         ap (λ l. take 1 (drop (o - part_start size offset t) l)) given
-        ∙ slice_from size o (part_start size offset t) (part_length size offset count t) 1 (mutations_of chosen) piece_at.starts
+        ∙ slice_from o (part_start size offset t) (part_length size offset count t) 1 (mutations_of chosen) piece_at.starts
         (subst (λ l. (o - part_start size offset t) + 1 ≤ length l) given piece_at.long) in
-        let byte_is : byte ≡ byte_at (after_all first_machine d).config.chunk (mutations_of chosen) o =
-        (parts_of byte (byte_at size (mutations_of chosen) o) [] [] (sym byte_there ∙ slice)).0 ∙ ap (λ s. byte_at s (mutations_of chosen) o) (sym (sized d left is)) in
+        let byte_is : byte ≡ byte_at (mutations_of chosen) o =
+        (parts_of byte (byte_at (mutations_of chosen) o) [] [] (sym byte_there ∙ slice)).0 in
         let lawful = (lawful_parts first_machine d left (subst (IsLawful first_machine) is at_read.lawful)).0 in
         by_entry d left is chosen (chunk_at (after_all first_machine d) file t).order byte_is
         (no_other_byte config d (after_all first_machine d) lawful refl file t last chosen

@@ -33,11 +33,11 @@ settings config m reached = (grows_to (new_machine config) m reached (known_at_f
 pub fair_piece : (size offset count : ℕ) (k : Machine) (client : ℕ) (c : OpenCall) (piece : Piece) (fd : Fd) → k.config.chunk ≡ size → c.asked.call ≡ call.Read fd offset count → IsPieceOf k client c piece
     → IsFair size offset count piece
 fair_piece size offset count k client c piece fd sized asked (by_look file index least last chosen may is) =
-    let slice : read_slice k.config.chunk index c.asked.call chosen ≡ image_slice size (mutations_of chosen) (part_start size offset index) (part_length size offset count index) =
+    let slice : read_slice k.config.chunk index c.asked.call chosen ≡ image_slice (mutations_of chosen) (part_start size offset index) (part_length size offset count index) =
     λ i. read_slice (sized i) index (asked i) chosen in
-    let long : length (image_slice size (mutations_of chosen) (part_start size offset index) (part_length size offset count index))
-    ≡ min (part_length size offset count index) (image_length size (mutations_of chosen) - part_start size offset index) = length_from size (mutations_of chosen) _ _ in
-    let same : length piece.bytes ≡ length (image_slice size (mutations_of chosen) (part_start size offset index) (part_length size offset count index)) = ap (λ (p : Piece). length p.bytes) is ∙ ap (λ l. length l) slice in
+    let long : length (image_slice (mutations_of chosen) (part_start size offset index) (part_length size offset count index))
+    ≡ min (part_length size offset count index) (image_length (mutations_of chosen) - part_start size offset index) = length_from (mutations_of chosen) _ _ in
+    let same : length piece.bytes ≡ length (image_slice (mutations_of chosen) (part_start size offset index) (part_length size offset count index)) = ap (λ (p : Piece). length p.bytes) is ∙ ap (λ l. length l) slice in
     let at : part_length size offset count piece.index ≡ part_length size offset count index = ap (λ (p : Piece). part_length size offset count p.index) is in
     (omega (arith, long, same, at), λ none. absurd (none-some least (sym none ∙ ap (λ (p : Piece). p.round) is)))
 fair_piece size offset count k client c piece fd sized asked (by_none index past is) =
@@ -45,19 +45,19 @@ fair_piece size offset count k client c piece fd sized asked (by_none index past
     (omega (arith, none), λ round. none)
 
 -- the bytes that a look gives at a place
-pub slice_from : (size o start count len : ℕ) (ms : List Mutation) → start ≤ o → (o - start) + len ≤ length (image_slice size ms start count)
-    → take len (drop (o - start) (image_slice size ms start count)) ≡ bytes_from size ms o len
-slice_from size o start count len ms starts long =
-    let whole : length (image_slice size ms start count) ≡ min count (image_length size ms - start) = length_from size ms start _ in
+pub slice_from : (o start count len : ℕ) (ms : List Mutation) → start ≤ o → (o - start) + len ≤ length (image_slice ms start count)
+    → take len (drop (o - start) (image_slice ms start count)) ≡ bytes_from ms o len
+slice_from o start count len ms starts long =
+    let whole : length (image_slice ms start count) ≡ min count (image_length ms - start) = length_from ms start _ in
     let from : start + (o - start) ≡ o = omega (arith, starts) in
-    ap (take len) (bytes_from_drop size ms (o - start) start (min count (image_length size ms - start)) (omega (arith, long, whole)))
-    ∙ bytes_from_take size ms len (start + (o - start)) (min count (image_length size ms - start) - (o - start)) (omega (arith, long, whole))
-    ∙ ap (λ p. bytes_from size ms p len) from
+    ap (take len) (bytes_from_drop ms (o - start) start (min count (image_length ms - start)) (omega (arith, long, whole)))
+    ∙ bytes_from_take ms len (start + (o - start)) (min count (image_length ms - start) - (o - start)) (omega (arith, long, whole))
+    ∙ ap (λ p. bytes_from ms p len) from
 
-pub slice_there : (size o start count len : ℕ) (ms : List Mutation) (bytes : List ℕ) → start ≤ o → (o - start) + len ≤ length (image_slice size ms start count) → length bytes ≡ len → image_slice size ms o len ≡ bytes
-    → take len (drop (o - start) (image_slice size ms start count)) ≡ bytes
-slice_there size o start count len ms bytes starts long length_is stands =
-    let there : length (image_slice size ms o len) ≡ min len (image_length size ms - o) = length_from size ms o _ in
-    let shown : length (image_slice size ms o len) ≡ len = ap (λ l. length l) stands ∙ length_is in
-    let all : min len (image_length size ms - o) ≡ len = sym there ∙ shown in
-    slice_from size o start count len ms starts long ∙ ap (bytes_from size ms o) (sym all) ∙ stands
+pub slice_there : (o start count len : ℕ) (ms : List Mutation) (bytes : List ℕ) → start ≤ o → (o - start) + len ≤ length (image_slice ms start count) → length bytes ≡ len → image_slice ms o len ≡ bytes
+    → take len (drop (o - start) (image_slice ms start count)) ≡ bytes
+slice_there o start count len ms bytes starts long length_is stands =
+    let there : length (image_slice ms o len) ≡ min len (image_length ms - o) = length_from ms o _ in
+    let shown : length (image_slice ms o len) ≡ len = ap (λ l. length l) stands ∙ length_is in
+    let all : min len (image_length ms - o) ≡ len = sym there ∙ shown in
+    slice_from o start count len ms starts long ∙ ap (bytes_from ms o) (sym all) ∙ stands

@@ -37,7 +37,7 @@ module _ (config : Config) (trace : List Visible) (m : Machine) (run : IsRunTo c
     there = found_at _ it.entry it.there;
     settled = it.settled;
     room = it.room;
-    keeps = λ last before later chosen r alone chose. records_stand config.chunk last it.offset before later chosen it.entry bytes it.what it.settled r alone chose;
+    keeps = λ last before later chosen r alone chose. records_stand last it.offset before later chosen it.entry bytes it.what it.settled r alone chose;
   }
 
   abbrev at_end : CutAt m file it.index it.entry (it.there).0

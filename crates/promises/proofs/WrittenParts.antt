@@ -31,7 +31,7 @@ write_is : (size index offset : ℕ) (fd : Fd) (bytes : List ℕ) (mutation : Mu
     → mutation ≡ Write (part_start size offset index) (part_bytes size offset bytes index)
 write_is size index offset fd bytes (Write begins content) asked is = λ i. Write (asked.0 i) (asked.1 i)
 write_is size index offset fd bytes (Append begins content) asked is = absurd is
-write_is size index offset fd bytes (Pad begins) asked is = absurd is
+write_is size index offset fd bytes (Pad begins end) asked is = absurd is
 
 part_room : (size index offset : ℕ) (bytes : List ℕ) → IsTrue (has_part size offset (length bytes) index) → part_start size offset index + length (part_bytes size offset bytes index) ≤ size
 part_room size index offset bytes has =
@@ -88,7 +88,7 @@ module _ (config : Config) (trace : List Visible) (m : Machine) (run : IsRunTo c
       there = found_at _ success.2 success.3;
       settled = (success.4).1;
       room = part_room config.chunk index offset bytes has;
-      keeps = λ last before later chosen r alone chose. writes_stand config.chunk last (start index) before later chosen success.2 (part index) what (success.4).1 r alone chose;
+      keeps = λ last before later chosen r alone chose. writes_stand last (start index) before later chosen success.2 (part index) what (success.4).1 r alone chose;
     }
 
     abbrev at_end : CutAt m file index (success.2) (success.3).0

@@ -54,7 +54,7 @@ RecordsAreRead config trace m run =
     → WasAnswered one.rest reader (call.Read fe offset count) (answer.Bytes found rounds) → IsOf run.0 reader fe file
     → offset ≤ x → x + length bytes ≤ offset + length found
     → (s : IsStandingRecord config.chunk m file x bytes)
-    × (LeaveAlone config.chunk s.offset (length bytes) s.later → IsSomeAnd (slice_get rounds (s.index - offset / config.chunk)) (λ named. s.entry.round ≤ named)
+    × (LeaveAlone s.offset (length bytes) s.later → IsSomeAnd (slice_get rounds (s.index - offset / config.chunk)) (λ named. s.entry.round ≤ named)
     → take (length bytes) (drop (x - offset) found) ≡ bytes)
 
 -- A client's later reads show its own records, whatever rounds they name (section 2.7.1).
@@ -65,7 +65,7 @@ OwnRecordsAreRead config trace m run =
     → WasAnswered one.rest client (call.Read fe offset count) (answer.Bytes found rounds) → IsOf run.0 client fe file
     → offset ≤ x → x + length bytes ≤ offset + length found
     → (s : IsStandingRecord config.chunk m file x bytes)
-    × (LeaveAlone config.chunk s.offset (length bytes) s.later → take (length bytes) (drop (x - offset) found) ≡ bytes)
+    × (LeaveAlone s.offset (length bytes) s.later → take (length bytes) (drop (x - offset) found) ≡ bytes)
 
 -- Once the appender of a record read it, each read that names that round of the record's chunk or a later one shows it, whoever reads; unless a later mutation covers some of it (section 2.7.1).
 abbrev pub SeenRoundsSuffice : (config : Config) (trace : List Visible) (m : Machine) → IsRunTo config trace m → Type 0
@@ -75,7 +75,7 @@ SeenRoundsSuffice config trace m run =
     → WasAnswered one.rest client (call.Read fe offset count) (answer.Bytes found rounds) → IsOf run.0 client fe file → offset ≤ x → x + length bytes ≤ offset + length found
     → WasAnswered one.rest reader (call.Read ff from many) (answer.Bytes read named) → IsOf run.0 reader ff file → from ≤ x → x + length bytes ≤ from + length read
     → (s : IsStandingRecord config.chunk m file x bytes)
-    × (LeaveAlone config.chunk s.offset (length bytes) s.later
+    × (LeaveAlone s.offset (length bytes) s.later
     → (seen later : ℕ) → slice_get rounds (s.index - offset / config.chunk) ≡ Some seen → slice_get named (s.index - from / config.chunk) ≡ Some later → seen ≤ later
     → take (length bytes) (drop (x - from) read) ≡ bytes)
 
@@ -88,7 +88,7 @@ IsOnlyAppended config trace m run file =
 -- In such a file no record that was answered is ever covered (section 3.3).
 abbrev pub AppendsLeaveRecordsAlone : (config : Config) (trace : List Visible) (m : Machine) → IsRunTo config trace m → Type 0
 AppendsLeaveRecordsAlone config trace m run =
-    (file x : ℕ) (bytes : List ℕ) → IsOnlyAppended config trace m run file → (s : IsStandingRecord config.chunk m file x bytes) → LeaveAlone config.chunk s.offset (length bytes) s.later
+    (file x : ℕ) (bytes : List ℕ) → IsOnlyAppended config trace m run file → (s : IsStandingRecord config.chunk m file x bytes) → LeaveAlone s.offset (length bytes) s.later
 
 -- And so a client reads back each record that it appended to such a file, at the place that it was answered.
 abbrev pub AppendedRecordsAreReadBack : (config : Config) (trace : List Visible) (m : Machine) → IsRunTo config trace m → Type 0
@@ -120,7 +120,7 @@ WritesAreRead config trace m run =
     → (index : ℕ) → IsTrue (has_part config.chunk offset (length bytes) index)
     → from ≤ part_place config.chunk offset index → part_place config.chunk offset index + length (part_bytes config.chunk offset bytes index) ≤ from + length found
     → (s : IsStandingPart m file index (part_start config.chunk offset index) (part_bytes config.chunk offset bytes index))
-    × (LeaveAlone config.chunk (part_start config.chunk offset index) (length (part_bytes config.chunk offset bytes index)) s.later
+    × (LeaveAlone (part_start config.chunk offset index) (length (part_bytes config.chunk offset bytes index)) s.later
     → IsSomeAnd (slice_get rounds (index - from / config.chunk)) (λ named. s.entry.round ≤ named)
     → take (length (part_bytes config.chunk offset bytes index)) (drop (part_place config.chunk offset index - from) found) ≡ part_bytes config.chunk offset bytes index)
 
@@ -133,7 +133,7 @@ OwnWritesAreRead config trace m run =
     → (index : ℕ) → IsTrue (has_part config.chunk offset (length bytes) index)
     → from ≤ part_place config.chunk offset index → part_place config.chunk offset index + length (part_bytes config.chunk offset bytes index) ≤ from + length found
     → (s : IsStandingPart m file index (part_start config.chunk offset index) (part_bytes config.chunk offset bytes index))
-    × (LeaveAlone config.chunk (part_start config.chunk offset index) (length (part_bytes config.chunk offset bytes index)) s.later
+    × (LeaveAlone (part_start config.chunk offset index) (length (part_bytes config.chunk offset bytes index)) s.later
     → take (length (part_bytes config.chunk offset bytes index)) (drop (part_place config.chunk offset index - from) found) ≡ part_bytes config.chunk offset bytes index)
 
 -- the byte is what the call asks to put at this place of a file; for an append, whose place the system picks, it is in the record

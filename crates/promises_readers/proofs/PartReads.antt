@@ -89,7 +89,7 @@ module _ (config : Config) (trace : List Visible) (m : Machine) (run : IsRunTo c
     there = entry_there.1;
     settled = (entry_there.2).0;
     room = room;
-    keeps = λ last before later chosen up_to alone chose. writes_stand config.chunk last start before later chosen entry_there.0 part what (entry_there.2).0 up_to alone chose;
+    keeps = λ last before later chosen up_to alone chose. writes_stand last start before later chosen entry_there.0 part what (entry_there.2).0 up_to alone chose;
   }
 
   abbrev cut : CutAt m file index entry_there.0 stays.0
@@ -97,13 +97,13 @@ module _ (config : Config) (trace : List Visible) (m : Machine) (run : IsRunTo c
       (way config trace m run client (call.Write fd place bytes) answer.Done tt h.put) standing
 
   reaches_end : offset / config.chunk ≡ index → index * config.chunk + start + length part ≤ offset + count → index * config.chunk + start + length part ≤ offset + length found
-  reaches_end first until = reaches_to config trace m run client fd (call.Write fd place bytes) answer.Done tt file reader offset count found rounds h index start part standing (ap (end_of config.chunk) what) first until
+  reaches_end first until = reaches_to config trace m run client fd (call.Write fd place bytes) answer.Done tt file reader offset count found rounds h index start part standing (ap end_of what) first until
 
   shown : offset ≤ index * config.chunk + start → index * config.chunk + start + length part ≤ offset + length found
-      → (s : IsStandingPart m file index start part) × (LeaveAlone config.chunk start (length part) s.later → take (length part) (drop (index * config.chunk + start - offset) found) ≡ part)
+      → (s : IsStandingPart m file index start part) × (LeaveAlone start (length part) s.later → take (length part) (drop (index * config.chunk + start - offset) found) ≡ part)
   shown begins reach = (
     record { before = cut.0; entry = entry_there.0; later = cut.1; order = cut.2; what = what; settled = (entry_there.2).0 },
-    λ alone. shows config trace m run client fd (call.Write fd place bytes) answer.Done tt file reader offset count found rounds h index start part standing (ap (end_of config.chunk) what) begins reach alone,
+    λ alone. shows config trace m run client fd (call.Write fd place bytes) answer.Done tt file reader offset count found rounds h index start part standing (ap end_of what) begins reach alone,
   )
 
 pub reopened_files_show_writes : InEachRun ReopenedFilesShowWrites

@@ -59,7 +59,7 @@ module _ (config : Config) (trace : List Visible) (m : Machine) (run : IsRunTo c
     there = found_at _ it.entry it.there;
     settled = it.settled;
     room = it.room;
-    keeps = λ last before later chosen up_to alone chose. records_stand config.chunk last it.offset before later chosen it.entry bytes it.what it.settled up_to alone chose;
+    keeps = λ last before later chosen up_to alone chose. records_stand last it.offset before later chosen it.entry bytes it.what it.settled up_to alone chose;
   }
 
   abbrev cut : CutAt m file it.index it.entry (it.there).0
@@ -73,18 +73,18 @@ module _ (config : Config) (trace : List Visible) (m : Machine) (run : IsRunTo c
   reaches_end same until = elim (chunk_of config.chunk it.index it.offset (length bytes) x offset it.is it.room same) [
     | inr before ↦ omega (arith, before)
     | inl first ↦ subst (λ y. y + length bytes ≤ offset + length found) (sym it.is)
-        (reaches_to config trace m run client fd (call.Append fd bytes) (answer.At x) tt file reader offset count found rounds h it.index it.offset bytes standing (ap (end_of config.chunk) it.what) first
+        (reaches_to config trace m run client fd (call.Append fd bytes) (answer.At x) tt file reader offset count found rounds h it.index it.offset bytes standing (ap end_of it.what) first
         (subst (λ y. y + length bytes ≤ offset + count) it.is until))
   ]
 
   abbrev IsShown : Type 0
-  IsShown = (s : IsStandingRecord config.chunk m file x bytes) × (LeaveAlone config.chunk s.offset (length bytes) s.later → take (length bytes) (drop (x - offset) found) ≡ bytes)
+  IsShown = (s : IsStandingRecord config.chunk m file x bytes) × (LeaveAlone s.offset (length bytes) s.later → take (length bytes) (drop (x - offset) found) ≡ bytes)
 
   shown : offset ≤ x → x + length bytes ≤ offset + length found → IsShown
   shown begins reach = (
     stands,
     λ alone. ap (λ y. take (length bytes) (drop (y - offset) found)) it.is
-        ∙ shows config trace m run client fd (call.Append fd bytes) (answer.At x) tt file reader offset count found rounds h it.index it.offset bytes standing (ap (end_of config.chunk) it.what)
+        ∙ shows config trace m run client fd (call.Append fd bytes) (answer.At x) tt file reader offset count found rounds h it.index it.offset bytes standing (ap end_of it.what)
         (subst (λ y. offset ≤ y) it.is begins) (subst (λ y. y + length bytes ≤ offset + length found) it.is reach) alone,
   )
 

@@ -62,7 +62,7 @@ answered_later trace client other asked again reply next w v = record {
 module _ (config : Config) (trace : List Visible) (m : Machine) (run : IsRunTo config trace m) (client : ℕ) (fd : Fd) (asked : Call) (reply : Answer) (plain : IsNoFd reply)
     (file reader offset count : ℕ) (found rounds : List ℕ) (h : IsReadAfterOpen trace run.0 client fd asked reply file reader offset count found rounds)
     (index o : ℕ) (bytes : List ℕ) (kept : IsKept config.chunk (then config trace m run client asked reply plain h.put) file index o bytes)
-    (end_is : end_of config.chunk (kept.entry).mutation ≡ o + length bytes) where
+    (end_is : end_of (kept.entry).mutation ≡ o + length bytes) where
   abbrev size : ℕ
   size = config.chunk
 
@@ -175,7 +175,7 @@ module _ (config : Config) (trace : List Visible) (m : Machine) (run : IsRunTo c
     late : r ≤ named
     chosen : List Entry
     has : Contains chosen kept.entry
-    gave : piece.bytes ≡ image_slice size (mutations_of chosen) (part_start size offset index) (part_length size offset count index)
+    gave : piece.bytes ≡ image_slice (mutations_of chosen) (part_start size offset index) (part_length size offset count index)
 
   late_by : (k : Machine) → LeadsTo now k → (c : OpenCall) → IsOpen k reader c → c.asked ≡ (at_read.current).asked → (piece : Piece) → piece.index ≡ index → IsPieceOf k reader c piece → IsLate piece
   late_by k to c is_open same piece here (by_none i gone is) =
@@ -205,10 +205,10 @@ module _ (config : Config) (trace : List Visible) (m : Machine) (run : IsRunTo c
   -- so where the range reaches the entry's end, the piece does too
   piece_reaches : (piece : Piece) → IsLate piece → index * size + o + length bytes ≤ offset + count → o + length bytes ≤ part_start size offset index + length piece.bytes
   piece_reaches piece s until =
-      let far : end_of size (kept.entry).mutation ≤ image_length size (mutations_of s.chosen) = reaches_end size (s.has).0 s.chosen kept.entry (s.has).1 (s.has).2 in
-      let long : length (image_slice size (mutations_of s.chosen) (part_start size offset index) (part_length size offset count index))
-      ≡ min (part_length size offset count index) (image_length size (mutations_of s.chosen) - part_start size offset index) = length_from size (mutations_of s.chosen) _ _ in
-      let gave : length piece.bytes ≡ length (image_slice size (mutations_of s.chosen) (part_start size offset index) (part_length size offset count index)) = ap (λ l. length l) s.gave in
+      let far : end_of (kept.entry).mutation ≤ image_length (mutations_of s.chosen) = reaches_end (s.has).0 s.chosen kept.entry (s.has).1 (s.has).2 in
+      let long : length (image_slice (mutations_of s.chosen) (part_start size offset index) (part_length size offset count index))
+      ≡ min (part_length size offset count index) (image_length (mutations_of s.chosen) - part_start size offset index) = length_from (mutations_of s.chosen) _ _ in
+      let gave : length piece.bytes ≡ length (image_slice (mutations_of s.chosen) (part_start size offset index) (part_length size offset count index)) = ap (λ l. length l) s.gave in
       let room : o + length bytes ≤ size = kept.room in
       omega (arith, far, end_is, long, gave, room, until)
 
@@ -257,7 +257,7 @@ module _ (config : Config) (trace : List Visible) (m : Machine) (run : IsRunTo c
     abbrev direct : WasAnswered (h.put).rest reader (call.Read h.through offset count) (answer.Bytes found rounds)
     direct = answered_later (h.put).rest reader reader _ _ _ _ h.open_file h.read
 
-    pub shows : LeaveAlone config.chunk o (length bytes) (cut_at config at_put m file index o bytes (reached config trace m run client asked reply plain h.put) (way config trace m run client asked reply plain h.put) kept).1
+    pub shows : LeaveAlone o (length bytes) (cut_at config at_put m file index o bytes (reached config trace m run client asked reply plain h.put) (way config trace m run client asked reply plain h.put) kept).1
         → take (length bytes) (drop (index * size + o - offset) found) ≡ bytes
     shows alone = elim (cases_lt 0 (length bytes)) [
       | inl some ↦ is_shown config trace m run client asked reply plain h.put reader file h.through offset count found rounds direct h.read_of index o bytes kept from until_end alone

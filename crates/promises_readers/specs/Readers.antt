@@ -33,7 +33,7 @@ ReopenedFilesShowRecords config trace m run =
     → IsReadAfterOpen trace run.0 client fd (call.Append fd bytes) (answer.At x) file reader offset count found rounds
     → offset ≤ x → x + length bytes ≤ offset + length found
     → (s : IsStandingRecord config.chunk m file x bytes)
-    × (LeaveAlone config.chunk s.offset (length bytes) s.later → take (length bytes) (drop (x - offset) found) ≡ bytes)
+    × (LeaveAlone s.offset (length bytes) s.later → take (length bytes) (drop (x - offset) found) ≡ bytes)
 
 -- Such a read whose range begins in the record's chunk, and reaches the record's end, is answered no fewer bytes than reach that end (section 2.7.1).
 abbrev pub AnswersReachRecords : (config : Config) (trace : List Visible) (m : Machine) → IsRunTo config trace m → Type 0
@@ -50,7 +50,7 @@ ReadersMissNothing config trace m run =
     → IsReadAfterOpen trace run.0 client fd (call.Append fd bytes) (answer.At x) file reader offset count found rounds
     → offset / config.chunk ≡ x / config.chunk → offset ≤ x → x + length bytes ≤ offset + count
     → (s : IsStandingRecord config.chunk m file x bytes)
-    × (LeaveAlone config.chunk s.offset (length bytes) s.later → take (length bytes) (drop (x - offset) found) ≡ bytes)
+    × (LeaveAlone s.offset (length bytes) s.later → take (length bytes) (drop (x - offset) found) ≡ bytes)
 
 -- And in a file that is only appended to it always does.
 abbrev pub ReadersMissNoAppend : (config : Config) (trace : List Visible) (m : Machine) → IsRunTo config trace m → Type 0
@@ -75,7 +75,7 @@ ReopenedFilesShowWrites config trace m run =
     → (index : ℕ) → IsTrue (has_part config.chunk place (length bytes) index)
     → offset ≤ part_place config.chunk place index → part_place config.chunk place index + length (part_bytes config.chunk place bytes index) ≤ offset + length found
     → (s : IsStandingPart m file index (part_start config.chunk place index) (part_bytes config.chunk place bytes index))
-    × (LeaveAlone config.chunk (part_start config.chunk place index) (length (part_bytes config.chunk place bytes index)) s.later
+    × (LeaveAlone (part_start config.chunk place index) (length (part_bytes config.chunk place bytes index)) s.later
     → take (length (part_bytes config.chunk place bytes index)) (drop (part_place config.chunk place index - offset) found) ≡ part_bytes config.chunk place bytes index)
 
 -- Such a read whose range begins in the part's chunk, and reaches the part's end, is answered no fewer bytes than reach that end (section 2.7.1).
@@ -95,5 +95,5 @@ ReadersMissNoWrite config trace m run =
     → (index : ℕ) → IsTrue (has_part config.chunk place (length bytes) index)
     → offset / config.chunk ≡ index → offset ≤ part_place config.chunk place index → part_place config.chunk place index + length (part_bytes config.chunk place bytes index) ≤ offset + count
     → (s : IsStandingPart m file index (part_start config.chunk place index) (part_bytes config.chunk place bytes index))
-    × (LeaveAlone config.chunk (part_start config.chunk place index) (length (part_bytes config.chunk place bytes index)) s.later
+    × (LeaveAlone (part_start config.chunk place index) (length (part_bytes config.chunk place bytes index)) s.later
     → take (length (part_bytes config.chunk place bytes index)) (drop (part_place config.chunk place index - offset) found) ≡ part_bytes config.chunk place bytes index)

@@ -17,5 +17,5 @@ needs_chunk m id file other h = absurd h
 pub asks_for : (m : Machine) (id : CallId) (file index : ℕ) (c : Call) (mutation : Mutation) → AsksHere m id file index c mutation → AsksFor m id file index c mutation
 asks_for m id file index (call.Write fd offset bytes) (Write at content) h = h
 asks_for m id file index (call.Append fd bytes) (Append at content) h = h
-asks_for m id file index (call.Append fd bytes) (Pad at) h = h
+asks_for m id file index (call.Append fd bytes) (Pad at end) h = h
 asks_for m id file index other mutation h = absurd h

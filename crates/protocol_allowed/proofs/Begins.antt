@@ -26,7 +26,7 @@ EntryBegins size e = BeginsWithin size e.mutation
 begins_here : (m : Machine) (id : CallId) (file index : ℕ) (c : Call) (mutation : Mutation) → AsksFor m id file index c mutation → BeginsWithin m.config.chunk mutation
 begins_here m id file index (call.Write fd offset bytes) (Write at content) asks = tt
 begins_here m id file index (call.Append fd bytes) (Append at content) asks = asks.2
-begins_here m id file index (call.Append fd bytes) (Pad at) asks = tt
+begins_here m id file index (call.Append fd bytes) (Pad at end) asks = tt
 begins_here m id file index other mutation asks = absurd asks
 
 begins_settled : (size place : ℕ) (order : List Entry) → AllByRecursion (EntryBegins size) order → AllByRecursion (EntryBegins size) (settled_at place order)

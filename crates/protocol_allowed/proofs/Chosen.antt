@@ -12,7 +12,7 @@ use Rattle.protocol_allowed.proofs.Tests.{both_true, all_true, or_right}
 mutation_itself : (x : Mutation) → IsTrue (same_mutation x x)
 mutation_itself (Write at content) = both_true (at == at) _ (eq-eqb at at refl) ((bytes_eq-Decides content content).1 refl)
 mutation_itself (Append at content) = both_true (at == at) _ (eq-eqb at at refl) ((bytes_eq-Decides content content).1 refl)
-mutation_itself (Pad at) = eq-eqb at at refl
+mutation_itself (Pad at end) = both_true (at == at) _ (eq-eqb at at refl) (eq-eqb end end refl)
 
 truth_itself : (b : Bool) → cond b b (not b) ≡ true
 truth_itself true = refl

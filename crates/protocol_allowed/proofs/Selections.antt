@@ -18,7 +18,10 @@ mutation_is (Append x content) (Append y other) h =
     let parts : ((x == y) ≡ true) × _ = and_parts _ _ h in
     let places : x ≡ y = eqb-true x y parts.0 in
     let bytes : content ≡ other = (bytes_eq-Decides content other).0 parts.1 in cc
-mutation_is (Pad x) (Pad y) h = ap Pad (eqb-true x y h)
+mutation_is (Pad x end) (Pad y last) h =
+    let parts : ((x == y) ≡ true) × ((end == last) ≡ true) = and_parts _ _ h in
+    let places : x ≡ y = eqb-true x y parts.0 in
+    let ends : end ≡ last = eqb-true end last parts.1 in cc
 mutation_is m other h = absurd (let both : false ≡ true = h in cc)
 
 truth_is : (a b : Bool) → cond a b (not b) ≡ true → a ≡ b

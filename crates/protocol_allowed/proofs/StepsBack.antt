@@ -21,7 +21,7 @@ needs_one m id file other h = absurd h
 pub asks_here : (m : Machine) (id : CallId) (file index : ℕ) (c : Call) (mutation : Mutation) → AsksFor m id file index c mutation → AsksHere m id file index c mutation
 asks_here m id file index (call.Write fd offset bytes) (Write at content) h = h
 asks_here m id file index (call.Append fd bytes) (Append at content) h = h
-asks_here m id file index (call.Append fd bytes) (Pad at) h = h
+asks_here m id file index (call.Append fd bytes) (Pad at end) h = h
 asks_here m id file index other mutation h = absurd h
 
 closed_file : (m : Machine) (node : Node) → AreRoundsClosed m node → IsClosedFile m node

@@ -45,17 +45,17 @@ AsksHere m id file index (call.Write fd offset bytes) (Write at content) =
     × (at ≡ part_start m.config.chunk offset index) × (content ≡ part_bytes m.config.chunk offset bytes index)
     × AreEarlierSettled m id file offset (length bytes) index × (tries_in id (chunk_at m file index) < m.config.attempts)
 AsksHere m id file index (call.Append fd bytes) (Append at content) =
-    (content ≡ bytes) × (4 * length bytes ≤ m.config.chunk) × (at < m.config.chunk) × IsTrue (is_an_end m.config.chunk (chunk_at m file index).order at)
+    (content ≡ bytes) × (4 * length bytes ≤ m.config.chunk) × (at < m.config.chunk) × IsTrue (is_an_end (chunk_at m file index).order at)
     × IsPastAll m.config.chunk (chunk_at m file index) (Append at content) × (tries_below (m.files file).chunks id (chunk_count m file) < m.config.attempts)
-AsksHere m id file index (call.Append fd bytes) (Pad at) =
+AsksHere m id file index (call.Append fd bytes) (Pad at end) =
     (4 * length bytes ≤ m.config.chunk) × (at < m.config.chunk) × (m.config.chunk < at + length bytes)
-    × IsTrue (is_an_end m.config.chunk (chunk_at m file index).order at) × IsPastAll m.config.chunk (chunk_at m file index) (Pad at)
+    × IsTrue (is_an_end (chunk_at m file index).order at) × IsPastAll m.config.chunk (chunk_at m file index) (Pad at end) × (end ≡ m.config.chunk)
 AsksHere m id file index other mutation = ⊥
 
 abbrev pub same_mutation : Mutation → Mutation → Bool
 same_mutation (Write a content) (Write b other) = (a == b) && bytes_eq content other
 same_mutation (Append a content) (Append b other) = (a == b) && bytes_eq content other
-same_mutation (Pad a) (Pad b) = a == b
+same_mutation (Pad a end) (Pad b last) = (a == b) && (end == last)
 same_mutation m other = false
 
 abbrev pub same_entry : Entry → Entry → Bool

@@ -93,7 +93,7 @@ IsCountedOnce w g client seq a p =
 abbrev pub IsPlacedFor : Target → Mutation → Type 0
 IsPlacedFor (target.Write at) (mutation.Write offset bytes) = at ≡ offset
 IsPlacedFor target.Append (mutation.Append offset bytes) = Unit {0}
-IsPlacedFor target.Append (mutation.Pad offset) = Unit {0}
+IsPlacedFor target.Append (mutation.Pad offset end) = Unit {0}
 IsPlacedFor other m = ⊥
 
 -- an entry is of an attempt of its call, under the version that it asked for
@@ -128,7 +128,7 @@ pub record AreAttempts (w : WorldState) (g : Ghost) : Type 0 where
 
 -- the chunk's order has an entry that ends at its end
 abbrev pub is_full : WorldState → ℕ → Bool
-is_full w handle = list_any (λ p. end_of w.config.chunk p.entry.mutation == w.config.chunk) (order_of w.observer handle)
+is_full w handle = list_any (λ p. end_of p.entry.mutation == w.config.chunk) (order_of w.observer handle)
 
 -- A server's refusal of an attempt: it is over, unless it says that there is no lease or no replica.
 abbrev pub IsRefusedAs : WorldState → Ghost → ℕ → ℕ → Mutated → Refusal → Type 0

@@ -37,9 +37,9 @@ abbrev pub entry_named : List Placed → ℕ → ℕ → Option Placed
 entry_named order version serial = find (is_placed_as version serial) order
 
 -- Bytes, at a version with a last serial, against an order and what of it was applied.
-pub record IsImageOf (size : ℕ) (order : List Placed) (version serial : ℕ) (bytes : List ℕ) (names : List EntryName) : Type 0 where
+pub record IsImageOf (order : List Placed) (version serial : ℕ) (bytes : List ℕ) (names : List EntryName) : Type 0 where
   pub applied : IsApplied version names order
-  pub bytes_are : bytes ≡ image size (mutations_of (entries_among (named_in order names)))
+  pub bytes_are : bytes ≡ image (mutations_of (entries_among (named_in order names)))
   -- each name is an entry's, and of the version's own it has applied serials up to the last one
   pub named : AllByRecursion (λ n. IsSomeAnd (entry_named order n.round n.serial) (λ p. n.round ≡ version → n.serial ≤ serial)) names
   -- the last serial is an entry's, or none was given under this version
@@ -80,16 +80,16 @@ IsPushed g e = get_under g.sent.pushes e.0.client.0 e.0.seq ≡ Some e.1
 abbrev pub carried_by : Mutation → Option (List ℕ)
 carried_by (mutation.Write offset bytes) = Some bytes
 carried_by (mutation.Append offset bytes) = Some bytes
-carried_by (mutation.Pad offset) = None
+carried_by (mutation.Pad offset end) = None
 
 -- An entry ends within its chunk; what it puts there, but for a pad, is what was pushed for it.
 abbrev pub IsEntry : WorldState → Ghost → Placed → Type 0
 IsEntry w g p =
-    (end_of w.config.chunk p.entry.mutation ≤ w.config.chunk)
+    (end_of p.entry.mutation ≤ w.config.chunk)
     × IfSome (carried_by p.entry.mutation) (λ bytes. get_under g.sent.pushes p.entry.call.client p.seq ≡ Some bytes)
 
 pub record AreReplicas (w : WorldState) (g : Ghost) : Type 0 where
-  pub replicas : EachReplica w (λ server s handle r. IsImageOf w.config.chunk (order_of w.observer handle) r.version r.serial r.bytes (applied_at g server handle))
+  pub replicas : EachReplica w (λ server s handle r. IsImageOf (order_of w.observer handle) r.version r.serial r.bytes (applied_at g server handle))
   pub primaries : EachServer w (λ server s. EachEntry s.leases (λ handle p. w.observer.greatest < p.held.until → IsPrimary w g server s handle p))
   pub holders : EachEntry g.sent.grants (λ handle grants. EachEntry grants (λ version grant. AreHolders w g handle version grant))
   pub pushed : EachServer w (λ server s. AllByRecursion (IsPushed g) s.pushed.entries)
@@ -106,7 +106,7 @@ ReplicaSays w g x (body.Push id bytes rest) = get_under g.sent.pushes id.client.
 ReplicaSays w g x (body.Forward handle version serial id c) = IsForward w handle.0 version.0 serial.0 id c
 ReplicaSays w g x (body.Acked handle version serial) = HasApplied w g (server_number x.sender) handle.0 version.0 serial.0
 ReplicaSays w g x (body.Image handle version serial bytes) =
-    IsSomeAnd (table.get g.images x.number) (IsImageOf w.config.chunk (order_of w.observer handle.0) version.0 serial.0 bytes)
+    IsSomeAnd (table.get g.images x.number) (IsImageOf (order_of w.observer handle.0) version.0 serial.0 bytes)
 ReplicaSays w g x other = Unit {0}
 
 abbrev pub ReplicaInFlight : WorldState → Ghost → Message → Type 0

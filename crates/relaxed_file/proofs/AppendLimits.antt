@@ -67,7 +67,7 @@ has_try_left : (m : Machine) (id : CallId) (file index : ℕ) (c : Call) (mutati
     → IsWriteCall c ⊎ (tries_below (m.files file).chunks id (chunk_count m file) < m.config.attempts)
 has_try_left m id file index (call.Write fd offset bytes) (Write at content) asks no_pad = inl tt
 has_try_left m id file index (call.Append fd bytes) (Append at content) asks no_pad = inr asks.5
-has_try_left m id file index (call.Append fd bytes) (Pad at) asks no_pad = absurd (false≢true no_pad)
+has_try_left m id file index (call.Append fd bytes) (Pad at end) asks no_pad = absurd (false≢true no_pad)
 has_try_left m id file index other mutation asks no_pad = absurd asks
 
 module _ (limit : ℕ) (m : Machine) (known : Known m) (limit_is : m.config.attempts ≡ limit) where

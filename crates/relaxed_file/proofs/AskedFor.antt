@@ -30,7 +30,7 @@ pub asked_here : (m : Machine) (id : CallId) (file index : ℕ) (c : Call) (muta
 asked_here m id file index (call.Write fd offset bytes) (Write at content) asks = (asks.2, asks.3)
 asked_here m id file index (call.Append fd bytes) (Append at content) asks =
     (asks.0, let l : at + length content ≤ m.config.chunk = asks.4.1 in subst (λ k. at + length k ≤ m.config.chunk) asks.0 l)
-asked_here m id file index (call.Append fd bytes) (Pad at) asks = asks.1
+asked_here m id file index (call.Append fd bytes) (Pad at end) asks = (asks.1, asks.5)
 asked_here m id file index other mutation asks = absurd asks
 
 pub open_is_made : (m : Machine) (client : ℕ) (current : OpenCall) → Known m → IsOpen m client current → (m.clients client).calls current.number ≡ Some current.asked

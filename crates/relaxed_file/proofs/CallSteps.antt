@@ -41,7 +41,7 @@ GetsOutcome m client c d =
 -- where a length came from
 pub data IsLengthOf (m : Machine) (client : ℕ) (c : OpenCall) (found : ℕ) : Type 0 where
   by_measure : (file index told least last : ℕ) (chosen : List Entry) → MayMeasure m client c file index told least last chosen
-      → found ≡ index * chunk_size m file + image_length (chunk_size m file) (mutations_of chosen) → IsLengthOf m client c found
+      → found ≡ index * chunk_size m file + image_length (mutations_of chosen) → IsLengthOf m client c found
   by_no_chunk : MayMeasureNone c → found ≡ 0 → IsLengthOf m client c found
 
 abbrev pub GetsLength : Machine → ℕ → OpenCall → OpenCall → Type 0
@@ -227,7 +227,7 @@ module _ (m : Machine) (client : ℕ) where
   call_step (LookPast who i) a = step_taken m who (λ c. record c { pieces = record { index = i; bytes = []; round = None } ∷ c.pieces }) refl (λ c there mine.
       let same : a.0 ≡ c = from_some (sym a.1 ∙ subst (λ k. (m.clients k).open_call ≡ Some c) mine there) in
       (refl, refl, inr (_, by_none i (subst (λ d. MayLookPast d i) same a.2) refl, refl), inl refl, inl refl, λ begun. begun, inl refl, inl refl))
-  call_step (Measure who f i told least last chosen) a = step_taken m who (λ c. record c { lengths = (i * chunk_size m f + image_length (chunk_size m f) (mutations_of chosen)) ∷ c.lengths }) refl (λ c there mine.
+  call_step (Measure who f i told least last chosen) a = step_taken m who (λ c. record c { lengths = (i * chunk_size m f + image_length (mutations_of chosen)) ∷ c.lengths }) refl (λ c there mine.
       let same : a.0 ≡ c = from_some (sym a.1 ∙ subst (λ k. (m.clients k).open_call ≡ Some c) mine there) in
       let may : MayMeasure m client c f i told least last chosen =
       subst (λ d. MayMeasure m client d f i told least last chosen) same (subst (λ k. MayMeasure m k a.0 f i told least last chosen) (sym mine) a.2) in

@@ -83,10 +83,10 @@ padding_actions = open_actions (
     ∷ Invoke 1 (call.Append (fd 1) record_a) ∷ Place 1 1 0 (Append 13 record_a) ∷ Settle 1 0 1 ∷ Return 1 (answer.At 13)
     ∷ Invoke 1 (call.Append (fd 1) record_a) ∷ Place 1 1 0 (Append 26 record_a) ∷ Settle 1 0 2 ∷ Return 1 (answer.At 26)
     ∷ Invoke 1 (call.Append (fd 1) record_a) ∷ Place 1 1 0 (Append 39 record_a) ∷ Settle 1 0 3 ∷ Return 1 (answer.At 39)
-    ∷ Invoke 1 (call.Append (fd 1) record_a) ∷ Place 1 1 0 (Pad 52) ∷ Settle 1 0 4
+    ∷ Invoke 1 (call.Append (fd 1) record_a) ∷ Place 1 1 0 (Pad 52 64) ∷ Settle 1 0 4
     ∷ Add (call_of 7) ∷ OpenRound 1 1 1 ∷ Tell 1 1 1 ∷ Note 1 1 1 1 2 ∷ Place 1 1 1 (Append 0 record_a) ∷ Settle 1 1 0 ∷ Return 1 (answer.At 64)
     ∷ Invoke 1 (call.Read (fd 1) 52 12)
-    ∷ Look 1 1 0 1 1 (entry 3 (Append 0 record_a) true ∷ entry 4 (Append 13 record_a) true ∷ entry 5 (Append 26 record_a) true ∷ entry 6 (Append 39 record_a) true ∷ entry 7 (Pad 52) true ∷ [])
+    ∷ Look 1 1 0 1 1 (entry 3 (Append 0 record_a) true ∷ entry 4 (Append 13 record_a) true ∷ entry 5 (Append 26 record_a) true ∷ entry 6 (Append 39 record_a) true ∷ entry 7 (Pad 52 64) true ∷ [])
     ∷ Return 1 (answer.Bytes (replicate 12 0) (1 ∷ [])) ∷ [])
 
 abbrev padded_piece : Piece
@@ -110,7 +110,7 @@ padding_run =
     ▸ (_, refl, (refl, omega arith, refl, (refl, omega arith, omega arith, refl, ((λ h. omega arith, (λ h. omega arith, (λ h. omega arith, tt))), omega arith), omega arith))) ▸ (refl, refl)
     ▸ (_, refl, (1, refl, 0, 39, refl, omega arith, (1, refl, entry 6 (Append 39 record_a) true, (3, omega arith, refl), (refl, refl, omega arith), refl)))
     ▸ refl
-    ▸ (_, refl, (refl, omega arith, refl, (omega arith, omega arith, omega arith, refl, ((λ h. omega arith, (λ h. omega arith, (λ h. omega arith, (λ h. omega arith, tt)))), omega arith)))) ▸ (refl, refl)
+    ▸ (_, refl, (refl, omega arith, refl, (omega arith, omega arith, omega arith, refl, ((λ h. omega arith, (λ h. omega arith, (λ h. omega arith, (λ h. omega arith, tt)))), omega arith), refl))) ▸ (refl, refl)
     ▸ (_, 1, (refl, refl, refl, (omega arith, refl))) ▸ (omega arith, refl, omega arith) ▸ (_, refl, (refl, refl)) ▸ (_, refl, (refl, (0, omega arith, refl), tt))
     ▸ (_, refl, (refl, omega arith, refl, (refl, omega arith, omega arith, refl, (tt, omega arith), omega arith))) ▸ (refl, refl)
     ▸ (_, refl, (1, refl, 1, 0, refl, omega arith, (1, refl, entry 7 (Append 0 record_a) true, (0, omega arith, refl), (refl, refl, omega arith), refl)))

@@ -78,7 +78,7 @@ asks_of : (m : Machine) (id : CallId) (file index : ℕ) (c : Call) (mutation : 
     → IsFalse (is_name_call c) × (IsFalse (is_pad mutation) ⊎ IsShortAppend m.config.chunk c)
 asks_of m id file index (call.Write fd offset bytes) (Write at content) asks = (refl, inl refl)
 asks_of m id file index (call.Append fd bytes) (Append at content) asks = (refl, inl refl)
-asks_of m id file index (call.Append fd bytes) (Pad at) asks = (refl, inr asks.0)
+asks_of m id file index (call.Append fd bytes) (Pad at end) asks = (refl, inr asks.0)
 asks_of m id file index other mutation asks = absurd asks
 
 -- a name call that changes names has come to something that is no refusal

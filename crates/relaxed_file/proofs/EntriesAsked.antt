@@ -36,7 +36,7 @@ fits_settled m (suc place) (e ∷ rest) all = (all.0, fits_settled m place rest 
 fits_here : (m : Machine) (id : CallId) (file index : ℕ) (c : Call) (mutation : Mutation) → AsksFor m id file index c mutation → FitsCall m.config.chunk mutation c
 fits_here m id file index (call.Write fd offset bytes) (Write at content) asks = (asks.0, tt)
 fits_here m id file index (call.Append fd bytes) (Append at content) asks = (asks.1, tt)
-fits_here m id file index (call.Append fd bytes) (Pad at) asks = (asks.0, asks.2)
+fits_here m id file index (call.Append fd bytes) (Pad at end) asks = (asks.0, asks.2)
 fits_here m id file index other mutation asks = absurd asks
 
 fits_later : (m n : Machine) (e : Entry) → Grows m n → Fits m e → Fits n e
@@ -74,19 +74,19 @@ pads_are_needed config m way file index =
     all_more _ (λ e (f : Fits m e). (f.0, f.1, subst (λ (c : Config). IsNeededBy c.chunk e.mutation (f.0).call) h.same_config (f.2).1)) (h.each file index)
 
 -- an end of entries is one of their mutations
-same_ends : (size : ℕ) (order : List Entry) (at : ℕ) → list_any (λ e. end_of size e.mutation == at) order ≡ list_any (λ m. end_of size m == at) (mutations_of order)
-same_ends size [] at = refl
-same_ends size (e ∷ rest) at = ap (λ b. (end_of size e.mutation == at) || b) (same_ends size rest at)
+same_ends : (order : List Entry) (at : ℕ) → list_any (λ e. end_of e.mutation == at) order ≡ list_any (λ m. end_of m == at) (mutations_of order)
+same_ends [] at = refl
+same_ends (e ∷ rest) at = ap (λ b. (end_of e.mutation == at) || b) (same_ends rest at)
 
-end_is : (size : ℕ) (order : List Entry) (at : ℕ) → IsTrue (is_an_end size order at) → IsTrue (is_end_of_some size (mutations_of order) at)
-end_is size order at h = subst (λ b. IsTrue ((at == 0) || b)) (same_ends size order at) h
+end_is : (order : List Entry) (at : ℕ) → IsTrue (is_an_end order at) → IsTrue (is_end_of_some (mutations_of order) at)
+end_is order at h = subst (λ b. IsTrue ((at == 0) || b)) (same_ends order at) h
 
-pushed_at_end : (size : ℕ) (before ms : List Mutation) (m : Mutation) → BeginAtEnds size before ms
-    → (IsTrue (is_placed_by_system m) → IsTrue (is_end_of_some size (before ++ ms) (start_of m))) → BeginAtEnds size before (ms ++ m ∷ [])
-pushed_at_end size before [] m all h = ((λ placed. subst (λ bs. IsTrue (is_end_of_some size bs (start_of m))) (append-nil before) (h placed)), tt)
-pushed_at_end size before (x ∷ rest) m all h = (
+pushed_at_end : (before ms : List Mutation) (m : Mutation) → BeginAtEnds before ms
+    → (IsTrue (is_placed_by_system m) → IsTrue (is_end_of_some (before ++ ms) (start_of m))) → BeginAtEnds before (ms ++ m ∷ [])
+pushed_at_end before [] m all h = ((λ placed. subst (λ bs. IsTrue (is_end_of_some bs (start_of m))) (append-nil before) (h placed)), tt)
+pushed_at_end before (x ∷ rest) m all h = (
   all.0,
-  pushed_at_end size (before ++ x ∷ []) rest m all.1 (λ placed. subst (λ bs. IsTrue (is_end_of_some size bs (start_of m))) (sym (append_assoc before (x ∷ []) rest)) (h placed)),
+  pushed_at_end (before ++ x ∷ []) rest m all.1 (λ placed. subst (λ bs. IsTrue (is_end_of_some bs (start_of m))) (sym (append_assoc before (x ∷ []) rest)) (h placed)),
 )
 
 mutations_pushed : (order : List Entry) (e : Entry) → mutations_of (order ++ e ∷ []) ≡ mutations_of order ++ e.mutation ∷ []
@@ -99,21 +99,20 @@ mutations_settled zero (e ∷ rest) = refl
 mutations_settled (suc place) (e ∷ rest) = ap (λ ms. e.mutation ∷ ms) (mutations_settled place rest)
 
 asked_at_end : (m : Machine) (id : CallId) (file index : ℕ) (c : Call) (mutation : Mutation) → AsksFor m id file index c mutation
-    → IsTrue (is_placed_by_system mutation) → IsTrue (is_an_end m.config.chunk (chunk_at m file index).order (start_of mutation))
+    → IsTrue (is_placed_by_system mutation) → IsTrue (is_an_end (chunk_at m file index).order (start_of mutation))
 asked_at_end m id file index (call.Write fd offset bytes) (Write at content) asks placed = absurd (false≢true placed)
 asked_at_end m id file index (call.Append fd bytes) (Append at content) asks placed = asks.3
-asked_at_end m id file index (call.Append fd bytes) (Pad at) asks placed = asks.3
+asked_at_end m id file index (call.Append fd bytes) (Pad at end) asks placed = asks.3
 asked_at_end m id file index other mutation asks placed = absurd asks
 
 pub appends_leave_no_gap : AppendsLeaveNoGap
 appends_leave_no_gap config m way file index =
-    every_chunk config (λ i chunk. BeginAtEnds config.chunk [] (mutations_of chunk.order))
+    every_chunk config (λ i chunk. BeginAtEnds [] (mutations_of chunk.order))
     (λ i. tt) (λ i chunk round later h. h) (λ i chunk h. h)
     (λ n client current f i mutation same may h.
-    subst (BeginAtEnds config.chunk []) (sym (mutations_pushed (chunk_at n f i).order _))
-    (pushed_at_end config.chunk [] (mutations_of (chunk_at n f i).order) mutation h (λ placed.
-    subst (λ (c : Config). IsTrue (is_end_of_some c.chunk (mutations_of (chunk_at n f i).order) (start_of mutation))) same
-    (end_is n.config.chunk (chunk_at n f i).order (start_of mutation)
-    (asked_at_end n (record { client = client; number = current.number }) f i current.asked.call mutation may.3 placed)))))
-    (λ i chunk place at h. subst (BeginAtEnds config.chunk []) (sym (mutations_settled place chunk.order)) h)
+    subst (BeginAtEnds []) (sym (mutations_pushed (chunk_at n f i).order _))
+    (pushed_at_end [] (mutations_of (chunk_at n f i).order) mutation h (λ placed.
+    end_is (chunk_at n f i).order (start_of mutation)
+    (asked_at_end n (record { client = client; number = current.number }) f i current.asked.call mutation may.3 placed))))
+    (λ i chunk place at h. subst (BeginAtEnds []) (sym (mutations_settled place chunk.order)) h)
     m way file index

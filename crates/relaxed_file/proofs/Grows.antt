@@ -323,7 +323,7 @@ grows_step m (Note client file index round count) a h = machine_on m (with_clien
 grows_step m (Look client file index least last chosen) a h = at_some (Grows m) (λ current. looked m client current file index least chosen) m _ a.0 a.1
     (step_taken m client (λ c. record c { pieces = record { index = index; bytes = read_slice (chunk_size m file) index (a.0).asked.call chosen; round = Some least } ∷ c.pieces }) (λ c. (refl, refl)))
 grows_step m (LookPast client index) a h = step_taken m client (λ c. record c { pieces = record { index = index; bytes = []; round = None } ∷ c.pieces }) (λ c. (refl, refl))
-grows_step m (Measure client file index told least last chosen) a h = step_taken m client (λ c. record c { lengths = (index * chunk_size m file + image_length (chunk_size m file) (mutations_of chosen)) ∷ c.lengths }) (λ c. (refl, refl))
+grows_step m (Measure client file index told least last chosen) a h = step_taken m client (λ c. record c { lengths = (index * chunk_size m file + image_length (mutations_of chosen)) ∷ c.lengths }) (λ c. (refl, refl))
 grows_step m (MeasureNone client) a h = step_taken m client (λ c. record c { lengths = 0 ∷ c.lengths }) (λ c. (refl, refl))
 grows_step m (Pass moment) a h = record {
   config = refl;

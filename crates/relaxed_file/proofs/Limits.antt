@@ -24,7 +24,7 @@ has_try_left m id file index (call.Append fd bytes) (Append at content) asks the
     let all : tries_below (m.files file).chunks id (chunk_count m file) < m.config.attempts = asks.5 in
     let some : tries_in id (chunk_at m file index) ≤ tries_below (m.files file).chunks id (chunk_count m file) = tries_there id (m.files file).chunks (chunk_count m file) index there in
     omega (arith, all, some)
-has_try_left m id file index (call.Append fd bytes) (Pad at) asks there no_pad = absurd (false≢true no_pad)
+has_try_left m id file index (call.Append fd bytes) (Pad at end) asks there no_pad = absurd (false≢true no_pad)
 has_try_left m id file index other mutation asks there no_pad = absurd asks
 
 place_keeps : (config : Config) (m : Machine) (client : ℕ) (current : OpenCall) (file index : ℕ) (mutation : Mutation) → m.config ≡ config → MayPlace m client current file index mutation

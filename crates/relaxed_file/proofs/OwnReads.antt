@@ -147,7 +147,7 @@ module _ (client file index r : ℕ) where
   state_step m (Look who f i least last chosen) a round h = at_some Holds (λ current. looked m who current f i least chosen) m _ a.0 a.1
       (step_taken m who (λ c. record c { pieces = record { index = i; bytes = read_slice (chunk_size m f) i (a.0).asked.call chosen; round = Some least } ∷ c.pieces }) (λ c. (refl, refl)) h)
   state_step m (LookPast who i) a round h = step_taken m who (λ c. record c { pieces = record { index = i; bytes = []; round = None } ∷ c.pieces }) (λ c. (refl, refl)) h
-  state_step m (Measure who f i told_round least last chosen) a round h = step_taken m who (λ c. record c { lengths = (i * chunk_size m f + image_length (chunk_size m f) (mutations_of chosen)) ∷ c.lengths }) (λ c. (refl, refl)) h
+  state_step m (Measure who f i told_round least last chosen) a round h = step_taken m who (λ c. record c { lengths = (i * chunk_size m f + image_length (mutations_of chosen)) ∷ c.lengths }) (λ c. (refl, refl)) h
   state_step m (MeasureNone who) a round h = step_taken m who (λ c. record c { lengths = 0 ∷ c.lengths }) (λ c. (refl, refl)) h
   state_step m other a round h = h
 

@@ -151,11 +151,11 @@ newer_some b x (Some y) e h = inr h
 newer_some true x None e h = inl (from_some h)
 newer_some false x None e h = absurd (none-some e h)
 
-cover_has : (size place : ℕ) (chosen : List Entry) (e : Entry) → last_cover size chosen place ≡ Some e → Has chosen e
-cover_has size place [] e h = absurd (none-some e h)
-cover_has size place (x ∷ rest) e h = elim (newer_some (covers size place x.mutation) x (last_cover size rest place) e h) [
+cover_has : (place : ℕ) (chosen : List Entry) (e : Entry) → last_cover chosen place ≡ Some e → Has chosen e
+cover_has place [] e h = absurd (none-some e h)
+cover_has place (x ∷ rest) e h = elim (newer_some (covers place x.mutation) x (last_cover rest place) e h) [
   | inl same ↦ inl same
-  | inr later ↦ inr (cover_has size place rest e later)
+  | inr later ↦ inr (cover_has place rest e later)
 ]
 
 -- the last cover among entries is that among their mutations
@@ -165,23 +165,23 @@ newer_mutation b x (Some y) = refl
 newer_mutation true x None = refl
 newer_mutation false x None = refl
 
-cover_mutation : (size place : ℕ) (chosen : List Entry) → last_that (covers size place) (mutations_of chosen) ≡ option_map (λ (e : Entry). e.mutation) (last_cover size chosen place)
-cover_mutation size place [] = refl
-cover_mutation size place (x ∷ rest) =
-    ap (newer (cond (covers size place x.mutation) (Some x.mutation) None)) (cover_mutation size place rest) ∙ newer_mutation (covers size place x.mutation) x (last_cover size rest place)
+cover_mutation : (place : ℕ) (chosen : List Entry) → last_that (covers place) (mutations_of chosen) ≡ option_map (λ (e : Entry). e.mutation) (last_cover chosen place)
+cover_mutation place [] = refl
+cover_mutation place (x ∷ rest) =
+    ap (newer (cond (covers place x.mutation) (Some x.mutation) None)) (cover_mutation place rest) ∙ newer_mutation (covers place x.mutation) x (last_cover rest place)
 
-byte_is : (size place : ℕ) (chosen : List Entry) (o : Option Entry) → last_cover size chosen place ≡ o
-    → byte_at size (mutations_of chosen) place ≡ unwrap_or (option_map (byte_of place) (option_map (λ (e : Entry). e.mutation) o)) 0
-byte_is size place chosen o is = ap (λ found. unwrap_or (option_map (byte_of place) found) 0) (cover_mutation size place chosen ∙ ap (option_map (λ (e : Entry). e.mutation)) is)
+byte_is : (place : ℕ) (chosen : List Entry) (o : Option Entry) → last_cover chosen place ≡ o
+    → byte_at (mutations_of chosen) place ≡ unwrap_or (option_map (byte_of place) (option_map (λ (e : Entry). e.mutation) o)) 0
+byte_is place chosen o is = ap (λ found. unwrap_or (option_map (byte_of place) found) 0) (cover_mutation place chosen ∙ ap (option_map (λ (e : Entry). e.mutation)) is)
 
 comes_from : (m : Machine) (sources : List ℕ) (index last place : ℕ) (order chosen : List Entry) → IsSelection last order chosen → AllByRecursion (WasPutBy m sources index) order
     → ComesFrom m sources index order chosen place
 comes_from m sources index last place order chosen chose all =
-    elim (last_cover m.config.chunk chosen place) as (λ o. last_cover m.config.chunk chosen place ≡ o → ComesFrom m sources index order chosen place) [
-      | None ↦ λ is. inl (is, byte_is m.config.chunk place chosen None is)
+    elim (last_cover chosen place) as (λ o. last_cover chosen place ≡ o → ComesFrom m sources index order chosen place) [
+      | None ↦ λ is. inl (is, byte_is place chosen None is)
       | Some e ↦ λ is.
-          let has : Has order e = chosen_has last chose e (cover_has m.config.chunk place chosen e is) in
-          inr (e, has_place order e has, is, byte_is m.config.chunk place chosen (Some e) is, has_all (WasPutBy m sources index) order e all has)
+          let has : Has order e = chosen_has last chose e (cover_has place chosen e is) in
+          inr (e, has_place order e has, is, byte_is place chosen (Some e) is, has_all (WasPutBy m sources index) order e all has)
     ] refl
 
 pub no_other_byte : NoOtherByte

@@ -31,15 +31,15 @@ use Rattle.relaxed_file.proofs.Moments.{leads, Split, split_shows}
 use Rattle.relaxed_file.proofs.InCall.{WasRead, WasTold, Exchange, exchange, answered_way, answers_now}
 use Rattle.relaxed_file.proofs.NotRuns.{shows_run}
 
-pub length_from : (size : ℕ) (ms : List Mutation) (place count : ℕ) → length (bytes_from size ms place count) ≡ count
-length_from size ms place zero = refl
-length_from size ms place (suc count) = let more : length (bytes_from size ms (suc place) count) ≡ count = length_from size ms (suc place) count in omega arith
+pub length_from : (ms : List Mutation) (place count : ℕ) → length (bytes_from ms place count) ≡ count
+length_from ms place zero = refl
+length_from ms place (suc count) = let more : length (bytes_from ms (suc place) count) ≡ count = length_from ms (suc place) count in omega arith
 
 -- the image reaches the end of each mutation
-pub reaches_end : (size k : ℕ) (chosen : List Entry) (e : Entry) → k < length chosen → slice_index_or chosen k e ≡ e → end_of size e.mutation ≤ image_length size (mutations_of chosen)
-reaches_end size k [] e l is = absurd (omega arith)
-reaches_end size zero (x ∷ rest) e l is = let same : end_of size x.mutation ≡ end_of size e.mutation = ap (λ (w : Entry). end_of size w.mutation) is in omega arith
-reaches_end size (suc k) (x ∷ rest) e l is = let more : end_of size e.mutation ≤ image_length size (mutations_of rest) = reaches_end size k rest e (omega arith) is in omega arith
+pub reaches_end : (k : ℕ) (chosen : List Entry) (e : Entry) → k < length chosen → slice_index_or chosen k e ≡ e → end_of e.mutation ≤ image_length (mutations_of chosen)
+reaches_end k [] e l is = absurd (omega arith)
+reaches_end zero (x ∷ rest) e l is = let same : end_of x.mutation ≡ end_of e.mutation = ap (λ (w : Entry). end_of w.mutation) is in omega arith
+reaches_end (suc k) (x ∷ rest) e l is = let more : end_of e.mutation ≤ image_length (mutations_of rest) = reaches_end k rest e (omega arith) is in omega arith
 
 pub empty_front : (xs ys : List ℕ) → [] ≡ xs ++ ys → length xs ≡ 0
 empty_front xs ys h = let whole : 0 ≡ length (xs ++ ys) = ap (λ (l : List ℕ). length l) h in omega (arith, whole, length-append xs ys)
@@ -153,12 +153,12 @@ module _ (config : Config) (m n : Machine) (client : ℕ) (fd : Fd) (bytes round
       (it.current, it.open_now, it.there, it.noted, it.note_is, it.success) in
       let there : Contains chosen it.entry = own_successes_are_read config a.answered k client file it.index it.entry (answer.At x) least last chosen reached_answer own answers way here in
       let whole : LeadsTo a.answered k = leads_on a.answered after_append k (leads_by a.answered (Return client (answer.At x)) answers) way in
-      let far : end_of config.chunk (it.entry).mutation ≤ image_length config.chunk (mutations_of chosen) = reaches_end config.chunk there.0 chosen it.entry there.1 there.2 in
-      let end_is : end_of config.chunk (it.entry).mutation ≡ it.offset + length bytes = ap (end_of config.chunk) it.what in
-      let enough : 0 < min (part_length config.chunk x (length bytes) it.index) (image_length config.chunk (mutations_of chosen) - part_start config.chunk x it.index) =
+      let far : end_of (it.entry).mutation ≤ image_length (mutations_of chosen) = reaches_end there.0 chosen it.entry there.1 there.2 in
+      let end_is : end_of (it.entry).mutation ≡ it.offset + length bytes = ap end_of it.what in
+      let enough : 0 < min (part_length config.chunk x (length bytes) it.index) (image_length (mutations_of chosen) - part_start config.chunk x it.index) =
       part_bytes_there config.chunk it.index it.offset (length bytes) x _ it.is it.room some (omega (arith, far, end_is)) in
-      let count : length (image_slice config.chunk (mutations_of chosen) (part_start config.chunk x it.index) (part_length config.chunk x (length bytes) it.index))
-      ≡ min (part_length config.chunk x (length bytes) it.index) (image_length config.chunk (mutations_of chosen) - part_start config.chunk x it.index) = length_from config.chunk (mutations_of chosen) _ _ in
+      let count : length (image_slice (mutations_of chosen) (part_start config.chunk x it.index) (part_length config.chunk x (length bytes) it.index))
+      ≡ min (part_length config.chunk x (length bytes) it.index) (image_length (mutations_of chosen) - part_start config.chunk x it.index) = length_from (mutations_of chosen) _ _ in
       let given : 0 < length (read_slice config.chunk it.index (call.Read fd x (length bytes)) chosen) = omega (arith, enough, count) in
       subst (λ s. 0 < length (read_slice s index c.asked.call chosen)) (sym (size_is k whole))
       (subst (λ i. 0 < length (read_slice config.chunk i c.asked.call chosen)) (sym same)

@@ -68,13 +68,13 @@ append_is : (size index offset : ℕ) (fd : Fd) (bytes : List ℕ) (mutation : M
 append_is size index offset fd bytes (Append at content) asked is =
     ((λ i. Append (is i) (asked.0 i)), (let l : at + length bytes ≤ size = asked.1 in let same : at ≡ offset = is in omega arith))
 append_is size index offset fd bytes (Write at content) asked is = absurd is
-append_is size index offset fd bytes (Pad at) asked is = absurd is
+append_is size index offset fd bytes (Pad at end) asked is = absurd is
 
 write_is : (size index offset : ℕ) (fd : Fd) (bytes : List ℕ) (mutation : Mutation) → IsAskedOf size index (call.Write fd offset bytes) mutation → IsWrite mutation
     → mutation ≡ Write (part_start size offset index) (part_bytes size offset bytes index)
 write_is size index offset fd bytes (Write at content) asked is = λ i. Write (asked.0 i) (asked.1 i)
 write_is size index offset fd bytes (Append at content) asked is = absurd is
-write_is size index offset fd bytes (Pad at) asked is = absurd is
+write_is size index offset fd bytes (Pad at end) asked is = absurd is
 
 -- an entry that is settled now stands in every later state
 pub stands_later : (config : Config) (m n : Machine) (file index place : ℕ) (e : Entry) (mutation : Mutation)
@@ -166,22 +166,22 @@ past_in_rest P [] k f all is = absurd (none-some f is)
 past_in_rest P (x ∷ rest) zero f all is = subst P (from_some is) all.0
 past_in_rest P (x ∷ rest) (suc k) f all is = past_in_rest P rest k f all.1 is
 
-earlier_first : (size : ℕ) (order : List Entry) (j k : ℕ) (e f : Entry) → LiePastSettled size order → j < k → slice_get order j ≡ Some e → slice_get order k ≡ Some f
-    → IsTrue e.settled → IsTrue (is_placed_by_system f.mutation) → end_of size e.mutation ≤ start_of f.mutation
-earlier_first size [] j k e f past l one two s placed = absurd (none-some e one)
-earlier_first size (x ∷ rest) zero (suc k) e f past l one two s placed =
-    past_in_rest (λ g. IsTrue (is_placed_by_system g.mutation) → end_of size e.mutation ≤ start_of g.mutation) rest k f
-    (subst (λ (w : Entry). AllByRecursion (λ g. IsTrue (is_placed_by_system g.mutation) → end_of size w.mutation ≤ start_of g.mutation) rest) (from_some one)
+earlier_first : (order : List Entry) (j k : ℕ) (e f : Entry) → LiePastSettled order → j < k → slice_get order j ≡ Some e → slice_get order k ≡ Some f
+    → IsTrue e.settled → IsTrue (is_placed_by_system f.mutation) → end_of e.mutation ≤ start_of f.mutation
+earlier_first [] j k e f past l one two s placed = absurd (none-some e one)
+earlier_first (x ∷ rest) zero (suc k) e f past l one two s placed =
+    past_in_rest (λ g. IsTrue (is_placed_by_system g.mutation) → end_of e.mutation ≤ start_of g.mutation) rest k f
+    (subst (λ (w : Entry). AllByRecursion (λ g. IsTrue (is_placed_by_system g.mutation) → end_of w.mutation ≤ start_of g.mutation) rest) (from_some one)
     (past.0 (subst (λ (w : Entry). IsTrue w.settled) (sym (from_some one)) s))) two placed
-earlier_first size (x ∷ rest) (suc j) (suc k) e f past l one two s placed = earlier_first size rest j k e f past.1 (omega arith) one two s placed
-earlier_first size (x ∷ rest) j zero e f past l one two s placed = absurd (omega arith)
+earlier_first (x ∷ rest) (suc j) (suc k) e f past l one two s placed = earlier_first rest j k e f past.1 (omega arith) one two s placed
+earlier_first (x ∷ rest) j zero e f past l one two s placed = absurd (omega arith)
 
 -- by their settled appends
-past_append : (size : ℕ) (order : List Entry) (j k : ℕ) (e f : Entry) (a b : ℕ) (one two : List ℕ) → LiePastSettled size order → j < k → slice_get order j ≡ Some e → slice_get order k ≡ Some f
+past_append : (order : List Entry) (j k : ℕ) (e f : Entry) (a b : ℕ) (one two : List ℕ) → LiePastSettled order → j < k → slice_get order j ≡ Some e → slice_get order k ≡ Some f
     → IsTrue e.settled → e.mutation ≡ Append a one → f.mutation ≡ Append b two → a + length one ≤ b
-past_append size order j k e f a b one two past l at_j at_k s what_e what_f =
-    let lies : end_of size e.mutation ≤ start_of f.mutation = earlier_first size order j k e f past l at_j at_k s (ap is_placed_by_system what_f) in
-    let end_is : end_of size e.mutation ≡ a + length one = ap (end_of size) what_e in
+past_append order j k e f a b one two past l at_j at_k s what_e what_f =
+    let lies : end_of e.mutation ≤ start_of f.mutation = earlier_first order j k e f past l at_j at_k s (ap is_placed_by_system what_f) in
+    let end_is : end_of e.mutation ≡ a + length one = ap end_of what_e in
     let start_is : start_of f.mutation ≡ b = ap start_of what_f in
     omega (arith, lies, end_is, start_is)
 
@@ -248,13 +248,13 @@ module _ (config : Config) (m n : Machine) (client other file : ℕ) (fd fe : Fd
   in_one_chunk same =
       let at_first : slice_get (chunk_at n file second.index).order first.there.0 ≡ Some first.entry =
       subst (λ i. slice_get (chunk_at n file i).order first.there.0 ≡ Some first.entry) same first_there in
-      let lie : LiePastSettled config.chunk (chunk_at n file second.index).order = appends_lie_apart config n reached_later file second.index in
+      let lie : LiePastSettled (chunk_at n file second.index).order = appends_lie_apart config n reached_later file second.index in
       let x_is : x ≡ second.index * config.chunk + first.offset = subst (λ i. x ≡ i * config.chunk + first.offset) same first.is in
       let y_is : y ≡ second.index * config.chunk + second.offset = second.is in
       elim (cases_lt first.there.0 second.there.0) [
-        | inl before ↦ inl (let l : first.offset + length one ≤ second.offset = past_append config.chunk _ first.there.0 second.there.0 first.entry second.entry first.offset second.offset one two lie before at_first second_there first.settled first.what second.what in omega (arith, l, x_is, y_is))
+        | inl before ↦ inl (let l : first.offset + length one ≤ second.offset = past_append _ first.there.0 second.there.0 first.entry second.entry first.offset second.offset one two lie before at_first second_there first.settled first.what second.what in omega (arith, l, x_is, y_is))
         | inr after ↦ elim (cases_lt second.there.0 first.there.0) [
-          | inl behind ↦ inr (let l : second.offset + length two ≤ first.offset = past_append config.chunk _ second.there.0 first.there.0 second.entry first.entry second.offset first.offset two one lie behind second_there at_first second.settled second.what first.what in omega (arith, l, x_is, y_is))
+          | inl behind ↦ inr (let l : second.offset + length two ≤ first.offset = past_append _ second.there.0 first.there.0 second.entry first.entry second.offset first.offset two one lie behind second_there at_first second.settled second.what first.what in omega (arith, l, x_is, y_is))
           | inr before ↦ absurd (
               let place : first.there.0 ≡ second.there.0 = omega arith in
               let entry : first.entry ≡ second.entry = from_some (sym at_first ∙ subst (λ k. slice_get (chunk_at n file second.index).order k ≡ Some second.entry) (sym place) second_there) in

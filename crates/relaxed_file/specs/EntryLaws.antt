@@ -30,8 +30,8 @@ TooLongIsNeverPlaced =
 
 -- a pad is of an append whose record doesn't fit behind it
 abbrev pub IsNeededBy : ℕ → Mutation → Call → Type 0
-IsNeededBy size (Pad at) (call.Append fd bytes) = size < at + length bytes
-IsNeededBy size (Pad at) other = ⊥
+IsNeededBy size (Pad at end) (call.Append fd bytes) = size < at + length bytes
+IsNeededBy size (Pad at end) other = ⊥
 IsNeededBy size mutation c = Unit {0}
 
 -- In every run a chunk is padded only for a record that doesn't fit into what is left of it.
@@ -41,14 +41,14 @@ PadsAreNeeded =
     → AllByRecursion (λ e. IsOfCall m (IsNeededBy config.chunk e.mutation) e) (chunk_at m file index).order
 
 -- the place is the chunk's beginning, or the end of one of these mutations
-abbrev pub is_end_of_some : ℕ → List Mutation → ℕ → Bool
-is_end_of_some size before at = (at == 0) || list_any (λ m. end_of size m == at) before
+abbrev pub is_end_of_some : List Mutation → ℕ → Bool
+is_end_of_some before at = (at == 0) || list_any (λ m. end_of m == at) before
 
 -- each append or pad begins at the chunk's beginning, or where a mutation before it ends
-abbrev pub BeginAtEnds : ℕ → List Mutation → List Mutation → Type 0
-BeginAtEnds size before [] = Unit {0}
-BeginAtEnds size before (m ∷ rest) = (IsTrue (is_placed_by_system m) → IsTrue (is_end_of_some size before (start_of m))) × BeginAtEnds size (before ++ m ∷ []) rest
+abbrev pub BeginAtEnds : List Mutation → List Mutation → Type 0
+BeginAtEnds before [] = Unit {0}
+BeginAtEnds before (m ∷ rest) = (IsTrue (is_placed_by_system m) → IsTrue (is_end_of_some before (start_of m))) × BeginAtEnds (before ++ m ∷ []) rest
 
 -- In every run no append or pad leaves a gap before it.
 abbrev pub AppendsLeaveNoGap : Type 0
-AppendsLeaveNoGap = (config : Config) (m : Machine) → IsReached config m → (file index : ℕ) → BeginAtEnds config.chunk [] (mutations_of (chunk_at m file index).order)
+AppendsLeaveNoGap = (config : Config) (m : Machine) → IsReached config m → (file index : ℕ) → BeginAtEnds [] (mutations_of (chunk_at m file index).order)

@@ -41,21 +41,21 @@ abbrev pub RoundsNeverFall : Type 0
 RoundsNeverFall = (config : Config) (m : Machine) → IsReached config m → (file index : ℕ) → AreRoundsRising 0 (chunk_at m file index).order
 
 -- each append or pad lies past each settled mutation that stands before it
-abbrev pub LiePastSettled : ℕ → List Entry → Type 0
-LiePastSettled size [] = Unit {0}
-LiePastSettled size (e ∷ rest) =
-    (IsTrue e.settled → AllByRecursion (λ f. IsTrue (is_placed_by_system f.mutation) → end_of size e.mutation ≤ start_of f.mutation) rest)
-    × LiePastSettled size rest
+abbrev pub LiePastSettled : List Entry → Type 0
+LiePastSettled [] = Unit {0}
+LiePastSettled (e ∷ rest) =
+    (IsTrue e.settled → AllByRecursion (λ f. IsTrue (is_placed_by_system f.mutation) → end_of e.mutation ≤ start_of f.mutation) rest)
+    × LiePastSettled rest
 
 -- In every run no record that was appended shares a place with a mutation that succeeded before it (section 3.3).
 abbrev pub AppendsLieApart : Type 0
-AppendsLieApart = (config : Config) (m : Machine) → IsReached config m → (file index : ℕ) → LiePastSettled config.chunk (chunk_at m file index).order
+AppendsLieApart = (config : Config) (m : Machine) → IsReached config m → (file index : ℕ) → LiePastSettled (chunk_at m file index).order
 
 -- what a call asks of a chunk
 abbrev pub IsAskedOf : ℕ → ℕ → Call → Mutation → Type 0
 IsAskedOf size index (call.Write fd offset bytes) (Write at content) = (at ≡ part_start size offset index) × (content ≡ part_bytes size offset bytes index)
 IsAskedOf size index (call.Append fd bytes) (Append at content) = (content ≡ bytes) × (at + length bytes ≤ size)
-IsAskedOf size index (call.Append fd bytes) (Pad at) = at < size
+IsAskedOf size index (call.Append fd bytes) (Pad at end) = (at < size) × (end ≡ size)
 IsAskedOf size index other mutation = ⊥
 
 -- a call that was made asked for the entry
@@ -129,8 +129,8 @@ WasPutBy m sources index e =
 -- what a selection has at a place: nothing, which reads as zero, or the byte of one of its entries, put there by a call on the file or on one that it goes back to
 abbrev pub ComesFrom : Machine → List ℕ → ℕ → List Entry → List Entry → ℕ → Type 0
 ComesFrom m sources index order chosen place =
-    ((last_cover m.config.chunk chosen place ≡ None) × (byte_at m.config.chunk (mutations_of chosen) place ≡ 0))
-    ⊎ ((e : Entry) × Contains order e × (last_cover m.config.chunk chosen place ≡ Some e) × (byte_at m.config.chunk (mutations_of chosen) place ≡ byte_of place e.mutation) × WasPutBy m sources index e)
+    ((last_cover chosen place ≡ None) × (byte_at (mutations_of chosen) place ≡ 0))
+    ⊎ ((e : Entry) × Contains order e × (last_cover chosen place ≡ Some e) × (byte_at (mutations_of chosen) place ≡ byte_of place e.mutation) × WasPutBy m sources index e)
 
 -- No look gives a byte that no mutation of the file, or of a file that it goes back to by snapshots, put there, but zeros in holes (sections 2.7.1 and 3.4).
 abbrev pub NoOtherByte : Type 0
@@ -222,7 +222,7 @@ IsSameOpen m n client = (one : OpenCall) × (two : OpenCall) × IsOpen m client 
 abbrev pub IsGiven : Machine → ℕ → ℕ → ℕ → ℕ → List ℕ → Option ℕ → Type 0
 IsGiven m file offset count index bytes (Some named) =
     (named ≤ (chunk_at m file index).round) × (last : ℕ) × (chosen : List Entry) × (named ≤ last) × IsSelection last (chunk_at m file index).order chosen
-    × (bytes ≡ image_slice (chunk_size m file) (mutations_of chosen) (part_start (chunk_size m file) offset index) (part_length (chunk_size m file) offset count index))
+    × (bytes ≡ image_slice (mutations_of chosen) (part_start (chunk_size m file) offset index) (part_length (chunk_size m file) offset count index))
 IsGiven m file offset count index bytes None = (chunk_count m file ≤ index) × (bytes ≡ [])
 
 -- a state of the run gave the piece, in which the client's open call was the same
@@ -379,7 +379,7 @@ abbrev pub IsMeasured : Machine → Machine → ℕ → ℕ → Type 0
 IsMeasured old new file found =
     ((chunk_count old file ≡ 0) × (found ≡ 0))
     ⊎ ((index : ℕ) × (last : ℕ) × (chosen : List Entry) × (chunk_count old file ≡ suc index) × ((chunk_at old file index).round ≤ last)
-    × IsSelection last (chunk_at new file index).order chosen × (found ≡ index * chunk_size new file + image_length (chunk_size new file) (mutations_of chosen)))
+    × IsSelection last (chunk_at new file index).order chosen × (found ≡ index * chunk_size new file + image_length (mutations_of chosen)))
 
 -- Length is answered what it found at moments of the call (sections 2.4 and 2.7.1).
 abbrev pub LengthsAreMeasured : Type 0

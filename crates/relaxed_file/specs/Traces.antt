@@ -101,7 +101,7 @@ deletion_trace =
 
 -- the file's chunk has these regions at the end
 abbrev pub HasRegions : ℕ → ℕ → List Region → Machine → Type 0
-HasRegions file index regions m = regions_of m.config.chunk (chunk_at m file index).order ≡ regions
+HasRegions file index regions m = regions_of (chunk_at m file index).order ≡ regions
 
 -- a run with this trace ends in a state of which this holds
 abbrev pub IsRunWith : List Visible → (Machine → Type 0) → Type 0

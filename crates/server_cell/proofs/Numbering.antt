@@ -30,21 +30,20 @@ held_after s e handle p id m mid goes =
 
 pub applied : (s : ServerState) (e : ServerEffects) (handle : ℕ) (p : SerialOrder) (id : DataId) (m : Mutation) (mid after : ServerDoing)
     → numbers (doing s e) handle p id m ≡ mid
-    → ((q : SerialOrder) → held_at mid.server handle ≡ Some q → applies mid handle q (p.serial + 1) id (change_of m) (stored_as s.config.chunk handle (p.serial + 1) m) ≡ after)
+    → ((q : SerialOrder) → held_at mid.server handle ≡ Some q → applies mid handle q (p.serial + 1) id (change_of m) (stored_as handle (p.serial + 1) m) ≡ after)
     → primary_applies (numbers (doing s e) handle p id m) handle p id m ≡ after
 applied s e handle p id m mid after goes f =
-    ap (λ (d : ServerDoing). applies d handle (numbered p id.client id.seq (place_of m)) (p.serial + 1) id (change_of m) (stored_as s.config.chunk handle (p.serial + 1) m)) goes
+    ap (λ (d : ServerDoing). applies d handle (numbered p id.client id.seq (place_of m)) (p.serial + 1) id (change_of m) (stored_as handle (p.serial + 1) m)) goes
     ∙ f (numbered p id.client id.seq (place_of m)) (held_after s e handle p id m mid goes)
 
 -- the same, in the words of the code
-pub applied_as : (s : ServerState) (e : ServerEffects) (handle : ℕ) (p : SerialOrder) (id : DataId) (m : Mutation) (mid after : ServerDoing) (primary : SerialOrder) (serial chunk : ℕ) (c : Change) (stored : StoreChange)
-    → numbers (doing s e) handle p id m ≡ mid → primary ≡ p → serial ≡ primary.serial → chunk ≡ s.config.chunk → c ≡ change_of m → stored ≡ stored_as chunk handle (serial + 1) m
+pub applied_as : (s : ServerState) (e : ServerEffects) (handle : ℕ) (p : SerialOrder) (id : DataId) (m : Mutation) (mid after : ServerDoing) (primary : SerialOrder) (serial : ℕ) (c : Change) (stored : StoreChange)
+    → numbers (doing s e) handle p id m ≡ mid → primary ≡ p → serial ≡ primary.serial → c ≡ change_of m → stored ≡ stored_as handle (serial + 1) m
     → ((q : SerialOrder) → held_at mid.server handle ≡ Some q → applies mid handle q (serial + 1) id c stored ≡ after)
     → primary_applies (numbers (doing s e) handle p id m) handle p id m ≡ after
-applied_as s e handle p id m mid after primary serial chunk c stored goes same serial_is chunk_is change_is stored_is f =
+applied_as s e handle p id m mid after primary serial c stored goes same serial_is change_is stored_is f =
     let n : p.serial ≡ serial = sym (serial_is ∙ ap (λ (x : SerialOrder). x.serial) same) in
     applied s e handle p id m mid after goes (λ q at.
-    ap (λ (k : ℕ). applies mid handle q (k + 1) id (change_of m) (stored_as s.config.chunk handle (k + 1) m)) n
-    ∙ (ap (λ (k : ℕ). applies mid handle q (serial + 1) id (change_of m) (stored_as k handle (serial + 1) m)) (sym chunk_is)
-    ∙ (ap (λ (x : Change). applies mid handle q (serial + 1) id x (stored_as chunk handle (serial + 1) m)) (sym change_is)
-    ∙ (ap (λ (x : StoreChange). applies mid handle q (serial + 1) id c x) (sym stored_is) ∙ f q at))))
+    ap (λ (k : ℕ). applies mid handle q (k + 1) id (change_of m) (stored_as handle (k + 1) m)) n
+    ∙ (ap (λ (x : Change). applies mid handle q (serial + 1) id x (stored_as handle (serial + 1) m)) (sym change_is)
+    ∙ (ap (λ (x : StoreChange). applies mid handle q (serial + 1) id c x) (sym stored_is) ∙ f q at)))

@@ -14,20 +14,21 @@ pub(crate) fn start_of(mutation: &Mutation) -> u64
     ensures { result ≡ start_of mutation.now }
 {
     match mutation {
-        Mutation::Write(offset, _) | Mutation::Append(offset, _) | Mutation::Pad(offset) => *offset,
+        Mutation::Write(offset, _) | Mutation::Append(offset, _) | Mutation::Pad(offset, _) =>
+            *offset,
     }
 }
 
-// The first place past it, in a chunk of that size.
-pub(crate) fn end_of(chunk: u64, mutation: &Mutation) -> u64
-    requires { end_of chunk mutation.now < 2 ^ 64 }
-    ensures { result ≡ end_of chunk mutation.now }
+// The first place past it.
+pub(crate) fn end_of(mutation: &Mutation) -> u64
+    requires { end_of mutation.now < 2 ^ 64 }
+    ensures { result ≡ end_of mutation.now }
 {
     match mutation {
         Mutation::Write(offset, bytes) | Mutation::Append(offset, bytes) => {
             *offset + bytes.len() as u64
         }
-        Mutation::Pad(_) => chunk,
+        Mutation::Pad(_, end) => *end,
     }
 }
 
@@ -37,17 +38,16 @@ pub(crate) fn change_of(mutation: &Mutation) -> Change
     match mutation {
         Mutation::Write(offset, _) => Change::Write(*offset),
         Mutation::Append(offset, _) => Change::Append(*offset),
-        Mutation::Pad(offset) => Change::Pad(*offset),
+        Mutation::Pad(offset, end) => Change::Pad(*offset, *end),
     }
 }
 
 pub(crate) fn stored_as(
-    chunk: u64,
     handle: Handle,
     serial: Serial,
     mutation: &Mutation,
 ) -> Result<StoreChange, NoMemory>
-    ensures { IfOk result (λ x. x ≡ stored_as chunk handle.0 serial.0 mutation.now) }
+    ensures { IfOk result (λ x. x ≡ stored_as handle.0 serial.0 mutation.now) }
 {
     match mutation {
         Mutation::Write(offset, bytes) | Mutation::Append(offset, bytes) => {
@@ -58,11 +58,11 @@ pub(crate) fn stored_as(
                 bytes: bytes.clone()?,
             })
         }
-        Mutation::Pad(offset) => Ok(StoreChange::Zero {
+        Mutation::Pad(offset, end) => Ok(StoreChange::Zero {
             handle,
             serial,
             offset: *offset,
-            count: chunk.saturating_sub(*offset),
+            count: end.saturating_sub(*offset),
         }),
     }
 }

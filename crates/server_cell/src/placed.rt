@@ -30,7 +30,7 @@ pub(crate) fn places<S: ReplicaStore>(
     mutation: Mutation,
 ) -> Result<(), ReplicaStoreFault>
     requires nothing { server.old.under_way ≡ [] }
-    requires ends { end_of server.old.config.chunk mutation < 2 ^ 64 }
+    requires ends { end_of mutation < 2 ^ 64 }
     ensures goes { OnOk result (OnHeld server.old handle.0 (λ p. places (doing server.old effects.old) handle.0 p id mutation ≡ doing server.new effects.new)) }
     ensures frame { frame server.new ≡ frame server.old }
 {
@@ -40,7 +40,7 @@ pub(crate) fn places<S: ReplicaStore>(
     if primary.serial().0 >= MAX_COUNTER {
         return Ok(());
     }
-    let end = end_of(server.chunk(), &mutation);
+    let end = end_of(&mutation);
     if server.is_writable(handle, start_of(&mutation), end)? {
         return applies_numbered(server, effects, id, handle, mutation);
     }
@@ -65,7 +65,7 @@ fn applies_numbered<S: ReplicaStore>(
         return Ok(());
     };
     let serial = Serial(primary.serial().0 + 1);
-    let stored = stored_as(server.chunk(), handle, serial, &mutation)?;
+    let stored = stored_as(handle, serial, &mutation)?;
     let change = change_of(&mutation);
     server.numbers(effects, id, handle, mutation)?;
     applies(server, effects, id, handle, serial, change, stored)

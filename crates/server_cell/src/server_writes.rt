@@ -115,11 +115,14 @@ fn appends<S: ReplicaStore>(
     ensures goes { OnOk result (OnHeld server.old handle.0 (λ p. appends_as (doing server.old effects.old) handle.0 p id bytes (placing count (length bytes) server.old.config.chunk) ≡ doing server.new effects.new)) }
     ensures frame { frame server.new ≡ frame server.old }
 {
-    match place(count, bytes.len() as u64, server.chunk()) {
+    let chunk = server.chunk();
+    match place(count, bytes.len() as u64, chunk) {
         Placing::At(offset) => {
             places(server, effects, id, handle, Mutation::Append(offset, bytes))
         }
-        Placing::Pad(offset) => places(server, effects, id, handle, Mutation::Pad(offset)),
+        Placing::Pad(offset) => {
+            places(server, effects, id, handle, Mutation::Pad(offset, chunk))
+        }
         Placing::Full => server.denies(effects, id, handle, Refusal::ChunkFull),
         Placing::TooLong => server.denies(effects, id, handle, Refusal::ServerTooLong),
     }

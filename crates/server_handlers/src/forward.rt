@@ -88,7 +88,7 @@ impl<S: ReplicaStore> Server<S> {
             Change::Write(offset) | Change::Append(offset) => {
                 self.applies_data(effects, asked, offset)
             }
-            Change::Pad(offset) => self.applies_pad(effects, asked, offset),
+            Change::Pad(offset, end) => self.applies_pad(effects, asked, offset, end),
         }
     }
 
@@ -124,12 +124,13 @@ impl<S: ReplicaStore> Server<S> {
         effects: &mut ServerEffects,
         asked: MemberRequest,
         offset: u64,
+        end: u64,
     ) -> Result<(), ReplicaStoreFault>
         requires { self.old.under_way ≡ [] }
-        ensures goes { OnOk result (applies_pad (doing self.old effects.old) asked.primary asked.handle.0 asked.version.0 asked.serial.0 asked.id offset (self.old.config.chunk - offset) ≡ doing self.new effects.new) }
+        ensures goes { OnOk result (applies_pad (doing self.old effects.old) asked.primary asked.handle.0 asked.version.0 asked.serial.0 asked.id offset (end - offset) ≡ doing self.new effects.new) }
         ensures frame { frame self.new ≡ frame self.old }
     {
-        let count = u64::from(self.config.chunk).saturating_sub(offset);
+        let count = end.saturating_sub(offset);
         if !self.is_within(offset, count) {
             return Ok(());
         }

@@ -17,7 +17,7 @@ pub fn place_of(mutation: &Mutation) -> Option<u64>
 {
     match mutation {
         Mutation::Write(offset, _) | Mutation::Append(offset, _) => Some(*offset),
-        Mutation::Pad(_) => None,
+        Mutation::Pad(_, _) => None,
     }
 }
 

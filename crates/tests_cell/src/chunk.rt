@@ -10,16 +10,13 @@ use std::alloc::Global;
 #[derive(Drop)]
 pub struct PlainChunk {
     alloc: Global,
-    /// The bytes that the chunk may hold.
-    size: u64,
     mutations: Vec<Mutation>,
 }
 
 impl PlainChunk {
-    pub fn new(alloc: Global, size: u64) -> PlainChunk {
+    pub fn new(alloc: Global) -> PlainChunk {
         PlainChunk {
             alloc,
-            size,
             mutations: Vec::new(alloc),
         }
     }
@@ -32,8 +29,8 @@ impl PlainChunk {
     /// How far its bytes reach. None where a mutation is greater than those of these tests.
     pub fn length(&self) -> Option<u64> {
         let mutations = self.mutations.as_slice();
-        if are_small(self.size, mutations) {
-            Some(length(self.size, mutations))
+        if are_small(mutations) {
+            Some(length(mutations))
         } else {
             None
         }
@@ -42,8 +39,8 @@ impl PlainChunk {
     /// Its bytes. None where a mutation is greater than those of these tests.
     pub fn bytes(&self) -> Result<Option<Vec<u8>>, NoMemory> {
         let mutations = self.mutations.as_slice();
-        if are_small(self.size, mutations) {
-            Ok(Some(image(self.alloc, self.size, mutations)?))
+        if are_small(mutations) {
+            Ok(Some(image(self.alloc, mutations)?))
         } else {
             Ok(None)
         }

@@ -66,7 +66,7 @@ impl PlainFile {
     }
 
     fn add_chunk(&mut self) -> Result<(), NoMemory> {
-        self.chunks.push(PlainChunk::new(self.alloc, self.size))?;
+        self.chunks.push(PlainChunk::new(self.alloc))?;
         Ok(())
     }
 
@@ -129,7 +129,7 @@ impl PlainFile {
                     self.tell(index)?;
                     return Ok(Some(index.saturating_mul(self.size).saturating_add(start)));
                 }
-                Placing::Pad(start) => chunk.push(Mutation::Pad(start))?,
+                Placing::Pad(start) => chunk.push(Mutation::Pad(start, self.size))?,
                 Placing::Full | Placing::TooLong => {}
             }
             index = index.saturating_add(1).max(self.last_index());

@@ -6,22 +6,22 @@ ghost use Rattle.gfs_types.specs.Mutations as change;
 use gfs_types::mutation::Mutation;
 
 /// Whether a mutation is as small as those of these tests.
-pub fn is_small(chunk: u64, mutation: &Mutation) -> bool
-    ensures { IsTrue result → change.end_of chunk mutation.now < 2 ^ 64 }
+pub fn is_small(mutation: &Mutation) -> bool
+    ensures { IsTrue result → change.end_of mutation.now < 2 ^ 64 }
 {
     match mutation {
         Mutation::Write(offset, bytes) | Mutation::Append(offset, bytes) => {
             *offset <= 4_096 && bytes.len() <= 4_096
         }
-        Mutation::Pad(_) => chunk <= 4_096,
+        Mutation::Pad(_, end) => *end <= 4_096,
     }
 }
 
 /// Whether each of them is.
-pub fn are_small(chunk: u64, mutations: &[Mutation]) -> bool
-    ensures { IsTrue result → All (λ m. change.end_of chunk m < 2 ^ 64) mutations.now }
+pub fn are_small(mutations: &[Mutation]) -> bool
+    ensures { IsTrue result → All (λ m. change.end_of m < 2 ^ 64) mutations.now }
 {
-    mutations.iter().all(|mutation| is_small(chunk, mutation))
+    mutations.iter().all(|mutation| is_small(mutation))
 }
 
 /// At most `count` bytes from a place on.

@@ -29,18 +29,18 @@ fn region(from: u64, to: u64, determined: bool) -> Region {
 }
 
 fn image_is(alloc: Global, mutations: &[Mutation], wanted: &[u8]) -> bool
-    requires { All (λ m. change.end_of 64 m < 2 ^ 64) mutations.now }
+    requires { All (λ m. change.end_of m < 2 ^ 64) mutations.now }
 {
-    match image(alloc, 64, mutations) {
+    match image(alloc, mutations) {
         Ok(bytes) => bytes.as_slice() == wanted,
         Err(_) => false,
     }
 }
 
 fn regions_are(alloc: Global, entries: &[Entry], wanted: &[Region]) -> bool
-    requires { All (λ e. change.end_of 64 e.mutation < 2 ^ 64) entries.now }
+    requires { All (λ e. change.end_of e.mutation < 2 ^ 64) entries.now }
 {
-    match regions(alloc, 64, entries) {
+    match regions(alloc, entries) {
         Ok(found) => found.as_slice() == wanted,
         Err(_) => false,
     }
@@ -72,7 +72,7 @@ fn a_padded_chunk(rt: HostRuntime) {
         Mutation::Append(13, Bytes::from_static(A13)),
         Mutation::Append(26, Bytes::from_static(A13)),
         Mutation::Append(39, Bytes::from_static(A13)),
-        Mutation::Pad(52),
+        Mutation::Pad(52, 64),
     ];
     let mut wanted = [0; 64];
     for place in 0..52 {
@@ -139,7 +139,7 @@ fn regions_of_a_padded_chunk(rt: HostRuntime) {
         appended(4, 1, 13, A13, true),
         appended(5, 1, 26, A13, true),
         appended(6, 1, 39, A13, true),
-        Entry::new(1, 7, 1, Mutation::Pad(52), true),
+        Entry::new(1, 7, 1, Mutation::Pad(52, 64), true),
     ];
     let are_found = regions_are(rt.alloc(), &order, &[region(0, 64, true)]);
     drop(order);

@@ -7,5 +7,5 @@ use Rattle.cell_world.proofs.sights.entries_of.Given as goal
 abbrev pub invariant-loop-one : goal.invariant-loop-one
 invariant-loop-one l = record {
   entries : l.entries.items ++ map (λ p. p.entry) (drop l.one-index l.list) ≡ map (λ p. p.entry) l.list;
-  ends : All (λ e. end_of l.chunk e.mutation < 2 ^ 64) l.entries.items;
+  ends : All (λ e. end_of e.mutation < 2 ^ 64) l.entries.items;
 }

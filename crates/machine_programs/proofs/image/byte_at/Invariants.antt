@@ -6,5 +6,5 @@ use Rattle.machine_programs.proofs.image.byte_at.Given as goal
 -- what is left decides, and where nothing in it covers the place, what was found
 abbrev pub invariant-loop-mutation : goal.invariant-loop-mutation
 invariant-loop-mutation l =
-    spec.newer l.last (option_map (change.byte_of l.place) (spec.last_that (change.covers l.chunk l.place) (drop l.mutation-index l.mutations)))
-    ≡ option_map (change.byte_of l.place) (spec.last_that (change.covers l.chunk l.place) l.mutations)
+    spec.newer l.last (option_map (change.byte_of l.place) (spec.last_that (change.covers l.place) (drop l.mutation-index l.mutations)))
+    ≡ option_map (change.byte_of l.place) (spec.last_that (change.covers l.place) l.mutations)

@@ -7,4 +7,4 @@ use Rattle.machine_programs.proofs.regions.marks.Given as goal
 abbrev pub invariant-loop-entry : goal.invariant-loop-entry
 invariant-loop-entry l =
     (length l.marks.items ≡ l.end)
-    × ((place : ℕ) → place < l.end → unwrap_or (option_map (λ e. e.settled) (last_cover l.chunk (drop l.entry-index l.entries) place)) (get_or l.marks.items place true) ≡ is_determined l.chunk l.entries place)
+    × ((place : ℕ) → place < l.end → unwrap_or (option_map (λ e. e.settled) (last_cover (drop l.entry-index l.entries) place)) (get_or l.marks.items place true) ≡ is_determined l.entries place)

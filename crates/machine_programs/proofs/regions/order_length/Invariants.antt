@@ -4,4 +4,4 @@ use Rattle.machine_programs.proofs.regions.order_length.Given as goal
 
 -- what is left gives the greatest end of all
 abbrev pub invariant-loop-entry : goal.invariant-loop-entry
-invariant-loop-entry l = max l.greatest (order_length l.chunk (drop l.entry-index l.entries)) ≡ order_length l.chunk l.entries
+invariant-loop-entry l = max l.greatest (order_length (drop l.entry-index l.entries)) ≡ order_length l.entries

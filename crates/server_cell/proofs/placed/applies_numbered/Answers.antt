@@ -9,8 +9,8 @@ returns-clause-goes g c =
     let handle : ℕ = c.args.handle.0 in
     on_ok c.applies.result (λ f p at.
     applied_as c.args.server.now c.args.effects.now handle p c.args.id c.args.mutation (doing c.numbers.new.self c.numbers.new.effects) (doing c.applies.new.server c.applies.new.effects)
-    c.in-Some.primary.now c.serial.result.0 c.chunk.result c.change_of-change.result c.in_ok-stored.stored
+    c.in-Some.primary.now c.serial.result.0 c.change_of-change.result c.in_ok-stored.stored
     (c.in_ok-numbers.ensures.goes p at)
     (same_some c.in-Some.primary.now p (held_at c.args.server.now handle) c.in-Some.ensures at)
-    c.serial.ensures c.chunk.ensures.size c.change_of-change.ensures c.in_ok-stored.ensures f)
+    c.serial.ensures c.change_of-change.ensures c.in_ok-stored.ensures f)
     c.applies.ensures.goes

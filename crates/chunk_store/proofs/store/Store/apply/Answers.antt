@@ -23,7 +23,7 @@ returns-in-Err-clause-corrupt g c d is e = absurd (not_corrupt c.in-Err.fault c.
 pub returns-in-Err-clause-any_moment : goal.returns-in-Err-clause-any_moment
 returns-in-Err-clause-any_moment g c d says noticed =
     let disk = g.D.Disk in
-    leaves_all disk.seen disk.may_leave c.args.self.now c.requires.is_open.0 c.requires.is_open.1 disk.moment disk.left_since (g.met.D.Disk.only_now c.args.self.now.disk) (change_of c.args.self.now.layout.chunk c.args.handle c.args.serial c.args.mutation.now) d says
+    leaves_all disk.seen disk.may_leave c.args.self.now c.requires.is_open.0 c.requires.is_open.1 disk.moment disk.left_since (g.met.D.Disk.only_now c.args.self.now.disk) (change_of c.args.handle c.args.serial c.args.mutation.now) d says
 
 pub returns-then-new-last-clause-no_chunk : goal.returns-then-new-last-clause-no_chunk
 returns-then-new-last-clause-no_chunk g c d is = chunk_there g.D.Disk.seen g.D.Disk.may_leave c.args.self.now d is c.args.handle.0 c.in-Ok.found c.in-Ok.ensures.found.0 (λ e. absurd cc)
@@ -39,7 +39,7 @@ returns-then-new-last-clause-old_serial g c d is =
 pub returns-then-new-last-clause-any_moment : goal.returns-then-new-last-clause-any_moment
 returns-then-new-last-clause-any_moment g c d says noticed =
     let disk = g.D.Disk in
-    leaves_all disk.seen disk.may_leave c.args.self.now c.requires.is_open.0 c.requires.is_open.1 disk.moment disk.left_since (g.met.D.Disk.only_now c.args.self.now.disk) (change_of c.args.self.now.layout.chunk c.args.handle c.args.serial c.args.mutation.now) d says
+    leaves_all disk.seen disk.may_leave c.args.self.now c.requires.is_open.0 c.requires.is_open.1 disk.moment disk.left_since (g.met.D.Disk.only_now c.args.self.now.disk) (change_of c.args.handle c.args.serial c.args.mutation.now) d says
 
 pub returns-in_err-bytes-clause-no_chunk : goal.returns-in_err-bytes-clause-no_chunk
 returns-in_err-bytes-clause-no_chunk g c d is = chunk_there g.D.Disk.seen g.D.Disk.may_leave c.args.self.now d is c.args.handle.0 c.in-Ok.found c.in-Ok.ensures.found.0 (λ e. never c.from_residual.result faults.NoMemory faults.NoChunk c.from_residual.ensures.1 refl refl e)
@@ -59,7 +59,7 @@ returns-in_err-bytes-clause-refused g c d is e = absurd (not_refused c.from_resi
 pub returns-in_err-bytes-clause-any_moment : goal.returns-in_err-bytes-clause-any_moment
 returns-in_err-bytes-clause-any_moment g c d says noticed =
     let disk = g.D.Disk in
-    leaves_all disk.seen disk.may_leave c.args.self.now c.requires.is_open.0 c.requires.is_open.1 disk.moment disk.left_since (g.met.D.Disk.only_now c.args.self.now.disk) (change_of c.args.self.now.layout.chunk c.args.handle c.args.serial c.args.mutation.now) d says
+    leaves_all disk.seen disk.may_leave c.args.self.now c.requires.is_open.0 c.requires.is_open.1 disk.moment disk.left_since (g.met.D.Disk.only_now c.args.self.now.disk) (change_of c.args.handle c.args.serial c.args.mutation.now) d says
 
 pub write-requires-clause-stored : goal.write-requires-clause-stored
 write-requires-clause-stored g c = (c.requires.is_open.0, c.requires.is_open.1.says)
