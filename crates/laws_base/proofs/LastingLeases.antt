@@ -9,7 +9,7 @@ use Rattle.protocol.specs.Tables.{element_at}
 use Rattle.protocol.specs.Sending.{handle_of, version_of}
 use Rattle.chunk_table.specs.ChunkTable.{ChunkRow}
 use Rattle.protocol.specs.Logged.{Logged}
-use Rattle.primary_order.specs.declared.order.SerialOrder.{SerialOrder}
+use Rattle.primary_order.specs.SerialOrder.{SerialOrder}
 use Rattle.protocol.specs.Server.{ServerState}
 use Rattle.laws_base.specs.Laws.{LastingLeasesAreOfTheMaster, LastingLeasesAreInTheLog, OneLeaseLasts}
 use Rattle.laws_base.proofs.Steps.{removed_cases}

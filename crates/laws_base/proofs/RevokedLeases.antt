@@ -18,7 +18,7 @@ use Rattle.protocol.specs.Choice.{Choice, Ending, Goes, Lost, Stops}
 use Rattle.protocol.specs.Seen.{Taken, no_step}
 use Rattle.protocol.specs.Sending.{message, the_server, handle_of, version_of, order_number}
 use Rattle.leases.specs.LeaseHeld.{LeaseHeld}
-use Rattle.primary_order.specs.declared.order.SerialOrder.{SerialOrder}
+use Rattle.primary_order.specs.SerialOrder.{SerialOrder}
 use Rattle.replica_store.specs.declared.change.StoreChange.TheVariants.{SetOrder}
 use Rattle.replica_store.specs.Replicas.{Replica, ServerDisk, disk_changed, is_new_order}
 use Rattle.protocol.specs.Server.{ServerState, ServerDoing}

@@ -26,9 +26,8 @@ use Rattle.replica_store.specs.Replicas.{ServerDisk, disk_changed, disk_changed_
 use Rattle.data_push.specs.Buffers.{data_of}
 use Rattle.protocol.specs.PushBuffer.{hops_after}
 use Rattle.primary_order.specs.declared.answer.Settled.{Settled}
-use Rattle.primary_order.specs.declared.order.SerialOrder.{SerialOrder}
 use Rattle.primary_order.specs.PrimaryOrder.{place_of}
-use Rattle.primary_order.specs.SerialOrder.{new_order, denied, numbered, settled, acknowledged, refused_by, attempt_of}
+use Rattle.primary_order.specs.SerialOrder.{SerialOrder, new_order, denied, numbered, settled, acknowledged, refused_by, attempt_of}
 use Rattle.protocol.specs.declared.seen.Seen.TheVariants.{BecameSettled}
 use Rattle.protocol.specs.Server.{ServerState, ServerDoing, server_begins, sends, refuses, stores, shows, with_primary, without_lease, takes_data, drops_corrupt, primary_of}
 use Rattle.protocol.specs.ServerWrites.{refuses_attempt, answers_settled, denies, forward_to, forwards, settles, acknowledges, change_of, stored_as, primary_applies, nacks}

@@ -36,13 +36,10 @@ use Rattle.replica_store.specs.declared.row.Row.{Row}
 use Rattle.replica_store.specs.declared.change.StoreChange.{StoreChange}
 use Rattle.replica_store.specs.declared.change.StoreChange.TheVariants.{SetOrder, Put, Write, Zero, Raise, Copy}
 use Rattle.replica_store.specs.Replicas.{is_disk_full, is_new_order, row_at, read_at, is_copyable_at, is_writable_at}
-use Rattle.primary_order.specs.declared.answer.Attempted.{Attempted}
-use Rattle.primary_order.specs.declared.answer.Attempted.TheVariants.{IsNew, IsRepeat, IsOld}
 use Rattle.primary_order.specs.declared.kept.Standing.TheVariants.{IsPending, IsSettled, IsRefused}
 use Rattle.primary_order.specs.declared.waiting.Waiting.{Waiting}
-use Rattle.primary_order.specs.declared.order.SerialOrder.{SerialOrder}
 use Rattle.primary_order.specs.PrimaryOrder.{place_of}
-use Rattle.primary_order.specs.SerialOrder.{new_order, attempted, numbered, refused_by, attempt_of}
+use Rattle.primary_order.specs.SerialOrder.{SerialOrder, Attempted, IsNew, IsRepeat, IsOld, new_order, attempted, numbered, refused_by, attempt_of}
 use Rattle.leases.specs.LeaseHeld.{extended, counts_at}
 use Rattle.protocol.specs.Sending.{the_server, the_client, handle_of, version_of, serial_of, server_number, order_number}
 use Rattle.protocol.specs.PushBuffer.{next_hop, hops_after}

@@ -19,7 +19,7 @@ use Rattle.protocol.specs.Choice.{Choice}
 use Rattle.chunk_table.specs.ChunkTable.{ChunkRow, ChunkTable, chunk_of}
 use Rattle.protocol.specs.Logged.{Logged, all_copies_given_up, replayed}
 use Rattle.leases.specs.LeaseHeld.{LeaseHeld, counts_at}
-use Rattle.primary_order.specs.declared.order.SerialOrder.{SerialOrder}
+use Rattle.primary_order.specs.SerialOrder.{SerialOrder}
 use Rattle.protocol.specs.Seen.{Taken}
 use Rattle.protocol.specs.Master.{MasterState}
 use Rattle.protocol.specs.MasterStep.{master_restart}

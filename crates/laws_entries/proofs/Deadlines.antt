@@ -15,8 +15,7 @@ use Rattle.messages.specs.declared.message.Message.{Message}
 use Rattle.messages.specs.declared.message.Body.{Body}
 use Rattle.messages.specs.declared.message.Body.TheVariants as body
 use Rattle.messages.specs.declared.message.Target.{Target}
-use Rattle.primary_order.specs.declared.order.SerialOrder.{SerialOrder}
-use Rattle.primary_order.specs.SerialOrder.{attempted}
+use Rattle.primary_order.specs.SerialOrder.{SerialOrder, attempted}
 use Rattle.protocol.specs.Tables.{element_at}
 use Rattle.protocol.specs.Sending.{the_client}
 use Rattle.protocol.specs.Choice.{Choice, Ending, Goes, Lost, Stops}

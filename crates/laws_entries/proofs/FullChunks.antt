@@ -21,12 +21,10 @@ use Rattle.messages.specs.declared.message.Body.TheVariants as body
 use Rattle.messages.specs.declared.message.Message.{Message}
 use Rattle.messages.specs.declared.message.Target.{Target}
 use Rattle.replica_store.specs.Replicas.{new_server_disk, with_replica, rotten_replica, is_writable_at}
-use Rattle.primary_order.specs.declared.answer.Attempted.TheVariants.{IsNew}
 use Rattle.primary_order.specs.declared.answer.Settled.{Settled}
 use Rattle.primary_order.specs.declared.kept.Standing.TheVariants.{IsPending, IsRefused}
-use Rattle.primary_order.specs.declared.order.SerialOrder.{SerialOrder}
 use Rattle.primary_order.specs.PrimaryOrder.{place_of}
-use Rattle.primary_order.specs.SerialOrder.{attempted, denied, numbered, settled, acknowledged}
+use Rattle.primary_order.specs.SerialOrder.{SerialOrder, IsNew, attempted, denied, numbered, settled, acknowledged}
 use Rattle.gfs_types.specs.Counters.{counter_limit}
 use Rattle.protocol.specs.Tables.{element_at, with_at, without, first_numbers}
 use Rattle.protocol.specs.Sending.{data_id, handle_of, version_of, serial_of, the_client}

@@ -19,12 +19,9 @@ use Rattle.record_append.specs.Placing.{placing}
 use Rattle.data_push.specs.Buffers.{data_of}
 use Rattle.replica_store.specs.declared.row.Row.{Row}
 use Rattle.replica_store.specs.Replicas.{row_at, is_writable_at}
-use Rattle.primary_order.specs.declared.answer.Attempted.{Attempted}
-use Rattle.primary_order.specs.declared.answer.Attempted.TheVariants.{IsNew}
 use Rattle.primary_order.specs.declared.answer.Settled.{Settled}
-use Rattle.primary_order.specs.declared.order.SerialOrder.{SerialOrder}
 use Rattle.primary_order.specs.PrimaryOrder.{place_of}
-use Rattle.primary_order.specs.SerialOrder.{attempted, numbered, acknowledged, settled}
+use Rattle.primary_order.specs.SerialOrder.{SerialOrder, Attempted, IsNew, attempted, numbered, acknowledged, settled}
 use Rattle.gfs_types.specs.Counters.{counter_limit}
 use Rattle.protocol.specs.Tables.{element_at, without}
 use Rattle.protocol.specs.Sending.{handle_of, version_of, serial_of}

@@ -5,14 +5,12 @@ use Rattle.std.specs.FinMap as table
 use Rattle.std.proofs.lemmas.Bool.{eqb-false, ltb-false, cases_lt}
 use Rattle.gfs_types.specs.declared.ids.DataId.{DataId}
 use Rattle.gfs_types.specs.declared.refusal.Refusal.{Refusal}
-use Rattle.primary_order.specs.declared.answer.Attempted.TheVariants.{IsNew, IsRepeat, IsOld}
 use Rattle.primary_order.specs.declared.kept.Kept.{Kept}
 use Rattle.primary_order.specs.declared.kept.Standing.{Standing}
 use Rattle.primary_order.specs.declared.kept.Standing.TheVariants.{IsPending, IsSettled, IsRefused}
 use Rattle.primary_order.specs.declared.waiting.Waiting.{Waiting}
-use Rattle.primary_order.specs.declared.order.SerialOrder.{SerialOrder}
 use Rattle.primary_order.specs.PrimaryOrder.{kept_as, with_standing, stood_by, settled_by, settled_kept}
-use Rattle.primary_order.specs.SerialOrder.{attempted, attempted_by, refused_by}
+use Rattle.primary_order.specs.SerialOrder.{SerialOrder, IsNew, IsRepeat, IsOld, attempted, attempted_by, refused_by}
 use Rattle.protocol.specs.Tables.{Table}
 use Rattle.protocol.specs.Server.{ServerState, counting_primary}
 use Rattle.laws_base.proofs.Steps.{on_cond, none_some, same_some, same_or_not, put_there, put_other}

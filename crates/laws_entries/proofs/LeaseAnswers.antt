@@ -15,13 +15,11 @@ use Rattle.messages.specs.declared.message.Message.{Message}
 use Rattle.messages.specs.declared.message.Change.{Change}
 use Rattle.messages.specs.declared.event.NodeInput.{NodeInput}
 use Rattle.leases.specs.LeaseHeld.{LeaseHeld, counts_at}
-use Rattle.primary_order.specs.declared.answer.Attempted.TheVariants.{IsNew, IsRepeat, IsOld}
 use Rattle.primary_order.specs.declared.kept.Kept.{Kept}
 use Rattle.primary_order.specs.declared.kept.Standing.TheVariants.{IsSettled}
 use Rattle.primary_order.specs.declared.waiting.Waiting.{Waiting}
-use Rattle.primary_order.specs.declared.order.SerialOrder.{SerialOrder}
 use Rattle.primary_order.specs.PrimaryOrder.{place_of, settled_by, success_of}
-use Rattle.primary_order.specs.SerialOrder.{new_order, attempted, attempted_by, denied, numbered, acknowledged, refused_by, attempt_of}
+use Rattle.primary_order.specs.SerialOrder.{SerialOrder, IsNew, IsRepeat, IsOld, new_order, attempted, attempted_by, denied, numbered, acknowledged, refused_by, attempt_of}
 use Rattle.protocol.specs.Tables.{Table, element_at, without, map_values}
 use Rattle.protocol.specs.Sending.{message, the_server, the_client, handle_of, version_of, serial_of, data_id, server_number}
 use Rattle.protocol.specs.Choice.{Choice, Ending, Goes, Lost, Stops}

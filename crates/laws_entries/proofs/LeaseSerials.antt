@@ -19,9 +19,8 @@ use Rattle.leases.specs.LeaseHeld.{LeaseHeld, counts_at, extended}
 use Rattle.replica_store.specs.Replicas.{is_new_order}
 use Rattle.primary_order.specs.declared.answer.Settled.{Settled}
 use Rattle.primary_order.specs.declared.waiting.Waiting.{Waiting}
-use Rattle.primary_order.specs.declared.order.SerialOrder.{SerialOrder}
 use Rattle.primary_order.specs.PrimaryOrder.{place_of}
-use Rattle.primary_order.specs.SerialOrder.{new_order, denied, numbered, settled, acknowledged, refused_by}
+use Rattle.primary_order.specs.SerialOrder.{SerialOrder, new_order, denied, numbered, settled, acknowledged, refused_by}
 use Rattle.protocol.specs.Tables.{Table, without}
 use Rattle.protocol.specs.Sending.{handle_of, version_of, serial_of, server_number}
 use Rattle.protocol.specs.Choice.{Choice, Ending, Goes, Lost, Stops}

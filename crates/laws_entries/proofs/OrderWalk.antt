@@ -14,12 +14,10 @@ use Rattle.messages.specs.declared.event.NodeInput.{NodeInput}
 use Rattle.messages.specs.declared.event.NodeInput.TheVariants as input
 use Rattle.leases.specs.LeaseHeld.{LeaseHeld, counts_at, extended}
 use Rattle.replica_store.specs.Replicas.{is_new_order}
-use Rattle.primary_order.specs.declared.answer.Attempted.TheVariants.{IsNew}
 use Rattle.primary_order.specs.declared.answer.Settled.{Settled}
 use Rattle.primary_order.specs.declared.waiting.Waiting.{Waiting}
-use Rattle.primary_order.specs.declared.order.SerialOrder.{SerialOrder}
 use Rattle.primary_order.specs.PrimaryOrder.{place_of}
-use Rattle.primary_order.specs.SerialOrder.{new_order, attempted, denied, numbered, settled, acknowledged, refused_by}
+use Rattle.primary_order.specs.SerialOrder.{SerialOrder, IsNew, new_order, attempted, denied, numbered, settled, acknowledged, refused_by}
 use Rattle.protocol.specs.Tables.{Table, without, map_values}
 use Rattle.protocol.specs.Sending.{server_number}
 use Rattle.protocol.specs.Server.{ServerState, ServerDoing, server_begins, stores, with_primary, primary_of}

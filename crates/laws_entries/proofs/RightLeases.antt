@@ -11,14 +11,12 @@ use Rattle.gfs_types.specs.declared.refusal.Refusal.{Refusal}
 use Rattle.messages.specs.declared.message.Body.{Body}
 use Rattle.messages.specs.declared.message.Body.TheVariants as body
 use Rattle.leases.specs.LeaseHeld.{LeaseHeld, counts_at, extended}
-use Rattle.primary_order.specs.declared.answer.Attempted.TheVariants.{IsNew}
 use Rattle.primary_order.specs.declared.kept.Kept.{Kept}
 use Rattle.primary_order.specs.declared.kept.Standing.{Standing}
 use Rattle.primary_order.specs.declared.kept.Standing.TheVariants.{IsPending, IsSettled, IsRefused}
 use Rattle.primary_order.specs.declared.waiting.Waiting.{Waiting}
-use Rattle.primary_order.specs.declared.order.SerialOrder.{SerialOrder}
 use Rattle.primary_order.specs.PrimaryOrder.{place_of, kept_as, with_standing, stood_by, settled_by, settled_kept, waiting_by, is_last, less_member}
-use Rattle.primary_order.specs.SerialOrder.{new_order, attempted, denied, numbered, acknowledged, refused_by, attempt_of}
+use Rattle.primary_order.specs.SerialOrder.{SerialOrder, IsNew, new_order, attempted, denied, numbered, acknowledged, refused_by, attempt_of}
 use Rattle.protocol.specs.Tables.{Table}
 use Rattle.protocol.specs.Sending.{handle_of, version_of, serial_of, data_id}
 use Rattle.protocol.specs.declared.seen.Seen.{Seen}

@@ -11,7 +11,7 @@ use Rattle.messages.specs.declared.event.NodeInput.{NodeInput}
 use Rattle.messages.specs.declared.event.NodeInput.TheVariants as input
 use Rattle.messages.specs.declared.message.Message.{Message}
 use Rattle.leases.specs.LeaseHeld.{counts_at}
-use Rattle.primary_order.specs.declared.order.SerialOrder.{SerialOrder}
+use Rattle.primary_order.specs.SerialOrder.{SerialOrder}
 use Rattle.relaxed_file.specs.Run.{Visible}
 use Rattle.protocol.specs.Tables.{Table, element_at}
 use Rattle.protocol.specs.Sending.{handle_of, version_of}

@@ -27,11 +27,8 @@ use Rattle.record_append.specs.Placing.{placing}
 use Rattle.data_push.specs.Buffers.{data_of}
 use Rattle.replica_store.specs.declared.row.Row.{Row}
 use Rattle.replica_store.specs.Replicas.{new_server_disk, with_replica, rotten_replica, row_at}
-use Rattle.primary_order.specs.declared.answer.Attempted.{Attempted}
-use Rattle.primary_order.specs.declared.answer.Attempted.TheVariants.{IsNew}
-use Rattle.primary_order.specs.declared.order.SerialOrder.{SerialOrder}
 use Rattle.primary_order.specs.PrimaryOrder.{place_of}
-use Rattle.primary_order.specs.SerialOrder.{attempted, numbered, attempt_of}
+use Rattle.primary_order.specs.SerialOrder.{SerialOrder, Attempted, IsNew, attempted, numbered, attempt_of}
 use Rattle.gfs_types.specs.Counters.{counter_limit}
 use Rattle.protocol.specs.Tables.{Table, element_at, with_at, first_numbers}
 use Rattle.protocol.specs.Sending.{data_id, handle_of, version_of, the_client, the_server}

@@ -22,7 +22,7 @@ use Rattle.messages.specs.declared.event.NodeInput.{NodeInput}
 use Rattle.messages.specs.declared.event.NodeInput.TheVariants as input
 use Rattle.data_push.specs.Buffers.{same_id}
 use Rattle.leases.specs.LeaseHeld.{counts_at}
-use Rattle.primary_order.specs.declared.order.SerialOrder.{SerialOrder}
+use Rattle.primary_order.specs.SerialOrder.{SerialOrder}
 use Rattle.protocol.specs.Tables.{element_at, with_at, first_numbers}
 use Rattle.protocol.specs.Sending.{data_id, version_of, the_server, the_client}
 use Rattle.protocol.specs.Choice.{Choice, Ending, Goes, Lost, Stops}

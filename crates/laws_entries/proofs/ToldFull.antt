@@ -16,9 +16,7 @@ use Rattle.messages.specs.declared.message.Body.{Body}
 use Rattle.messages.specs.declared.message.Body.TheVariants as body
 use Rattle.messages.specs.declared.message.Message.{Message}
 use Rattle.messages.specs.declared.message.Target.{Target}
-use Rattle.primary_order.specs.declared.answer.Attempted.TheVariants.{IsNew}
-use Rattle.primary_order.specs.declared.order.SerialOrder.{SerialOrder}
-use Rattle.primary_order.specs.SerialOrder.{attempted}
+use Rattle.primary_order.specs.SerialOrder.{SerialOrder, IsNew, attempted}
 use Rattle.replica_store.specs.Replicas.{new_server_disk, with_replica, rotten_replica}
 use Rattle.protocol.specs.Tables.{element_at, with_at, first_numbers}
 use Rattle.protocol.specs.Sending.{version_of, serial_of}

@@ -13,13 +13,11 @@ use Rattle.messages.specs.declared.message.Body.{Body}
 use Rattle.messages.specs.declared.message.Body.TheVariants as body
 use Rattle.messages.specs.declared.message.Message.{Message}
 use Rattle.messages.specs.declared.message.Target.{Target}
-use Rattle.primary_order.specs.declared.answer.Attempted.TheVariants.{IsNew}
 use Rattle.primary_order.specs.declared.kept.Standing.{Standing}
 use Rattle.primary_order.specs.declared.kept.Standing.TheVariants.{IsPending, IsRefused}
 use Rattle.primary_order.specs.declared.waiting.Waiting.{Waiting}
-use Rattle.primary_order.specs.declared.order.SerialOrder.{SerialOrder}
 use Rattle.primary_order.specs.PrimaryOrder.{kept_as, settled_by}
-use Rattle.primary_order.specs.SerialOrder.{attempted, refused_by}
+use Rattle.primary_order.specs.SerialOrder.{SerialOrder, IsNew, attempted, refused_by}
 use Rattle.protocol.specs.Tables.{element_at}
 use Rattle.protocol.specs.Sending.{data_id, the_client}
 use Rattle.protocol.specs.Choice.{Choice}

@@ -16,9 +16,8 @@ use Rattle.primary_order.specs.declared.kept.Kept.{Kept}
 use Rattle.primary_order.specs.declared.kept.Standing.{Standing}
 use Rattle.primary_order.specs.declared.kept.Standing.TheVariants.{IsPending, IsSettled, IsRefused}
 use Rattle.primary_order.specs.declared.waiting.Waiting.{Waiting}
-use Rattle.primary_order.specs.declared.order.SerialOrder.{SerialOrder}
 use Rattle.primary_order.specs.PrimaryOrder.{kept_as, with_standing, stood_by, settled_by, settled_kept, waiting_by, is_last, less_member}
-use Rattle.primary_order.specs.SerialOrder.{new_order, denied, numbered, acknowledged, refused_by, attempt_of}
+use Rattle.primary_order.specs.SerialOrder.{SerialOrder, new_order, denied, numbered, acknowledged, refused_by, attempt_of}
 use Rattle.protocol.specs.Tables.{Table}
 use Rattle.protocol.specs.Sending.{data_id, the_client}
 use Rattle.protocol.specs.ServerStep.{asks_no_more}

@@ -7,14 +7,12 @@ use Rattle.std.proofs.lemmas.Bool.{eqb-true, eqb-false}
 use Rattle.gfs_types.specs.declared.ids.DataId.{DataId}
 use Rattle.gfs_types.specs.declared.refusal.Refusal.{Refusal}
 use Rattle.leases.specs.LeaseHeld.{LeaseHeld, extended}
-use Rattle.primary_order.specs.declared.answer.Attempted.TheVariants.{IsNew}
 use Rattle.primary_order.specs.declared.kept.Kept.{Kept}
 use Rattle.primary_order.specs.declared.kept.Standing.{Standing}
 use Rattle.primary_order.specs.declared.kept.Standing.TheVariants.{IsPending, IsSettled, IsRefused}
 use Rattle.primary_order.specs.declared.waiting.Waiting.{Waiting}
-use Rattle.primary_order.specs.declared.order.SerialOrder.{SerialOrder}
 use Rattle.primary_order.specs.PrimaryOrder.{kept_as, with_standing, stood_by, settled_by, settled_kept, waiting_by, is_last, less_member}
-use Rattle.primary_order.specs.SerialOrder.{new_order, attempted, denied, numbered, acknowledged, refused_by, attempt_of}
+use Rattle.primary_order.specs.SerialOrder.{SerialOrder, IsNew, new_order, attempted, denied, numbered, acknowledged, refused_by, attempt_of}
 use Rattle.protocol.specs.Tables.{Table}
 use Rattle.protocol.specs.ServerStep.{asks_no_more}
 use Rattle.laws_base.proofs.Steps.{on_cond, none_some, same_some, same_or_not, put_cases, put_split, put_there, put_other, kept_cases, gone_other}

@@ -11,7 +11,7 @@ use Rattle.messages.specs.declared.message.Body.TheVariants as body
 use Rattle.messages.specs.declared.message.Message.{Message}
 use Rattle.messages.specs.declared.message.Target.{Target}
 use Rattle.client_state.specs.declared.call.ToldChunk.{ToldChunk}
-use Rattle.primary_order.specs.declared.order.SerialOrder.{SerialOrder}
+use Rattle.primary_order.specs.SerialOrder.{SerialOrder}
 use Rattle.primary_order.specs.declared.waiting.Waiting.{Waiting}
 use Rattle.primary_order.specs.PrimaryOrder.{place_of}
 use Rattle.protocol.specs.Tables.{element_at}

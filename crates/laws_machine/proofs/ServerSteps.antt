@@ -17,7 +17,7 @@ use Rattle.messages.specs.declared.event.Event.{Event}
 use Rattle.messages.specs.declared.event.NodeInput.{NodeInput}
 use Rattle.messages.specs.declared.event.NodeInput.TheVariants as input
 use Rattle.messages.specs.declared.message.Message.{Message}
-use Rattle.primary_order.specs.declared.order.SerialOrder.{SerialOrder}
+use Rattle.primary_order.specs.SerialOrder.{SerialOrder}
 use Rattle.relaxed_file.specs.Order.{CallId, Entry}
 use Rattle.relaxed_file.specs.Machine.{Machine, Chunk, chunk_size, chunk_at, chunk_count, OpenCall}
 use Rattle.relaxed_file.specs.Chunks.{IsPastAll, is_an_end, AsksFor, with_entry, placed as put_there_by}

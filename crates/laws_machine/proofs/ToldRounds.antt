@@ -12,7 +12,7 @@ use Rattle.messages.specs.declared.message.Location.{Location}
 use Rattle.protocol.specs.Tables.{element_at}
 use Rattle.protocol.specs.Sending.{the_client}
 use Rattle.protocol.specs.Choice.{Choice}
-use Rattle.primary_order.specs.declared.order.SerialOrder.{SerialOrder}
+use Rattle.primary_order.specs.SerialOrder.{SerialOrder}
 use Rattle.protocol.specs.Logged.{Logged}
 use Rattle.protocol.specs.Observer.{observed_moment}
 use Rattle.protocol.specs.Server.{ServerState, primary_of}

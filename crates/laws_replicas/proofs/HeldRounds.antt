@@ -14,7 +14,7 @@ use Rattle.gfs_types.specs.Mutations.{end_of}
 use Rattle.messages.specs.declared.event.Event.{Event}
 use Rattle.messages.specs.declared.event.NodeInput.{NodeInput}
 use Rattle.messages.specs.declared.event.NodeInput.TheVariants as input
-use Rattle.primary_order.specs.declared.order.SerialOrder.{SerialOrder}
+use Rattle.primary_order.specs.SerialOrder.{SerialOrder}
 use Rattle.replica_store.specs.Replicas.{Replica, replica_of, rotten_replica, with_replica, with_bytes}
 use Rattle.relaxed_file.specs.Run.{Visible}
 use Rattle.protocol.specs.Tables.{Table, element_at, with_at}

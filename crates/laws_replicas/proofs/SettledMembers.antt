@@ -9,7 +9,7 @@ use Rattle.messages.specs.declared.event.NodeInput.{NodeInput}
 use Rattle.messages.specs.declared.event.NodeInput.TheVariants as input
 use Rattle.messages.specs.declared.message.Message.{Message}
 use Rattle.leases.specs.LeaseHeld.{LeaseHeld, counts_at}
-use Rattle.primary_order.specs.declared.order.SerialOrder.{SerialOrder}
+use Rattle.primary_order.specs.SerialOrder.{SerialOrder}
 use Rattle.protocol.specs.Tables.{element_at, first_numbers, has_number}
 use Rattle.protocol.specs.Sending.{the_server, server_number, handle_of, version_of, serial_of}
 use Rattle.protocol.specs.Choice.{Choice}

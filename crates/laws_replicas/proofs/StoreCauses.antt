@@ -22,9 +22,8 @@ use Rattle.replica_store.specs.declared.change.StoreChange.{StoreChange}
 use Rattle.replica_store.specs.declared.change.StoreChange.TheVariants.{SetOrder, Put, Write, Zero, Raise, Copy, Remove}
 use Rattle.replica_store.specs.Replicas.{is_new_order, row_at, is_copyable_at, is_writable_at}
 use Rattle.primary_order.specs.declared.answer.Settled.{Settled}
-use Rattle.primary_order.specs.declared.order.SerialOrder.{SerialOrder}
 use Rattle.primary_order.specs.PrimaryOrder.{place_of}
-use Rattle.primary_order.specs.SerialOrder.{numbered, settled, acknowledged}
+use Rattle.primary_order.specs.SerialOrder.{SerialOrder, numbered, settled, acknowledged}
 use Rattle.protocol.specs.Tables.{without, element_at}
 use Rattle.protocol.specs.Sending.{handle_of, version_of, serial_of, server_number}
 use Rattle.protocol.specs.declared.seen.Seen.{Seen}

@@ -14,9 +14,8 @@ use Rattle.messages.specs.declared.event.NodeInput.{NodeInput}
 use Rattle.messages.specs.declared.event.NodeInput.TheVariants as input
 use Rattle.messages.specs.declared.message.Message.{Message}
 use Rattle.primary_order.specs.declared.waiting.Waiting.{Waiting}
-use Rattle.primary_order.specs.declared.order.SerialOrder.{SerialOrder}
 use Rattle.primary_order.specs.PrimaryOrder.{is_last, less_member, waiting_by}
-use Rattle.primary_order.specs.SerialOrder.{refused_by}
+use Rattle.primary_order.specs.SerialOrder.{SerialOrder, refused_by}
 use Rattle.relaxed_file.specs.Run.{Visible}
 use Rattle.replica_store.specs.Replicas.{is_new_order}
 use Rattle.protocol.specs.Tables.{Table, element_at, with_at}

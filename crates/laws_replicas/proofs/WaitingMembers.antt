@@ -10,9 +10,8 @@ use Rattle.gfs_types.specs.declared.ids.DataId.{DataId}
 use Rattle.gfs_types.specs.declared.refusal.Refusal.{Refusal}
 use Rattle.leases.specs.LeaseHeld.{LeaseHeld, counts_at, extended}
 use Rattle.primary_order.specs.declared.waiting.Waiting.{Waiting}
-use Rattle.primary_order.specs.declared.order.SerialOrder.{SerialOrder}
 use Rattle.primary_order.specs.PrimaryOrder.{is_last, without_at, less_member, waiting_by, settled_by}
-use Rattle.primary_order.specs.SerialOrder.{new_order, numbered, acknowledged, refused_by}
+use Rattle.primary_order.specs.SerialOrder.{SerialOrder, new_order, numbered, acknowledged, refused_by}
 use Rattle.protocol.specs.Tables.{Table, has_number}
 use Rattle.laws_base.proofs.Steps.{on_cond, none_some, same_some, put_cases, kept_cases, gone_there}
 use Rattle.laws_base.proofs.Entries.{same_number}

@@ -15,9 +15,8 @@ use Rattle.messages.specs.declared.event.NodeInput.{NodeInput}
 use Rattle.messages.specs.declared.event.NodeInput.TheVariants as input
 use Rattle.leases.specs.LeaseHeld.{LeaseHeld, counts_at}
 use Rattle.primary_order.specs.declared.waiting.Waiting.{Waiting}
-use Rattle.primary_order.specs.declared.order.SerialOrder.{SerialOrder}
 use Rattle.primary_order.specs.PrimaryOrder.{place_of, settled_by, success_of}
-use Rattle.primary_order.specs.SerialOrder.{new_order, denied, numbered, acknowledged, refused_by, attempt_of}
+use Rattle.primary_order.specs.SerialOrder.{SerialOrder, new_order, denied, numbered, acknowledged, refused_by, attempt_of}
 use Rattle.protocol.specs.Tables.{Table, without}
 use Rattle.protocol.specs.Sending.{handle_of, version_of, serial_of, server_number}
 use Rattle.protocol.specs.Choice.{Choice, Ending, Goes, Lost, Stops}

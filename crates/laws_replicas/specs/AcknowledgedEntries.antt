@@ -14,7 +14,7 @@ use Rattle.protocol.specs.World.{WorldState, IsReached, is_kept, happens}
 use Rattle.laws_versions.specs.ClonedVersions.{IsVersionOver}
 use Rattle.laws_replicas.specs.ReplicaImages.{marked, HasEntry, IsImageOf}
 use Rattle.std.specs.FinMap as table
-use Rattle.primary_order.specs.declared.order.SerialOrder.{SerialOrder}
+use Rattle.primary_order.specs.SerialOrder.{SerialOrder}
 use Rattle.messages.specs.declared.event.Event.{Event}
 use Rattle.protocol.specs.declared.seen.Seen.TheVariants.{BecameSettled}
 use Rattle.laws_entries.specs.Successes.{IsShownNow}

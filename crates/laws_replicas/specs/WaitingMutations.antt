@@ -10,7 +10,7 @@ use Rattle.messages.specs.declared.event.NodeInput.TheVariants.{Deliver}
 use Rattle.messages.specs.declared.message.Message.{Message}
 use Rattle.messages.specs.declared.message.Body.TheVariants as body
 use Rattle.primary_order.specs.declared.waiting.Waiting.{Waiting}
-use Rattle.primary_order.specs.declared.order.SerialOrder.{SerialOrder}
+use Rattle.primary_order.specs.SerialOrder.{SerialOrder}
 use Rattle.protocol.specs.Tables.{element_at, has_number}
 use Rattle.protocol.specs.Sending.{handle_of, version_of, serial_of, the_server}
 use Rattle.protocol.specs.Choice.{Choice}

@@ -10,8 +10,7 @@ use Rattle.messages.specs.declared.event.NodeInput.{NodeInput}
 use Rattle.replica_store.specs.declared.row.Row.{Row}
 use Rattle.replica_store.specs.declared.change.StoreChange.TheVariants.{SetOrder, Put, Raise, Copy, Remove}
 use Rattle.replica_store.specs.Replicas.{Replica, ServerDisk, replica_of, replica_becomes, written_replica, disk_changed, disk_changed_by_all, row_of, row_at}
-use Rattle.primary_order.specs.declared.order.SerialOrder.{SerialOrder}
-use Rattle.primary_order.specs.SerialOrder.{new_order}
+use Rattle.primary_order.specs.SerialOrder.{SerialOrder, new_order}
 use Rattle.protocol.specs.Tables.{Table}
 use Rattle.protocol.specs.Sending.{handle_of, version_of, serial_of}
 use Rattle.protocol.specs.Choice.{Choice, Ending, Goes, Lost, Stops, made_changes}

@@ -15,7 +15,7 @@ use Rattle.protocol.specs.Sending.{handle_of, version_of}
 use Rattle.chunk_table.specs.ChunkTable.{ChunkRow}
 use Rattle.protocol.specs.Logged.{Logged}
 use Rattle.replica_store.specs.Replicas.{is_new_order}
-use Rattle.primary_order.specs.declared.order.SerialOrder.{SerialOrder}
+use Rattle.primary_order.specs.SerialOrder.{SerialOrder}
 use Rattle.protocol.specs.Server.{ServerState, counting_primary}
 use Rattle.protocol.specs.ServerStep.{server_at}
 use Rattle.protocol.specs.World.{WorldState}

@@ -11,9 +11,8 @@ use Rattle.data_push.specs.Buffers.{PushBuffer}
 use Rattle.replica_store.specs.declared.change.StoreChange.{StoreChange}
 use Rattle.replica_store.specs.declared.change.StoreChange.TheVariants.{SetOrder, Put, Write, Zero, Raise, Copy, Remove}
 use Rattle.replica_store.specs.Replicas.{Replica, ServerDisk, new_server_disk, replica_of, with_replica, replica_becomes, stored_replica, written_replica, raised_replica, rotten_replica, bytes_on_disk, disk_changed, disk_changed_by_all, row_of, row_at}
-use Rattle.primary_order.specs.declared.order.SerialOrder.{SerialOrder}
 use Rattle.primary_order.specs.PrimaryOrder.{place_of}
-use Rattle.primary_order.specs.SerialOrder.{new_order, numbered}
+use Rattle.primary_order.specs.SerialOrder.{SerialOrder, new_order, numbered}
 use Rattle.protocol.specs.Tables.{Table, element_at, with_at}
 use Rattle.protocol.specs.Sending.{handle_of, version_of}
 use Rattle.protocol.specs.Choice.{Choice, Ending, Goes, Lost, Stops, made_changes}

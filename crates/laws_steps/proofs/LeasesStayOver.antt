@@ -21,7 +21,7 @@ use Rattle.protocol.specs.Choice.{Choice, Ending, Goes, Lost, Stops}
 use Rattle.protocol.specs.Seen.{Taken, no_step}
 use Rattle.protocol.specs.Sending.{the_server, handle_of, version_of}
 use Rattle.leases.specs.LeaseHeld.{LeaseHeld, counts_at, extended}
-use Rattle.primary_order.specs.declared.order.SerialOrder.{SerialOrder}
+use Rattle.primary_order.specs.SerialOrder.{SerialOrder}
 use Rattle.replica_store.specs.declared.change.StoreChange.TheVariants.{SetOrder}
 use Rattle.replica_store.specs.Replicas.{ServerDisk, disk_changed, is_new_order}
 use Rattle.protocol.specs.Server.{ServerState, ServerDoing, server_begins, with_primary}

@@ -18,9 +18,8 @@ use Rattle.replica_store.specs.declared.change.StoreChange.{StoreChange}
 use Rattle.replica_store.specs.declared.change.StoreChange.TheVariants.{SetOrder, Put, Write, Zero, Raise, Copy, Remove}
 use Rattle.replica_store.specs.Replicas.{ServerDisk, row_at}
 use Rattle.primary_order.specs.declared.answer.Settled.{Settled}
-use Rattle.primary_order.specs.declared.order.SerialOrder.{SerialOrder}
 use Rattle.primary_order.specs.PrimaryOrder.{place_of}
-use Rattle.primary_order.specs.SerialOrder.{new_order, denied, numbered, settled, acknowledged, refused_by}
+use Rattle.primary_order.specs.SerialOrder.{SerialOrder, new_order, denied, numbered, settled, acknowledged, refused_by}
 use Rattle.protocol.specs.Tables.{Table, without, map_values}
 use Rattle.protocol.specs.Sending.{handle_of, version_of, serial_of, server_number}
 use Rattle.protocol.specs.declared.seen.Seen.{Seen}

@@ -22,9 +22,8 @@ use Rattle.replica_store.specs.declared.change.StoreChange.TheVariants.{Remove}
 use Rattle.replica_store.specs.Replicas.{row_at, read_at, is_writable_at}
 use Rattle.primary_order.specs.declared.waiting.Waiting.{Waiting}
 use Rattle.primary_order.specs.declared.answer.Settled.{Settled}
-use Rattle.primary_order.specs.declared.order.SerialOrder.{SerialOrder}
 use Rattle.primary_order.specs.PrimaryOrder.{place_of, is_last, settled_by, success_of}
-use Rattle.primary_order.specs.SerialOrder.{numbered, acknowledged, settled}
+use Rattle.primary_order.specs.SerialOrder.{SerialOrder, numbered, acknowledged, settled}
 use Rattle.protocol.specs.Tables.{without, element_at}
 use Rattle.protocol.specs.Sending.{message, the_server, the_client, handle_of, version_of, serial_of, server_number, order_number}
 use Rattle.protocol.specs.Choice.{Choice, Ending, Goes, Lost, Stops}

@@ -16,9 +16,7 @@ use Rattle.messages.specs.declared.event.NodeInput.TheVariants as input
 use Rattle.data_push.specs.Buffers.{data_of}
 use Rattle.replica_store.specs.declared.row.Row.{Row}
 use Rattle.replica_store.specs.Replicas.{row_at, read_at}
-use Rattle.primary_order.specs.declared.answer.Attempted.TheVariants.{IsNew}
-use Rattle.primary_order.specs.declared.order.SerialOrder.{SerialOrder}
-use Rattle.primary_order.specs.SerialOrder.{attempted}
+use Rattle.primary_order.specs.SerialOrder.{SerialOrder, IsNew, attempted}
 use Rattle.protocol.specs.Sending.{handle_of, version_of, serial_of}
 use Rattle.protocol.specs.Choice.{Choice, Ending, Goes, Lost, Stops}
 use Rattle.protocol.specs.Seen.{Taken, no_step}

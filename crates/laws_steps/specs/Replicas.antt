@@ -11,7 +11,7 @@ use Rattle.gfs_types.specs.declared.mutation.Mutation.TheVariants.{Write, Append
 use Rattle.messages.specs.declared.event.NodeInput.{NodeInput}
 use Rattle.data_push.specs.Buffers.{data_of}
 use Rattle.replica_store.specs.Replicas.{Replica, ServerDisk, replica_of, written_replica}
-use Rattle.primary_order.specs.declared.order.SerialOrder.{SerialOrder}
+use Rattle.primary_order.specs.SerialOrder.{SerialOrder}
 use Rattle.protocol.specs.Tables.{element_at}
 use Rattle.protocol.specs.Choice.{Choice}
 use Rattle.protocol.specs.declared.seen.Seen.TheVariants.{Numbered}

@@ -12,7 +12,7 @@ use Rattle.protocol.specs.Sending.{the_server, handle_of, version_of}
 use Rattle.chunk_table.specs.ChunkTable.{ChunkRow, chunk_of}
 use Rattle.protocol.specs.Logged.{replayed}
 use Rattle.replica_store.specs.Replicas.{is_new_order}
-use Rattle.primary_order.specs.declared.order.SerialOrder.{SerialOrder}
+use Rattle.primary_order.specs.SerialOrder.{SerialOrder}
 use Rattle.protocol.specs.Master.{VersionAttempt}
 use Rattle.protocol.specs.Server.{ServerState, primary_of}
 use Rattle.protocol.specs.ServerStep.{server_at}

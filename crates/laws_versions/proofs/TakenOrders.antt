@@ -29,9 +29,8 @@ use Rattle.replica_store.specs.declared.change.StoreChange.TheVariants.{SetOrder
 use Rattle.replica_store.specs.Replicas.{Replica, ServerDisk, new_server_disk, replica_of, with_replica, replica_becomes, stored_replica, written_replica, raised_replica, rotten_replica, bytes_on_disk, disk_changed, disk_changed_by_all, is_new_order}
 use Rattle.data_push.specs.Buffers.{data_of}
 use Rattle.primary_order.specs.declared.answer.Settled.{Settled}
-use Rattle.primary_order.specs.declared.order.SerialOrder.{SerialOrder}
 use Rattle.primary_order.specs.PrimaryOrder.{place_of}
-use Rattle.primary_order.specs.SerialOrder.{numbered, settled, acknowledged}
+use Rattle.primary_order.specs.SerialOrder.{SerialOrder, numbered, settled, acknowledged}
 use Rattle.protocol.specs.Server.{ServerState, ServerDoing, started_server, server_begins, sends, stores, shows, with_primary, drops_corrupt}
 use Rattle.protocol.specs.ServerWrites.{answers_settled, forwards, settles, acknowledges, change_of, stored_as, primary_applies}
 use Rattle.protocol.specs.ServerOrders.{takes_clone}

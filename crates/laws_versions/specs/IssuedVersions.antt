@@ -2,7 +2,7 @@
 use Rattle.std.specs.Prelude.{◌≡◌, ℕ, ◌<◌, IsTrue}
 use Rattle.gfs_types.specs.declared.config.Config.{Config}
 use Rattle.chunk_table.specs.ChunkTable.{ChunkRow}
-use Rattle.primary_order.specs.declared.order.SerialOrder.{SerialOrder}
+use Rattle.primary_order.specs.SerialOrder.{SerialOrder}
 use Rattle.protocol.specs.World.{WorldState, IsReached}
 use Rattle.laws_base.specs.Laws.{HoldsLastingLease}
 use Rattle.laws_steps.specs.Versions.{AreLeasesOver}

@@ -1,10 +1,9 @@
-//! A lease as its primary sees it.
+//! A lease as its primary holds it.
 
-ghost use Rattle.std.specs.Prelude.{◌≡◌, ℕ};
-ghost use Rattle.leases.specs.LeaseHeld.{counts, after_call};
+ghost use Rattle.std.specs.Prelude.{◌≡◌, ◌+◌, nat_lt};
+ghost use Rattle.leases.specs.LeaseHeld.{at_moment, counts, after_call};
 ghost use Rattle.leases.specs.LeaseHeld.HeldCall.{Ask, Extend, End};
 
-use crate::lease::Lease;
 use gfs_types::ids::{Moment, Version};
 use gfs_types::lists::ServerList;
 use std::marker::Model;
@@ -13,7 +12,9 @@ use std::marker::Model;
 /// once it does not count it never counts again.
 #[derive(Drop)]
 pub struct Held {
-    lease: Lease,
+    version: Version,
+    until: Moment,
+    members: ServerList,
     skew_ms: u64,
     latest: u64,
 }
@@ -24,19 +25,22 @@ impl Model for Held {
     ghost Value = { HeldState };
 
     ghost view = { λ h. record {
-      lease = h.lease;
+      lease = record { version = h.version.0; until = h.until.0; members = h.members };
       skew = h.skew_ms;
       latest = h.latest;
     } };
 }
 
 impl Held {
-    /// A lease of this version until that moment, with the clock bound in milliseconds. Takes no memory.
+    /// A lease of this version until that moment, with its members, the primary among them, and with the clock bound in milliseconds.
+    /// Takes no memory.
     pub fn take(version: Version, until: Moment, members: ServerList, skew_ms: u64) -> Held
         ensures { result ≡ record { lease = record { version = version.0; until = until.0; members = members }; skew = skew_ms; latest = 0 } }
     {
         Held {
-            lease: Lease::new(version, until, members),
+            version,
+            until,
+            members,
             skew_ms,
             latest: 0,
         }
@@ -46,21 +50,28 @@ impl Held {
     pub fn version(&self) -> Version
         ensures { result.0 ≡ self.now.lease.version }
     {
-        self.lease.version
+        self.version
     }
 
     /// The end that the master told, 0 once the lease was ended.
     pub fn until(&self) -> Moment
         ensures { result.0 ≡ self.now.lease.until }
     {
-        self.lease.until
+        self.until
     }
 
     /// The members, the primary among them.
     pub fn members(&self) -> &ServerList
         ensures { result.now ≡ self.now.lease.members }
     {
-        &self.lease.members
+        &self.members
+    }
+
+    /// What [`Held::valid`] would say at that moment, which is not noted.
+    pub fn would_count(&self, now: Moment) -> bool
+        ensures { result ≡ counts (at_moment self.now now.0) }
+    {
+        is_within(self.latest.max(now.0), self.skew_ms, self.until.0)
     }
 
     /// Whether the lease counts at that moment. An earlier moment than the greatest so far counts as that one.
@@ -69,7 +80,7 @@ impl Held {
         ensures value { result ≡ counts self.new }
     {
         self.latest = self.latest.max(now.0);
-        self.lease.counts(self.skew_ms, Moment(self.latest))
+        is_within(self.latest, self.skew_ms, self.until.0)
     }
 
     /// Moves the end on. Nothing but the greatest moment changes where the lease does not count or the end is not later.
@@ -77,13 +88,22 @@ impl Held {
         ensures { self.new ≡ after_call self.old (Extend until.0 now.0) }
     {
         self.latest = self.latest.max(now.0);
-        self.lease.extend(self.skew_ms, until, Moment(self.latest));
+        if is_within(self.latest, self.skew_ms, self.until.0) && self.until.0 < until.0 {
+            self.until = until;
+        }
     }
 
     /// Ends the lease: it counts no more.
     pub fn end(&mut self)
         ensures { self.new ≡ after_call self.old End }
     {
-        self.lease.until = Moment(0);
+        self.until = Moment(0);
     }
+}
+
+// Whether a moment is before an end less the clock bound.
+fn is_within(now: u64, skew_ms: u64, until: u64) -> bool
+    ensures { result ≡ nat_lt (now + skew_ms) until }
+{
+    now < until.saturating_sub(skew_ms)
 }

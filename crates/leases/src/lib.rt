@@ -3,5 +3,4 @@
 
 pub mod held;
 pub mod laws;
-pub mod lease;
 pub mod master;

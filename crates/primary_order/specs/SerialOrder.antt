@@ -1,18 +1,42 @@
 -- The serial order under one lease, at a moment at which the lease counts: what becomes of attempts, acknowledgements and refusals (sections 3.1 and 3.3).
-use Rattle.std.specs.Prelude.{ℕ, ◌+◌, false, true, ◌==◌, nat_lt, if◌then◌else◌, Option, Some, None}
+-- It is what a primary holds but for the clock: the clock bound and the greatest moment are its server's as well.
+use Rattle.std.specs.Prelude.{ℕ, ◌+◌, Bool, false, true, ◌==◌, nat_lt, if◌then◌else◌, Option, Some, None}
 use Rattle.std.specs.FinMap as map
 use Rattle.gfs_types.specs.declared.ids.ClientId.{ClientId}
 use Rattle.gfs_types.specs.declared.ids.DataId.{DataId}
 use Rattle.gfs_types.specs.declared.refusal.Refusal.{Refusal}
+use Rattle.gfs_types.specs.declared.refusal.Refusal.TheVariants as refusal
 use Rattle.leases.specs.LeaseHeld.{LeaseHeld}
 use Rattle.primary_order.specs.declared.answer.Settled.{Settled}
-use Rattle.primary_order.specs.declared.answer.Attempted.{Attempted}
-use Rattle.primary_order.specs.declared.answer.Attempted.TheVariants.{IsNew, IsRepeat, IsOld}
+use Rattle.primary_order.specs.declared.answer.Accept.{Accept}
+use Rattle.primary_order.specs.declared.answer.Accept.TheVariants.{Refused}
+use Rattle.primary_order.specs.declared.kept.Standing.{Standing}
 use Rattle.primary_order.specs.declared.kept.Standing.TheVariants.{IsPending, IsRefused}
 use Rattle.primary_order.specs.declared.kept.Kept.{Kept}
 use Rattle.primary_order.specs.declared.waiting.Waiting.{Waiting}
-use Rattle.primary_order.specs.declared.order.SerialOrder.{SerialOrder}
-use Rattle.primary_order.specs.PrimaryOrder.{kept_as, with_standing, waiting_by, settled_by, settled_kept, success_of}
+use Rattle.primary_order.specs.declared.primary.Primary.{Primary}
+use Rattle.primary_order.specs.PrimaryOrder.{NumberTable, answer_by, kept_as, with_standing, waiting_by, settled_by, settled_kept, success_of}
+
+-- A lease with the last serial, whether it numbered a mutation since the last report, each client's last attempt, and the mutations that are not settled, by serial.
+pub record SerialOrder : Type 0 where
+  pub held : LeaseHeld
+  pub serial : ℕ
+  pub was_used_since_report : Bool
+  pub kept : NumberTable Kept
+  pub waiting : NumberTable Waiting
+
+-- what a primary holds but for the clock
+abbrev pub order_of : Primary → SerialOrder
+order_of p = record { held = p.held.lease; serial = p.serial; was_used_since_report = p.was_used_since_report; kept = p.kept; waiting = p.waiting }
+
+-- What an attempt's number is to its client's last one under the lease.
+pub data Attempted : Type 0 where
+  -- it is greater, or the first one
+  IsNew : Attempted
+  -- it is the same, of which this became
+  IsRepeat : (standing : Standing) → Attempted
+  -- it is lower
+  IsOld : Attempted
 
 abbrev pub new_order : LeaseHeld → SerialOrder
 new_order held = record { held = held; serial = 0; was_used_since_report = false; kept = map.empty; waiting = map.empty }
@@ -24,6 +48,12 @@ attempted_by seq (Some k) = if k.seq == seq then IsRepeat k.standing else (if na
 
 abbrev pub attempted : SerialOrder → ClientId → ℕ → Attempted
 attempted p client seq = attempted_by seq (map.get p.kept client.0)
+
+-- what the primary answers at once to an attempt, which is nothing where it is new
+abbrev pub known_as : ClientId → ℕ → Attempted → Option Accept
+known_as client seq IsNew = None
+known_as client seq (IsRepeat standing) = Some (answer_by client seq standing)
+known_as client seq IsOld = Some (Refused refusal.OldRequest)
 
 -- the refusal of a new attempt is kept
 abbrev pub denied : SerialOrder → ClientId → ℕ → Refusal → SerialOrder

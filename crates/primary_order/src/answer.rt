@@ -1,6 +1,5 @@
 //! What an attempt is answered.
 
-use crate::kept::Standing;
 use gfs_types::ids::{ClientId, Serial};
 use gfs_types::refusal::Refusal;
 
@@ -10,17 +9,6 @@ pub struct Settled {
     pub client: ClientId,
     pub seq: u64,
     pub place: Option<u64>,
-}
-
-/// What an attempt's number is to its client's last one under the lease.
-#[derive(Clone, Copy, Debug, PartialEq, Eq)]
-pub enum Attempted {
-    /// It is greater, or the first one.
-    IsNew,
-    /// It is the same, of which this became.
-    IsRepeat(Standing),
-    /// It is lower.
-    IsOld,
 }
 
 /// What becomes of an attempt.

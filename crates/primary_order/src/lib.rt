@@ -5,6 +5,5 @@
 pub mod answer;
 pub mod kept;
 pub mod laws;
-pub mod order;
 pub mod primary;
 pub mod waiting;

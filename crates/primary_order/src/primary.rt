@@ -1,15 +1,17 @@
 //! A lease with its order.
 
 ghost use Rattle.std.specs.Prelude.{◌≡◌, false, IfOk, OnOk, OnErr};
+ghost use Rattle.std.specs.Option.{option_map};
 ghost use Rattle.std.specs.FinMap as map;
 ghost use Rattle.leases.specs.LeaseHeld.{counts, after_call};
 ghost use Rattle.leases.specs.LeaseHeld.HeldCall.{Extend, End};
 ghost use Rattle.primary_order.specs.PrimaryOrder.{new_primary, known, denied, seen_at, place_of, accept_answer, accepted, IsNewAttempt, acknowledged, ack_answer, refused, extended, ended};
+ghost use Rattle.primary_order.specs.SerialOrder.{attempted, attempt_of, known_as, order_of};
 
 use crate::answer::{Accept, Settled};
 use crate::kept::{Kept, Standing, answer, restore, set_standing};
 use crate::waiting::{Members, Waiting, acknowledge};
-use gfs_types::ids::{ClientId, MAX_COUNTER, Moment, Serial, ServerId};
+use gfs_types::ids::{ClientId, DataId, MAX_COUNTER, Moment, Serial, ServerId};
 use gfs_types::mutation::Mutation;
 use gfs_types::no_memory::NoMemory;
 use gfs_types::refusal::Refusal;
@@ -66,6 +68,13 @@ impl Primary {
     /// What an attempt with this number is answered. None: the number is greater than the client's last one under this lease.
     /// Takes no memory.
     pub fn known(&self, client: ClientId, seq: u64) -> Option<Accept>
+        ensures answer { result ≡ known self.now client seq }
+        ensures attempt { result ≡ known_as client seq (attempted (order_of self.now) client seq) }
+    {
+        self.known_by_last(client, seq)
+    }
+
+    fn known_by_last(&self, client: ClientId, seq: u64) -> Option<Accept>
         ensures { result ≡ known self.now client seq }
     {
         let Some(last) = self.kept.get(client.0) else {
@@ -85,7 +94,7 @@ impl Primary {
         ensures ok { OnOk result (self.new ≡ denied self.old client seq refusal) }
         ensures err { OnErr result (self.new ≡ self.old) }
     {
-        if self.known(client, seq).is_some() {
+        if self.known_by_last(client, seq).is_some() {
             return Ok(());
         }
         let standing = Standing::IsRefused(refusal);
@@ -114,7 +123,7 @@ impl Primary {
         if !self.held.valid(now) {
             return Ok(Accept::Refused(Refusal::NoLease));
         }
-        if let Some(answer) = self.known(client, seq) {
+        if let Some(answer) = self.known_by_last(client, seq) {
             return Ok(answer);
         }
         if self.serial >= MAX_COUNTER {
@@ -157,6 +166,19 @@ impl Primary {
         } = acknowledge(&mut self.waiting, serial.0, server.0)?;
         set_standing(&mut self.kept, client.0, seq, Standing::IsSettled(place));
         Some(Settled { client, seq, place })
+    }
+
+    /// Whose attempt waits under that serial, if any. Takes no memory.
+    pub fn attempt(&self, serial: Serial) -> Option<DataId>
+        ensures { result ≡ option_map attempt_of (map.get self.now.waiting serial.0) }
+    {
+        let Some(entry) = self.waiting.get(serial.0) else {
+            return None;
+        };
+        Some(DataId {
+            client: entry.client,
+            seq: entry.seq,
+        })
     }
 
     /// A member refused the mutation of that serial: its attempt is answered so until it is settled. Nothing changes where nothing waits

@@ -14,7 +14,7 @@ use Rattle.protocol.specs.Choice.{Choice, Ending, Goes, Lost, Stops, in_order, d
 use Rattle.protocol.specs.Sending.{handle_of, version_of, server_number}
 use Rattle.replica_store.specs.Replicas.{Replica, ServerDisk, disk_changed_by_all}
 use Rattle.leases.specs.LeaseHeld.{counts_at}
-use Rattle.primary_order.specs.declared.order.SerialOrder.{SerialOrder}
+use Rattle.primary_order.specs.SerialOrder.{SerialOrder}
 use Rattle.protocol.specs.Seen.{is_numbering, Taken, no_output, down_output, no_step}
 use Rattle.protocol.specs.Server.{ServerState, ServerDoing, started_server, stopped_server, server_begins, sends}
 use Rattle.protocol.specs.ServerReads.{takes_read, takes_len, takes_copy_ask}

@@ -6,7 +6,7 @@ use Rattle.gfs_types.specs.declared.ids.OrderNo.{OrderNo}
 use Rattle.chunk_table.specs.ChunkTable.{ChunkRow, chunk_of}
 use Rattle.protocol.specs.Master.{PendingSnapshot}
 use Rattle.protocol.specs.MasterSnapshots.{snapshot_handles, snapshot_files}
-use Rattle.primary_order.specs.declared.order.SerialOrder.{SerialOrder}
+use Rattle.primary_order.specs.SerialOrder.{SerialOrder}
 use Rattle.protocol.specs.Tables.{has_number}
 use Rattle.replica_store.specs.Replicas.{is_new_order}
 use Rattle.protocol.specs.Server.{ServerState}

@@ -4,7 +4,7 @@ use Rattle.std.specs.FinMap as table
 use Rattle.chunk_table.specs.ChunkTable.{ChunkRow, chunk_of}
 use Rattle.relaxed_file.specs.Machine.{Machine, chunk_at, chunk_count}
 use Rattle.protocol.specs.Tables.{Table}
-use Rattle.primary_order.specs.declared.order.SerialOrder.{SerialOrder}
+use Rattle.primary_order.specs.SerialOrder.{SerialOrder}
 use Rattle.protocol.specs.Client.{ClientState}
 use Rattle.protocol.specs.Observer.{entries_of, calls_made}
 use Rattle.protocol.specs.World.{WorldState}

@@ -12,7 +12,7 @@ use Rattle.messages.specs.declared.message.Body.TheVariants as body
 use Rattle.relaxed_file.specs.Order.{mutations_of}
 use Rattle.protocol.specs.Tables.{has_number}
 use Rattle.protocol.specs.Sending.{server_number}
-use Rattle.primary_order.specs.declared.order.SerialOrder.{SerialOrder}
+use Rattle.primary_order.specs.SerialOrder.{SerialOrder}
 use Rattle.primary_order.specs.declared.waiting.Waiting.{Waiting}
 use Rattle.replica_store.specs.Replicas.{replica_of}
 use Rattle.protocol.specs.Server.{ServerState}

@@ -7,9 +7,9 @@ use Rattle.gfs_types.specs.declared.ids.DataId.{DataId}
 use Rattle.gfs_types.specs.declared.mutation.Mutation.{Mutation}
 use Rattle.messages.specs.declared.message.Change.{Change}
 use Rattle.replica_store.specs.declared.change.StoreChange.{StoreChange}
-use Rattle.primary_order.specs.declared.order.SerialOrder.{SerialOrder}
+use Rattle.leases.specs.LeaseHeld.{counts_at}
 use Rattle.primary_order.specs.PrimaryOrder.{place_of}
-use Rattle.primary_order.specs.SerialOrder.{numbered}
+use Rattle.primary_order.specs.SerialOrder.{SerialOrder, numbered}
 use Rattle.protocol.specs.Server.{ServerState, ServerDoing}
 use Rattle.protocol.specs.ServerWrites.{change_of, stored_as, primary_applies}
 use Rattle.server_handlers.specs.declared.effects.ServerEffects.{ServerEffects}
@@ -28,22 +28,27 @@ held_after s e handle p id m mid goes =
     ap (λ t. get t handle) (sym leases)
     ∙ (get-insert nat_cmp_total s.leases handle new handle ∙ ap (λ b. cond b (Some new) (get s.leases handle)) ((eq_by_cmp_equiv nat_cmp_total).refl handle))
 
+-- it counts as before
+counts_after : (s : ServerState) (e : ServerEffects) (handle : ℕ) (p : SerialOrder) (id : DataId) (m : Mutation) (mid : ServerDoing)
+    → numbers (doing s e) handle p id m ≡ mid → counts_at s.config.skew_ms p.held s.now ≡ true → counts_at mid.server.config.skew_ms p.held mid.server.now ≡ true
+counts_after s e handle p id m mid goes counts = sym (ap (λ (d : ServerDoing). counts_at d.server.config.skew_ms p.held d.server.now) goes) ∙ counts
+
 pub applied : (s : ServerState) (e : ServerEffects) (handle : ℕ) (p : SerialOrder) (id : DataId) (m : Mutation) (mid after : ServerDoing)
-    → numbers (doing s e) handle p id m ≡ mid
-    → ((q : SerialOrder) → held_at mid.server handle ≡ Some q → applies mid handle q (p.serial + 1) id (change_of m) (stored_as handle (p.serial + 1) m) ≡ after)
+    → counts_at s.config.skew_ms p.held s.now ≡ true → numbers (doing s e) handle p id m ≡ mid
+    → ((q : SerialOrder) → held_at mid.server handle ≡ Some q → counts_at mid.server.config.skew_ms q.held mid.server.now ≡ true → applies mid handle q (p.serial + 1) id (change_of m) (stored_as handle (p.serial + 1) m) ≡ after)
     → primary_applies (numbers (doing s e) handle p id m) handle p id m ≡ after
-applied s e handle p id m mid after goes f =
+applied s e handle p id m mid after counts goes f =
     ap (λ (d : ServerDoing). applies d handle (numbered p id.client id.seq (place_of m)) (p.serial + 1) id (change_of m) (stored_as handle (p.serial + 1) m)) goes
-    ∙ f (numbered p id.client id.seq (place_of m)) (held_after s e handle p id m mid goes)
+    ∙ f (numbered p id.client id.seq (place_of m)) (held_after s e handle p id m mid goes) (counts_after s e handle p id m mid goes counts)
 
 -- the same, in the words of the code
 pub applied_as : (s : ServerState) (e : ServerEffects) (handle : ℕ) (p : SerialOrder) (id : DataId) (m : Mutation) (mid after : ServerDoing) (primary : SerialOrder) (serial : ℕ) (c : Change) (stored : StoreChange)
-    → numbers (doing s e) handle p id m ≡ mid → primary ≡ p → serial ≡ primary.serial → c ≡ change_of m → stored ≡ stored_as handle (serial + 1) m
-    → ((q : SerialOrder) → held_at mid.server handle ≡ Some q → applies mid handle q (serial + 1) id c stored ≡ after)
+    → counts_at s.config.skew_ms p.held s.now ≡ true → numbers (doing s e) handle p id m ≡ mid → primary ≡ p → serial ≡ primary.serial → c ≡ change_of m → stored ≡ stored_as handle (serial + 1) m
+    → ((q : SerialOrder) → held_at mid.server handle ≡ Some q → counts_at mid.server.config.skew_ms q.held mid.server.now ≡ true → applies mid handle q (serial + 1) id c stored ≡ after)
     → primary_applies (numbers (doing s e) handle p id m) handle p id m ≡ after
-applied_as s e handle p id m mid after primary serial c stored goes same serial_is change_is stored_is f =
+applied_as s e handle p id m mid after primary serial c stored counts goes same serial_is change_is stored_is f =
     let n : p.serial ≡ serial = sym (serial_is ∙ ap (λ (x : SerialOrder). x.serial) same) in
-    applied s e handle p id m mid after goes (λ q at.
+    applied s e handle p id m mid after counts goes (λ q at over.
     ap (λ (k : ℕ). applies mid handle q (k + 1) id (change_of m) (stored_as handle (k + 1) m)) n
     ∙ (ap (λ (x : Change). applies mid handle q (serial + 1) id x (stored_as handle (serial + 1) m)) (sym change_is)
-    ∙ (ap (λ (x : StoreChange). applies mid handle q (serial + 1) id c x) (sym stored_is) ∙ f q at)))
+    ∙ (ap (λ (x : StoreChange). applies mid handle q (serial + 1) id c x) (sym stored_is) ∙ f q at over)))

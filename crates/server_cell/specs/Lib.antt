@@ -1,3 +1,4 @@
 pub mod Ends
 pub mod Inputs
 pub mod Kinds
+pub mod Known

@@ -1,12 +1,12 @@
 //! A mutation that was placed.
 
 ghost use Rattle.std.specs.Prelude.{◌≡◌, ◌<◌, ◌^◌, [], Some, OnOk};
-ghost use Rattle.primary_order.specs.declared.order.SerialOrder.{SerialOrder as OrderValue};
+ghost use Rattle.primary_order.specs.SerialOrder.{SerialOrder};
 ghost use Rattle.gfs_types.specs.Counters.{counter_limit};
 ghost use Rattle.gfs_types.specs.Mutations.{end_of};
 ghost use Rattle.protocol.specs.Server.{frame};
 ghost use Rattle.protocol.specs.ServerWrites.{places, primary_applies};
-ghost use Rattle.server_handlers.specs.Doing.{doing, OnHeld, held_at, numbers, applies};
+ghost use Rattle.server_handlers.specs.Doing.{doing, OnCounting, OnNew, held_at, numbers, applies};
 
 use crate::mutations::{change_of, end_of, start_of, stored_as};
 use gfs_types::ids::{DataId, Handle, MAX_COUNTER, Serial};
@@ -31,7 +31,7 @@ pub(crate) fn places<S: ReplicaStore>(
 ) -> Result<(), ReplicaStoreFault>
     requires nothing { server.old.under_way ≡ [] }
     requires ends { end_of mutation < 2 ^ 64 }
-    ensures goes { OnOk result (OnHeld server.old handle.0 (λ p. places (doing server.old effects.old) handle.0 p id mutation ≡ doing server.new effects.new)) }
+    ensures goes { OnOk result (OnNew server.old handle.0 id (λ p. places (doing server.old effects.old) handle.0 p id mutation ≡ doing server.new effects.new)) }
     ensures frame { frame server.new ≡ frame server.old }
 {
     let Some(primary) = server.lease(handle) else {
@@ -57,8 +57,8 @@ fn applies_numbered<S: ReplicaStore>(
     handle: Handle,
     mutation: Mutation,
 ) -> Result<(), ReplicaStoreFault>
-    requires { (p : OrderValue) → held_at server.old handle.0 ≡ Some p → p.serial < counter_limit }
-    ensures goes { OnOk result (OnHeld server.old handle.0 (λ p. primary_applies (numbers (doing server.old effects.old) handle.0 p id mutation) handle.0 p id mutation ≡ doing server.new effects.new)) }
+    requires { (p : SerialOrder) → held_at server.old handle.0 ≡ Some p → p.serial < counter_limit }
+    ensures goes { OnOk result (OnNew server.old handle.0 id (λ p. primary_applies (numbers (doing server.old effects.old) handle.0 p id mutation) handle.0 p id mutation ≡ doing server.new effects.new)) }
     ensures frame { frame server.new ≡ frame server.old }
 {
     let Some(primary) = server.lease(handle) else {
@@ -81,7 +81,7 @@ fn applies<S: ReplicaStore>(
     change: Change,
     stored: StoreChange,
 ) -> Result<(), ReplicaStoreFault>
-    ensures goes { OnOk result (OnHeld server.old handle.0 (λ p. applies (doing server.old effects.old) handle.0 p serial.0 id change stored ≡ doing server.new effects.new)) }
+    ensures goes { OnOk result (OnCounting server.old handle.0 (λ p. applies (doing server.old effects.old) handle.0 p serial.0 id change stored ≡ doing server.new effects.new)) }
     ensures frame { frame server.new ≡ frame server.old }
 {
     let Some(primary) = server.lease(handle) else {

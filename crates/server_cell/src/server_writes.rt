@@ -2,12 +2,13 @@
 //! and 3.3).
 
 ghost use Rattle.std.specs.Prelude.{◌≡◌, ◌+◌, [], length, nat_lt, if◌then◌else◌, OnOk};
-ghost use Rattle.primary_order.specs.declared.answer.Attempted.TheVariants.{IsNew};
+ghost use Rattle.primary_order.specs.SerialOrder.{IsNew, attempted};
 ghost use Rattle.gfs_types.specs.declared.mutation.Mutation.TheVariants as mutation;
 ghost use Rattle.protocol.specs.Server.{frame};
 ghost use Rattle.protocol.specs.ServerWrites.{takes_mutate, mutates_as, appends_as, places};
 ghost use Rattle.record_append.specs.Placing.{placing};
-ghost use Rattle.server_handlers.specs.Doing.{doing, OnHeld};
+ghost use Rattle.server_handlers.specs.Doing.{doing, OnCounting, OnNew};
+ghost use Rattle.server_cell.specs.Known.{answers_known};
 
 use crate::placed::places;
 use bytes::Bytes;
@@ -15,8 +16,7 @@ use gfs_types::ids::{DataId, Handle, Moment, Version};
 use gfs_types::mutation::Mutation;
 use gfs_types::refusal::Refusal;
 use messages::message::Target;
-use primary_order::answer::Attempted;
-use primary_order::kept::Standing;
+use primary_order::answer::Accept;
 use record_append::place;
 use record_append::placing::Placing;
 use server_handlers::effects::ServerEffects;
@@ -38,22 +38,50 @@ pub fn takes_mutate<S: ReplicaStore>(
     ensures goes { OnOk result (takes_mutate (doing server.old effects.old) id handle.0 version.0 target deadline.0 ≡ doing server.new effects.new) }
     ensures frame { frame server.new ≡ frame server.old }
 {
-    let Some(primary) = server.primary_of(handle, version) else {
+    let Some(_) = server.primary_of(handle, version) else {
         return server.refuses_attempt(effects, id, Refusal::NoLease);
     };
     if deadline <= server.clock() {
         return server.refuses_attempt(effects, id, Refusal::Late);
     }
-    match primary.attempted(id.client, id.seq) {
-        Attempted::IsOld => server.refuses_attempt(effects, id, Refusal::OldRequest),
-        Attempted::IsRepeat(Standing::IsPending) => Ok(()),
-        Attempted::IsRepeat(Standing::IsSettled(place)) => {
-            server.answers_settled(effects, id, place)
-        }
-        Attempted::IsRepeat(Standing::IsRefused(refusal)) => {
-            server.refuses_attempt(effects, id, refusal)
-        }
-        Attempted::IsNew => mutates_new(server, effects, id, handle, target),
+    mutates(server, effects, id, handle, target)
+}
+
+// By what the primary knows of the attempt's number.
+fn mutates<S: ReplicaStore>(
+    server: &mut Server<S>,
+    effects: &mut ServerEffects,
+    id: DataId,
+    handle: Handle,
+    target: Target,
+) -> Result<(), ReplicaStoreFault>
+    requires { server.old.under_way ≡ [] }
+    ensures goes { OnOk result (OnCounting server.old handle.0 (λ p. mutates_as (doing server.old effects.old) handle.0 p id target (attempted p id.client id.seq) ≡ doing server.new effects.new)) }
+    ensures frame { frame server.new ≡ frame server.old }
+{
+    let Some(primary) = server.lease(handle) else {
+        return Ok(());
+    };
+    match primary.known(id.client, id.seq) {
+        None => mutates_new(server, effects, id, handle, target),
+        Some(answer) => answers_known(server, effects, id, answer),
+    }
+}
+
+// A repeated attempt, or an old one, is answered at once, or not at all.
+fn answers_known<S: ReplicaStore>(
+    server: &Server<S>,
+    effects: &mut ServerEffects,
+    id: DataId,
+    answer: Accept,
+) -> Result<(), ReplicaStoreFault>
+    ensures { OnOk result (answers_known (doing server.now effects.old) id answer ≡ doing server.now effects.new) }
+{
+    match answer {
+        Accept::New(_) => Ok(()),
+        Accept::Pending => Ok(()),
+        Accept::Again(settled) => server.answers_settled(effects, id, settled.place),
+        Accept::Refused(refusal) => server.refuses_attempt(effects, id, refusal),
     }
 }
 
@@ -65,7 +93,7 @@ fn mutates_new<S: ReplicaStore>(
     target: Target,
 ) -> Result<(), ReplicaStoreFault>
     requires { server.old.under_way ≡ [] }
-    ensures goes { OnOk result (OnHeld server.old handle.0 (λ p. mutates_as (doing server.old effects.old) handle.0 p id target IsNew ≡ doing server.new effects.new)) }
+    ensures goes { OnOk result (OnNew server.old handle.0 id (λ p. mutates_as (doing server.old effects.old) handle.0 p id target IsNew ≡ doing server.new effects.new)) }
     ensures frame { frame server.new ≡ frame server.old }
 {
     let Some(row) = server.row(handle) else {
@@ -91,7 +119,7 @@ fn writes<S: ReplicaStore>(
     bytes: Bytes,
 ) -> Result<(), ReplicaStoreFault>
     requires { server.old.under_way ≡ [] }
-    ensures goes { OnOk result (OnHeld server.old handle.0 (λ p. (if nat_lt server.old.config.chunk (offset + length bytes) then doing server.old effects.old else places (doing server.old effects.old) handle.0 p id (mutation.Write offset bytes)) ≡ doing server.new effects.new)) }
+    ensures goes { OnOk result (OnNew server.old handle.0 id (λ p. (if nat_lt server.old.config.chunk (offset + length bytes) then doing server.old effects.old else places (doing server.old effects.old) handle.0 p id (mutation.Write offset bytes)) ≡ doing server.new effects.new)) }
     ensures frame { frame server.new ≡ frame server.old }
 {
     let chunk = server.chunk();
@@ -112,7 +140,7 @@ fn appends<S: ReplicaStore>(
     bytes: Bytes,
 ) -> Result<(), ReplicaStoreFault>
     requires { server.old.under_way ≡ [] }
-    ensures goes { OnOk result (OnHeld server.old handle.0 (λ p. appends_as (doing server.old effects.old) handle.0 p id bytes (placing count (length bytes) server.old.config.chunk) ≡ doing server.new effects.new)) }
+    ensures goes { OnOk result (OnNew server.old handle.0 id (λ p. appends_as (doing server.old effects.old) handle.0 p id bytes (placing count (length bytes) server.old.config.chunk) ≡ doing server.new effects.new)) }
     ensures frame { frame server.new ≡ frame server.old }
 {
     let chunk = server.chunk();

@@ -8,7 +8,7 @@ use Rattle.std.specs.Ordering.{nat_cmp, is_eq, eq_by_cmp}
 use Rattle.std.specs.Cmp.{nat_cmp_total}
 use Rattle.std.specs.FinMap.{get, insert, remove, keys, entries, get-insert, get-remove, contains_key-keys, same_map, nat_cmp-IsAntisymmetric}
 use Rattle.leases.specs.LeaseHeld.{counts_at}
-use Rattle.primary_order.specs.declared.order.SerialOrder.{SerialOrder}
+use Rattle.primary_order.specs.SerialOrder.{SerialOrder}
 use Rattle.protocol.specs.Tables.{Table, kept_where, map_values}
 use Rattle.protocol.specs.ServerStep.{asks_no_more}
 use Rattle.ordered_map.proofs.Filtered.{kept, get_filter, get_map}

@@ -1,13 +1,13 @@
 -- A server, and what its step gives so far.
-use Rattle.std.specs.Prelude.{◌≡◌, ◌+◌, ◌==◌, ℕ, Bool, false, Option, Some, None}
+use Rattle.std.specs.Prelude.{◌≡◌, ◌+◌, ◌==◌, ℕ, Bool, true, false, Option, Some, None}
 use Rattle.std.specs.FinMap as map
 use Rattle.gfs_types.specs.declared.ids.DataId.{DataId}
 use Rattle.gfs_types.specs.declared.mutation.Mutation.{Mutation}
 use Rattle.messages.specs.declared.message.Change.{Change}
 use Rattle.replica_store.specs.declared.change.StoreChange.{StoreChange}
-use Rattle.primary_order.specs.declared.order.SerialOrder.{SerialOrder}
+use Rattle.leases.specs.LeaseHeld.{counts_at}
 use Rattle.primary_order.specs.PrimaryOrder.{place_of}
-use Rattle.primary_order.specs.SerialOrder.{numbered}
+use Rattle.primary_order.specs.SerialOrder.{SerialOrder, IsNew, attempted, numbered}
 use Rattle.protocol.specs.declared.seen.Seen.TheVariants.{Numbered}
 use Rattle.protocol.specs.Tables.{without}
 use Rattle.protocol.specs.Sending.{handle_of, version_of, serial_of}
@@ -21,9 +21,13 @@ doing s e = record { server = s; sent = e.sent; changes = e.changes; seen = e.se
 abbrev pub held_at : ServerState → ℕ → Option SerialOrder
 held_at s handle = map.get s.leases handle
 
--- where it holds a lease of the chunk, this holds of the lease's order
-abbrev pub OnHeld : ServerState → ℕ → (SerialOrder → Type 0) → Type 0
-OnHeld s handle P = (p : SerialOrder) → held_at s handle ≡ Some p → P p
+-- where it holds a lease of the chunk that counts, this holds of the lease's order
+abbrev pub OnCounting : ServerState → ℕ → (SerialOrder → Type 0) → Type 0
+OnCounting s handle P = (p : SerialOrder) → held_at s handle ≡ Some p → counts_at s.config.skew_ms p.held s.now ≡ true → P p
+
+-- where moreover the attempt is new
+abbrev pub OnNew : ServerState → ℕ → DataId → (SerialOrder → Type 0) → Type 0
+OnNew s handle id P = (p : SerialOrder) → held_at s handle ≡ Some p → counts_at s.config.skew_ms p.held s.now ≡ true → attempted p id.client id.seq ≡ IsNew → P p
 
 -- a mutation took the next serial, and its data are used up
 abbrev pub numbers : ServerDoing → ℕ → SerialOrder → DataId → Mutation → ServerDoing

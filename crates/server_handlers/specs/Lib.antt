@@ -1,3 +1,4 @@
+pub mod Held
 pub mod Reported
 pub mod Doing
 pub mod Pushing

@@ -1,177 +1,187 @@
-//! The leases that a server holds: what is done with one, and what becomes of all at a tick.
+//! The leases that a server holds, each with its primary's order: what is done with one, and what becomes of all at a tick.
 
-ghost use Rattle.std.specs.Prelude.{◌≡◌, ◌<◌, Some, None, map, filter, OnOk, IfOk};
-ghost use Rattle.std.specs.Option.{option_map};
+ghost use Rattle.std.specs.Prelude.{◌≡◌, ◌≤◌, ◌<◌, ◌+◌, true, Some, map, OnOk, IfOk};
+ghost use Rattle.std.specs.Option.{option_copied, option_map};
 ghost use Rattle.std.specs.FinMap as table;
-ghost use Rattle.leases.specs.LeaseHeld.{counts_at, extended};
-ghost use Rattle.primary_order.specs.declared.order.SerialOrder.{SerialOrder as OrderValue};
-ghost use Rattle.primary_order.specs.SerialOrder.{denied, numbered, settled, acknowledged, refused_by, attempt_of};
 ghost use Rattle.gfs_types.specs.Counters.{counter_limit};
+ghost use Rattle.leases.specs.LeaseHeld.{counts_at, extended};
+ghost use Rattle.primary_order.specs.PrimaryOrder.{place_of};
+ghost use Rattle.primary_order.specs.SerialOrder.{SerialOrder, IsNew, new_order, attempted, denied, numbered, settled, acknowledged, refused_by, attempt_of, order_of};
 ghost use Rattle.protocol.specs.Tables.{kept_where, map_values};
+ghost use Rattle.protocol.specs.Sending.{serial_of};
 ghost use Rattle.protocol.specs.ServerStep.{lease_line, asks_no_more};
-ghost use Rattle.server_handlers.specs.Reported.{reported_all, reported_one};
+ghost use Rattle.server_handlers.specs.Held.{counting_at};
 
-use gfs_types::ids::{DataId, Handle, Moment, Serial, ServerId};
+use crate::lease_table::{
+    LeaseTable, accept, acknowledge, begin, counted, counting, deny, end_at, extend, handles_of,
+    refuse, reported_all,
+};
+use gfs_types::ids::{DataId, Handle, Moment, Serial, ServerId, Version};
+use gfs_types::lists::ServerList;
+use gfs_types::mutation::Mutation;
 use gfs_types::no_memory::NoMemory;
 use gfs_types::refusal::Refusal;
-use messages::message::LeaseLine;
+use leases::held::Held;
 use messages::message_lists::LeaseList;
-use ordered_map::OrderedMap;
 use primary_order::answer::Settled;
-use primary_order::order::SerialOrder;
+use primary_order::primary::Primary;
 use std::alloc::Global;
+use std::marker::Model;
 
-/// The leases that a server holds, by handle.
-pub type LeaseTable = OrderedMap<SerialOrder>;
-
-/// Keeps the refusal of a new attempt. Nothing changes without such a lease.
-pub fn deny(
-    leases: &mut LeaseTable,
-    handle: Handle,
-    id: DataId,
-    refusal: Refusal,
-) -> Result<(), NoMemory>
-    ensures { OnOk result ((p : OrderValue) → table.get leases.old handle.0 ≡ Some p → leases.new ≡ table.insert leases.old handle.0 (denied p id.client id.seq refusal)) }
-{
-    if let Some(primary) = leases.get_mut(handle.0) {
-        primary.deny(id.client, id.seq, refusal)?;
-    }
-    Ok(())
-}
-
-/// Gives a new attempt the next serial. Nothing changes without such a lease.
-pub fn number(
-    alloc: Global,
-    leases: &mut LeaseTable,
-    handle: Handle,
-    id: DataId,
-    place: Option<u64>,
-) -> Result<(), NoMemory>
-    requires { (p : OrderValue) → table.get leases.old handle.0 ≡ Some p → p.serial < counter_limit }
-    ensures { OnOk result ((p : OrderValue) → table.get leases.old handle.0 ≡ Some p → leases.new ≡ table.insert leases.old handle.0 (numbered p id.client id.seq place)) }
-{
-    if let Some(primary) = leases.get_mut(handle.0) {
-        primary.number(alloc, id.client, id.seq, place)?;
-    }
-    Ok(())
-}
-
-/// A member acknowledged: the mutation that it settled, if any. Nothing changes without such a lease.
-pub fn acknowledge(
-    leases: &mut LeaseTable,
-    handle: Handle,
-    server: ServerId,
-    serial: Serial,
-) -> Option<Settled>
-    ensures after { (p : OrderValue) → table.get leases.old handle.0 ≡ Some p → leases.new ≡ table.insert leases.old handle.0 (acknowledged p server.0 serial.0) }
-    ensures answer { (p : OrderValue) → table.get leases.old handle.0 ≡ Some p → result ≡ settled p server.0 serial.0 }
-{
-    let primary = leases.get_mut(handle.0)?;
-    primary.ack(server, serial)
-}
-
-/// A member refused: whose attempt it is. Nothing changes without such a lease.
-pub fn refuse(
-    leases: &mut LeaseTable,
-    handle: Handle,
-    serial: Serial,
-    refusal: Refusal,
-) -> Option<DataId>
-    ensures after { (p : OrderValue) → table.get leases.old handle.0 ≡ Some p → leases.new ≡ table.insert leases.old handle.0 (refused_by p refusal (table.get p.waiting serial.0)) }
-    ensures attempt { (p : OrderValue) → table.get leases.old handle.0 ≡ Some p → result ≡ option_map attempt_of (table.get p.waiting serial.0) }
-{
-    let primary = leases.get_mut(handle.0)?;
-    primary.refuse(serial, refusal)
-}
-
-/// Moves the end of the lease on. Nothing changes without such a lease.
-pub fn extend(leases: &mut LeaseTable, handle: Handle, skew_ms: u64, until: Moment, now: Moment)
-    ensures { (p : OrderValue) → table.get leases.old handle.0 ≡ Some p → leases.new ≡ table.insert leases.old handle.0 (record p { held = extended skew_ms p.held until.0 now.0 }) }
-{
-    if let Some(primary) = leases.get_mut(handle.0) {
-        primary.extend(skew_ms, until, now);
-    }
-}
-
-/// A tick: the leases that count at that moment, as they are reported; the others are forgotten, and those that stay want no more.
-pub fn report(
-    alloc: Global,
-    leases: &mut LeaseTable,
+/// The leases that a server holds, by handle, with the clock bound in milliseconds and the greatest moment that they were asked at.
+#[derive(Drop)]
+pub(crate) struct Leases {
     skew_ms: u64,
-    now: Moment,
-) -> Result<LeaseList, NoMemory>
-    ensures lines { IfOk result (λ l. l ≡ map lease_line (table.entries (kept_where (λ e. counts_at skew_ms e.1.held now.0) leases.old))) }
-    ensures after { OnOk result (leases.new ≡ map_values asks_no_more (kept_where (λ e. counts_at skew_ms e.1.held now.0) leases.old)) }
-{
-    let handles = handles_of(alloc, leases)?;
-    let lines = counting(alloc, leases, skew_ms, now)?;
-    reported_all(leases, handles.as_slice(), skew_ms, now);
-    Ok(lines)
+    latest: u64,
+    table: LeaseTable,
 }
 
-fn handles_of(alloc: Global, leases: &LeaseTable) -> Result<Vec<u64>, NoMemory>
-    ensures { IfOk result (λ v. v.items ≡ table.keys leases.now) }
-{
-    let mut handles = Vec::new(alloc);
-    for (handle, _) in leases.iter() {
-        handles.push(*handle)?;
-    }
-    Ok(handles)
+impl Model for Leases {
+    ghost use Rattle.std.specs.FinMap as map;
+    ghost use Rattle.std.specs.Coded.{codes, coded_ℕ};
+    ghost use Rattle.server_handlers.specs.Held.{HeldLeases, AreHeld, orders_of};
+
+    ghost Value = { HeldLeases };
+
+    ghost coded = { Prim.hlevel (codes, map.code, coded_ℕ) };
+
+    ghost view = { λ l. record { skew = l.skew_ms; latest = l.latest; orders = orders_of l.table } };
+
+    ghost invariant = { λ l. AreHeld l.skew_ms l.latest l.table };
 }
 
-// The leases that count, in rising handle.
-fn counting(
-    alloc: Global,
-    leases: &LeaseTable,
-    skew_ms: u64,
-    now: Moment,
-) -> Result<LeaseList, NoMemory>
-    ensures { IfOk result (λ l. l ≡ map lease_line (filter (λ e. counts_at skew_ms e.1.held now.0) (table.entries leases.now))) }
-{
-    let mut lines = Vec::new(alloc);
-    for (handle, primary) in leases.iter() {
-        if primary.held().counts(skew_ms, now) {
-            lines.push(line_of(*handle, primary))?;
+impl Leases {
+    /// No leases. Takes no memory.
+    pub(crate) fn new(alloc: Global, skew_ms: u64) -> Leases
+        ensures { result ≡ record { skew = skew_ms; latest = 0; orders = table.empty } }
+    {
+        Leases {
+            skew_ms,
+            latest: 0,
+            table: LeaseTable::new(alloc),
         }
     }
-    Ok(LeaseList::new(lines))
-}
 
-fn line_of(handle: u64, primary: &SerialOrder) -> LeaseLine
-    ensures { result ≡ lease_line (handle, primary.now) }
-{
-    LeaseLine {
-        handle: Handle(handle),
-        version: primary.held().version(),
-        was_used_since_report: primary.was_used_since_report(),
+    /// The lease of a chunk.
+    pub(crate) fn get(&self, handle: Handle) -> Option<&Primary>
+        ensures { option_map order_of (option_copied result) ≡ table.get self.now.orders handle.0 }
+    {
+        self.table.get(handle.0)
     }
-}
 
-fn reported_all(leases: &mut LeaseTable, handles: &[u64], skew_ms: u64, now: Moment)
-    ensures { leases.new ≡ reported_all skew_ms now.0 leases.old handles.now }
-{
-    for handle in handles {
-        reported_one(leases, *handle, skew_ms, now);
+    /// The lease of a chunk, where it is of that version and counts at that moment.
+    pub(crate) fn counting(&self, handle: Handle, version: Version, now: Moment) -> Option<&Primary>
+        requires { self.now.latest ≤ now.0 }
+        ensures { option_map order_of (option_copied result) ≡ counting_at self.now.skew now.0 version.0 (table.get self.now.orders handle.0) }
+    {
+        counted(&self.table, handle, version, now)
     }
-}
 
-fn reported_one(leases: &mut LeaseTable, handle: u64, skew_ms: u64, now: Moment)
-    ensures { leases.new ≡ reported_one skew_ms now.0 leases.old handle (table.get leases.old handle) }
-{
-    let Some(primary) = leases.get(handle) else {
-        return;
-    };
-    if primary.held().counts(skew_ms, now) {
-        ask_no_more(leases, handle);
-    } else {
-        leases.remove(handle);
+    /// A lease that was granted begins, with serials from 1. An error leaves all as it was.
+    pub(crate) fn begin(
+        &mut self,
+        alloc: Global,
+        handle: Handle,
+        version: Version,
+        until: Moment,
+        members: ServerList,
+    ) -> Result<(), NoMemory>
+        ensures after { OnOk result (self.new.orders ≡ table.insert self.old.orders handle.0 (new_order (record { version = version.0; until = until.0; members = members }))) }
+        ensures same { (self.new.skew ≡ self.old.skew) × (self.new.latest ≡ self.old.latest) }
+    {
+        let held = Held::take(version, until, members, self.skew_ms);
+        begin(&mut self.table, handle, Primary::new(alloc, held))
     }
-}
 
-fn ask_no_more(leases: &mut LeaseTable, handle: u64)
-    ensures { (p : OrderValue) → table.get leases.old handle ≡ Some p → leases.new ≡ table.insert leases.old handle (asks_no_more p) }
-{
-    if let Some(primary) = leases.get_mut(handle) {
-        primary.reported();
+    /// Keeps the refusal of a new attempt.
+    pub(crate) fn deny(
+        &mut self,
+        handle: Handle,
+        id: DataId,
+        refusal: Refusal,
+    ) -> Result<(), NoMemory>
+        ensures after { OnOk result ((p : SerialOrder) → table.get self.old.orders handle.0 ≡ Some p → attempted p id.client id.seq ≡ IsNew → self.new.orders ≡ table.insert self.old.orders handle.0 (denied p id.client id.seq refusal)) }
+        ensures same { (self.new.skew ≡ self.old.skew) × (self.new.latest ≡ self.old.latest) }
+    {
+        deny(&mut self.table, handle, id, refusal)
+    }
+
+    /// Takes an attempt at that moment: the next serial where the lease counts, the attempt is new, and a serial is left.
+    pub(crate) fn accept(
+        &mut self,
+        alloc: Global,
+        handle: Handle,
+        id: DataId,
+        mutation: &Mutation,
+        now: Moment,
+    ) -> Result<Option<Serial>, NoMemory>
+        requires { self.old.latest ≤ now.0 }
+        ensures after { OnOk result ((p : SerialOrder) → table.get self.old.orders handle.0 ≡ Some p → counts_at self.old.skew p.held now.0 ≡ true → attempted p id.client id.seq ≡ IsNew → p.serial < counter_limit → self.new.orders ≡ table.insert self.old.orders handle.0 (numbered p id.client id.seq (place_of mutation.now))) }
+        ensures serial { IfOk result (λ serial. (p : SerialOrder) → table.get self.old.orders handle.0 ≡ Some p → counts_at self.old.skew p.held now.0 ≡ true → attempted p id.client id.seq ≡ IsNew → p.serial < counter_limit → serial ≡ Some (serial_of (p.serial + 1))) }
+        ensures same { (self.new.skew ≡ self.old.skew) × (self.new.latest ≡ now.0) }
+    {
+        self.latest = now.0;
+        accept(alloc, &mut self.table, handle, id, mutation, now)
+    }
+
+    /// A member acknowledged: the mutation that it settled at that moment, if any.
+    pub(crate) fn acknowledge(
+        &mut self,
+        handle: Handle,
+        server: ServerId,
+        serial: Serial,
+        now: Moment,
+    ) -> Option<Settled>
+        requires { self.old.latest ≤ now.0 }
+        ensures after { (p : SerialOrder) → table.get self.old.orders handle.0 ≡ Some p → counts_at self.old.skew p.held now.0 ≡ true → self.new.orders ≡ table.insert self.old.orders handle.0 (acknowledged p server.0 serial.0) }
+        ensures answer { (p : SerialOrder) → table.get self.old.orders handle.0 ≡ Some p → counts_at self.old.skew p.held now.0 ≡ true → result ≡ settled p server.0 serial.0 }
+        ensures same { (self.new.skew ≡ self.old.skew) × (self.new.latest ≡ now.0) }
+    {
+        self.latest = now.0;
+        acknowledge(&mut self.table, handle, server, serial, now)
+    }
+
+    /// A member refused: whose attempt it is.
+    pub(crate) fn refuse(
+        &mut self,
+        handle: Handle,
+        serial: Serial,
+        refusal: Refusal,
+    ) -> Option<DataId>
+        ensures after { (p : SerialOrder) → table.get self.old.orders handle.0 ≡ Some p → self.new.orders ≡ table.insert self.old.orders handle.0 (refused_by p refusal (table.get p.waiting serial.0)) }
+        ensures attempt { (p : SerialOrder) → table.get self.old.orders handle.0 ≡ Some p → result ≡ option_map attempt_of (table.get p.waiting serial.0) }
+        ensures same { (self.new.skew ≡ self.old.skew) × (self.new.latest ≡ self.old.latest) }
+    {
+        refuse(&mut self.table, handle, serial, refusal)
+    }
+
+    /// Moves the end of a lease on, where it counts at that moment.
+    pub(crate) fn extend(&mut self, handle: Handle, until: Moment, now: Moment)
+        requires { self.old.latest ≤ now.0 }
+        ensures after { (p : SerialOrder) → table.get self.old.orders handle.0 ≡ Some p → self.new.orders ≡ table.insert self.old.orders handle.0 (record p { held = extended self.old.skew p.held until.0 now.0 }) }
+        ensures same { (self.new.skew ≡ self.old.skew) × (self.new.latest ≡ now.0) }
+    {
+        self.latest = now.0;
+        extend(&mut self.table, handle, until, now);
+    }
+
+    /// Ends the lease of a chunk, and forgets it with its order.
+    pub(crate) fn end(&mut self, handle: Handle)
+        ensures { self.new ≡ record self.old { orders = table.remove self.old.orders handle.0 } }
+    {
+        end_at(&mut self.table, handle.0);
+    }
+
+    /// A tick: the leases that count at that moment, as they are reported; the others are forgotten, and those that stay want no more.
+    pub(crate) fn report(&mut self, alloc: Global, now: Moment) -> Result<LeaseList, NoMemory>
+        requires { self.old.latest ≤ now.0 }
+        ensures lines { IfOk result (λ l. l ≡ map lease_line (table.entries (kept_where (λ e. counts_at self.old.skew e.1.held now.0) self.old.orders))) }
+        ensures after { OnOk result (self.new.orders ≡ map_values asks_no_more (kept_where (λ e. counts_at self.old.skew e.1.held now.0) self.old.orders)) }
+        ensures same { (self.new.skew ≡ self.old.skew) × (self.new.latest ≡ self.old.latest) }
+    {
+        let handles = handles_of(alloc, &self.table)?;
+        let lines = counting(alloc, &self.table, now)?;
+        reported_all(&mut self.table, handles.as_slice(), now);
+        Ok(lines)
     }
 }

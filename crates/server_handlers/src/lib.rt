@@ -4,7 +4,8 @@
 
 pub mod effects;
 pub mod forward;
-pub mod held_leases;
+mod held_leases;
+mod lease_table;
 mod lifetime;
 pub mod mutate;
 pub mod mutations;

@@ -7,7 +7,7 @@ ghost use Rattle.server_store.specs.Stores.{IsFound, MadePart, disk_rotten};
 ghost use Rattle.protocol.specs.Tables.{moment_limit};
 ghost use Rattle.protocol.specs.Server.{started_server, stopped_server};
 
-use crate::held_leases::LeaseTable;
+use crate::held_leases::Leases;
 use crate::pushed::Pushed;
 use crate::server::Server;
 use gfs_types::config::Config;
@@ -34,7 +34,7 @@ impl<S: ReplicaStore> Server<S> {
             up: true,
             clock: now.0,
             store,
-            leases: LeaseTable::new(alloc),
+            leases: Leases::new(alloc, config.skew_ms),
             pushed: Pushed::new(config.push_entries),
             clones: NumberMap::new(alloc),
             alloc,
@@ -47,24 +47,25 @@ impl<S: ReplicaStore> Server<S> {
         requires nothing { self.old.under_way ≡ [] }
         ensures { self.new ≡ started_server self.old.config self.old.id self.old.disk now.0 }
     {
-        self.forget();
+        self.forget(now.0);
         self.up = true;
-        self.clock = now.0;
     }
 
     /// It stops, and keeps its disk alone, with what is under way there.
     pub fn stop(&mut self)
         ensures { self.new ≡ stopped_server self.old self.old.disk self.old.under_way }
     {
-        self.forget();
+        self.forget(0);
         self.up = false;
-        self.clock = 0;
     }
 
-    fn forget(&mut self)
-        ensures { self.new ≡ record (started_server self.old.config self.old.id self.old.disk self.old.now) { up = self.old.up; under_way = self.old.under_way } }
+    // Its clock goes back with what it knows, since leases remember moments.
+    fn forget(&mut self, now: u64)
+        requires { now ≤ moment_limit }
+        ensures { self.new ≡ record (started_server self.old.config self.old.id self.old.disk now) { up = self.old.up; under_way = self.old.under_way } }
     {
-        self.leases = LeaseTable::new(self.alloc);
+        self.clock = now;
+        self.leases = Leases::new(self.alloc, self.config.skew_ms);
         self.pushed = Pushed::new(self.config.push_entries);
         self.clones = NumberMap::new(self.alloc);
     }

@@ -1,17 +1,15 @@
 //! How a primary numbers and forwards mutations, and settles them (sections 3.1 and 3.3).
 
 ghost use Rattle.std.specs.Prelude.{◌≡◌, ◌<◌, Some, OnOk};
-ghost use Rattle.primary_order.specs.declared.order.SerialOrder.{SerialOrder as OrderValue};
+ghost use Rattle.primary_order.specs.SerialOrder.{SerialOrder};
 ghost use Rattle.gfs_types.specs.Counters.{counter_limit};
 ghost use Rattle.protocol.specs.Server.{frame};
 ghost use Rattle.protocol.specs.ServerWrites.{denies, forwards, acknowledges, takes_acked, takes_nacked};
-ghost use Rattle.server_handlers.specs.Doing.{doing, OnHeld, held_at, numbers};
+ghost use Rattle.server_handlers.specs.Doing.{doing, OnCounting, OnNew, held_at, numbers};
 
 use crate::effects::ServerEffects;
-use crate::held_leases::{acknowledge, deny, number, refuse};
-use crate::mutations::place_of;
 use crate::server::Server;
-use gfs_types::ids::{DataId, Handle, Node, Serial, ServerId, Version};
+use gfs_types::ids::{DataId, Handle, Moment, Node, Serial, ServerId, Version};
 use gfs_types::lists::ServerList;
 use gfs_types::mutation::Mutation;
 use gfs_types::refusal::Refusal;
@@ -40,10 +38,10 @@ impl<S: ReplicaStore> Server<S> {
         handle: Handle,
         refusal: Refusal,
     ) -> Result<(), ReplicaStoreFault>
-        ensures goes { OnOk result (OnHeld self.old handle.0 (λ p. denies (doing self.old effects.old) handle.0 p id refusal ≡ doing self.new effects.new)) }
+        ensures goes { OnOk result (OnNew self.old handle.0 id (λ p. denies (doing self.old effects.old) handle.0 p id refusal ≡ doing self.new effects.new)) }
         ensures frame { frame self.new ≡ frame self.old }
     {
-        deny(&mut self.leases, handle, id, refusal)?;
+        self.leases.deny(handle, id, refusal)?;
         self.pushed.take(id);
         self.refuses_attempt(effects, id, refusal)
     }
@@ -56,22 +54,18 @@ impl<S: ReplicaStore> Server<S> {
         handle: Handle,
         mutation: Mutation,
     ) -> Result<(), ReplicaStoreFault>
-        requires { (p : OrderValue) → held_at self.old handle.0 ≡ Some p → p.serial < counter_limit }
-        ensures goes { OnOk result (OnHeld self.old handle.0 (λ p. numbers (doing self.old effects.old) handle.0 p id mutation ≡ doing self.new effects.new)) }
+        requires { (p : SerialOrder) → held_at self.old handle.0 ≡ Some p → p.serial < counter_limit }
+        ensures goes { OnOk result (OnNew self.old handle.0 id (λ p. numbers (doing self.old effects.old) handle.0 p id mutation ≡ doing self.new effects.new)) }
         ensures frame { frame self.new ≡ frame self.old }
     {
-        let Some(primary) = self.leases.get(handle.0) else {
+        let Some(primary) = self.leases.get(handle) else {
             return Ok(());
         };
         let version = primary.held().version();
-        let serial = Serial(primary.serial().0 + 1);
-        number(
-            self.alloc,
-            &mut self.leases,
-            handle,
-            id,
-            place_of(&mutation),
-        )?;
+        let now = Moment(self.clock);
+        let Some(serial) = self.leases.accept(self.alloc, handle, id, &mutation, now)? else {
+            return Ok(());
+        };
         self.pushed.take(id);
         effects.show(Seen::Numbered {
             handle,
@@ -119,14 +113,15 @@ impl<S: ReplicaStore> Server<S> {
         server: ServerId,
         serial: Serial,
     ) -> Result<(), ReplicaStoreFault>
-        ensures goes { OnOk result (OnHeld self.old handle.0 (λ p. acknowledges (doing self.old effects.old) handle.0 p server.0 serial.0 ≡ doing self.new effects.new)) }
+        ensures goes { OnOk result (OnCounting self.old handle.0 (λ p. acknowledges (doing self.old effects.old) handle.0 p server.0 serial.0 ≡ doing self.new effects.new)) }
         ensures frame { frame self.new ≡ frame self.old }
     {
-        let Some(primary) = self.leases.get(handle.0) else {
+        let Some(primary) = self.leases.get(handle) else {
             return Ok(());
         };
         let version = primary.held().version();
-        let Some(settled) = acknowledge(&mut self.leases, handle, server, serial) else {
+        let now = Moment(self.clock);
+        let Some(settled) = self.leases.acknowledge(handle, server, serial, now) else {
             return Ok(());
         };
         effects.show(Seen::BecameSettled {
@@ -171,7 +166,7 @@ impl<S: ReplicaStore> Server<S> {
         let Some(_) = self.primary_of(handle, version) else {
             return Ok(());
         };
-        match refuse(&mut self.leases, handle, serial, refusal) {
+        match self.leases.refuse(handle, serial, refusal) {
             None => Ok(()),
             Some(id) => self.refuses_attempt(effects, id, refusal),
         }

@@ -1,25 +1,13 @@
-//! The places of mutations, and who else applies them.
+//! Who else applies a mutation, and who sent a message.
 
 ghost use Rattle.std.specs.Prelude.{◌≡◌, IfOk};
-ghost use Rattle.primary_order.specs.PrimaryOrder.{place_of};
 ghost use Rattle.protocol.specs.Sending.{server_number};
 ghost use Rattle.protocol.specs.Tables.{without};
 
 use gfs_types::ids::{Node, ServerId};
 use gfs_types::lists::ServerList;
-use gfs_types::mutation::Mutation;
 use gfs_types::no_memory::NoMemory;
 use std::alloc::Global;
-
-/// The place that a success tells; a pad has none.
-pub fn place_of(mutation: &Mutation) -> Option<u64>
-    ensures { result ≡ place_of mutation.now }
-{
-    match mutation {
-        Mutation::Write(offset, _) | Mutation::Append(offset, _) => Some(*offset),
-        Mutation::Pad(_, _) => None,
-    }
-}
 
 /// The members without one.
 pub fn others(alloc: Global, members: &ServerList, me: ServerId) -> Result<ServerList, NoMemory>

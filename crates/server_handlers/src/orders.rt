@@ -9,14 +9,11 @@ ghost use Rattle.protocol.specs.ServerOrders.{on_order, records, can_take, takes
 ghost use Rattle.server_handlers.specs.Doing.{doing, is_held_at};
 
 use crate::effects::ServerEffects;
-use crate::held_leases::extend;
 use crate::server::Server;
 use bytes::Bytes;
 use gfs_types::ids::{Handle, Moment, Node, OrderNo, Serial, ServerId, Version};
 use gfs_types::lists::ServerList;
-use leases::lease::Lease;
 use messages::message::Body;
-use primary_order::order::SerialOrder;
 use replica_store::change::StoreChange;
 use server_store::fault::ReplicaStoreFault;
 use server_store::store::ReplicaStore;
@@ -96,7 +93,7 @@ impl<S: ReplicaStore> Server<S> {
         if row.version != base {
             return Ok(());
         }
-        self.leases.remove(handle.0);
+        self.leases.end(handle);
         effects.change(StoreChange::Raise { handle, version })?;
         self.records(effects, handle, version)
     }
@@ -119,9 +116,9 @@ impl<S: ReplicaStore> Server<S> {
         if row.version != version {
             return Ok(());
         }
-        let held = Lease::new(version, end, members.copy(self.alloc)?);
+        let members = members.copy(self.alloc)?;
         self.leases
-            .insert(handle.0, SerialOrder::new(self.alloc, held))?;
+            .begin(self.alloc, handle, version, end, members)?;
         Ok(())
     }
 
@@ -136,17 +133,11 @@ impl<S: ReplicaStore> Server<S> {
         ensures goes { takes_extend (doing self.old effects.now) handle.0 version.0 end.0 ≡ doing self.new effects.now }
         ensures frame { frame self.new ≡ frame self.old }
     {
-        let Some(primary) = self.leases.get(handle.0) else {
+        let Some(primary) = self.leases.get(handle) else {
             return;
         };
         if primary.held().version() == version {
-            extend(
-                &mut self.leases,
-                handle,
-                self.config.skew_ms,
-                end,
-                Moment(self.clock),
-            );
+            self.leases.extend(handle, end, Moment(self.clock));
         }
     }
 
@@ -161,7 +152,7 @@ impl<S: ReplicaStore> Server<S> {
         ensures frame { frame self.new ≡ frame self.old }
     {
         if self.holds(handle, version) {
-            self.leases.remove(handle.0);
+            self.leases.end(handle);
         }
         self.send(effects, Node::Master, Body::Revoked { handle, version })
     }
@@ -169,7 +160,7 @@ impl<S: ReplicaStore> Server<S> {
     fn holds(&self, handle: Handle, version: Version) -> bool
         ensures { result ≡ is_held_at version.0 (map.get self.now.leases handle.0) }
     {
-        match self.leases.get(handle.0) {
+        match self.leases.get(handle) {
             None => false,
             Some(primary) => primary.held().version() == version,
         }
@@ -191,7 +182,7 @@ impl<S: ReplicaStore> Server<S> {
         if row.version > version {
             return Ok(());
         }
-        self.leases.remove(handle.0);
+        self.leases.end(handle);
         effects.change(StoreChange::Remove(handle))
     }
 

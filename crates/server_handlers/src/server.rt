@@ -1,19 +1,21 @@
 //! The chunkserver, and what all handlers share.
 
-ghost use Rattle.std.specs.Prelude.{◌≡◌, ◌≤◌, [], OnOk, IfOk};
-ghost use Rattle.std.specs.Option.{option_copied};
+ghost use Rattle.std.specs.Prelude.{◌≡◌, ◌≤◌, [], true, Some, OnOk, IfOk};
+ghost use Rattle.std.specs.Option.{option_copied, option_map};
 ghost use Rattle.std.specs.FinMap as map;
 ghost use Rattle.gfs_types.specs.Settings.{largest_chunk};
 ghost use Rattle.data_push.specs.Buffers.{data_of};
+ghost use Rattle.leases.specs.LeaseHeld.{counts_at};
+ghost use Rattle.primary_order.specs.SerialOrder.{SerialOrder, order_of};
 ghost use Rattle.replica_store.specs.Replicas.{row_at, is_writable_at};
 ghost use Rattle.protocol.specs.Tables.{moment_limit};
 ghost use Rattle.protocol.specs.Server.{sends, refuses, drops_corrupt, primary_of, frame};
 ghost use Rattle.protocol.specs.ServerStep.{server_at};
 ghost use Rattle.protocol.specs.ServerWrites.{refuses_attempt, answers_settled};
-ghost use Rattle.server_handlers.specs.Doing.{doing};
+ghost use Rattle.server_handlers.specs.Doing.{doing, held_at};
 
 use crate::effects::ServerEffects;
-use crate::held_leases::LeaseTable;
+use crate::held_leases::Leases;
 use crate::pushed::Pushed;
 use bytes::Bytes;
 use gfs_types::config::Config;
@@ -21,7 +23,7 @@ use gfs_types::ids::{DataId, Handle, Moment, Node, ServerId, Version};
 use gfs_types::refusal::Refusal;
 use messages::message::{Body, Message};
 use ordered_map::number_map::NumberMap;
-use primary_order::order::SerialOrder;
+use primary_order::primary::Primary;
 use replica_store::change::StoreChange;
 use replica_store::row::Row;
 use server_store::fault::ReplicaStoreFault;
@@ -37,7 +39,7 @@ pub struct Server<S: ReplicaStore> {
     pub(crate) up: bool,
     pub(crate) clock: u64,
     pub(crate) store: S,
-    pub(crate) leases: LeaseTable,
+    pub(crate) leases: Leases,
     pub(crate) pushed: Pushed,
     pub(crate) clones: NumberMap<u64>,
     pub(crate) alloc: Global,
@@ -62,12 +64,12 @@ impl<S: ReplicaStore> Model for Server<S> {
       now = s.clock;
       disk = S.disk s.store;
       under_way = S.under_way s.store;
-      leases = s.leases;
+      leases = s.leases.orders;
       pushed = s.pushed;
       clones = s.clones;
     } };
 
-    ghost invariant = { λ s. (64 ≤ s.config.chunk) × (s.config.chunk ≤ largest_chunk) × (s.config.skew_ms ≤ 60000) × (s.clock ≤ moment_limit) × (s.pushed.limit ≡ max 1 s.config.push_entries) };
+    ghost invariant = { λ s. (64 ≤ s.config.chunk) × (s.config.chunk ≤ largest_chunk) × (s.config.skew_ms ≤ 60000) × (s.clock ≤ moment_limit) × (s.pushed.limit ≡ max 1 s.config.push_entries) × (s.leases.skew ≡ s.config.skew_ms) × (s.leases.latest ≤ s.clock) };
 }
 
 impl<S: ReplicaStore> Server<S> {
@@ -119,10 +121,10 @@ impl<S: ReplicaStore> Server<S> {
     }
 
     /// The lease of a chunk.
-    pub fn lease(&self, handle: Handle) -> Option<&SerialOrder>
-        ensures { option_copied result ≡ map.get self.now.leases handle.0 }
+    pub fn lease(&self, handle: Handle) -> Option<&Primary>
+        ensures { option_map order_of (option_copied result) ≡ map.get self.now.leases handle.0 }
     {
-        self.leases.get(handle.0)
+        self.leases.get(handle)
     }
 
     /// Whether a range of a replica can be written over.
@@ -216,21 +218,15 @@ impl<S: ReplicaStore> Server<S> {
         ensures goes { OnOk result (drops_corrupt (doing self.old effects.old) handle.0 ≡ doing self.new effects.new) }
         ensures frame { frame self.new ≡ frame self.old }
     {
-        self.leases.remove(handle.0);
+        self.leases.end(handle);
         effects.change(StoreChange::Remove(handle))
     }
 
     /// The lease of a chunk, where it is of that version and counts now.
-    pub fn primary_of(&self, handle: Handle, version: Version) -> Option<&SerialOrder>
-        ensures { option_copied result ≡ primary_of self.now handle.0 version.0 }
+    pub fn primary_of(&self, handle: Handle, version: Version) -> Option<&Primary>
+        ensures primary { option_map order_of (option_copied result) ≡ primary_of self.now handle.0 version.0 }
+        ensures counts { (p : SerialOrder) → option_map order_of (option_copied result) ≡ Some p → (held_at self.now handle.0 ≡ Some p) × (counts_at self.now.config.skew_ms p.held self.now.now ≡ true) }
     {
-        let primary = self.leases.get(handle.0)?;
-        let held = primary.held();
-        let counts = held.counts(self.config.skew_ms, Moment(self.clock));
-        if held.version() == version && counts {
-            Some(primary)
-        } else {
-            None
-        }
+        self.leases.counting(handle, version, Moment(self.clock))
     }
 }

@@ -6,7 +6,6 @@ ghost use Rattle.protocol.specs.ServerStep.{server_ticks};
 ghost use Rattle.server_handlers.specs.Doing.{doing};
 
 use crate::effects::ServerEffects;
-use crate::held_leases::report;
 use crate::server::Server;
 use gfs_types::ids::{Moment, Node};
 use messages::message::Body;
@@ -20,7 +19,7 @@ impl<S: ReplicaStore> Server<S> {
         ensures frame { frame self.new ≡ frame self.old }
     {
         let now = Moment(self.clock);
-        let leases = report(self.alloc, &mut self.leases, self.config.skew_ms, now)?;
+        let leases = self.leases.report(self.alloc, now)?;
         let replicas = self.store.list(self.alloc)?;
         self.send(effects, Node::Master, Body::Report { replicas, leases })
     }

@@ -1,8 +1,0 @@
-use Rattle.primary_order.specs.SerialOrder.{acknowledged}
-use Rattle.server_handlers.proofs.Lent.{lent}
-use Rattle.server_handlers.proofs.held_leases.acknowledge.Goals as goal
-
-pub returns-clause-after : goal.returns-clause-after
-returns-clause-after c = λ p at.
-    lent c.args.leases.now c.args.handle.0 (λ q. acknowledged q c.args.server.0 c.args.serial.0) c.get_mut.result c.in_ok-primary.primary _ _ p
-    c.in_ok-primary.was (c.get_mut.follows.holds _) c.in_ok-primary.ensures.value c.ack.ensures.after at
