@@ -116,6 +116,10 @@ pub trait Disk {
         ensures time { Elapses (moment self.old) (moment self.new) (left_since self.old) (left_since self.new) (may_leave self.new) }
         ensures failed { failed self.new ≡ failed self.old };
 
+    /// A stop at this moment may leave what a read gives. Does nothing.
+    fn may_stop_as_read(&self)
+        ensures { may_leave self.now (seen self.now) };
+
     /// This moment is one of those since an earlier one.
     ghost counts_now: { (disk : Self) (t : ℕ) (c : List ℕ) → t ≤ moment disk → may_leave disk c → left_since disk t c };
 

@@ -93,6 +93,10 @@ impl<A: Allocator + Clone> Disk for FaultDisk<A> {
         }
     }
 
+    fn may_stop_as_read(&self) {
+        self.disk.may_stop_as_read();
+    }
+
     fn read(&mut self, at: usize, out: &mut [u8]) -> Result<(), DiskFault>
         requires { at + length out.old ≤ length self.old.disk.bytes }
         ensures fault { FailsWhere (none_left self.old.left) result }

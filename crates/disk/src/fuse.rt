@@ -96,6 +96,10 @@ impl<A: Allocator + Clone> Disk for FuseDisk<A> {
         self.failures
     }
 
+    fn may_stop_as_read(&self) {
+        self.disk.may_stop_as_read();
+    }
+
     fn read(&mut self, at: usize, out: &mut [u8]) -> Result<(), DiskFault>
         requires { at + length out.old ≤ length self.old.disk.bytes }
         ensures fuse { FailsWhere (is_burnt self.old) result }

@@ -139,6 +139,8 @@ impl<A: Allocator + Clone> Disk for MemDisk<A> {
         0
     }
 
+    fn may_stop_as_read(&self) {}
+
     fn read(&mut self, at: usize, out: &mut [u8]) -> Result<(), DiskFault>
         requires { at + length out.old ≤ length self.old.bytes }
         ensures bytes { OnOk result (out.new ≡ take (length out.old) (drop at self.old.bytes)) }

@@ -60,6 +60,10 @@ impl Disk for NodeDisk {
         self.disk.failures()
     }
 
+    fn may_stop_as_read(&self) {
+        self.disk.may_stop_as_read();
+    }
+
     fn read(&mut self, at: usize, out: &mut [u8]) -> Result<(), DiskFault> {
         self.disk.read(at, out)
     }
