@@ -20,8 +20,6 @@ mod store;
 
 pub use disk_opening::open_disk;
 pub use fault::OpenFault;
-pub use finding::{find_replicas, read_slot};
 pub use found::FoundReplicas;
-pub use slots_reading::open_formatted;
 pub use store::Store;
 pub use store_changes::StoreFault;

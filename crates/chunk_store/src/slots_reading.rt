@@ -14,7 +14,7 @@ ghost use Rattle.store_disk.specs.Places.{disk_size};
 ghost use Rattle.chunk_store.specs.Opening.{IsFound};
 ghost use Rattle.store_disk.specs.Stored.{IsDiskOf, IsStored};
 
-use crate::find_replicas;
+use crate::finding::find_replicas;
 use crate::found::FoundReplicas;
 use disk::{Disk, DiskFault};
 use disk_redo::step::read;

@@ -11,6 +11,6 @@ mod staging;
 pub mod step;
 
 pub use gate::close;
-pub use making::{commit, finish};
+pub use making::commit;
 pub use opening::open;
 pub use range::{RedoArea, RedoRange};

@@ -6,9 +6,10 @@ ghost use Rattle.disk_redo.specs.GateMoments.{LeavesOnly};
 ghost use Rattle.disk_redo.specs.Redo.{IsAreaOf, IsAtRest, StandsOnly, is_open, redo_in, stands_for};
 ghost use Rattle.disk_redo.specs.Opening.{IsOpening};
 
+use crate::making::finish;
+use crate::range::RedoArea;
 use crate::reading::{read_change, read_gate};
 use crate::step::{begin, sync, write};
-use crate::{RedoArea, finish};
 use disk::{Disk, DiskFault};
 use std::alloc::Global;
 
