@@ -1,5 +1,7 @@
 pub mod Finding
 pub mod Faults
+pub mod Matching
 pub mod Opening
 pub mod Stores
 pub mod Stops
+pub mod Reopening

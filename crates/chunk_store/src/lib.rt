@@ -12,14 +12,14 @@ mod found;
 mod heads;
 pub mod laws;
 mod looking;
+mod matching;
 mod opening;
 mod reading;
+mod reopening;
 mod rotting;
 mod slots_reading;
 mod store;
 
-pub use disk_opening::open_disk;
 pub use fault::OpenFault;
-pub use found::FoundReplicas;
 pub use store::Store;
 pub use store_changes::StoreFault;

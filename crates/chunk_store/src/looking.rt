@@ -15,7 +15,7 @@ use gfs_types::ids::{Handle, OrderNo, Version};
 use replica_store::row::Row;
 use std::alloc::{AllocError, Global};
 use store_changes::StoreFault;
-use store_disk::HeldReplica;
+use store_disk::{HeldReplica, Layout};
 
 impl<D: Disk> Store<D> {
     // Where a replica of exactly this version lies.
@@ -35,6 +35,27 @@ impl<D: Disk> Store<D> {
         } else {
             Err(StoreFault::Version)
         }
+    }
+
+    /// The layout of its disk.
+    pub fn layout(&self) -> Layout
+        ensures { result ≡ self.now.layout }
+    {
+        self.layout
+    }
+
+    /// How many bytes a chunk has.
+    pub fn chunk(&self) -> u32
+        ensures { result ≡ self.now.layout.chunk }
+    {
+        self.layout.chunk
+    }
+
+    /// Where a replica lies, and what is known of it.
+    pub fn held(&self, handle: Handle) -> Option<HeldReplica>
+        ensures { result ≡ map.get self.now.index.held handle.0 }
+    {
+        self.index.get(handle)
     }
 
     /// The version, the last serial and the number of bytes of a replica.

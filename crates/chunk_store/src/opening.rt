@@ -9,8 +9,9 @@ ghost use Rattle.chunk_store.specs.Opening.{HoldsReplicas, IsOpening};
 ghost use Rattle.chunk_store.specs.declared.fault.OpenFault.TheVariants as faults;
 ghost use Rattle.chunk_store.specs.Stores.{IsOpen};
 
+use crate::OpenFault;
+use crate::disk_opening::open_disk;
 use crate::store::Store;
-use crate::{OpenFault, open_disk};
 use disk::Disk;
 use std::alloc::Global;
 use store_disk::{HashedBlock, Layout};

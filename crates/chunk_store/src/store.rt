@@ -12,12 +12,12 @@ use store_disk::{HashedBlock, Layout, SlotIndex};
 /// A store that is open on its disk: the number of the last order that was taken, and where the replicas lie.
 #[derive(Drop)]
 pub struct Store<D: Disk> {
-    pub disk: D,
-    pub layout: Layout,
-    pub order: OrderNo,
-    pub index: SlotIndex,
-    /// A block that is read or written again isn't hashed again.
-    pub hashed: HashedBlock,
+    pub(crate) disk: D,
+    pub(crate) layout: Layout,
+    pub(crate) order: OrderNo,
+    pub(crate) index: SlotIndex,
+    // A block that is read or written again isn't hashed again.
+    pub(crate) hashed: HashedBlock,
 }
 
 impl<D: Disk> Store<D> {

@@ -14,13 +14,21 @@ use Rattle.store_changes.specs.Faults.{IsRefused, MayFail, is_refusal}
 use Rattle.store_changes.specs.declared.fault.StoreFault.{StoreFault as ChangeFault}
 use Rattle.store_changes.specs.declared.fault.StoreFault.TheVariants as change
 use Rattle.store_disk.proofs.Looked.{no_row, one_row}
-use Rattle.disk_store.specs.Faults.{HasCause, of_change, of_disk}
+use Rattle.chunk_store.specs.declared.fault.OpenFault.{OpenFault}
+use Rattle.chunk_store.specs.declared.fault.OpenFault.TheVariants as opening
+use Rattle.disk_store.specs.Faults.{HasCause, of_change, of_disk, of_opening}
 use Rattle.disk_store.specs.Standing.{writes}
 
 -- a disk's fault is no want of room
 pub disk_has_room : {T : Type 0} (f : DiskFault) (x : ReplicaStoreFault) → x ≡ of_disk f → IsErrOf {T = T} (Err x) store.NoRoom → ⊥
 disk_has_room disk.Device x is e = absurd cc
 disk_has_room disk.NoMemory x is e = absurd cc
+
+-- nor is an opening's
+pub opening_has_room : {T : Type 0} (f : OpenFault) (x : ReplicaStoreFault) → x ≡ of_opening f → IsErrOf {T = T} (Err x) store.NoRoom → ⊥
+opening_has_room opening.Damaged x is e = absurd cc
+opening_has_room opening.Device x is e = absurd cc
+opening_has_room opening.NoMemory x is e = absurd cc
 
 pub disk_cause : {T U : Type 0} (before now : ℕ) (f : DiskFault) (x : ReplicaStoreFault) → x ≡ of_disk f → IsOfDisk {T = T} before now (Err f) → HasCause {T = U} before now (Err x)
 disk_cause before now disk.Device x is h = record { later = h.later; failed = λ e. h.failed refl }

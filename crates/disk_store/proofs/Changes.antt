@@ -13,7 +13,8 @@ use Rattle.store_disk.proofs.Written.{written_short}
 use Rattle.replica_store.specs.Replicas.{Replica, ServerDisk, bytes_on_disk, disk_changed, filled_to, is_writable, is_writable_at, raised_replica, replica_becomes, replica_of, stored_replica, with_others, with_replica, writable_in, written_replica}
 use Rattle.replica_store.specs.declared.change.StoreChange.{StoreChange}
 use Rattle.replica_store.specs.declared.change.StoreChange.TheVariants.{SetOrder, Put, Write, Zero, Raise, Copy, Remove}
-use Rattle.disk_store.specs.Noticed.{AreNoticed, IsCareful, IsNoticedWithin, block_in}
+use Rattle.chunk_store.specs.Matching.{block_in}
+use Rattle.disk_store.specs.Noticed.{AreNoticed, IsCareful, IsNoticedWithin}
 use Rattle.disk_store.proofs.Writes.{written_noticed}
 
 no_entries : {X : Type 0} (l : List X) → length l ≡ 0 → l ≡ []

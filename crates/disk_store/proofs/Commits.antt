@@ -10,7 +10,8 @@ use Rattle.chunk_store.specs.declared.store.Store.{Store}
 use Rattle.chunk_store.proofs.StillOpen.{read_open}
 use Rattle.disk_store.specs.Known.{IsKnownOf, Rows, can_be_told}
 use Rattle.disk_store.specs.Noticed.{IsCareful}
-use Rattle.disk_store.specs.Standing.{AllNoticed, IsKept, IsSaid, LeavesCareful, LeavesMade}
+use Rattle.chunk_store.specs.Reopening.{IsSaid}
+use Rattle.disk_store.specs.Standing.{AllNoticed, IsKept, LeavesCareful, LeavesMade}
 use Rattle.disk_store.specs.declared.standing.DiskStoreState.{DiskStoreState}
 use Rattle.disk_store.specs.declared.standing.DiskStoreState.TheVariants.{Open, Unread, Changing}
 use Rattle.disk_store.proofs.Careful.{careful_or}

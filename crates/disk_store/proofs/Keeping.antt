@@ -5,13 +5,14 @@ use Rattle.gfs_types.specs.declared.ids.OrderNo.{OrderNo}
 use Rattle.replica_store.specs.Replicas.{ServerDisk, disk_changed, disk_changed_by_all}
 use Rattle.replica_store.specs.declared.change.StoreChange.{StoreChange}
 use Rattle.store_disk.specs.declared.places.Layout.{Layout}
+use Rattle.chunk_store.specs.Reopening.{StillSays}
 use Rattle.chunk_store.specs.Stores.{IsOpen}
 use Rattle.chunk_store.specs.declared.store.Store.{Store}
 use Rattle.disk_store.specs.Known.{IsKnownOf, Rows, can_be_told, is_made}
 use Rattle.disk_store.specs.Noticed.{AreNoticed, IsCareful}
 use Rattle.disk_store.proofs.Changes.{changed_noticed}
 use Rattle.server_store.specs.Stores.{IsFound}
-use Rattle.disk_store.specs.Standing.{AllNoticed, IsKept, Leaves, LeavesCareful, LeavesMade, IsStandingTrue, StillSays, changes_of, closed, found_made, refused}
+use Rattle.disk_store.specs.Standing.{AllNoticed, IsKept, IsRotWithin, Leaves, LeavesCareful, LeavesMade, IsStandingTrue, changes_of, closed, found_made, refused}
 use Rattle.disk_store.specs.declared.standing.DiskStoreState.{DiskStoreState}
 use Rattle.disk_store.specs.declared.standing.DiskStoreState.TheVariants.{Open, Unread, Changing}
 use Rattle.disk_store.proofs.Saying.{changed_block, open_leaves, open_noticed}
@@ -99,13 +100,21 @@ module _ {D : Type 0} (seen : D → List ℕ) (may_leave : D → List ℕ → Ty
       stands.stop.each c (counts_now new.disk (moment store.disk) c stands.stop.later left)
 
   -- the disk began again and was read, whatever came of it
-  pub reopened_kept : (standing : DiskStoreState) (disk : D) → (standing ≡ Open → ⊥) → Follows (StillSays store.layout.chunk store.layout.block store.layout.slots) (may_leave store.disk) (may_leave disk) → Kept standing
-      → IsKept seen may_leave (record store { disk = disk }) order rows d standing
-  reopened_kept Open disk other stops kept = absurd (other refl)
-  reopened_kept (Unread change byte) disk other stops kept =
-      in_layout (Unread change byte) (Unread change byte) (record store { disk = disk }) refl kept (kept.stands.0, kept.stands.1, kept.stands.2, still_leaves disk stops kept.stands.0 d kept.stands.3)
-  reopened_kept (Changing change) disk other stops kept =
-      in_layout (Changing change) (Changing change) (record store { disk = disk }) refl kept (kept.stands.0, still_careful disk stops change kept.stands.1)
+  pub reopened_as : (standing : DiskStoreState) (new : Store D) → new.layout ≡ store.layout → (standing ≡ Open → ⊥) → Follows (StillSays store.layout.chunk store.layout.block store.layout.slots) (may_leave store.disk) (may_leave new.disk) → Kept standing
+      → IsKept seen may_leave new order rows d standing
+  reopened_as Open new same other stops kept = absurd (other refl)
+  reopened_as (Unread change byte) new same other stops kept =
+      in_layout (Unread change byte) (Unread change byte) new same kept (
+        kept.stands.0,
+        subst (λ (l : Layout). IsRotWithin l.chunk byte) (sym same) kept.stands.1,
+        kept.stands.2,
+        subst (λ (l : Layout). Leaves may_leave (record { disk = new.disk; layout = l; order = new.order; index = new.index; hashed = tt }) kept.stands.0 d) (sym same) (still_leaves new.disk stops kept.stands.0 d kept.stands.3),
+      )
+  reopened_as (Changing change) new same other stops kept =
+      in_layout (Changing change) (Changing change) new same kept (
+        subst (λ (l : Layout). can_be_told l.chunk rows change ≡ true) (sym same) kept.stands.0,
+        subst (λ (l : Layout). LeavesCareful may_leave (record { disk = new.disk; layout = l; order = new.order; index = new.index; hashed = tt }) d change) (sym same) (still_careful new.disk stops change kept.stands.1),
+      )
 
 -- what is under way in another standing
 pub refused_is : (standing : DiskStoreState) (change : StoreChange) → changes_of standing ≡ [] → changes_of (refused standing change) ≡ change ∷ []

@@ -8,16 +8,13 @@ pub mod Changes
 pub mod Pushed
 pub mod Rotten
 pub mod Saying
-pub mod Found
 pub mod Keeping
 pub mod Looked
 pub mod Made
 pub mod Commits
-pub mod Matching
 pub mod Settling
 pub mod Rots
 pub mod Careful
-pub mod Blocks
 pub mod Causes
 pub mod Reopened
 pub mod Quiet

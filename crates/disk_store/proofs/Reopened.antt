@@ -1,63 +1,49 @@
 -- A store that is opened again, step by step.
-use Rattle.std.proofs.Common.{◌≡◌, ℕ, ◌≤◌, Bool, true, false, if◌then◌else◌, List, length, refl, sym, ◌∙◌, subst, Option, None, Some}
-use Rattle.std.specs.Option.{option_map}
-use Rattle.std.specs.FinMap as map
+use Rattle.std.proofs.Common.{◌≡◌, ℕ, Bool, true, false, if◌then◌else◌, List, refl, sym, ◌∙◌, subst, Option, None, Some}
 use Rattle.disk.specs.Device.{Follows}
 use Rattle.gfs_types.specs.declared.ids.OrderNo.{OrderNo}
-use Rattle.disk_redo.specs.Redo.{IsAtRest}
-use Rattle.replica_store.specs.Replicas.{ServerDisk, row_at}
+use Rattle.replica_store.specs.Replicas.{ServerDisk}
 use Rattle.replica_store.specs.declared.change.StoreChange.{StoreChange}
-use Rattle.store_disk.specs.declared.held.HeldReplica.{HeldReplica}
-use Rattle.store_changes.specs.Areas.{area_of}
-use Rattle.store_disk.specs.Places.{disk_size}
-use Rattle.chunk_store.specs.declared.found.FoundReplicas.{FoundReplicas}
-use Rattle.store_disk.proofs.Listed.{row_found}
+use Rattle.chunk_store.specs.Reopening.{IsReopened, StillSays}
 use Rattle.chunk_store.specs.Stores.{IsOpen}
 use Rattle.chunk_store.specs.declared.store.Store.{Store}
-use Rattle.chunk_store.proofs.StillOpen.{its_row}
 use Rattle.disk_store.specs.Known.{IsKnownOf, Rows, is_made}
-use Rattle.disk_store.specs.Standing.{IsFoundAmong, IsKept, IsRotWithin, Leaves, StillSays, found_made, rotten_by, rotting_in, with_made}
+use Rattle.disk_store.specs.Standing.{IsKept, IsRotWithin, Leaves, found_made, rotten_by, rotting_in, with_made}
 use Rattle.disk_store.specs.declared.standing.RottingByte.{RottingByte}
 use Rattle.disk_store.specs.declared.standing.DiskStoreState.{DiskStoreState}
 use Rattle.disk_store.specs.declared.standing.DiskStoreState.TheVariants.{Open, Unread, Changing}
-use Rattle.disk_store.proofs.Keeping.{reopened_kept}
+use Rattle.store_disk.specs.declared.places.Layout.{Layout}
+use Rattle.disk_store.proofs.Keeping.{reopened_as}
 use Rattle.disk_store.proofs.Settling.{IsOneOf, found_one, rot_within, settled_unread, settled_with, settled_without, unrotten_kept}
 
-its_own : (o : Option HeldReplica) → option_map (λ (found : HeldReplica). found.row) o ≡ row_found o
-its_own None = refl
-its_own (Some found) = refl
-
-module _ {D : Type 0} (seen : D → List ℕ) (may_leave : D → List ℕ → Type 0) (store : Store D) (order : OrderNo) (rows : Rows) (d : ServerDisk) (standing : DiskStoreState) (kept : IsKept seen may_leave store order rows d standing) where
+module _ {D : Type 0} (seen : D → List ℕ) (may_leave : D → List ℕ → Type 0) (store : Store D) (order : OrderNo) (rows : Rows) (d : ServerDisk) (standing : DiskStoreState) (kept : IsKept seen may_leave store order rows d standing) (mid : Store D) (laid : mid.layout ≡ store.layout) where
   -- the byte that is to rot lies in the chunk
-  pub its_within : (rotting : Option RottingByte) → rotting ≡ rotting_in standing → IsRotWithin store.layout.chunk rotting
-  its_within rotting at = subst (IsRotWithin store.layout.chunk) (sym at) (rot_within seen may_leave store order rows d standing kept)
+  pub its_within : (rotting : Option RottingByte) → rotting ≡ rotting_in standing → IsRotWithin mid.layout.chunk rotting
+  its_within rotting at = subst (IsRotWithin mid.layout.chunk) (sym at) (subst (λ (l : Layout). IsRotWithin l.chunk (rotting_in standing)) (sym laid) (rot_within seen may_leave store order rows d standing kept))
 
   module _ (other : standing ≡ Open → ⊥) where
     -- nothing was found
-    pub unfound : (disk : D) → Follows (StillSays store.layout.chunk store.layout.block store.layout.slots) (may_leave store.disk) (may_leave disk) → IsKept seen may_leave (record store { disk = disk }) order rows d standing
-    unfound disk stops = reopened_kept seen may_leave store order rows d standing disk other stops kept
+    pub unfound : Follows (StillSays store.layout.chunk store.layout.block store.layout.slots) (may_leave store.disk) (may_leave mid.disk) → IsKept seen may_leave mid order rows d standing
+    unfound stops = reopened_as seen may_leave store order rows d standing mid laid other stops kept
 
-    module _ (disk : D) (found : FoundReplicas) (among : IsFoundAmong seen (may_leave store.disk) disk store.layout.chunk store.layout.block store.layout.slots found)
-        (rest : IsAtRest seen may_leave (area_of store.layout.chunk store.layout.block) disk) (large : disk_size store.layout.chunk store.layout.block store.layout.slots ≤ length (seen disk)) where
-      abbrev at_found : Store D
-      at_found = record { disk = disk; layout = store.layout; order = found.order; index = found.index; hashed = tt }
+    module _ (among : IsReopened seen may_leave (may_leave store.disk) mid) where
+      one : (x : ServerDisk) × IsOpen seen may_leave mid x × IsOneOf store.layout.chunk d standing x
+      one = found_one seen may_leave store order rows d mid laid among standing other kept
 
-      one : (x : ServerDisk) × IsOpen seen may_leave at_found x × IsOneOf store.layout.chunk d standing x
-      one = found_one seen may_leave store order rows d disk found among rest large standing other kept
-
-      pub opened : (x : ServerDisk) × IsOpen seen may_leave at_found x
+      pub opened : (x : ServerDisk) × IsOpen seen may_leave mid x
       opened = (one.0, one.1)
 
-      module _ (new : Store D) (rotting : Option RottingByte) (at : rotting ≡ rotting_in standing) (same : new.layout ≡ store.layout) where
+      module _ (new : Store D) (rotting : Option RottingByte) (at : rotting ≡ rotting_in standing) (rotted : new.layout ≡ mid.layout) where
+        same : new.layout ≡ store.layout
+        same = rotted ∙ laid
+
         -- the byte that was to rot didn't
-        pub unrotten : ((x : ServerDisk) → IsOpen seen may_leave at_found x → Leaves may_leave new x (rotten_by x rotting)) → IsKept seen may_leave new order rows d standing
+        pub unrotten : ((x : ServerDisk) → IsOpen seen may_leave mid x → Leaves may_leave new x (rotten_by x rotting)) → IsKept seen may_leave new order rows d standing
         unrotten leaves = unrotten_kept seen may_leave store order rows d standing new one.0 same one.2 (subst (λ (b : Option RottingByte). Leaves may_leave new one.0 (rotten_by one.0 b)) at (leaves one.0 one.1)) kept
 
-        module _ (last : OrderNo) (got : Rows)
-            (known : (x : ServerDisk) → found.order ≡ record { epoch = x.epoch; count = x.count } → ((q : ℕ) → option_map (λ (f : HeldReplica). f.row) (map.get found.index.held q) ≡ row_at x q) → IsKnownOf last got x)
-            (now : (x : ServerDisk) → IsOpen seen may_leave at_found x → IsOpen seen may_leave new (rotten_by x rotting)) where
+        module _ (last : OrderNo) (got : Rows) (known : (x : ServerDisk) → IsOpen seen may_leave mid x → IsKnownOf last got x) (now : (x : ServerDisk) → IsOpen seen may_leave mid x → IsOpen seen may_leave new (rotten_by x rotting)) where
           its_known : IsKnownOf last got one.0
-          its_known = known one.0 one.1.order (λ q. its_own (map.get found.index.held q) ∙ sym (its_row seen may_leave at_found one.0 one.1 q))
+          its_known = known one.0 one.1
 
           its_open : IsOpen seen may_leave new (rotten_by one.0 (rotting_in standing))
           its_open = subst (λ (b : Option RottingByte). IsOpen seen may_leave new (rotten_by one.0 b)) at (now one.0 one.1)

@@ -6,8 +6,9 @@ use Rattle.sha2.specs.Sha256.{sha256}
 use Rattle.store_disk.specs.Blocks.{chunk_on_disk, written_over}
 use Rattle.store_disk.proofs.Rotten.{chunk_rotten}
 use Rattle.replica_store.specs.Replicas.{Replica, filled_to, rotten_replica}
-use Rattle.disk_store.specs.Noticed.{IsNoticedWithin, block_in}
-use Rattle.disk_store.proofs.NoticedBlocks.{disk_size}
+use Rattle.chunk_store.specs.Matching.{block_in}
+use Rattle.disk_store.specs.Noticed.{IsNoticedWithin}
+use Rattle.chunk_store.proofs.BlockParts.{disk_size}
 use Rattle.disk_store.proofs.Writes.{block_after, block_before}
 
 module _ (chunk block : ℕ) (r : Replica) (place byte : ℕ) (short : length r.bytes ≤ chunk) (low : place < chunk) (noticed : IsNoticedWithin chunk block r)

@@ -17,7 +17,8 @@ use Rattle.disk_store.proofs.KnownRotten.{rotten_known}
 use Rattle.disk_store.specs.Noticed.{AreNoticed}
 use Rattle.disk_store.proofs.Changes.{with_noticed}
 use Rattle.disk_store.proofs.Rot.{rotten_noticed}
-use Rattle.disk_store.specs.Standing.{CantRot, HasItsDigest, IsKept, Leaves, IsStandingTrue}
+use Rattle.chunk_store.specs.Matching.{HasItsDigest}
+use Rattle.disk_store.specs.Standing.{CantRot, IsKept, Leaves, IsStandingTrue}
 use Rattle.disk_store.specs.declared.standing.DiskStoreState.{DiskStoreState}
 use Rattle.disk_store.specs.declared.standing.DiskStoreState.TheVariants.{Open, Unread}
 use Rattle.disk_store.proofs.Commits.{mid_kept}

@@ -16,9 +16,7 @@ use Rattle.replica_store.specs.declared.change.StoreChange.{StoreChange}
 use Rattle.replica_store.specs.declared.change.StoreChange.TheVariants.{SetOrder, Put, Write, Zero, Raise, Copy, Remove}
 use Rattle.replica_store.specs.Replicas.{Replica, ServerDisk, bytes_on_disk, disk_changed, new_server_disk, raised_replica, replica_becomes, replica_of, row_at, row_of, stored_replica, with_replica, written_replica}
 use Rattle.server_store.specs.Stores.{line_of, replica_lines}
-use Rattle.store_disk.specs.declared.held.HeldReplica.{HeldReplica}
-use Rattle.store_disk.specs.Index.{row_in}
-use Rattle.store_disk.specs.Rows.{known_row}
+use Rattle.store_disk.specs.Rows.{known_row, listed_as, rows_of}
 use Rattle.store_disk.proofs.Listed.{same_len, same_listed}
 use Rattle.store_disk.proofs.Lookups.{found_elsewhere, found_here, gone_here, kept_elsewhere}
 use Rattle.store_disk.proofs.Looked.{order_stays}
@@ -97,19 +95,23 @@ module _ (d : ServerDisk) (rows : Rows) (known : (h : ℕ) → map.get rows h �
   lines_known =
       again (λ (row : Row). row) (map.entries rows) ∙ ap (mapped row_line) (same_listed (λ (row : Row). row) known_row rows d.replicas alike) ∙ sym (again known_row (map.entries d.replicas))
 
--- The rows of an index.
+-- The rows of a list.
 
-find_rows : (q : ℕ) (es : List (ℕ × HeldReplica)) → map.find nat_cmp q (mapped entry_of (mapped row_in es)) ≡ option_map (λ found. found.row) (map.find nat_cmp q es)
-find_rows q [] = refl
-find_rows q (e ∷ es) = by (find_rows q es) (eq_by_cmp nat_cmp q e.0)
+find_said : (q : ℕ) (es : List (ℕ × Replica)) → map.find nat_cmp q (mapped entry_of (mapped listed_as es)) ≡ option_map known_row (map.find nat_cmp q es)
+find_said q [] = refl
+find_said q (e ∷ es) = by (find_said q es) (eq_by_cmp nat_cmp q e.0)
   where
     rest : Option Row
-    rest = map.find nat_cmp q (mapped entry_of (mapped row_in es))
+    rest = map.find nat_cmp q (mapped entry_of (mapped listed_as es))
 
-    by : rest ≡ option_map (λ (found : HeldReplica). found.row) (map.find nat_cmp q es) → (b : Bool) → cond b (Some e.1.row) rest ≡ option_map (λ (found : HeldReplica). found.row) (cond b (Some e.1) (map.find nat_cmp q es))
+    by : rest ≡ option_map known_row (map.find nat_cmp q es) → (b : Bool) → cond b (Some (known_row e.1)) rest ≡ option_map known_row (cond b (Some e.1) (map.find nat_cmp q es))
     by same true = refl
     by same false = same
 
-pub rows_found : (m : map.FinMap nat_cmp HeldReplica) (q : ℕ) → map.get (map.from_entries {R = nat_cmp} (mapped entry_of (mapped row_in (map.entries m)))) q ≡ option_map (λ found. found.row) (map.get m q)
-rows_found m q =
-    map.get-from_entries nat_cmp_total (mapped entry_of (mapped row_in (map.entries m))) q ∙ find_rows q (map.entries m) ∙ ap (option_map (λ (found : HeldReplica). found.row)) (sym (map.get-entries m q))
+row_said : (o : Option Replica) → option_map known_row o ≡ row_of o
+row_said None = refl
+row_said (Some r) = refl
+
+pub rows_said : (d : ServerDisk) (q : ℕ) → map.get (map.from_entries {R = nat_cmp} (mapped entry_of (rows_of d))) q ≡ row_at d q
+rows_said d q =
+    map.get-from_entries nat_cmp_total (mapped entry_of (rows_of d)) q ∙ find_said q (map.entries d.replicas) ∙ ap (option_map known_row) (sym (map.get-entries d.replicas q)) ∙ row_said (replica_of d q)

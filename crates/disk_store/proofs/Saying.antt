@@ -10,7 +10,8 @@ use Rattle.chunk_store.specs.Stores.{IsOpen}
 use Rattle.chunk_store.specs.declared.store.Store.{Store}
 use Rattle.disk_store.specs.Noticed.{AreNoticed}
 use Rattle.disk_store.proofs.NoticedBlocks.{all_noticed}
-use Rattle.disk_store.specs.Standing.{AllNoticed, IsSaid, Leaves}
+use Rattle.chunk_store.specs.Reopening.{IsSaid}
+use Rattle.disk_store.specs.Standing.{AllNoticed, Leaves}
 
 -- what holds, holds of an error
 pub on_err : {T E P : Type 0} (r : Result T E) → P → OnErr r P

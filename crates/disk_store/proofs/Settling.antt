@@ -1,22 +1,18 @@
 -- What was found on a disk that was opened again, and what comes of it.
 use Rattle.std.proofs.Common.{◌≡◌, ◌⊎◌, inl, inr, ℕ, ◌≤◌, ◌%◌, true, false, List, length, refl, sym, ap, ◌∙◌, subst, Option, None, Some}
 use Rattle.gfs_types.specs.declared.ids.OrderNo.{OrderNo}
-use Rattle.disk_redo.specs.Redo.{IsAtRest}
 use Rattle.replica_store.specs.Replicas.{ServerDisk, disk_changed}
 use Rattle.replica_store.specs.declared.change.StoreChange.{StoreChange}
 use Rattle.server_store.specs.Stores.{disk_rotten}
-use Rattle.store_disk.specs.Index.{IndexState}
-use Rattle.store_changes.specs.Areas.{area_of}
-use Rattle.store_disk.specs.Places.{disk_size}
 use Rattle.store_disk.specs.declared.places.Layout.{Layout}
-use Rattle.chunk_store.specs.declared.found.FoundReplicas.{FoundReplicas}
+use Rattle.chunk_store.specs.Reopening.{IsReopened, IsSaid}
 use Rattle.chunk_store.specs.Stores.{IsOpen}
 use Rattle.chunk_store.specs.declared.store.Store.{Store}
 use Rattle.disk_store.specs.Known.{IsKnownOf, Rows, can_be_told, is_made}
 use Rattle.disk_store.proofs.KnownRotten.{rotten_known}
 use Rattle.disk_store.proofs.Told.{is_made_after, not_made}
 use Rattle.disk_store.specs.Noticed.{AreNoticed, IsCareful}
-use Rattle.disk_store.specs.Standing.{IsFoundAmong, IsKept, IsRotWithin, IsSaid, Leaves, LeavesCareful, rotten_by, rotting_in}
+use Rattle.disk_store.specs.Standing.{IsKept, IsRotWithin, Leaves, LeavesCareful, rotten_by, rotting_in}
 use Rattle.disk_store.specs.declared.standing.RottingByte.{RottingByte}
 use Rattle.disk_store.specs.declared.standing.DiskStoreState.{DiskStoreState}
 use Rattle.disk_store.specs.declared.standing.DiskStoreState.TheVariants.{Open, Unread, Changing}
@@ -42,31 +38,27 @@ module _ {D : Type 0} (seen : D → List ℕ) (may_leave : D → List ℕ → Ty
   abbrev chunk : ℕ
   chunk = store.layout.chunk
 
-  abbrev pub at_disk : D → OrderNo → IndexState → Store D
-  at_disk disk o x = record { disk = disk; layout = store.layout; order = o; index = x; hashed = tt }
-
   pub rot_within : (standing : DiskStoreState) → IsKept seen may_leave store order rows d standing → IsRotWithin store.layout.chunk (rotting_in standing)
   rot_within Open kept = tt
   rot_within (Unread change byte) kept = kept.stands.1
   rot_within (Changing change) kept = tt
 
-  module _ (disk : D) (found : FoundReplicas) (among : IsFoundAmong seen (may_leave store.disk) disk store.layout.chunk store.layout.block store.layout.slots found)
-      (rest : IsAtRest seen may_leave (area_of store.layout.chunk store.layout.block) disk) (large : disk_size store.layout.chunk store.layout.block store.layout.slots ≤ length (seen disk)) where
-    opens : store.layout.chunk % store.layout.block ≡ 0 → (e : ServerDisk) → IsSaid store.layout.chunk store.layout.block store.layout.slots among.bytes e → IsOpen seen may_leave (at_disk disk found.order found.index) e
-    opens whole e says = let is = among.finds e says in record { says = is.says; order = is.order; large = large; whole = whole; rest = rest }
+  module _ (mid : Store D) (same : mid.layout ≡ store.layout) (among : IsReopened seen may_leave (may_leave store.disk) mid) where
+    opens : (e : ServerDisk) → IsSaid store.layout.chunk store.layout.block store.layout.slots among.bytes e → IsOpen seen may_leave mid e
+    opens e says = among.opens e (subst (λ (l : Layout). IsSaid l.chunk l.block l.slots among.bytes e) (sym same) says)
 
     -- the store is open with what was found
-    pub found_one : (standing : DiskStoreState) → (standing ≡ Open → ⊥) → IsKept seen may_leave store order rows d standing → (x : ServerDisk) × IsOpen seen may_leave (at_disk disk found.order found.index) x × IsOneOf store.layout.chunk d standing x
+    pub found_one : (standing : DiskStoreState) → (standing ≡ Open → ⊥) → IsKept seen may_leave store order rows d standing → (x : ServerDisk) × IsOpen seen may_leave mid x × IsOneOf store.layout.chunk d standing x
     found_one Open other kept = absurd (other refl)
     found_one (Unread change byte) other kept =
         let e = kept.stands.0 in
         elim (kept.stands.3 among.bytes among.left) [
-          | inl says ↦ (e, opens kept.whole e says, kept.stands.2)
-          | inr says ↦ (d, opens kept.whole d says, rotten_since byte e d kept.stands.2)
+          | inl says ↦ (e, opens e says, kept.stands.2)
+          | inr says ↦ (d, opens d says, rotten_since byte e d kept.stands.2)
         ]
     found_one (Changing change) other kept = elim (kept.stands.1 among.bytes among.left) [
-      | inl says ↦ (d, opens kept.whole d says, inl refl)
-      | inr says ↦ (disk_changed d change, opens kept.whole (disk_changed d change) says.1, inr (says.0, refl))
+      | inl says ↦ (d, opens d says, inl refl)
+      | inr says ↦ (disk_changed d change, opens (disk_changed d change) says.1, inr (says.0, refl))
     ]
 
   -- the byte that was to rot didn't

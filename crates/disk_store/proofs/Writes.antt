@@ -9,8 +9,10 @@ use Rattle.store_disk.specs.Blocks.{chunk_on_disk, written_over}
 use Rattle.store_disk.proofs.BlockPuts.{length_over, over_after, over_before, over_within}
 use Rattle.store_disk.proofs.Written.{chunk_written, stored_written}
 use Rattle.replica_store.specs.Replicas.{Replica, block_matches, filled_to, is_writable, written_replica}
-use Rattle.disk_store.specs.Noticed.{IsNoticedWithin, block_in}
-use Rattle.disk_store.proofs.NoticedBlocks.{alike_in, disk_size, match_alike, one_in, stored_size}
+use Rattle.chunk_store.specs.Matching.{block_in}
+use Rattle.disk_store.specs.Noticed.{IsNoticedWithin}
+use Rattle.chunk_store.proofs.BlockParts.{alike_in, disk_size, one_in, stored_size}
+use Rattle.disk_store.proofs.NoticedBlocks.{match_alike}
 
 both : (a b : Bool) → (a && b) ≡ true → (a ≡ true) × (b ≡ true)
 both true b h = (refl, h)

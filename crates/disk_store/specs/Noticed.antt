@@ -5,10 +5,7 @@ use Rattle.store_disk.specs.Blocks.{chunk_on_disk}
 use Rattle.replica_store.specs.Replicas.{Replica, ServerDisk, filled_to, is_writable_at, replica_of}
 use Rattle.replica_store.specs.declared.change.StoreChange.{StoreChange}
 use Rattle.replica_store.specs.declared.change.StoreChange.TheVariants.{SetOrder, Put, Write, Zero, Raise, Copy, Remove}
-
--- the block with this number
-abbrev pub block_in : ℕ → ℕ → List ℕ → List ℕ
-block_in block n bytes = take block (drop (n * block) bytes)
+use Rattle.chunk_store.specs.Matching.{block_in}
 
 -- In the chunk each block that has the digest of what was stored is what was stored.
 abbrev pub IsNoticedWithin : ℕ → ℕ → Replica → Type 0

@@ -10,14 +10,14 @@ use Rattle.replica_store.specs.declared.change.StoreChange.{StoreChange}
 use Rattle.replica_store.specs.declared.change.StoreChange.TheVariants.{SetOrder, Put, Write, Zero, Raise, Copy, Remove}
 use Rattle.server_store.specs.Stores.{disk_rotten}
 use Rattle.store_changes.specs.Areas.{area_of}
-use Rattle.chunk_store.specs.Opening.{IsFound}
-use Rattle.chunk_store.specs.declared.found.FoundReplicas.{FoundReplicas}
+use Rattle.chunk_store.specs.Matching.{HasItsDigest}
+use Rattle.chunk_store.specs.Reopening.{IsSaid}
 use Rattle.store_changes.specs.Writing.{IsNoticedAt}
 use Rattle.store_disk.specs.Stored.{IsStored}
 use Rattle.chunk_store.specs.Stores.{IsOpen}
 use Rattle.chunk_store.specs.declared.store.Store.{Store}
 use Rattle.disk_store.specs.Known.{IsKnownOf, Rows, can_be_told, is_made}
-use Rattle.disk_store.specs.Noticed.{AreNoticed, IsCareful, block_in}
+use Rattle.disk_store.specs.Noticed.{AreNoticed, IsCareful}
 use Rattle.disk_store.specs.declared.standing.RottingByte.{RottingByte}
 use Rattle.disk_store.specs.declared.standing.DiskStoreState.{DiskStoreState}
 use Rattle.disk_store.specs.declared.standing.DiskStoreState.TheVariants.{Open, Unread, Changing}
@@ -39,14 +39,6 @@ abbrev pub refused : DiskStoreState → StoreChange → DiskStoreState
 refused Open change = Unread (Some change) None
 refused (Unread other byte) change = Unread (Some change) byte
 refused (Changing other) change = Changing other
-
--- the disk's bytes say this
-abbrev pub IsSaid : ℕ → ℕ → ℕ → List ℕ → ServerDisk → Type 0
-IsSaid chunk block slots bytes d = IsStored chunk block slots (stands_for (area_of chunk block) bytes) d
-
--- Whatever the one says the other says too.
-abbrev pub StillSays : ℕ → ℕ → ℕ → List ℕ → List ℕ → Type 0
-StillSays chunk block slots old new = (d : ServerDisk) → IsSaid chunk block slots old d → IsSaid chunk block slots new d
 
 -- It writes over a range of a replica.
 abbrev pub writes : StoreChange → Bool
@@ -87,11 +79,6 @@ abbrev pub rotten_by : ServerDisk → Option RottingByte → ServerDisk
 rotten_by d None = d
 rotten_by d (Some b) = disk_rotten d b.handle.0 b.place b.byte
 
--- with a byte at this place, its block would have the digest of what was stored
-abbrev pub HasItsDigest : ℕ → ℕ → Replica → ℕ → ℕ → Type 0
-HasItsDigest chunk block r place byte =
-    sha256 (block_in block (place / block) (written_over (chunk_on_disk chunk r) place (byte ∷ []))) ≡ sha256 (block_in block (place / block) (filled_to chunk r.bytes))
-
 -- A change that isn't begun: it can't be told from its lack, or it isn't careful.
 abbrev pub IsUnfit : ℕ → Rows → ServerDisk → StoreChange → Type 0
 IsUnfit chunk rows d change = (can_be_told chunk rows change ≡ false) ⊎ (IsCareful chunk d change → ⊥)
@@ -123,12 +110,6 @@ pub record IsKept {D : Type 0} (seen : D → List ℕ) (may_leave : D → List �
   pub known : IsKnownOf order rows d
   pub noticed : AreNoticed store.layout.chunk d
   pub stands : IsStandingTrue seen may_leave store rows d standing
-
--- What was found is what one of the disks said that a stop might have left.
-pub record IsFoundAmong {D : Type 0} (seen : D → List ℕ) (may_leave : List ℕ → Type 0) (disk : D) (chunk block slots : ℕ) (found : FoundReplicas) : Type 0 where
-  pub bytes : List ℕ
-  pub left : may_leave bytes
-  pub finds : (d : ServerDisk) → IsSaid chunk block slots bytes d → IsFound chunk block slots found (stands_for (area_of chunk block) (seen disk)) d
 
 -- of no replica has a byte changed unnoticed
 abbrev pub AllNoticed : ServerDisk → Type 0

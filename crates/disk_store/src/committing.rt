@@ -69,7 +69,7 @@ pub fn commit<D: Disk>(
     ensures no_room { (d : ServerDisk) → IsKept D.seen D.may_leave store.old known.old.order known.old.rows d standing
         → IfErr result (λ e. e.0 ≡ faults.NoRoom → IsUnfit store.old.layout.chunk known.old.rows d change ⊎ (is_disk_full store.old.layout.slots d ≡ true)) }
 {
-    let chunk = store.layout.chunk;
+    let chunk = store.chunk();
     match begins(chunk, known, &standing, &change) {
         Ok(()) => {}
         Err(fault) => return Err((fault, refused(standing, change))),

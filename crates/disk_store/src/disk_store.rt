@@ -215,10 +215,10 @@ impl<D: StoppableDisk> ReplicaStore for DiskStore<D> {
 
 impl<D: StoppableDisk> StoppableStore for DiskStore<D> {
     fn stop_after(&mut self, calls: u64, torn: Torn) {
-        self.store.disk.stop_after(calls, torn);
+        self.store.stop_after(calls, torn);
     }
 
     fn stop_after_restart(&mut self, calls: u64, torn: Torn) {
-        self.store.disk.stop_after_restart(calls, torn);
+        self.store.stop_after_restart(calls, torn);
     }
 }

@@ -1,7 +1,7 @@
 //! The number of the last order, and each replica's row.
 
 ghost use Rattle.std.specs.Prelude.{◌≡◌, ◌+◌, ℕ, true, map as mapped, nat_le, IfOk, OnErr, OnOk};
-ghost use Rattle.std.specs.Option.{option_map};
+ghost use Rattle.store_disk.specs.Rows.{rows_of};
 ghost use Rattle.std.specs.FinMap as map;
 ghost use Rattle.replica_store.specs.Replicas.{ServerDisk, disk_changed, is_disk_full, new_server_disk, row_at};
 ghost use Rattle.server_store.specs.Stores.{replica_lines};
@@ -18,7 +18,6 @@ use ordered_map::OrderedMap;
 use replica_store::change::StoreChange;
 use replica_store::row::Row;
 use std::alloc::{AllocError, Global};
-use store_disk::SlotIndex;
 
 /// What is known of a disk without a look at it.
 #[derive(Drop)]
@@ -39,11 +38,10 @@ impl Known {
     }
 
     /// Of a disk with this order and these replicas.
-    pub fn of(alloc: Global, order: OrderNo, index: &SlotIndex) -> Result<Known, AllocError>
-        ensures { IfOk result (λ k. (d : ServerDisk) → order ≡ record { epoch = d.epoch; count = d.count }
-            → ((q : ℕ) → option_map (λ found. found.row) (map.get index.now.held q) ≡ row_at d q) → IsKnownOf k.order k.rows d) }
+    pub fn of(alloc: Global, order: OrderNo, list: &[(Handle, Row)]) -> Result<Known, AllocError>
+        ensures { IfOk result (λ k. (d : ServerDisk) → order ≡ record { epoch = d.epoch; count = d.count } → list.now ≡ rows_of d → IsKnownOf k.order k.rows d) }
     {
-        let rows = rows_of(alloc, index)?;
+        let rows = rows_in(alloc, list)?;
         Ok(Known { order, rows })
     }
 
@@ -221,13 +219,6 @@ fn raise(
         return Ok(());
     };
     rows.insert(other.0, raised_row(row, version))
-}
-
-fn rows_of(alloc: Global, index: &SlotIndex) -> Result<OrderedMap<Row>, AllocError>
-    ensures { IfOk result (λ rows. (q : ℕ) → map.get rows q ≡ option_map (λ found. found.row) (map.get index.now.held q)) }
-{
-    let list = index.list(alloc)?;
-    rows_in(alloc, list.as_slice())
 }
 
 fn rows_in(alloc: Global, list: &[(Handle, Row)]) -> Result<OrderedMap<Row>, AllocError>

@@ -6,7 +6,8 @@ ghost use Rattle.sha2.specs.Sha256.{sha256};
 ghost use Rattle.store_disk.specs.Blocks.{IsNoticed, chunk_on_disk, written_over};
 ghost use Rattle.replica_store.specs.Replicas.{Replica, ServerDisk, disk_changed, filled_to, replica_of, rotten_replica, with_replica};
 ghost use Rattle.replica_store.specs.declared.change.StoreChange.{StoreChange};
-ghost use Rattle.disk_store.specs.Noticed.{AreNoticed, IsCareful, IsNoticedWithin, block_in};
+ghost use Rattle.chunk_store.specs.Matching.{block_in};
+ghost use Rattle.disk_store.specs.Noticed.{AreNoticed, IsCareful, IsNoticedWithin};
 
 /// Where the bytes that changed lie in the chunk, no byte of any block has changed unnoticed.
 pub fn all_blocks_are_noticed()

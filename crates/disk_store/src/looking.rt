@@ -15,7 +15,7 @@ use disk::Disk;
 use gfs_types::ids::{Handle, Version};
 use server_store::fault::ReplicaStoreFault;
 use std::alloc::Global;
-use store_changes::{StoreFault as ChangeFault, read_edges};
+use store_changes::StoreFault as ChangeFault;
 
 /// Whether the range from `offset` to before `end` of a replica can be written over.
 pub fn is_writable<D: Disk>(
@@ -34,26 +34,18 @@ pub fn is_writable<D: Disk>(
         → (IsErrOf result faults.NoRoom ↔ (row : Row) × (row_at d handle.0 ≡ Some row) × (offset < end) × (store.old.layout.chunk < end)) }
     ensures cause { HasCause (D.failed store.old.disk) (D.failed store.new.disk) result }
 {
-    let Some(found) = store.index.get(handle) else {
+    let Some(found) = store.held(handle) else {
         return Ok(true);
     };
+    let _slot = found.slot;
     if end <= offset {
         return Ok(true);
     }
-    let layout = store.layout;
-    if end > u64::from(layout.chunk) {
+    if end > u64::from(store.chunk()) {
         return Err(ReplicaStoreFault::NoRoom);
     }
-    match read_edges(
-        alloc,
-        &mut store.disk,
-        &mut store.hashed,
-        layout,
-        found.slot,
-        offset as usize,
-        end as usize,
-    ) {
-        Ok(edges) => Ok(edges.is_some()),
+    match store.is_writable(alloc, handle, offset, end) {
+        Ok(is) => Ok(is),
         Err(fault) => Err(fault_of_disk(fault)),
     }
 }

@@ -1,14 +1,15 @@
 //! Disks that are read anew.
 
 ghost use Rattle.std.specs.Prelude.{◌≡◌, IfOk, IsErrOf, OnErr};
+ghost use Rattle.chunk_store.specs.Stores.{IsOpen};
 ghost use Rattle.gfs_types.specs.declared.ids.OrderNo.{OrderNo};
 ghost use Rattle.replica_store.specs.Replicas.{ServerDisk};
-ghost use Rattle.disk_store.specs.Known.{Rows};
+ghost use Rattle.disk_store.specs.Known.{IsKnownOf, Rows};
 ghost use Rattle.server_store.specs.declared.fault.ReplicaStoreFault.TheVariants as faults;
 ghost use Rattle.disk_store.specs.Standing.{IsKept, found_made, with_made};
 ghost use Rattle.disk_store.specs.declared.standing.DiskStoreState.TheVariants.{Open};
 
-use crate::finding::find;
+use crate::faults::fault_of_opening;
 use crate::known::Known;
 use crate::rotting::rots;
 use crate::standing::{DiskStoreState, rotting_in};
@@ -16,7 +17,15 @@ use chunk_store::Store;
 use disk::StoppableDisk;
 use replica_store::change::StoreChange;
 use server_store::fault::ReplicaStoreFault;
-use std::alloc::Global;
+use std::alloc::{AllocError, Global};
+
+// What is known of an open store's disk.
+fn known_of<D: StoppableDisk>(alloc: Global, store: &Store<D>) -> Result<Known, AllocError>
+    ensures { (d : ServerDisk) → IsOpen D.seen D.may_leave store.now d → IfOk result (λ known. IsKnownOf known.order known.rows d) }
+{
+    let rows = store.list(alloc)?;
+    Known::of(alloc, store.order(), rows.as_slice())
+}
 
 /// The disk begins again and is read, and a byte that was to rot is rotten. What is known of it then tells whether the change that was
 /// under way was made.
@@ -33,13 +42,13 @@ pub fn open_again<D: StoppableDisk>(
         → OnErr result (IsKept D.seen D.may_leave store.new order rows d standing.now) }
     ensures no_room { IsErrOf result faults.NoRoom → ⊥ }
 {
-    let found = find(alloc, &mut store.disk, store.layout)?;
-    let known = match Known::of(alloc, found.order, &found.index) {
+    if let Err(fault) = store.reopen(alloc) {
+        return Err(fault_of_opening(fault));
+    }
+    let known = match known_of(alloc, store) {
         Ok(known) => known,
         Err(_) => return Err(ReplicaStoreFault::NoMemory),
     };
-    store.order = found.order;
-    store.index = found.index;
     rots(alloc, store, rotting_in(standing))?;
     Ok(known)
 }

@@ -148,7 +148,7 @@ fn keep_order<D: StoppableDisk>(
         → IfOk result (λ s. IsOpen D.seen D.may_leave s d ⊎ IsOpen D.seen D.may_leave s (disk_changed d (SetOrder order))) }
 {
     let mut store = store;
-    let layout = store.layout;
+    let layout = store.layout();
     let _is_kept = store.set_order(alloc, order).is_ok();
     let mut disk = store.into_disk();
     match disk.restart() {

@@ -1,8 +1,9 @@
-use Rattle.std.proofs.Common.{inl, inr, sym, ap, ◌∙◌, refl, subst, Err}
+use Rattle.std.proofs.Common.{◌≡◌, ℕ, true, false, inl, inr, sym, ap, ◌∙◌, refl, subst, Err}
 use Rattle.server_store.specs.declared.fault.ReplicaStoreFault.{ReplicaStoreFault}
 use Rattle.store_changes.specs.declared.fault.StoreFault.{StoreFault as ChangeFault}
 use Rattle.disk_store.specs.declared.known.Known.{Known}
 use Rattle.disk_store.specs.Faults.{of_change}
+use Rattle.disk_store.specs.Known.{can_be_told}
 use Rattle.disk_store.specs.Standing.{IsKept, changes_of}
 use Rattle.disk_store.specs.declared.standing.DiskStoreState.{DiskStoreState}
 use Rattle.disk_store.specs.declared.standing.DiskStoreState.TheVariants.{Changing}
@@ -22,7 +23,7 @@ returns-in-Err-clause-err g c d kept =
     subst (λ (x : DiskStoreState). IsKept disk.seen disk.may_leave s n.order n.rows d x) (sym c.refused.ensures) (refused_kept disk.seen disk.may_leave s n.order n.rows d c.args.standing c.args.change c.requires.nothing kept)
 
 pub returns-in-Err-clause-no_room : goal.returns-in-Err-clause-no_room
-returns-in-Err-clause-no_room g c d kept e = let unfit = c.in-Err.ensures.no_room (ap (λ (x : ReplicaStoreFault). Err x) e) in inl (inl unfit.1)
+returns-in-Err-clause-no_room g c d kept e = let unfit = c.in-Err.ensures.no_room (ap (λ (x : ReplicaStoreFault). Err x) e) in inl (inl (subst (λ (n : ℕ). can_be_told n c.args.known.now.rows c.args.change ≡ false) c.chunk-chunk.ensures unfit.1))
 
 pub make-requires-clause-is_open : goal.make-requires-clause-is_open
 make-requires-clause-is_open g c =
@@ -32,7 +33,7 @@ make-requires-clause-is_open g c =
     (some.0, open_as disk.seen disk.may_leave c.args.store.now n.order n.rows some.0 c.args.standing some.1 c.in-Ok.ensures.open)
 
 pub make-requires-clause-told : goal.make-requires-clause-told
-make-requires-clause-told g c = c.in-Ok.ensures.told
+make-requires-clause-told g c = subst (λ (n : ℕ). can_be_told n c.args.known.now.rows c.args.change ≡ true) c.chunk-chunk.ensures c.in-Ok.ensures.told
 
 pub returns-in-Err-make-clause-open : goal.returns-in-Err-make-clause-open
 returns-in-Err-make-clause-open g c = elim (unfit_or c.in-Err-make.fault c.args.change) [
@@ -50,7 +51,7 @@ returns-in-Err-make-clause-err g c d kept =
       | inl is ↦ subst (λ (p : ReplicaStoreFault × DiskStoreState). IsKept disk.seen disk.may_leave c.make.new.store n.order n.rows d p.1) (sym (c.failed.ensures.unfit is.0 is.1))
           (unbegun_after disk.seen disk.may_leave s n.order n.rows d c.args.standing kept c.in-Ok.ensures.open c.args.change c.make.new.store c.make.ensures.layout (c.in-Err-make.ensures.unfit d opened (ap (λ (x : ChangeFault). Err x) is.0) is.1).1)
       | inr other ↦ subst (λ (p : ReplicaStoreFault × DiskStoreState). IsKept disk.seen disk.may_leave c.make.new.store n.order n.rows d p.1) (sym (c.failed.ensures.begun other))
-          (failed_after disk.seen disk.may_leave s n.order n.rows d c.args.standing kept c.in-Ok.ensures.open c.args.change c.make.new.store c.make.ensures.layout c.in-Ok.ensures.told disk.moment disk.left_since g.met.D.Disk.counts_now c.make.ensures.any_moment (c.make.ensures.untouched d opened))
+          (failed_after disk.seen disk.may_leave s n.order n.rows d c.args.standing kept c.in-Ok.ensures.open c.args.change c.make.new.store c.make.ensures.layout (subst (λ (n : ℕ). can_be_told n c.args.known.now.rows c.args.change ≡ true) c.chunk-chunk.ensures c.in-Ok.ensures.told) disk.moment disk.left_since g.met.D.Disk.counts_now c.make.ensures.any_moment (c.make.ensures.untouched d opened))
     ]
 
 pub returns-in-Err-make-clause-no_room : goal.returns-in-Err-make-clause-no_room
@@ -86,4 +87,4 @@ returns-clause-err g c d kept =
     let opened = open_as disk.seen disk.may_leave s n.order n.rows d c.args.standing kept c.in-Ok.ensures.open in
     let noticed = open_all_noticed disk.seen disk.may_leave s n.order n.rows d c.args.standing kept c.in-Ok.ensures.open in
     subst (λ (k : Known). IsKept disk.seen disk.may_leave c.make.new.store k.order k.rows d (Changing c.args.change)) (sym c.in-Err-make-2.ensures.err)
-    (unknown_after disk.seen disk.may_leave s n.order n.rows d c.args.standing kept c.in-Ok.ensures.open c.args.change c.make.new.store c.make.ensures.layout c.in-Ok.ensures.told (c.in-Ok-make.ensures.careful d opened) (c.in-Ok-make.ensures.ok d opened noticed))
+    (unknown_after disk.seen disk.may_leave s n.order n.rows d c.args.standing kept c.in-Ok.ensures.open c.args.change c.make.new.store c.make.ensures.layout (subst (λ (n : ℕ). can_be_told n c.args.known.now.rows c.args.change ≡ true) c.chunk-chunk.ensures c.in-Ok.ensures.told) (c.in-Ok-make.ensures.careful d opened) (c.in-Ok-make.ensures.ok d opened noticed))

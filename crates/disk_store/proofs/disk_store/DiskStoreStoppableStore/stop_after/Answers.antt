@@ -1,13 +1,17 @@
-use Rattle.std.proofs.Common.{List, ap}
+use Rattle.std.proofs.Common.{List, sym, ap, subst}
 use Rattle.replica_store.specs.Replicas.{ServerDisk}
 use Rattle.replica_store.specs.declared.change.StoreChange.{StoreChange}
+use Rattle.chunk_store.specs.declared.store.Store.{Store}
+use Rattle.disk_store.specs.Standing.{IsKept}
 use Rattle.disk_store.proofs.Quiet.{quiet_kept}
 use Rattle.disk_store.proofs.disk_store.DiskStoreStoppableStore.stop_after.Goals as goal
 
 pub invariant_of-self : goal.invariant_of-self
 invariant_of-self g c =
     let was = c.self.inside in
-    quiet_kept g.D.Disk.seen g.D.Disk.may_leave was.store was.known.order was.known.rows was.said c.stop_after.new.self c.stop_after.ensures.seen c.stop_after.ensures.crash was.standing c.self.invariant
+    let disk = g.D.Disk in
+    subst (λ (s : Store _). IsKept disk.seen disk.may_leave s was.known.order was.known.rows was.said was.standing) (sym c.stop_after.ensures.unchanged)
+    (quiet_kept disk.seen disk.may_leave was.store was.known.order was.known.rows was.said c.stop_after.new.self.disk c.stop_after.ensures.seen c.stop_after.ensures.crash was.standing c.self.invariant)
 
 pub returns-clause-disk : goal.returns-clause-disk
 returns-clause-disk g c = ap (λ (s : ServerDisk × List StoreChange). s.0) c.self.view_is

@@ -8,7 +8,8 @@ use Rattle.store_changes.specs.Areas.{area_of}
 use Rattle.chunk_store.specs.Opening.{HoldsReplicas, IsFound, IsOpening}
 use Rattle.chunk_store.proofs.OpenHeads.{gate_below, holds_stored}
 use Rattle.chunk_store.specs.declared.found.FoundReplicas.{FoundReplicas}
-use Rattle.disk_store.specs.Standing.{IsFoundAmong, IsSaid, StillSays}
+use Rattle.chunk_store.specs.Finding.{IsFoundAmong}
+use Rattle.chunk_store.specs.Reopening.{IsSaid, StillSays}
 
 -- nothing more may be left
 pub no_more_says : (chunk block slots : ℕ) (old new : List ℕ → Type 0) → NoMore old new → Follows (StillSays chunk block slots) old new

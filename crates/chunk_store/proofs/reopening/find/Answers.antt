@@ -1,5 +1,5 @@
-use Rattle.disk_store.proofs.Found.{found_among, no_more_says, opening_says}
-use Rattle.disk_store.proofs.finding.find.Goals as goal
+use Rattle.chunk_store.proofs.Found.{found_among, no_more_says, opening_says}
+use Rattle.chunk_store.proofs.reopening.find.Goals as goal
 
 pub returns-in-Err-clause-stops : goal.returns-in-Err-clause-stops
 returns-in-Err-clause-stops g c =

@@ -14,9 +14,9 @@ use Rattle.store_disk.proofs.Looked.{one_row}
 use Rattle.store_disk.specs.Stored.{Holds}
 use Rattle.chunk_store.specs.Stores.{IsOpen}
 use Rattle.chunk_store.specs.declared.store.Store.{Store}
-use Rattle.disk_store.specs.Standing.{HasItsDigest}
-use Rattle.disk_store.proofs.Looked.{its_slot}
-use Rattle.disk_store.proofs.Matching.{count, other_is, tells, told}
+use Rattle.chunk_store.specs.Matching.{HasItsDigest}
+use Rattle.chunk_store.proofs.Looked.{its_slot}
+use Rattle.chunk_store.proofs.Matching.{count, other_is, tells, told}
 
 module _ (chunk block slots : ℕ) (disk : List ℕ) (slot : ℕ) (size : disk_size chunk block slots ≤ length disk) (there : slot < slots) (large : 16 ≤ block) (whole : chunk % block ≡ 0) (place : ℕ) (low : place < chunk) where
   positive : 1 ≤ block

@@ -9,8 +9,8 @@ use Rattle.sha2.specs.Sha256.{sha256}
 use Rattle.store_disk.specs.Digests.{digests_of}
 use Rattle.disk.specs.Bytes.{range_at}
 use Rattle.disk_redo.proofs.Ranges.{range_range}
-use Rattle.disk_store.specs.Noticed.{block_in}
-use Rattle.disk_store.proofs.NoticedBlocks.{disk_size, get_in, next_within, size_in}
+use Rattle.chunk_store.specs.Matching.{block_in}
+use Rattle.chunk_store.proofs.BlockParts.{disk_size, get_in, next_within, size_in}
 use Rattle.store_disk.specs.Blocks.{chunk_on_disk, written_over}
 use Rattle.store_disk.proofs.BlockPuts.{length_over, over_after, over_before, over_within}
 use Rattle.replica_store.specs.Replicas.{Replica, filled_to}

@@ -1,8 +1,8 @@
 use Rattle.std.proofs.Common.{ℕ, ◌+◌, ◌*◌, ◌/◌, List, length, sym, ap, ◌∙◌, arith}
 use Rattle.disk.specs.Bytes.{range_at}
 use Rattle.disk_redo.proofs.Moments.{reads_both}
-use Rattle.disk_store.proofs.Blocks.{block_room, digest_room, inside, long, match_told, tells_match}
-use Rattle.disk_store.proofs.rotting.block_would_match.Goals as goal
+use Rattle.chunk_store.proofs.Blocks.{block_room, digest_room, inside, long, match_told, tells_match}
+use Rattle.chunk_store.proofs.matching.block_would_match.Goals as goal
 
 pub read_bytes-requires : goal.read_bytes-requires
 read_bytes-requires g c =

@@ -1,0 +1,72 @@
+//! Opening a store again whose disk has begun again.
+
+ghost use Rattle.std.specs.Prelude.{◌≡◌, ◌≤◌, ◌%◌, length, IfOk, OnOk};
+ghost use Rattle.disk.specs.Device.{Follows, NoMore};
+ghost use Rattle.disk_redo.specs.Redo.{IsAtRest};
+ghost use Rattle.store_changes.specs.Areas.{area_of};
+ghost use Rattle.store_disk.specs.Places.{disk_size};
+ghost use Rattle.chunk_store.specs.Finding.{IsFoundAmong};
+ghost use Rattle.chunk_store.specs.Reopening.{IsReopened, StillSays};
+
+use crate::disk_opening::open_disk;
+use crate::fault::OpenFault;
+use crate::found::FoundReplicas;
+use crate::store::Store;
+use disk::StoppableDisk;
+use gfs_types::torn::Torn;
+use std::alloc::Global;
+use store_disk::Layout;
+
+// The disk begins again, and is opened. A disk that says something has an open head, so none of its replicas is lost.
+fn find<D: StoppableDisk>(
+    alloc: Global,
+    disk: &mut D,
+    layout: Layout,
+) -> Result<FoundReplicas, OpenFault>
+    ensures found { IfOk result (λ found. IsFoundAmong D.seen (D.may_leave disk.old) disk.new layout.chunk layout.block layout.slots found) }
+    ensures rest { OnOk result (IsAtRest D.seen D.may_leave (area_of layout.chunk layout.block) disk.new) }
+    ensures large { OnOk result (disk_size layout.chunk layout.block layout.slots ≤ length (D.seen disk.new)) }
+    ensures stops { Follows (StillSays layout.chunk layout.block layout.slots) (D.may_leave disk.old) (D.may_leave disk.new) }
+{
+    match disk.restart() {
+        Ok(()) => {}
+        Err(fault) => return Err(OpenFault::from(fault)),
+    }
+    match open_disk(alloc, disk, layout) {
+        Ok(found) => Ok(found),
+        Err(fault) => Err(fault),
+    }
+}
+
+impl<D: StoppableDisk> Store<D> {
+    /// Lets so many calls of the disk pass and fails each later one until it begins again, which then finds what was under way as `torn` says. Changes no byte.
+    pub fn stop_after(&mut self, calls: u64, torn: Torn)
+        ensures unchanged { self.new ≡ record self.old { disk = self.new.disk } }
+        ensures seen { D.seen self.new.disk ≡ D.seen self.old.disk }
+        ensures crash { NoMore (D.may_leave self.old.disk) (D.may_leave self.new.disk) }
+    {
+        self.disk.stop_after(calls, torn);
+    }
+
+    /// The same, once it has begun again. Of several the last one counts.
+    pub fn stop_after_restart(&mut self, calls: u64, torn: Torn)
+        ensures unchanged { self.new ≡ record self.old { disk = self.new.disk } }
+        ensures seen { D.seen self.new.disk ≡ D.seen self.old.disk }
+        ensures crash { NoMore (D.may_leave self.old.disk) (D.may_leave self.new.disk) }
+    {
+        self.disk.stop_after_restart(calls, torn);
+    }
+
+    /// Has the disk begin again, and opens the store that stands there: it says what one of the disks said that a stop might have left. After an error the store is not open, and its disk still says what it said.
+    pub fn reopen(&mut self, alloc: Global) -> Result<(), OpenFault>
+        requires whole { self.old.layout.chunk % self.old.layout.block ≡ 0 }
+        ensures reopened { OnOk result (IsReopened D.seen D.may_leave (D.may_leave self.old.disk) self.new) }
+        ensures layout { self.new.layout ≡ self.old.layout }
+        ensures stops { Follows (StillSays self.old.layout.chunk self.old.layout.block self.old.layout.slots) (D.may_leave self.old.disk) (D.may_leave self.new.disk) }
+    {
+        let found = find(alloc, &mut self.disk, self.layout)?;
+        self.order = found.order;
+        self.index = found.index;
+        Ok(())
+    }
+}
