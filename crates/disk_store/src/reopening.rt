@@ -42,8 +42,9 @@ pub fn open_again<D: StoppableDisk>(
         → OnErr result (IsKept D.seen D.may_leave store.new order rows d standing.now) }
     ensures no_room { IsErrOf result faults.NoRoom → ⊥ }
 {
-    if let Err(fault) = store.reopen(alloc) {
-        return Err(fault_of_opening(fault));
+    match store.reopen(alloc) {
+        Ok(()) => {}
+        Err(fault) => return Err(fault_of_opening(fault)),
     }
     let known = match known_of(alloc, store) {
         Ok(known) => known,
