@@ -139,7 +139,9 @@ impl<A: Allocator + Clone> Disk for MemDisk<A> {
         0
     }
 
-    fn may_stop_as_read(&self) {}
+    fn may_stop_as_read(&self) {
+        let _size = self.bytes.len();
+    }
 
     fn read(&mut self, at: usize, out: &mut [u8]) -> Result<(), DiskFault>
         requires { at + length out.old ≤ length self.old.bytes }

@@ -1,4 +1,4 @@
-use Rattle.std.proofs.Common.{◌≡◌, ℕ, List, length, sym, subst, true}
+use Rattle.std.proofs.Common.{◌≡◌, ℕ, length, sym, subst, true}
 use Rattle.gfs_types.specs.declared.torn.Torn.TheVariants.{New}
 use Rattle.disk.specs.Pages.{bytes_of}
 use Rattle.disk.specs.Writes.{DiskState, LeftBy, all_fit}
