@@ -1,10 +1,13 @@
 -- The lease of a chunk that counts, as the server's definitions have it.
-use Rattle.std.proofs.Common.{◌≡◌, ℕ, Bool, true, false, cond, eqb, ◌&&◌, Option, Some, None, refl, ap, ◌∙◌, subst}
-use Rattle.std.specs.FinMap.{get}
-use Rattle.leases.specs.LeaseHeld.{counts_at}
+use Rattle.std.proofs.Common.{◌≡◌, ℕ, Bool, true, false, cond, eqb, ◌&&◌, Option, Some, None, refl, sym, ap, ◌∙◌, subst}
+use Rattle.std.specs.FinMap.{get, insert}
+use Rattle.leases.specs.LeaseHeld.{counts_at, extended}
 use Rattle.primary_order.specs.SerialOrder.{SerialOrder}
 use Rattle.protocol.specs.Tables.{Table}
-use Rattle.protocol.specs.Server.{ServerState, counting_primary, primary_of}
+use Rattle.protocol.specs.Server.{ServerState, counting_primary, primary_of, with_primary}
+use Rattle.protocol.specs.ServerOrders.{extends_held, takes_extend}
+use Rattle.server_handlers.specs.declared.effects.ServerEffects.{ServerEffects}
+use Rattle.server_handlers.specs.Doing.{doing}
 use Rattle.server_handlers.specs.Held.{counting_at}
 
 counting_is : (s : ServerState) (version : ℕ) (o : Option SerialOrder) → counting_at s.config.skew_ms s.now version o ≡ counting_primary s version o
@@ -35,3 +38,14 @@ by_tests skew now q p false b e h = no_order p h
 pub counting_held : (s : ServerState) (version : ℕ) (o : Option SerialOrder) (p : SerialOrder) → counting_primary s version o ≡ Some p → (o ≡ Some p) × (counts_at s.config.skew_ms p.held s.now ≡ true)
 counting_held s version None p h = no_order p h
 counting_held s version (Some q) p h = by_tests s.config.skew_ms s.now q p (eqb q.held.version version) (counts_at s.config.skew_ms q.held s.now) refl h
+
+-- a lease that is held at that version is moved on, by the clock bound that the leases have
+pub extends_as : (s v : ServerState) (e : ServerEffects) (handle version end skew : ℕ) (p : SerialOrder) (after : Table SerialOrder) → v ≡ s → Some p ≡ get v.leases handle
+    → eqb p.held.version version ≡ true → skew ≡ v.config.skew_ms → after ≡ insert v.leases handle (record p { held = extended skew p.held end v.now })
+    → takes_extend (doing s e) handle version end ≡ doing (record v { leases = after }) e
+extends_as s v e handle version end skew p after same found is skew_is moved =
+    ap (λ (x : ServerState). takes_extend (doing x e) handle version end) (sym same)
+    ∙ (ap (extends_held (doing v e) handle version end) (sym found)
+    ∙ (ap (λ b. cond b (with_primary (doing v e) handle (record p { held = extended v.config.skew_ms p.held end v.now })) (doing v e)) is
+    ∙ (ap (λ n. with_primary (doing v e) handle (record p { held = extended n p.held end v.now })) (sym skew_is)
+    ∙ ap (λ (t : Table SerialOrder). doing (record v { leases = t }) e) (sym moved))))

@@ -1,5 +1,5 @@
 pub mod Lent
-pub mod Orders
+pub mod SeenOrders
 pub mod Moves
 pub mod Counting
 pub mod Reported

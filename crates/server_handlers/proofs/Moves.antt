@@ -10,7 +10,6 @@ use Rattle.gfs_types.specs.declared.refusal.Refusal.TheVariants as refusal
 use Rattle.leases.specs.LeaseHeld.{LeaseHeld, counts_at, extended}
 use Rattle.primary_order.specs.declared.answer.Accept.{Accept}
 use Rattle.primary_order.specs.declared.answer.Accept.TheVariants.{New, Pending, Refused}
-use Rattle.primary_order.specs.declared.answer.Settled.{Settled}
 use Rattle.primary_order.specs.declared.waiting.Waiting.{Waiting}
 use Rattle.primary_order.specs.declared.primary.Primary.{Primary}
 use Rattle.primary_order.specs.PrimaryOrder as primary
@@ -21,7 +20,7 @@ use Rattle.primary_order.proofs.Attempts.{known_by_attempt}
 use Rattle.protocol.specs.Tables.{Table}
 use Rattle.protocol.specs.Sending.{serial_of}
 use Rattle.server_handlers.specs.Held.{HeldLeases, AreHeld, orders_of, changed_at, counting_at, counted_at, serial_in, serial_given, settled_at, attempt_at, would_count}
-use Rattle.server_handlers.proofs.Orders.{IsHeld, asked, get_orders, held_changed, held_put, orders_changed, orders_put}
+use Rattle.server_handlers.proofs.SeenOrders.{IsHeld, asked, get_orders, held_changed, held_put, orders_changed, orders_put}
 
 latest_of : (a b : ℕ) → a ≤ b → max a b ≡ b
 latest_of a b le = omega arith

@@ -14,7 +14,7 @@ use Rattle.protocol.specs.ServerStep.{asks_no_more}
 use Rattle.ordered_map.proofs.Filtered.{kept, get_filter, get_map}
 use Rattle.server_handlers.specs.Reported.{reported_one, reported_all}
 
-at_eq : (r : Ordering) → is_eq r ≡ true → r ≡ Equal
+pub at_eq : (r : Ordering) → is_eq r ≡ true → r ≡ Equal
 at_eq Less h = cc
 at_eq Equal h = refl
 at_eq Greater h = cc

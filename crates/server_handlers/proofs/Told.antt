@@ -1,10 +1,9 @@
 -- What becomes of all leases at a tick, and what is reported of them, without the clock.
-use Rattle.std.proofs.Common.{◌≡◌, ℕ, ◌≤◌, Bool, true, false, cond, ◌&&◌, T, List, [], ◌∷◌, map, filter, Option, Some, None, refl, sym, ap, ◌∙◌}
+use Rattle.std.proofs.Common.{◌≡◌, ℕ, ◌≤◌, Bool, true, false, cond, T, List, [], ◌∷◌, map, filter, Option, Some, None, refl, sym, ap, ◌∙◌}
 use Rattle.std.specs.Ordering.{nat_cmp}
 use Rattle.std.specs.FinMap.{get, insert, remove, entries, keys, find, is_sorted, entries_sorted, get-entries}
 use Rattle.std.specs.FinMap.Entries.{below_all}
 use Rattle.chunk_table.proofs.Lookups.{key_itself}
-use Rattle.messages.specs.declared.message.LeaseLine.{LeaseLine}
 use Rattle.leases.specs.LeaseHeld.{counts_at}
 use Rattle.ordered_map.proofs.Filtered.{entries_filter}
 use Rattle.primary_order.specs.declared.primary.Primary.{Primary}
@@ -13,7 +12,7 @@ use Rattle.protocol.specs.Tables.{Table, kept_where, map_values}
 use Rattle.protocol.specs.ServerStep.{lease_line, asks_no_more}
 use Rattle.server_handlers.specs.Held.{AreHeld, orders_of, would_count, line_of, lines_of, asks_nothing}
 use Rattle.server_handlers.specs.Reported.{reported_one, reported_all, seen_one, seen_all}
-use Rattle.server_handlers.proofs.Orders.{IsHeld, both_parts, entries_of_orders, entry_of, found_behind, held_put, held_removed, keys_of_orders, orders_at, orders_put, orders_removed}
+use Rattle.server_handlers.proofs.SeenOrders.{IsHeld, both_parts, entries_of_orders, entry_of, found_behind, held_put, held_removed, keys_of_orders, orders_at, orders_put, orders_removed}
 use Rattle.server_handlers.proofs.Moves.{counts_same}
 use Rattle.server_handlers.proofs.Reported.{reported}
 

@@ -1,7 +1,7 @@
 use Rattle.std.proofs.Common.{◌≡◌, ap, sym, ◌∙◌, subst}
 use Rattle.std.specs.FinMap as table
 use Rattle.server_handlers.specs.Held.{AreHeld, HeldLeases, orders_of}
-use Rattle.server_handlers.proofs.Orders.{held_removed, orders_removed}
+use Rattle.server_handlers.proofs.SeenOrders.{held_removed, orders_removed}
 use Rattle.server_handlers.proofs.held_leases.Leases.end.Goals as goal
 
 pub invariant_of-self : goal.invariant_of-self

@@ -1,4 +1,4 @@
-use Rattle.std.proofs.Common.{ap, ◌∙◌}
+use Rattle.std.proofs.Common.{ap}
 use Rattle.server_handlers.specs.Held.{HeldLeases}
 use Rattle.server_handlers.proofs.Moves.{extends_one, keeps_extended, within}
 use Rattle.server_handlers.proofs.held_leases.Leases.extend.Goals as goal

@@ -3,7 +3,7 @@ use Rattle.std.specs.Option.{option_map}
 use Rattle.std.specs.FinMap as table
 use Rattle.primary_order.specs.SerialOrder.{order_of}
 use Rattle.server_handlers.specs.Held.{HeldLeases}
-use Rattle.server_handlers.proofs.Orders.{get_orders}
+use Rattle.server_handlers.proofs.SeenOrders.{get_orders}
 use Rattle.server_handlers.proofs.held_leases.Leases.get.Goals as goal
 
 pub returns : goal.returns

@@ -1,6 +1,6 @@
 use Rattle.std.proofs.Common.{◌≡◌, ap, sym, ◌∙◌, subst}
 use Rattle.server_handlers.specs.Held.{AreHeld, HeldLeases, orders_of}
-use Rattle.server_handlers.proofs.Orders.{held_none, orders_none}
+use Rattle.server_handlers.proofs.SeenOrders.{held_none, orders_none}
 use Rattle.server_handlers.proofs.held_leases.Leases.new.Goals as goal
 
 pub invariant_of-result : goal.invariant_of-result

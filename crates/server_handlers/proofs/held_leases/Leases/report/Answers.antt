@@ -13,7 +13,8 @@ pub invariant_of-self : goal.invariant_of-self
 invariant_of-self c =
     let own = c.self.inside in
     let le = within _ c.args.self.now c.args.now.0 c.self.view_is c.requires in
-    subst (AreHeld own.skew_ms own.latest) (sym c.reported_all.ensures) (all_held own.skew_ms own.latest c.args.now.0 le own.table _ c.self.invariant)
+    let after = c.reported_all.ensures ∙ ap (seen_all c.args.now.0 own.table) (c.as_slice.ensures.value ∙ c.in_ok-handles.ensures) in
+    subst (AreHeld own.skew_ms own.latest) (sym after) (all_held own.skew_ms own.latest c.args.now.0 le own.table (table.keys own.table) c.self.invariant)
 
 pub returns-clause-lines : goal.returns-clause-lines
 returns-clause-lines c =

@@ -13,6 +13,7 @@ use Rattle.primary_order.specs.declared.primary.Primary.{Primary}
 use Rattle.primary_order.specs.SerialOrder.{SerialOrder, order_of}
 use Rattle.protocol.specs.Tables.{Table}
 use Rattle.server_handlers.specs.Held.{AreHeld, orders_of, changed_by, changed_at}
+use Rattle.server_handlers.proofs.Reported.{at_eq}
 
 -- an entry without the clock
 abbrev pub entry_of : ℕ × Primary → ℕ × SerialOrder
@@ -138,11 +139,6 @@ not_tied Less h = refl
 not_tied Equal h = absurd h
 not_tied Greater h = absurd h
 
-tied : (r : Ordering) → is_eq r ≡ true → r ≡ Equal
-tied Less h = cc
-tied Equal h = refl
-tied Greater h = cc
-
 below_find : (k : ℕ) (es : List (ℕ × Primary)) → T (below_all nat_cmp k es) → find nat_cmp k es ≡ None
 below_find k [] h = refl
 below_find k (e ∷ es) h =
@@ -154,5 +150,5 @@ pub found_behind : (e : ℕ × Primary) (es : List (ℕ × Primary)) (q : ℕ) (
 found_behind e es q x below at = by_key (eq_by_cmp nat_cmp q e.0) refl
   where
     by_key : (b : Bool) → eq_by_cmp nat_cmp q e.0 ≡ b → cond b (Some e.1) (find nat_cmp q es) ≡ Some x
-    by_key true is = none_some x (sym (below_find e.0 es below) ∙ ap (λ k. find nat_cmp k es) (sym (nat_cmp-IsAntisymmetric q e.0 (tied (nat_cmp q e.0) is))) ∙ at)
+    by_key true is = none_some x (sym (below_find e.0 es below) ∙ ap (λ k. find nat_cmp k es) (sym (nat_cmp-IsAntisymmetric q e.0 (at_eq (nat_cmp q e.0) is))) ∙ at)
     by_key false is = at
