@@ -1,7 +1,6 @@
 -- A mutation that took its serial and was applied.
-use Rattle.std.proofs.Common.{◌≡◌, ℕ, ◌+◌, true, cond, refl, sym, ap, ◌∙◌, Some, OnOk, Ok, Err, Result}
+use Rattle.std.proofs.Common.{◌≡◌, ℕ, ◌+◌, true, cond, sym, ap, ◌∙◌, Some}
 use Rattle.std.specs.Cmp.{nat_cmp_total, eq_by_cmp_equiv}
-use Rattle.std.specs.Ordering.{nat_cmp}
 use Rattle.std.specs.FinMap.{get, insert, get-insert}
 use Rattle.gfs_types.specs.declared.ids.DataId.{DataId}
 use Rattle.gfs_types.specs.declared.mutation.Mutation.{Mutation}
@@ -14,10 +13,6 @@ use Rattle.protocol.specs.Server.{ServerState, ServerDoing}
 use Rattle.protocol.specs.ServerWrites.{change_of, stored_as, primary_applies}
 use Rattle.server_handlers.specs.declared.effects.ServerEffects.{ServerEffects}
 use Rattle.server_handlers.specs.Doing.{doing, held_at, numbers, applies}
-
-pub on_ok : {T E P Q : Type 0} (r : Result T E) → (P → Q) → OnOk r P → OnOk r Q
-on_ok (Ok x) f h = f h
-on_ok (Err e) f h = h
 
 -- the lease of a mutation that was numbered
 held_after : (s : ServerState) (e : ServerEffects) (handle : ℕ) (p : SerialOrder) (id : DataId) (m : Mutation) (mid : ServerDoing)

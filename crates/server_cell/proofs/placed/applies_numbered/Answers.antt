@@ -1,8 +1,8 @@
-use Rattle.std.proofs.Common.{ℕ, ap, ◌∙◌}
+use Rattle.std.proofs.Common.{ℕ}
 use Rattle.primary_order.specs.SerialOrder.{order_of}
-use Rattle.server_handlers.proofs.Lent.{same_some}
+use Rattle.server_handlers.proofs.Lent.{on_ok, same_some}
 use Rattle.server_handlers.specs.Doing.{doing, held_at}
-use Rattle.server_cell.proofs.Numbering.{on_ok, applied_as}
+use Rattle.server_cell.proofs.Numbering.{applied_as}
 use Rattle.server_cell.proofs.placed.applies_numbered.Goals as goal
 
 pub returns-clause-goes : goal.returns-clause-goes
