@@ -16,7 +16,7 @@ use Rattle.chunk_store.specs.Stores.{IsOpen}
 use Rattle.chunk_store.specs.declared.store.Store.{Store}
 use Rattle.chunk_store.specs.Matching.{HasItsDigest}
 use Rattle.chunk_store.proofs.Looked.{its_slot}
-use Rattle.chunk_store.proofs.Matching.{count, other_is, tells, told}
+use Rattle.chunk_store.proofs.OtherByte.{count, other_is, tells, told}
 
 module _ (chunk block slots : ℕ) (disk : List ℕ) (slot : ℕ) (size : disk_size chunk block slots ≤ length disk) (there : slot < slots) (large : 16 ≤ block) (whole : chunk % block ≡ 0) (place : ℕ) (low : place < chunk) where
   positive : 1 ≤ block

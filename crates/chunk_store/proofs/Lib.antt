@@ -6,10 +6,10 @@ pub mod OpenHeads
 pub mod Moments
 pub mod Applied
 pub mod Copied
-pub mod Found
+pub mod BegunAgain
 pub mod BlockParts
 pub mod Looked
-pub mod Matching
+pub mod OtherByte
 pub mod Blocks
 pub mod StillOpen
 pub mod Stopped

@@ -1,4 +1,4 @@
-use Rattle.chunk_store.proofs.Found.{found_among, no_more_says, opening_says}
+use Rattle.chunk_store.proofs.BegunAgain.{found_among, no_more_says, opening_says}
 use Rattle.chunk_store.proofs.reopening.find.Goals as goal
 
 pub returns-in-Err-clause-stops : goal.returns-in-Err-clause-stops
