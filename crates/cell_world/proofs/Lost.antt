@@ -1,5 +1,5 @@
 -- Steps that were lost before they changed anything.
-use Rattle.std.proofs.Common.{◌≡◌, ◌<◌, ℕ, zero, suc, Bool, true, false, List, [], ◌∷◌, ◌++◌, length, get_or, Some, None, refl, sym, subst, ap, ◌∙◌, arith}
+use Rattle.std.proofs.Common.{◌≡◌, ◌<◌, ℕ, zero, suc, Bool, true, false, List, [], ◌∷◌, ◌++◌, length, map, get_or, Some, None, refl, sym, subst, ap, ◌∙◌, arith}
 use Rattle.std.specs.Prelude.{if◌then◌else◌}
 use Rattle.std.proofs.lemmas.List.{append-nil}
 use Rattle.gfs_types.specs.declared.call.Call.{Call}
@@ -18,6 +18,7 @@ use Rattle.protocol.specs.ClientStep.{may_step, client_step, client_ends, client
 use Rattle.protocol.specs.World.{stamped}
 use Rattle.protocol.specs.Conforms.{IsLeftAs, ServerSteps, ClientSteps, ClientCalls}
 use Rattle.cell_world.specs.declared.record.CellRecord.{CellRecord}
+use Rattle.cell_world.specs.Kept.{blank_seen}
 use Rattle.cell_world.specs.Steps.{IsRecorded, MasterStepsSo}
 use Rattle.cell_world.proofs.Acts.{lost_choice}
 use Rattle.cell_world.proofs.Left.{same_left}
@@ -96,9 +97,9 @@ call_lost s moment c = record { choice = lost_choice; gives = record { out_is = 
 
 -- what was given and seen is recorded
 pub recorded_so : (before ready after : CellRecord) (out : StepOut) (seen : List Seen) → ready.network.messages ≡ before.network.messages → ready.sights.seen ≡ before.sights.seen
-    → after.network.messages ≡ ready.network.messages ++ stamped (suc (length ready.network.messages)) out.sent → after.sights.seen ≡ ready.sights.seen ++ seen → IsRecorded before out seen out.answer after
+    → after.network.messages ≡ ready.network.messages ++ stamped (suc (length ready.network.messages)) out.sent → after.sights.seen ≡ ready.sights.seen ++ map blank_seen seen → IsRecorded before out seen out.answer after
 recorded_so before ready after out seen sent_same seen_same sent_is seen_is = record {
   answer_is = refl;
   sent_is = sent_is ∙ ap (λ ms. ms ++ stamped (suc (length ms)) out.sent) sent_same;
-  seen_is = seen_is ∙ ap (λ s. s ++ seen) seen_same;
+  seen_is = seen_is ∙ ap (λ s. s ++ map blank_seen seen) seen_same;
 }

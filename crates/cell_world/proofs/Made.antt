@@ -1,5 +1,5 @@
 -- Nodes of a new cell, one more at a time.
-use Rattle.std.proofs.Common.{◌≡◌, ℕ, suc, ◌+◌, List, [], ◌∷◌, ◌++◌, map, sym, subst, ap, ◌∙◌, arith}
+use Rattle.std.proofs.Common.{◌≡◌, ℕ, suc, ◌+◌, List, [], ◌∷◌, ◌++◌, map, refl, sym, subst, ap, ◌∙◌, arith}
 use Rattle.std.specs.Prelude.{unwrap_or, All}
 use Rattle.std.specs.Ordering.{nat_cmp}
 use Rattle.std.specs.FinMap as table
@@ -16,7 +16,7 @@ use Rattle.protocol.specs.MasterStep.{new_master}
 use Rattle.protocol.specs.World.{new_world}
 use Rattle.protocol.specs.Conforms.{IsLeftAs}
 use Rattle.cell_world.specs.Seeing.{orders_seen}
-use Rattle.cell_world.specs.Held.{HeldCell, IsHeldAs, AreHeldAs, uncounted}
+use Rattle.cell_world.specs.Held.{HeldCell, IsHeldAs, AreHeldAs}
 use Rattle.cell_world.proofs.Left.{same_left}
 
 pub one_more : {X : Type 0} (f : ℕ → X) (n : ℕ) (xs after : List X) → xs ≡ map f (first_numbers n) → after ≡ xs ++ f (n + 1) ∷ [] → after ≡ map f (first_numbers (n + 1))
@@ -42,7 +42,7 @@ pub rest_is_new : {S : Type 0} (disk : S → ServerDisk) (under_way : S → List
 rest_is_new disk under_way block store rest items steps new = All-rest (IsNewStore disk under_way block) store rest items steps new
 
 none_held : AreHeldAs table.empty (orders_seen [])
-none_held q = ap (λ o. map uncounted (unwrap_or o [])) (table.get-empty nat_cmp q) ∙ sym (ap (λ o. unwrap_or o []) (table.get-empty nat_cmp q))
+none_held q = refl
 
 pub held_new : (config : Config) (servers clients : ℕ) (h : HeldCell) → h.config ≡ config → h.master ≡ new_master config servers → h.files ≡ table.empty
     → h.servers ≡ map (λ s. started_server config s (new_server_disk config.block) 0) (first_numbers servers) → h.clients ≡ map (new_client config) (first_numbers clients)

@@ -1,5 +1,5 @@
 -- Steps of nodes, as a cell holds them.
-use Rattle.std.proofs.Common.{◌≡◌, ◌<◌, ℕ, suc, ◌-◌, Bool, true, false, List, [], ◌++◌, length, Option, Some, None, refl, sym, subst, ap, ◌∙◌, arith}
+use Rattle.std.proofs.Common.{◌≡◌, ◌<◌, ℕ, suc, ◌-◌, Bool, true, false, List, [], ◌++◌, length, map, Option, Some, None, refl, sym, subst, ap, ◌∙◌, arith}
 use Rattle.std.specs.Prelude.{◌⊎◌, ◌&&◌, if◌then◌else◌, max}
 use Rattle.std.proofs.lemmas.List.{append-nil}
 use Rattle.gfs_types.specs.declared.answer.Answer.{Answer}
@@ -26,10 +26,12 @@ use Rattle.protocol.specs.World.{WorldState, Happened, nothing_happens, files_se
 use Rattle.protocol.specs.Conforms.{MasterRestarts, ServerSteps}
 use Rattle.cell_world.specs.declared.record.CellRecord.{CellRecord}
 use Rattle.cell_world.specs.Held.{HeldCell, IsHeldAs, HasEffect}
+use Rattle.cell_world.specs.Kept.{blank_seen}
 use Rattle.cell_world.specs.Steps.{IsRecorded, StepsAt, IsUpAt, RestartsAt, MasterStepsSo, ClientStepsSo, ClientCallsSo}
 use Rattle.cell_world.proofs.Left.{same_up, left_on, restarts_of_what_is_left}
 use Rattle.cell_world.proofs.After.{sent_after, held_after_master, held_after_server, held_after_client, held_called}
 use Rattle.cell_world.proofs.Acts.{does_nothing, missing, at_place, place_is, there}
+use Rattle.cell_world.proofs.WorldOrders.{blank_held}
 
 abbrev world_of : Happened → WorldState
 world_of h = h.world
@@ -46,16 +48,30 @@ done old new act answer w choice h same answer_is held = (choice, ap answer_of s
 abbrev with_records : HeldCell → List Message → List Seen → HeldCell
 with_records h sent seen = record h { sent = sent; seen = seen }
 
+-- of what was seen no bytes are kept
+held_blank : (w : WorldState) (h : HeldCell) (past seen : List Seen) → IsHeldAs w (record h { seen = past ++ seen }) → IsHeldAs w (record h { seen = past ++ map blank_seen seen })
+held_blank w h past seen g = record {
+  config = g.config;
+  master = g.master;
+  files = g.files;
+  servers = g.servers;
+  clients = g.clients;
+  sent = g.sent;
+  orders = λ handle. g.orders handle ∙ blank_held past seen handle;
+  greatest = g.greatest;
+}
+
 recorded : (w : WorldState) (h : HeldCell) (before after : CellRecord) (out given : StepOut) (shown seen : List Seen) (answer : Option Answer)
     → IsHeldAs w (with_records h (sent_after before.network.messages given.sent) (before.sights.seen ++ shown)) → given ≡ out → shown ≡ seen → IsRecorded before out seen answer after
     → IsHeldAs w (with_records h after.network.messages after.sights.seen)
 recorded w h before after out given shown seen answer held out_is seen_is r =
+    let all : IsHeldAs w (with_records h after.network.messages (before.sights.seen ++ seen)) =
     subst (IsHeldAs w)
     (ap (λ (o : StepOut). with_records h (sent_after before.network.messages o.sent) (before.sights.seen ++ shown)) out_is
     ∙ (ap (λ (s : List Seen). with_records h (sent_after before.network.messages out.sent) (before.sights.seen ++ s)) seen_is
-    ∙ (ap (λ (ms : List Message). with_records h ms (before.sights.seen ++ seen)) (sym r.sent_is)
-    ∙ ap (λ (s : List Seen). with_records h after.network.messages s) (sym r.seen_is))))
-    held
+    ∙ ap (λ (ms : List Message). with_records h ms (before.sights.seen ++ seen)) (sym r.sent_is)))
+    held in
+    subst (λ (s : List Seen). IsHeldAs w (with_records h after.network.messages s)) (sym r.seen_is) (held_blank w (record h { sent = after.network.messages }) before.sights.seen seen all)
 
 -- the greatest moment, as the code has it
 at_greatest : (w : WorldState) (h : HeldCell) (moment before greatest : ℕ) → greatest ≡ max before moment → IsHeldAs w (record h { greatest = max before moment }) → IsHeldAs w (record h { greatest = greatest })

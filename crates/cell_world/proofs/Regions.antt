@@ -1,66 +1,69 @@
--- Regions don't tell whose call a mutation is of.
+-- Regions don't tell the bytes of a mutation, nor whose it is.
 use Rattle.std.proofs.Common.{◌≡◌, ℕ, zero, suc, Bool, true, false, List, [], ◌∷◌, map, Option, Some, None, refl, sym, ap, ◌∙◌}
-use Rattle.std.specs.Prelude.{not, if◌then◌else◌, option_map, option_and_then, unwrap_or}
+use Rattle.std.specs.Prelude.{not, max, if◌then◌else◌, option_map, option_and_then, unwrap_or}
 use Rattle.std.specs.FinMap as table
-use Rattle.gfs_types.specs.Mutations.{covers}
-use Rattle.gfs_types.specs.Image.{newer, image_length}
+use Rattle.gfs_types.specs.Mutations.{end_of, covers}
+use Rattle.gfs_types.specs.Image.{newer}
 use Rattle.gfs_types.specs.declared.ids.Handle.{Handle}
-use Rattle.relaxed_file.specs.Order.{Entry, mutations_of, last_cover, order_length}
+use Rattle.relaxed_file.specs.Order.{Entry, last_cover, order_length}
 use Rattle.relaxed_file.specs.Regions.{is_determined, joined_before, regions_from, regions_of}
 use Rattle.relaxed_file.specs.declared.region.Region.{Region}
 use Rattle.protocol.specs.Tables.{Table, element_at}
 use Rattle.protocol.specs.Sending.{handle_of}
-use Rattle.protocol.specs.Observer.{Placed, order_of}
+use Rattle.protocol.specs.Observer.{Placed, placed_in, order_of}
 use Rattle.protocol.specs.World.{WorldState}
 use Rattle.gfs_types.specs.Paths.{Path}
 use Rattle.std.specs.List.{filter_map}
 use Rattle.protocol.specs.Master.{MasterState}
 use Rattle.cell_world.specs.FileNames.{file_in}
 use Rattle.protocol.specs.Lookups.{StoredAt, handle_at, regions_at, replicas_at, replicas_of, stored_on, file_named}
-use Rattle.cell_world.specs.Seeing.{entries_seen}
-use Rattle.cell_world.specs.Held.{HeldCell, IsHeldAs, uncounted}
+use Rattle.cell_world.specs.Kept.{blank_placed}
+use Rattle.cell_world.specs.Seeing.{entries_seen, orders_seen}
+use Rattle.cell_world.specs.Held.{HeldCell, IsHeldAs}
 
 abbrev entries_in : List Placed → List Entry
 entries_in ps = map (λ p. p.entry) ps
 
-mutations_alike : (ps : List Placed) → mutations_of (entries_in (map uncounted ps)) ≡ mutations_of (entries_in ps)
-mutations_alike [] = refl
-mutations_alike (p ∷ ps) = ap (λ ms. p.entry.mutation ∷ ms) (mutations_alike ps)
+-- pads end where what they stand for ends
+length_alike : (ps : List Placed) → order_length (entries_in (map blank_placed ps)) ≡ order_length (entries_in ps)
+length_alike [] = refl
+length_alike (p ∷ ps) = ap (max (end_of p.entry.mutation)) (length_alike ps)
 
 abbrev settling : Option Entry → Option Bool
 settling o = option_map (λ e. not e.settled) o
 
-covered_alike : (place : ℕ) (ps : List Placed) → settling (last_cover (entries_in (map uncounted ps)) place) ≡ settling (last_cover (entries_in ps) place)
+covered_alike : (place : ℕ) (ps : List Placed) → settling (last_cover (entries_in (map blank_placed ps)) place) ≡ settling (last_cover (entries_in ps) place)
 covered_alike place [] = refl
 covered_alike place (p ∷ ps) =
-    by (last_cover (entries_in (map uncounted ps)) place) (last_cover (entries_in ps) place) (covers place p.entry.mutation) (covered_alike place ps)
+    by (last_cover (entries_in (map blank_placed ps)) place) (last_cover (entries_in ps) place) (covers place p.entry.mutation) (covered_alike place ps)
   where
-    by : (a b : Option Entry) (c : Bool) → settling a ≡ settling b → settling (newer (if c then Some (uncounted p).entry else None) a) ≡ settling (newer (if c then Some p.entry else None) b)
+    by : (a b : Option Entry) (c : Bool) → settling a ≡ settling b → settling (newer (if c then Some (blank_placed p).entry else None) a) ≡ settling (newer (if c then Some p.entry else None) b)
     by None None true h = refl
     by None None false h = refl
     by None (Some y) c h = absurd cc
     by (Some x) None c h = absurd cc
     by (Some x) (Some y) c h = h
 
-determined_alike : (ps : List Placed) (place : ℕ) → is_determined (entries_in (map uncounted ps)) place ≡ is_determined (entries_in ps) place
+determined_alike : (ps : List Placed) (place : ℕ) → is_determined (entries_in (map blank_placed ps)) place ≡ is_determined (entries_in ps) place
 determined_alike ps place = ap (λ o. not (unwrap_or o false)) (covered_alike place ps)
 
-from_alike : (ps : List Placed) (count place : ℕ) → regions_from (entries_in (map uncounted ps)) place count ≡ regions_from (entries_in ps) place count
+from_alike : (ps : List Placed) (count place : ℕ) → regions_from (entries_in (map blank_placed ps)) place count ≡ regions_from (entries_in ps) place count
 from_alike ps zero place = refl
 from_alike ps (suc count) place =
-    ap (λ (b : Bool). joined_before place b (regions_from (entries_in (map uncounted ps)) (suc place) count)) (determined_alike ps place)
+    ap (λ (b : Bool). joined_before place b (regions_from (entries_in (map blank_placed ps)) (suc place) count)) (determined_alike ps place)
     ∙ ap (joined_before place (is_determined (entries_in ps) place)) (from_alike ps count (suc place))
 
-regions_alike : (ps : List Placed) → regions_of (entries_in (map uncounted ps)) ≡ regions_of (entries_in ps)
+regions_alike : (ps : List Placed) → regions_of (entries_in (map blank_placed ps)) ≡ regions_of (entries_in ps)
 regions_alike ps =
-    ap (λ ms. regions_from (entries_in (map uncounted ps)) 0 (image_length ms)) (mutations_alike ps)
+    ap (regions_from (entries_in (map blank_placed ps)) 0) (length_alike ps)
     ∙ from_alike ps (order_length (entries_in ps)) 0
 
 -- the regions of a handle, by what was seen
 pub regions_seen : (w : WorldState) (h : HeldCell) (handle : ℕ) → IsHeldAs w h
     → regions_of (entries_seen h.seen handle) ≡ regions_of (entries_in (order_of w.observer handle))
 regions_seen w h handle g =
-    ap (λ ps. regions_of (entries_in ps)) (sym (g.orders handle)) ∙ regions_alike (order_of w.observer handle)
+    sym (regions_alike (placed_in (orders_seen h.seen) handle))
+    ∙ (ap (λ ps. regions_of (entries_in ps)) (sym (g.orders handle)) ∙ regions_alike (order_of w.observer handle))
 
 pub handle_there : (o : Option ℕ) (found : Option Handle) → found ≡ option_map handle_of o → o ≡ option_map (λ h. h.0) found
 handle_there None found e = rw e refl

@@ -12,9 +12,10 @@ use Rattle.protocol.specs.Client.{ClientState}
 use Rattle.protocol.specs.Observer.{Placed, placed_in}
 use Rattle.protocol.specs.World.{WorldState, Happened}
 use Rattle.protocol.specs.Conforms.{IsLeftAs}
+use Rattle.cell_world.specs.Kept.{blank_placed}
 use Rattle.cell_world.specs.Seeing.{orders_seen}
 
--- No code holds the trace, or whether clocks and disks kept what is asked of them. Of the moments that passed it holds the greatest.
+-- No code holds the trace, or whether clocks and disks kept what is asked of them. Of the moments that passed it holds the greatest, and of the mutations that were seen which places they cover.
 pub record HeldCell : Type 0 where
   pub config : Config
   pub master : MasterState
@@ -25,13 +26,9 @@ pub record HeldCell : Type 0 where
   pub seen : List Seen
   pub greatest : ℕ
 
--- an entry without the number of its call
-abbrev pub uncounted : Placed → Placed
-uncounted p = record p { entry = record p.entry { call = record p.entry.call { number = 0 } } }
-
--- orders that are the same but for the numbers of calls
+-- orders that are the same but for the bytes of mutations, and whose they are
 abbrev pub AreHeldAs : Table (List Placed) → Table (List Placed) → Type 0
-AreHeldAs orders held = (handle : ℕ) → map uncounted (placed_in orders handle) ≡ placed_in held handle
+AreHeldAs orders held = (handle : ℕ) → map blank_placed (placed_in orders handle) ≡ map blank_placed (placed_in held handle)
 
 -- a world, as a cell holds it
 pub record IsHeldAs (w : WorldState) (h : HeldCell) : Type 0 where

@@ -1,3 +1,4 @@
+pub mod Kept
 pub mod Batches
 pub mod Recording
 pub mod Seeing

@@ -1,5 +1,5 @@
 -- A step of one of several nodes, and what is recorded of it.
-use Rattle.std.specs.Prelude.{◌≡◌, ℕ, suc, ◌++◌, Bool, List, [], length, Option, Some}
+use Rattle.std.specs.Prelude.{◌≡◌, ℕ, suc, ◌++◌, Bool, List, [], length, map, Option, Some}
 use Rattle.gfs_types.specs.declared.answer.Answer.{Answer}
 use Rattle.gfs_types.specs.declared.call.Call.{Call}
 use Rattle.messages.specs.declared.event.NodeInput.{NodeInput}
@@ -12,13 +12,14 @@ use Rattle.protocol.specs.Client.{ClientState}
 use Rattle.protocol.specs.World.{stamped}
 use Rattle.protocol.specs.Conforms.{ServerRestarts, MasterSteps, ClientSteps, ClientCalls}
 use Rattle.server_store.specs.Stores.{disk_rotten}
+use Rattle.cell_world.specs.Kept.{blank_seen}
 use Rattle.cell_world.specs.declared.record.CellRecord.{CellRecord}
 
 -- what a step gave and what was seen of it are recorded
 pub record IsRecorded (before : CellRecord) (out : StepOut) (seen : List Seen) (answer : Option Answer) (after : CellRecord) : Type 0 where
   pub answer_is : out.answer ≡ answer
   pub sent_is : after.network.messages ≡ before.network.messages ++ stamped (suc (length before.network.messages)) out.sent
-  pub seen_is : after.sights.seen ≡ before.sights.seen ++ seen
+  pub seen_is : after.sights.seen ≡ before.sights.seen ++ map blank_seen seen
 
 -- the node at a place takes such a step, which is recorded
 pub record StepsAt {S : Type 0} (Steps : S → StepOut → List Seen → S → Type 0) (nodes : List S) (index : ℕ) (before : CellRecord) (answer : Option Answer) (after : List S) (record_after : CellRecord) : Type 0 where

@@ -3,13 +3,14 @@
 ghost use Rattle.std.specs.Prelude.{◌≡◌, [], ◌∷◌, ◌++◌, map, IfOk, OnOk};
 ghost use Rattle.std.specs.FinMap as table;
 ghost use Rattle.protocol.specs.Observer.{placed_in, settled_as, orders_after, orders_after_all};
+ghost use Rattle.cell_world.specs.Kept.{seen_of};
 
 use crate::placed::Numbered;
+use crate::sighting::Sighting;
 use gfs_types::ids::{Serial, Version};
 use gfs_types::lists::Sequence;
 use gfs_types::no_memory::NoMemory;
 use ordered_map::number_map::NumberMap;
-use protocol::seen::Seen;
 use std::alloc::Global;
 use std::marker::Model;
 
@@ -47,23 +48,22 @@ impl Orders {
         }
     }
 
-    /// What one thing that is seen does.
-    pub(crate) fn sees(&mut self, seen: &Seen) -> Result<(), NoMemory>
-        ensures { OnOk result (self.new ≡ orders_after [] self.old seen.now) }
+    /// What one thing that was seen does.
+    pub(crate) fn sees(&mut self, seen: &Sighting) -> Result<(), NoMemory>
+        ensures { OnOk result (self.new ≡ orders_after [] self.old (seen_of seen.now)) }
     {
         match seen {
-            Seen::Numbered {
+            Sighting::Numbered {
                 handle,
                 version,
                 serial,
-                data,
-                mutation,
+                extent,
             } => {
                 let mut list = self.copy_of(handle.0)?;
-                list.push(Numbered::new(*version, *serial, *data, mutation)?)?;
+                list.push(Numbered::new(*version, *serial, *extent))?;
                 self.put(handle.0, list)
             }
-            Seen::BecameSettled {
+            Sighting::BecameSettled {
                 handle,
                 version,
                 serial,
@@ -72,15 +72,15 @@ impl Orders {
                 let list = settled(self.alloc, list, *version, *serial)?;
                 self.put(handle.0, list)
             }
-            Seen::CopyStarted { handle, copy } => {
+            Sighting::CopyStarted { handle, copy } => {
                 let list = self.copy_of(handle.0)?;
                 self.put(copy.0, list)
             }
         }
     }
 
-    pub(crate) fn sees_all(&mut self, seen: &[Seen]) -> Result<(), NoMemory>
-        ensures { OnOk result (self.new ≡ orders_after_all [] self.old seen.now) }
+    pub(crate) fn sees_all(&mut self, seen: &[Sighting]) -> Result<(), NoMemory>
+        ensures { OnOk result (self.new ≡ orders_after_all [] self.old (map seen_of seen.now)) }
     {
         for one in seen {
             self.sees(one)?;

@@ -1,6 +1,7 @@
 //! All that a cell records of its steps.
 
-ghost use Rattle.std.specs.Prelude.{◌≡◌, [], ◌++◌, suc, length, OnOk};
+ghost use Rattle.std.specs.Prelude.{◌≡◌, [], ◌++◌, suc, length, map, OnOk};
+ghost use Rattle.cell_world.specs.Kept.{blank_seen};
 ghost use Rattle.protocol.specs.World.{stamped};
 ghost use Rattle.cell_world.specs.Recording.{IsReady};
 
@@ -44,7 +45,7 @@ impl CellRecord {
     pub fn takes(&mut self, sent: MessageList, seen: SeenList)
         requires { IsReady self.old }
         ensures sent { self.new.network.messages ≡ self.old.network.messages ++ stamped (suc (length self.old.network.messages)) sent }
-        ensures seen { self.new.sights.seen ≡ self.old.sights.seen ++ seen }
+        ensures seen { self.new.sights.seen ≡ self.old.sights.seen ++ map blank_seen seen }
     {
         self.network.send(sent);
         self.sights.sees(seen);

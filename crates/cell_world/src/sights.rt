@@ -1,12 +1,14 @@
 //! What was seen of all steps, and the regions of a chunk by it (section 2.7.1).
 
-ghost use Rattle.std.specs.Prelude.{◌≡◌, ◌-◌, ◌<◌, ◌^◌, [], ◌∷◌, ◌++◌, map, vec_len, vec_capacity, All, IfOk, OnOk};
+ghost use Rattle.std.specs.Prelude.{◌≡◌, ◌<◌, ◌^◌, [], ◌++◌, map, All, IfOk, OnOk};
 ghost use Rattle.gfs_types.specs.Mutations.{end_of};
 ghost use Rattle.relaxed_file.specs.Regions.{regions_of};
-ghost use Rattle.cell_world.specs.Seeing.{entries_seen, orders_seen, seen_in};
+ghost use Rattle.cell_world.specs.Kept.{blank_seen};
+ghost use Rattle.cell_world.specs.Seeing.{entries_seen};
 
 use crate::orders::Orders;
 use crate::placed::Numbered;
+use crate::sighting::{Sighting, sightings};
 use gfs_types::ids::Handle;
 use gfs_types::no_memory::NoMemory;
 use machine_programs::entry::Entry;
@@ -15,19 +17,22 @@ use relaxed_file::region::Region;
 use std::alloc::Global;
 use std::marker::Model;
 
-/// What was seen, in order, with room that is made for a step.
+/// What was seen, in order, without the bytes of mutations: those of the last step are kept until room for another one is made.
 #[derive(Drop)]
 pub struct Sights {
-    steps: Vec<SeenList>,
+    alloc: Global,
+    past: Vec<Sighting>,
+    last: SeenList,
 }
 
 impl Model for Sights {
-    ghost use Rattle.std.specs.Prelude.{◌-◌, vec_len, vec_capacity};
-    ghost use Rattle.cell_world.specs.Seeing.{SeenSoFar, seen_in};
+    ghost use Rattle.std.specs.Prelude.{◌-◌, ◌++◌, length, map};
+    ghost use Rattle.cell_world.specs.Kept.{blank_seen, seen_of};
+    ghost use Rattle.cell_world.specs.Seeing.{SeenSoFar};
 
     ghost Value = { SeenSoFar };
 
-    ghost view = { λ s. record { seen = seen_in s.steps.items; room = vec_capacity s.steps - vec_len s.steps } };
+    ghost view = { λ s. record { seen = map seen_of s.past.items ++ map blank_seen s.last; room = 1 - length s.last } };
 }
 
 impl Sights {
@@ -36,7 +41,9 @@ impl Sights {
         ensures { result.seen ≡ [] }
     {
         Sights {
-            steps: Vec::new(alloc),
+            alloc,
+            past: Vec::new(alloc),
+            last: SeenList::empty(alloc),
         }
     }
 
@@ -45,18 +52,21 @@ impl Sights {
         ensures seen { self.new.seen ≡ self.old.seen }
         ensures room { OnOk result (0 < self.new.room) }
     {
-        self.steps.reserve(1)?;
+        if self.last.len() == 0 {
+            return Ok(());
+        }
+        let mut kept = sightings(self.alloc, self.last.as_slice())?;
+        self.past.append(&mut kept)?;
+        self.last = SeenList::empty(self.alloc);
         Ok(())
     }
 
     /// This was seen of a step. Takes no memory.
     pub fn sees(&mut self, seen: SeenList)
         requires { 0 < self.old.room }
-        ensures { self.new.seen ≡ self.old.seen ++ seen }
+        ensures { self.new.seen ≡ self.old.seen ++ map blank_seen seen }
     {
-        if seen.len() > 0 {
-            push(&mut self.steps, seen);
-        }
+        self.last = seen;
     }
 
     /// The regions of a handle's chunk. It replays all that was seen.
@@ -71,27 +81,13 @@ impl Sights {
         ensures entries { IfOk result (λ entries. entries.items ≡ entries_seen self.now.seen handle.0) }
         ensures ends { IfOk result (λ entries. All (λ e. end_of e.mutation < 2 ^ 64) entries.items) }
     {
-        let orders = orders_of(alloc, self.steps.as_slice())?;
+        let last = sightings(alloc, self.last.as_slice())?;
+        let mut orders = Orders::new(alloc);
+        orders.sees_all(self.past.as_slice())?;
+        orders.sees_all(last.as_slice())?;
         let list = orders.copy_of(handle.0)?;
         entries_of(alloc, list.as_slice())
     }
-}
-
-fn push(steps: &mut Vec<SeenList>, seen: SeenList)
-    requires { 0 < vec_capacity steps.old - vec_len steps.old }
-    ensures { steps.new.items ≡ steps.old.items ++ seen ∷ [] }
-{
-    let _ = steps.push(seen);
-}
-
-fn orders_of(alloc: Global, steps: &[SeenList]) -> Result<Orders, NoMemory>
-    ensures { IfOk result (λ orders. orders ≡ orders_seen (seen_in steps.now)) }
-{
-    let mut orders = Orders::new(alloc);
-    for seen in steps {
-        orders.sees_all(seen.as_slice())?;
-    }
-    Ok(orders)
 }
 
 fn entries_of(alloc: Global, list: &[Numbered]) -> Result<Vec<Entry>, NoMemory>

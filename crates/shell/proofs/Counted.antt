@@ -1,9 +1,7 @@
 -- While a client takes steps, each call that it takes is answered once.
 use Rattle.std.proofs.Common.{◌≡◌, ℕ, ◌+◌, Bool, true, false, List, [], Option, Some, None, refl, sym, subst, ap, ◌∙◌, inl, inr}
-use Rattle.std.specs.Prelude.{◌⊎◌, IsTrue, unwrap_or, map}
+use Rattle.std.specs.Prelude.{◌⊎◌, IsTrue}
 use Rattle.std.proofs.lemmas.Bool.{true≢false}
-use Rattle.std.specs.FinMap as table
-use Rattle.std.specs.Ordering.{nat_cmp}
 use Rattle.gfs_types.specs.declared.answer.Answer.{Answer}
 use Rattle.gfs_types.specs.declared.ids.ClientId.{ClientId}
 use Rattle.gfs_types.specs.declared.ids.Node.{Node}
@@ -16,9 +14,8 @@ use Rattle.protocol.specs.World.{WorldState, happens, numbered_from_1}
 use Rattle.laws_clients.specs.Answered.{CountsIfUp, is_answer_of, is_open, is_taken, is_up, node_of as node_in}
 use Rattle.laws_clients.proofs.Events.{counted, no_answer, still}
 use Rattle.cell_world.specs.Seeing.{orders_seen}
-use Rattle.cell_world.specs.Held.{AreHeldAs, HeldCell, IsHeldAs, HasEffect, uncounted}
+use Rattle.cell_world.specs.Held.{HeldCell, IsHeldAs, HasEffect}
 use Rattle.cell_world.specs.Looks.{waits_at}
-use Rattle.cell_world.proofs.WorldOrders.{after_all}
 use Rattle.cell_simulator.specs.Cells.{Meaning}
 use Rattle.cell_simulator.specs.Steps.{Step, node_of, is_of_round}
 use Rattle.cell_simulator.specs.Answered.{one_if, is_answered_at, AnswersOnce, IsAlike}
@@ -37,9 +34,6 @@ a_world h =
       observer = record (new_observer h.files) { orders = orders_seen h.seen; greatest = h.greatest };
     }
 
-none_held : AreHeldAs table.empty table.empty
-none_held q = ap (λ o. map uncounted (unwrap_or o [])) (table.get-empty nat_cmp q) ∙ sym (ap (λ o. unwrap_or o []) (table.get-empty nat_cmp q))
-
 held_there : (h : HeldCell) → IsHeldAs (a_world h) h
 held_there h =
     record {
@@ -49,7 +43,7 @@ held_there h =
       servers = refl;
       clients = refl;
       sent = refl;
-      orders = after_all [] table.empty table.empty h.seen none_held;
+      orders = λ handle. refl;
       greatest = refl;
     }
 

@@ -1,7 +1,8 @@
-use Rattle.std.proofs.Common.{[], ◌++◌, refl, sym, subst, ap, ◌∙◌}
+use Rattle.std.proofs.Common.{[], ◌++◌, map, refl, sym, subst, ap, ◌∙◌}
 use Rattle.protocol.specs.Seen.{down_output}
 use Rattle.protocol.specs.Client.{ClientState}
 use Rattle.protocol.specs.Conforms.{ClientCalls}
+use Rattle.cell_world.specs.Kept.{blank_seen}
 use Rattle.cell_world.proofs.Lost.{at, unrecorded, recorded_so, call_lost}
 use Rattle.cell_world.proofs.clients.client_calls.Goals as goal
 
@@ -31,5 +32,5 @@ returns c =
       steps = record { calls = c.call-sent.ensures; unseen = refl };
       nodes_are = refl;
       recorded = recorded_so c.args.kept.now c.reserve.new.self c.takes.new.self c.call-sent.result [] c.reserve.ensures.sent c.reserve.ensures.seen c.takes.ensures.sent
-          (c.takes.ensures.seen ∙ ap (λ xs. c.reserve.new.self.sights.seen ++ xs) c.empty.ensures);
+          (c.takes.ensures.seen ∙ ap (λ xs. c.reserve.new.self.sights.seen ++ map blank_seen xs) c.empty.ensures);
     }

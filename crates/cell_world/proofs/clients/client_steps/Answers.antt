@@ -1,10 +1,11 @@
-use Rattle.std.proofs.Common.{List, [], ◌++◌, Option, refl, sym, subst, ap, ◌∙◌}
+use Rattle.std.proofs.Common.{List, [], ◌++◌, map, Option, refl, sym, subst, ap, ◌∙◌}
 use Rattle.messages.specs.declared.event.NodeInput.{NodeInput}
 use Rattle.messages.specs.declared.message.Message.{Message}
 use Rattle.server_cell.specs.Inputs.{input_of}
 use Rattle.protocol.specs.Client.{ClientState}
 use Rattle.protocol.specs.Conforms.{ClientSteps}
 use Rattle.cell_world.specs.Batches.{message_named}
+use Rattle.cell_world.specs.Kept.{blank_seen}
 use Rattle.cell_world.proofs.Lost.{at, unrecorded, recorded_so, client_lost, lost_out, lost_quietly}
 use Rattle.cell_world.proofs.clients.client_steps.Goals as goal
 
@@ -39,5 +40,5 @@ returns c =
       };
       nodes_are = refl;
       recorded = recorded_so c.args.kept.now c.reserve.new.self c.takes.new.self c.steps_on-sent.result [] c.reserve.ensures.sent c.reserve.ensures.seen c.takes.ensures.sent
-          (c.takes.ensures.seen ∙ ap (λ xs. c.reserve.new.self.sights.seen ++ xs) c.empty.ensures);
+          (c.takes.ensures.seen ∙ ap (λ xs. c.reserve.new.self.sights.seen ++ map blank_seen xs) c.empty.ensures);
     }

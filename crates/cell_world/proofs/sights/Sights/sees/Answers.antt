@@ -1,7 +1,10 @@
-use Rattle.std.proofs.Common.{ap, ◌∙◌}
-use Rattle.cell_world.specs.Seeing.{seen_in}
-use Rattle.cell_world.proofs.Seeing.{seen_push}
+use Rattle.std.proofs.Common.{◌<◌, map, sym, subst}
+use Rattle.cell_world.specs.Kept.{seen_of}
+use Rattle.cell_world.specs.Seeing.{SeenSoFar}
+use Rattle.cell_world.proofs.Seeing.{seen_last}
 use Rattle.cell_world.proofs.sights.Sights.sees.Goals as goal
 
-pub returns-then-len-gt0 : goal.returns-then-len-gt0
-returns-then-len-gt0 c = rw (← c.self.view_is) (ap seen_in c.push.ensures ∙ seen_push c.self.inside.steps.items c.args.seen)
+pub returns : goal.returns
+returns c =
+    rw (← c.self.view_is)
+    (seen_last (map seen_of c.self.inside.past.items) c.self.inside.last c.args.seen (subst (λ (s : SeenSoFar). 0 < s.room) (sym c.self.view_is) c.requires))
