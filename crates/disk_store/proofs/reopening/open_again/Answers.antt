@@ -4,7 +4,7 @@ use Rattle.disk_store.proofs.Saying.{on_err}
 use Rattle.disk_store.proofs.reopening.open_again.Goals as goal
 
 pub reopen-requires : goal.reopen-requires
-reopen-requires g c = c.requires.kept.3.whole
+reopen-requires g c = record { whole = c.requires.kept.3.whole }
 
 pub returns-in-Err-clause-err : goal.returns-in-Err-clause-err
 returns-in-Err-clause-err g c order rows d kept =
@@ -39,7 +39,7 @@ pub returns-in_err-rots-clause-err : goal.returns-in_err-rots-clause-err
 returns-in_err-rots-clause-err g c order rows d kept =
     let disk = g.D.Disk in
     let s = c.args.store.now in
-    on_err c.from_residual-in_err-rots.result (unrotten disk.seen disk.may_leave s order rows d c.args.standing.now kept c.reopen.new.self c.reopen.ensures.layout c.requires.not_open c.in-Ok.ensures.reopened c.rots.new.store c.rotting_in.result c.rotting_in.ensures c.rots.ensures.layout c.in_err-rots.ensures.any_moment)
+    on_err c.from_residual.result (unrotten disk.seen disk.may_leave s order rows d c.args.standing.now kept c.reopen.new.self c.reopen.ensures.layout c.requires.not_open c.in-Ok.ensures.reopened c.rots.new.store c.rotting_in.result c.rotting_in.ensures c.rots.ensures.layout c.in_err-rots.ensures.any_moment)
 
 pub returns-clause-ok : goal.returns-clause-ok
 returns-clause-ok g c order rows d kept =

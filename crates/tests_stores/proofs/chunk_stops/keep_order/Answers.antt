@@ -10,7 +10,7 @@ use Rattle.store_disk.specs.declared.places.Layout.{Layout}
 use Rattle.tests_stores.proofs.chunk_stops.keep_order.Goals as goal
 
 pub open-requires : goal.open-requires
-open-requires g c = ap (λ (l : Layout). l.chunk % l.block) c.layout-layout.ensures ∙ c.requires.1.whole
+open-requires g c = record { whole = ap (λ (l : Layout). l.chunk % l.block) c.layout-layout.ensures ∙ c.requires.1.whole }
 
 pub returns-in-Ok : goal.returns-in-Ok
 returns-in-Ok g c d is =
