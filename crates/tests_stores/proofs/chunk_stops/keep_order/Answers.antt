@@ -21,7 +21,7 @@ returns-in-Ok g c d is =
     let e = disk_changed d (SetOrder c.args.order) in
     let found = disk.seen c.restart.new.self in
     let opened =
-        subst (λ (m : Layout). IfOk c.open.result (λ s. (x : ServerDisk) → HoldsReplicas m.chunk m.block m.slots found x → IsOpen disk.seen disk.may_leave s x)) c.layout-layout.ensures c.open.ensures.open in
+    subst (λ (m : Layout). IfOk c.open.result (λ s. (x : ServerDisk) → HoldsReplicas m.chunk m.block m.slots found x → IsOpen disk.seen disk.may_leave s x)) c.layout-layout.ensures c.open.ensures.open in
     let run = reopens_either disk.seen disk.may_leave disk.moment disk.left_since l.chunk l.block l.slots store.disk mid d e (c.set_order.ensures.any_moment d is.says) in
     elim (run.stop.each found (g.met.D.Disk.counts_now mid (disk.moment store.disk) found run.stop.later (subst (λ x. disk.may_leave x found) c.into_disk-disk.ensures c.in-Ok.ensures.lawful))) [
       | inl holds ↦
