@@ -7,6 +7,7 @@ use script::kinds::Kind as MessageKind;
 #[derive(Clone, Copy, Debug, PartialEq, Eq)]
 pub enum Kind {
     Message(MessageKind),
+    /// A client's. No gate is told of one, since a client has no lock.
     Call,
     Tick,
     Restart,

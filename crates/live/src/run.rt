@@ -101,10 +101,7 @@ fn play_on_new<
         return Err(ScriptFault::Start);
     }
     let mut cell = start(rt, alloc, options)?;
-    let watch = watch(rt, &cell, watcher);
-    let played = play_in(&rt, alloc, &mut cell, options.clients, lines);
-    stop(&rt, watch);
-    let Ok(players) = played else {
+    let Ok(players) = play_watched(rt, alloc, &mut cell, options.clients, lines, watcher) else {
         cell.close(&rt);
         return Err(ScriptFault::NoMemory);
     };
@@ -113,19 +110,41 @@ fn play_on_new<
     Ok(players)
 }
 
-// The thread that tells the watcher, if there is one.
-fn watch<T: Threads + Wait + Clock + Copy + Send + 'static, P: Watcher + Send + Drop + 'static>(
+// The clients once all lines were played, if none was refused memory. The watcher, if there is one, is told meanwhile how far the cell is.
+fn play_watched<
+    T: Threads + Wait + Clock + Copy + Send + Sync + 'static,
+    P: Watcher + Send + Drop + 'static,
+>(
     rt: T,
-    cell: &Cell,
+    alloc: Global,
+    cell: &mut Cell,
+    clients: u64,
+    lines: &[LiveLine],
     watcher: Option<P>,
-) -> Option<Watch> {
+) -> Result<Vec<Player>, NoMemory>
+    requires { cell.old.made ≡ 0 }
+    ensures cell { cell.new.of ≡ cell.old.of }
+    ensures count { IfOk result (λ players. length players.items ≡ clients) }
+    ensures players { IfOk result (λ players. Each (IsPlayed cell.old.of lines.now) players.items) }
+{
+    let watch = start_watch(rt, cell, watcher);
+    let played = play_in(&rt, alloc, cell, clients, lines);
+    stop_watch(&rt, watch);
+    played
+}
+
+// The thread that tells the watcher, if there is one.
+fn start_watch<
+    T: Threads + Wait + Clock + Copy + Send + 'static,
+    P: Watcher + Send + Drop + 'static,
+>(rt: T, cell: &Cell, watcher: Option<P>) -> Option<Watch> {
     match watcher {
         Some(watcher) => cell.watch(rt, watcher),
         None => None,
     }
 }
 
-fn stop(rt: &impl Threads, watch: Option<Watch>) {
+fn stop_watch(rt: &impl Threads, watch: Option<Watch>) {
     if let Some(watch) = watch {
         watch.stop(rt);
     }
