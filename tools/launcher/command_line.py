@@ -39,7 +39,7 @@ def texts():
     tables = [re.search(rf'const {name}: [^=]*= \[(.*?)\n?\];', source, re.S)[1] for name in ('OPTIONS', 'REGION')]
     options, region = [re.findall(r'\(\s*"([^"]+)",\s*"([^"]+)",?\s*\)', table) for table in tables]
     abouts = dict(re.findall(r'runner\(alloc, "(\w+)", "([^"]+)"\)', source))
-    progress = re.search(r'const PROGRESS: [^=]*= \(\s*"([^"]+)",\s*"([^"]+)",?\s*\);', source).groups()
+    progress = re.search(r'\(flag\(\s*alloc,\s*"([^"]+)",\s*"([^"]+)"', source).groups()
     return Texts(re.search(r'\.version\("([^"]+)"\)', source)[1], re.search(r'\.about\("([^"]+)"\)', source)[1], abouts['sim'], abouts['live'], options, region, progress)
 
 

@@ -113,12 +113,6 @@ const REGION: [(&str, &str); 1] = [(
     "Bytes of a region for the names [default: none, they share the memory of all]",
 )];
 
-/// The flag of the cell with threads alone.
-const PROGRESS: (&str, &str) = (
-    "progress",
-    "Tells on standard error, once a second, calls answered, events, and room left in the journal",
-);
-
 /// A flag by a long name.
 fn flag<'a>(alloc: Global, name: &'a str, help: &'a str) -> Arg<'a>
     ensures rule { rule_of result ≡ flag_named name.entry.now }
@@ -180,7 +174,11 @@ fn player<'a>(alloc: Global) -> Result<Command<'a>, AllocError>
     ensures { IfOk result (λ command. shape_of command ≡ player) }
 {
     let command = runner(alloc, "live", "Runs a script on a cell with threads")?;
-    command.arg(flag(alloc, PROGRESS.0, PROGRESS.1))
+    command.arg(flag(
+        alloc,
+        "progress",
+        "Tells on standard error, once a second, calls answered, events, and room left in the journal",
+    ))
 }
 
 fn command<'a>(alloc: Global) -> Result<Command<'a>, AllocError>
@@ -305,7 +303,7 @@ pub fn parse<'a>(alloc: Global, words: &'a [String]) -> Result<Request<'a>, Comm
     let file = given.get_str("FILE").ok_or(CommandFault::Bad)?;
     let names_heap = names_heap(given)?;
     let options = options(given)?;
-    let tells_progress = is_given(given, PROGRESS.0);
+    let tells_progress = is_given(given, "progress");
     Ok(request_for(name, file, names_heap, tells_progress, options))
 }
 
