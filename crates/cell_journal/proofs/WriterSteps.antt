@@ -256,11 +256,8 @@ module _ (n : Node) (old mid ready final : Mine) (y : Filled) (writer : IsNodeWr
 
 -- a writer that gives the journal back as it was
 module _ (n : Node) (old mid final : Mine) (y : Filled) (t : Took old.0 mid.0 y) (is : final ≡ (gave mid.0 y, [])) where
-  pub gave_later : IsLater old.0 final.0
+  gave_later : IsLater old.0 final.0
   gave_later = subst (λ (m : Mine). IsLater old.0 m.0) (sym is) (later old.0 mid.0 y y t refl)
-
-  pub gave_writer : IsNodeWriter n old → IsNodeWriter n final
-  gave_writer writer = subst (IsNodeWriter n) (sym is) (record { role = role_kept old.0 mid.0 y y n t writer.role; free = refl })
 
   pub gave_waits : IsWaiting old.0 final
   gave_waits = record { free = ap (λ (m : Mine). m.1) is; of = gave_later.of; role = gave_later.role }

@@ -10,10 +10,11 @@ ghost use Rattle.cell_journal.specs.Rules.{IsStepOf};
 ghost use Rattle.cell_journal.specs.Writers.{IsAt, IsNodeWriter, IsLater, IsRead, GoesOn, IsSeen};
 
 use crate::gate::Kind;
+use crate::journal_look::look;
 use crate::mailboxes::Input;
 use crate::shared_state::SharedState;
 use cell_journal::journal_entry::{JournalEntry, StepCause};
-use cell_journal::{ExtendedHistory, JournalWriter, begin, end, give_up, look};
+use cell_journal::{ExtendedHistory, JournalWriter, begin, end, give_up};
 use gfs_types::ids::{Moment, Node};
 use gfs_types::refusal::Refusal;
 use messages::event::StepOut;

@@ -1,8 +1,9 @@
 use Rattle.std.proofs.Common.{[], refl, sym, ap, subst, ◌∙◌, arith}
 use Rattle.cell_journal.specs.Rules.{Writes, IsSame, gave}
 use Rattle.cell_journal.specs.Writers.{IsNodeWriter, IsLater}
-use Rattle.cell_journal.proofs.WriterSteps.{when_true, when_false, only_writes, same, still_writes, later_self, gave_writer, gave_later}
-use Rattle.cell_journal.proofs.step_look.look.Goals as goal
+use Rattle.cell_journal.proofs.WriterSteps.{when_true, when_false, only_writes, same, still_writes, later_self}
+use Rattle.cell_seats.proofs.Looking.{looked_writer, looked_later}
+use Rattle.cell_seats.proofs.journal_look.look.Goals as goal
 
 pub acquire-requires-clause-writes : goal.acquire-requires-clause-writes
 acquire-requires-clause-writes g c = (c.args.node, only_writes c.args.writer.now.me.0 c.args.node c.requires.writer.role)
@@ -45,6 +46,6 @@ returns g c =
     let is = c.release.ensures.gave t.0 (ap (λ m. m.1) kept ∙ t.1) ∙ ap (λ m. (gave m.0 t.0, [])) kept in
     record {
       same = (c.release.ensures.same.0 ∙ (c.look_at-found.ensures.same.0 ∙ c.acquire.ensures.same.0), c.release.ensures.same.1 ∙ (c.look_at-found.ensures.same.1 ∙ c.acquire.ensures.same.1));
-      writer = gave_writer n old mid final t.0 t.2 is c.requires.writer;
-      later = gave_later n old mid final t.0 t.2 is;
+      writer = looked_writer n old mid final t.0 t.2 is c.requires.writer;
+      later = looked_later n old mid final t.0 t.2 is;
     }

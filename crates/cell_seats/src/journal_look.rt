@@ -1,19 +1,19 @@
-//! A look at what a step would be taken on.
+//! A look at the journal: what a step would be taken on.
 
 ghost use Rattle.std.specs.Prelude.{◌≡◌, ◌∷◌, [], Some};
 ghost use Rattle.cell_journal.specs.Identity.{Filled};
 ghost use Rattle.cell_journal.specs.Writers.{IsAt, IsNodeWriter, IsLater};
 
-use crate::history::History;
-use crate::journal_lock::{acquire, release};
-use crate::{JournalWriter, SharedHistory};
+use cell_journal::history::History;
+use cell_journal::journal_lock::{acquire, release};
+use cell_journal::{JournalWriter, SharedHistory};
 use gfs_types::ids::Node;
 use messages::message::Message;
 use std::sync::Wait;
 
 /// A copy of the message of a number, if it was sent to this node. No room is made for a step. There is none where there is no memory for it, or
 /// no journal any more.
-pub fn look(
+pub(crate) fn look(
     rt: &impl Wait,
     shared: &SharedHistory,
     writer: &mut JournalWriter,
