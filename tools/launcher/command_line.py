@@ -15,9 +15,9 @@ NARROW = ('chunk', 'block', 'goal', 'attempts', 'cache_entries', 'push_entries',
 COUNTS = {'servers': 3, 'clients': 1}
 MOST_NODES = 64
 
-# the subcommand, its file, and each option that is given, by its name
+# the subcommand, its file, and each option with a number that is given, by its name
 Asked = namedtuple('Asked', 'way file given')
-Texts = namedtuple('Texts', 'version about sim live options region')
+Texts = namedtuple('Texts', 'version about sim live options region progress')
 
 
 class Bad(Exception):
@@ -39,7 +39,8 @@ def texts():
     tables = [re.search(rf'const {name}: [^=]*= \[(.*?)\n?\];', source, re.S)[1] for name in ('OPTIONS', 'REGION')]
     options, region = [re.findall(r'\(\s*"([^"]+)",\s*"([^"]+)",?\s*\)', table) for table in tables]
     abouts = dict(re.findall(r'runner\(alloc, "(\w+)", "([^"]+)"\)', source))
-    return Texts(re.search(r'\.version\("([^"]+)"\)', source)[1], re.search(r'\.about\("([^"]+)"\)', source)[1], abouts['sim'], abouts['live'], options, region)
+    progress = re.search(r'\(flag\(\s*alloc,\s*"([^"]+)",\s*"([^"]+)"', source).groups()
+    return Texts(re.search(r'\.version\("([^"]+)"\)', source)[1], re.search(r'\.about\("([^"]+)"\)', source)[1], abouts['sim'], abouts['live'], options, region, progress)
 
 
 # ---- the help
@@ -58,12 +59,18 @@ def program_help():
 
 
 def options_of(way):
-    """The options of a subcommand, and what the help says of each."""
+    """The options of a subcommand that take a number, and what the help says of each."""
     return texts().options + (texts().region if way == 'sim' else [])
 
 
+def flags_of(way):
+    """The options of a subcommand that take none."""
+    return [texts().progress] if way == 'live' else []
+
+
 def subcommand_help(way):
-    flags = [(f'    --{name} <N>', said) for name, said in options_of(way)] + [('-h, --help', 'Print help')]
+    rows = [(f'    --{name} <N>', said) for name, said in options_of(way)]
+    flags = rows + [(f'    --{name}', said) for name, said in flags_of(way)] + [('-h, --help', 'Print help')]
     about = texts().sim if way == 'sim' else texts().live
     return (f'{about}\n\nUsage: gfscell {way} [OPTIONS] <FILE>\n\nArguments:\n{aligned([("<FILE>", "The script, or - for standard input")])}'
             f'\nOptions:\n{aligned(flags)}')
@@ -95,6 +102,7 @@ class Words:
     def __init__(self, way):
         self.way = way
         self.names = [name for name, _ in options_of(way)]
+        self.flags = [name for name, _ in flags_of(way)]
         self.given = {}
         self.pending = None
 
@@ -109,6 +117,14 @@ class Words:
             raise Bad(f'--{name} stands twice')
         self.given[name] = value
 
+    def flag(self, name, value):
+        if value is not None:
+            raise Bad(f'--{name} takes no value')
+        self.settle()
+        if name in self.given:
+            raise Bad(f'--{name} stands twice')
+        self.given[name] = None
+
     def show_help(self):
         self.settle()
         raise Shown(subcommand_help(self.way))
@@ -118,8 +134,11 @@ class Words:
             if value is not None:
                 raise Bad('--help takes no value')
             self.show_help()
+        if name in self.flags:
+            self.flag(name, value)
+            return
         if name not in self.names:
-            raise Bad(f'no option --{name}{near("--" + name, ["--" + it for it in self.names])}')
+            raise Bad(f'no option --{name}{near("--" + name, ["--" + it for it in self.names + self.flags])}')
         self.settle()
         self.pending = (name, value)
         if value is not None:
@@ -178,6 +197,7 @@ def parse(words):
     way = subcommand(words)
     given = Words(way).taken(words[1:])
     file = given.pop('FILE')
+    given = {name: value for name, value in given.items() if value is not None}
     for name, value in given.items():
         if number(value) is None:
             raise Bad(f'--{name}: {value} is no decimal number below 2^64')

@@ -14,7 +14,7 @@ BAD = (2, b'', b'gfscell: bad command line\n')
 MORE_BAD = [
     '--', '-- sim a', 'sim --', 'sim a --servers --help', 'sim a --servers 3 --servers 3 --help', 'sim a --help=x', '-x', 'sim a -x', 'sim a --=3', '-', 'live',
     'sim a --servers -- 3', 'sim a --chunk 99999999999999999999999', 'sim a -- b', 'sim --names-heap 1 --names-heap 1 a', 'simm a',
-    'sim a --servers\t3', '--version=1', '--help=']
+    'sim a --servers\t3', '--version=1', '--help=', 'live a --progress=', 'live a --progress --progress', 'sim a --progress', 'live --servers --progress a']
 MORE_SHOWN = {'sim --servers x --help': 'sim', 'sim a b --help': None, 'live -h': 'live', 'live a.live -hx': 'live', '-hV': '', 'sim --servers=9 -h': 'sim'}
 
 
@@ -63,7 +63,7 @@ def is_wanted(found, kind, text):
 def tables():
     """How many command lines there are in the tables, and those that are taken otherwise."""
     count, faults = 0, []
-    for table, least in (('LINES', 12), ('REFUSED', 26), ('SHOWN', 6)):
+    for table, least in (('LINES', 13), ('REFUSED', 29), ('SHOWN', 6)):
         rows = [(row[0] or row[3], row[1] or row[4], row[2]) for row in expected_in(table)]
         if len(rows) != least:
             faults.append(f'{table} of {TESTS}: {len(rows)} command lines are read')

@@ -14,7 +14,7 @@ use Rattle.cell_seats.specs.declared.mailboxes.Policy.{Policy}
 use Rattle.cell_seats.specs.Controls.{WritesControls, no_policy, restarted}
 use Rattle.cell_seats.specs.Seats.{SeatState, seat_state}
 use Rattle.cell_run.specs.declared.seat_fault.SeatFault.{SeatFault}
-use Rattle.cell_run.specs.declared.seat_fault.SeatFault.TheVariants.{Many, NoMemory}
+use Rattle.cell_run.specs.declared.seat_fault.SeatFault.TheVariants.{Many, Closed, NoMemory}
 
 -- which cell it is, how many clients were made, the network's policy, and how often each server, by its number, and the master, last, was asked to begin again
 pub record CellState : Type 0 where
@@ -51,9 +51,10 @@ asked_again c node = record c { restarts = restarted c.restarts node }
 abbrev pub IsNewSeat : CellState → SeatState → Type 0
 IsNewSeat c s = s ≡ seat_state (Client (record { 0 = c.made + 1 })) c.of [] false
 
--- why there is no client more: all were made, or memory was refused before that
+-- why there is no client more: all were made, or memory was refused before that; a cell that is there isn't closed
 abbrev pub IsSeatFault : CellState → SeatFault → Type 0
 IsSeatFault c Many = 64 ≤ c.made
+IsSeatFault c Closed = ⊥
 IsSeatFault c NoMemory = c.made < 64
 
 -- the master, the servers and so many clients are registered, the other clients have their mailboxes; what it asks is asked of its own nodes

@@ -16,6 +16,7 @@ use crate::running_client::RunningClient;
 use crate::seat_fault::SeatFault;
 pub use crate::start_fault::StartFault;
 use crate::threads::{CLOSING, ENDED, serve, stop_all, tick, wait_for_clients};
+use crate::watch::{Watch, Watcher, tell_on};
 use cell_journal::history::History;
 use cell_journal::journal_entry::JournalEntry;
 use cell_journal::{Beginning, open};
@@ -28,7 +29,7 @@ use cell_seats::seat::Seat;
 use cell_seats::shared_state::{MOST_CLIENTS, SharedState};
 use cell_seats::slot::Slot;
 use cell_seats::stepper::Stepper;
-use crossbeam_channel::Receiver;
+use crossbeam_channel::{Receiver, unbounded};
 use gfs_types::config::Config;
 use gfs_types::ids::{ClientId, Node, ServerId};
 use std::alloc::Global;
@@ -165,6 +166,22 @@ impl Cell {
             .shared
             .senders
             .put(rt, node, MailboxItem::Take(Input::Tick));
+    }
+
+    /// Tells a watcher how far the cell is, once a second, on a thread of its own, until the watch is stopped. None: no memory or no thread was to
+    /// be had for it.
+    pub fn watch<
+        R: Threads + Wait + Clock + Copy + Send + 'static,
+        W: Watcher + Send + Drop + 'static,
+    >(&self, rt: R, watcher: W) -> Option<Watch> {
+        let theirs = Arc::try_clone(&self.registry.shared).ok()?;
+        let journal = self.registry.config.journal;
+        let (stop, stopped) = unbounded(self.alloc).ok()?;
+        let job = move || tell_on(&rt, &theirs, journal, &stopped, &watcher);
+        match thread::spawn(&rt, job) {
+            Ok(thread) => Some(Watch { stop, thread }),
+            Err(_) => None,
+        }
     }
 
     /// Ends the cell: no step is begun any more, each call that waits is refused, and the threads end. No step follows. Where clocks were
@@ -333,6 +350,8 @@ fn new_registry(
         began,
         calling: AtomicU64::new(0),
         closing: AtomicU64::new(0),
+        answered: AtomicU64::new(0),
+        events: AtomicU64::new(0),
     };
     match Arc::new(alloc, shared) {
         Ok(shared) => Ok(Parts {

@@ -15,19 +15,23 @@ pub mod server_stepper;
 pub mod start_fault;
 mod step_message;
 mod threads;
+pub mod watch;
 
 // What a program that runs a cell names.
 pub use bytes::Bytes;
 pub use cell::{Cell, ClientSeat};
 pub use cell_journal::journal_entry::{JournalEntry, StepCause};
-pub use cell_seats::gate::{Gate, OpenGate};
+pub use cell_seats::gate::{Gate, Kind, OpenGate};
 pub use cell_seats::journal::Journal;
-pub use cell_seats::mailboxes::Policy;
+pub use cell_seats::mailboxes::{Input, Policy};
+pub use cell_seats::shared_state::Progress;
 pub use gfs_types::answer::Answer;
 pub use gfs_types::call::Call;
 pub use gfs_types::config::Config;
 pub use gfs_types::ids::{Fd, Node, ServerId};
 pub use gfs_types::lists::Text;
 pub use gfs_types::refusal::Refusal;
+pub use node_slots::{MasterSlot, ServerSlot};
 pub use seat_fault::SeatFault;
 pub use start_fault::StartFault;
+pub use watch::{Watch, Watcher};

@@ -11,6 +11,8 @@ use std::fmt;
 pub enum SeatFault {
     /// As many as there may be were made.
     Many,
+    /// The cell was closed. It is closed by giving it away, so this never comes.
+    Closed,
     NoMemory,
 }
 
@@ -20,6 +22,7 @@ impl fmt::Display for SeatFault {
     fn fmt<W: fmt::Write>(&self, f: &mut fmt::Formatter<W>) -> fmt::Result {
         match self {
             SeatFault::Many => write!(f, "no more clients"),
+            SeatFault::Closed => write!(f, "closed"),
             SeatFault::NoMemory => write!(f, "no memory"),
         }
     }

@@ -1,5 +1,6 @@
 pub mod WrittenControls
 pub mod Moving
+pub mod Looking
 pub mod Shown
 pub mod Sitting
 pub mod Traces

@@ -1,11 +1,26 @@
 //! What stands before a node's steps.
 
-use cell_journal::journal_entry::StepCause;
 use gfs_types::ids::Node;
+use script::kinds::Kind as MessageKind;
 
-/// Is told of each step of the master or a server before it is taken, and may hold it up. Other nodes go on meanwhile.
+/// What a step is to be taken on, whatever it says.
+#[derive(Clone, Copy, Debug, PartialEq, Eq)]
+pub enum Kind {
+    Message(MessageKind),
+    /// A client's. No gate is told of one, since a client has no lock.
+    Call,
+    Tick,
+    Restart,
+}
+
+/// Is told of each step of the master or a server before there is room for it in the journal, and may hold it up. Other nodes go on meanwhile.
 pub trait Gate {
-    fn before(&self, node: Node, cause: &StepCause);
+    fn before(&self, node: Node, kind: Kind);
+
+    /// Whether it lets every step pass, so that it need not be told of any.
+    fn is_open(&self) -> bool {
+        false
+    }
 }
 
 /// Lets every step pass.
@@ -13,5 +28,9 @@ pub trait Gate {
 pub struct OpenGate;
 
 impl Gate for OpenGate {
-    fn before(&self, _node: Node, _cause: &StepCause) {}
+    fn before(&self, _node: Node, _kind: Kind) {}
+
+    fn is_open(&self) -> bool {
+        true
+    }
 }

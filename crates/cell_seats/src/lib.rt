@@ -6,6 +6,7 @@ pub mod client_call;
 pub mod controls;
 pub mod gate;
 pub mod journal;
+mod journal_look;
 pub mod mailbox_wait;
 pub mod mailboxes;
 pub mod node_journal;

@@ -9,6 +9,9 @@ ghost use Rattle.cell_journal.specs.Entries.{entry, cause_of};
 ghost use Rattle.cell_journal.specs.Rules.{IsStepOf};
 ghost use Rattle.cell_journal.specs.Writers.{IsAt, IsNodeWriter, IsLater, IsRead, GoesOn, IsSeen};
 
+use crate::gate::Kind;
+use crate::journal_look::look;
+use crate::mailboxes::Input;
 use crate::shared_state::SharedState;
 use cell_journal::journal_entry::{JournalEntry, StepCause};
 use cell_journal::{ExtendedHistory, JournalWriter, begin, end, give_up};
@@ -16,7 +19,9 @@ use gfs_types::ids::{Moment, Node};
 use gfs_types::refusal::Refusal;
 use messages::event::StepOut;
 use messages::message::Message;
+use script::kinds::Kind as MessageKind;
 use std::alloc::Global;
+use std::sync::atomic::Ordering;
 use std::sync::{Arc, Wait};
 use std::time::Clock;
 
@@ -58,6 +63,27 @@ impl NodeJournal {
         ensures { IfSome result (λ m. m.0 ≤ moment_limit) }
     {
         self.shared.now(rt)
+    }
+
+    /// The kind of what a step would be taken on. There is none where it can't be read, so that no step will be taken.
+    pub fn kind(&mut self, rt: &impl Wait, input: Input) -> Option<Kind>
+        ensures node { self.new.node ≡ self.old.node }
+        ensures later { IsLater self.old.writer.me.0 self.new.writer.me.0 }
+    {
+        match input {
+            Input::Deliver(number) => {
+                let message = look(
+                    rt,
+                    &self.shared.table.shared,
+                    &mut self.writer,
+                    self.node,
+                    number,
+                )?;
+                Some(Kind::Message(MessageKind::of(&message.body)))
+            }
+            Input::Tick => Some(Kind::Tick),
+            Input::Restart => Some(Kind::Restart),
+        }
     }
 
     /// Makes room for a step, which is taken on the message of a number, if there is one.
@@ -112,6 +138,7 @@ impl NodeJournal {
             self.node,
             entry,
         )?;
+        self.shared.events.fetch_add(1, Ordering::SeqCst);
         deliver_all(rt, &self.shared, &receivers, extended.sent_before);
         Some(extended)
     }

@@ -123,6 +123,7 @@ impl<N: Stepper + Drop> Seat<N> {
                     count,
                 },
             ) => {
+                count_answer(self.slot.shared());
                 self.view = beginning;
                 self.count = count;
                 self.lost = None;
@@ -146,6 +147,10 @@ fn of_the_cell(refusal: Refusal) -> Refusal
         Refusal::JournalFull => Refusal::JournalFull,
         _ => Refusal::Closed,
     }
+}
+
+fn count_answer(shared: &SharedState) {
+    shared.answered.fetch_add(1, Ordering::SeqCst);
 }
 
 fn mark_calling(shared: &SharedState, bit: u64, is_calling: bool) {

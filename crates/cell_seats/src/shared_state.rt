@@ -1,6 +1,6 @@
 //! What all nodes of a running cell share.
 
-ghost use Rattle.std.specs.Prelude.{◌≡◌, ◌≤◌, IfSome};
+ghost use Rattle.std.specs.Prelude.{◌≡◌, ◌≤◌, ◌-◌, IfSome};
 ghost use Rattle.protocol.specs.Tables.{moment_limit};
 
 use crate::controls::Controls;
@@ -13,6 +13,15 @@ use std::time::{Clock, Duration};
 /// How many clients a cell may have.
 pub const MOST_CLIENTS: u64 = 64;
 
+/// How far a running cell was at some moment: how many calls were answered, how many steps were taken, and for how many more there was room in
+/// its journal.
+#[derive(Clone, Copy, Debug, PartialEq, Eq)]
+pub struct Progress {
+    pub answered: u64,
+    pub events: u64,
+    pub room: u64,
+}
+
 /// The journal, the mailboxes, what is asked from outside, and the moment at which the cell began.
 pub struct SharedState {
     pub table: JournalTable,
@@ -23,6 +32,9 @@ pub struct SharedState {
     pub calling: AtomicU64,
     /// 1 once the cell closes.
     pub closing: AtomicU64,
+    /// How many calls were answered, and how many steps stand in the journal.
+    pub answered: AtomicU64,
+    pub events: AtomicU64,
     pub ghost one: { (table.shared.table_id.words ≡ 1) × (table.shared.table_id.slots ≡ 1) },
 }
 
@@ -36,6 +48,8 @@ impl Drop for SharedState {
             began: _,
             calling: _calling,
             closing: _closing,
+            answered: _answered,
+            events: _events,
         } = self;
     }
 }
@@ -51,6 +65,18 @@ impl SharedState {
             return None;
         }
         Some(Moment(now))
+    }
+
+    /// How far the cell is, whose journal has room for so many steps in all.
+    pub fn progress(&self, journal: u32) -> Progress
+        ensures { result.room ≡ journal - result.events }
+    {
+        let events = self.events.load(Ordering::SeqCst);
+        Progress {
+            answered: self.answered.load(Ordering::SeqCst),
+            events,
+            room: u64::from(journal).saturating_sub(events),
+        }
     }
 
     pub fn is_closing(&self) -> bool {

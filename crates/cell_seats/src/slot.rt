@@ -146,10 +146,23 @@ fn take_in<R: Wait + Clock, N: Stepper + Drop, G: Gate>(
     ensures ok { IfOk result (λ t. ActsOn journal.old.node journal.old.writer.me.0 journal.new.writer.me.0 input t.answer t.beginning t.count) }
     ensures err { OnErr result (IsLater journal.old.writer.me.0 journal.new.writer.me.0) }
 {
+    pass(rt, journal, input, gate);
     let message = journal.begin(rt, number_of(input))?;
     let cause = cause_on(input, message);
-    gate.before(journal.node, &cause);
     steps(rt, alloc, journal, node, cause, None)
+}
+
+// The gate is told of the step, and lets it pass.
+fn pass<R: Wait, G: Gate>(rt: &R, journal: &mut NodeJournal, input: Input, gate: &G)
+    ensures node { journal.new.node ≡ journal.old.node }
+    ensures later { IsLater journal.old.writer.me.0 journal.new.writer.me.0 }
+{
+    if gate.is_open() {
+        return;
+    }
+    if let Some(kind) = journal.kind(rt, input) {
+        gate.before(journal.node, kind);
+    }
 }
 
 // A step of a node on a call.

@@ -1,6 +1,5 @@
 pub mod Answers
 mod StepLemmas
 mod EndLemmas
-mod Bytes
 mod LineLemmas
 mod StopLemmas

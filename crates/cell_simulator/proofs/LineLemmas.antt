@@ -14,11 +14,12 @@ use Rattle.script.specs.Lines.{is_skipped, words_of}
 use Rattle.script.specs.declared.cell_lines.CellLine.{CellLine}
 use Rattle.script.specs.declared.cell_lines.CellLine.TheVariants as line
 use Rattle.script.specs.CellLines.{line_of, line_for}
+use Rattle.script.specs.Reading.{longest_line, lines_in, ReadsLine, AreRead, Leaves}
+use Rattle.script.proofs.LinesRead.{at_end, leaves_all, leaves_on}
 use Rattle.cell_simulator.specs.Cells.{Meaning}
-use Rattle.cell_simulator.specs.Steps.{Simulated, line_feed}
+use Rattle.cell_simulator.specs.Steps.{Simulated}
 use Rattle.cell_simulator.specs.Lines.{Runs}
-use Rattle.cell_simulator.specs.Reading.{longest_line, HasNoFeed, EndsLine, ReadsLine}
-use Rattle.cell_simulator.specs.Scripts.{lines_in, asked_on, IsLine, AreRead, ComeTo, RunsOn, RunsText, Leaves, RunsLines, RunsScript}
+use Rattle.cell_simulator.specs.Scripts.{asked_on, IsLine, ComeTo, RunsOn, RunsText, RunsLines, RunsScript}
 use Rattle.cell_simulator.proofs.StepLemmas.{appends_none, appends_twice}
 use Rattle.cell_simulator.proofs.EndLemmas.{runs_nothing}
 
@@ -56,62 +57,10 @@ is_line : {C : Type 0} (m : Meaning C) (a b : Simulated C) (x y : Option (List �
 is_line m a b x y text r none = some_line (line_of text) r.line r.line_is none
 
 -- a line that is too long is none
-too_long : (text : List ℕ) → longest_line < length text → IsLine text → ⊥
-too_long text long is =
+pub too_long : (text : List ℕ) → longest_line < length text → line_of text ≡ None
+too_long text long =
     let over : nat_lt 8192 (length text) ≡ true = grind (arith, nat_tests) in
-    is (ap (λ (b : Bool). cond b None (cond (is_skipped text) (Some line.Nothing) (line_for (words_of text)))) over)
-
--- the lines of a script whose first line was read
-lines_after : (xs ys text : List ℕ) → IsLine text → HasNoFeed text → EndsLine xs ys text true → (lines_in xs ≡ text ∷ lines_in ys) ⊎ ((lines_in xs ≡ text ∷ []) × (ys ≡ []))
-lines_after xs ys text is none ends = ⊎_elim
-    (λ at. inl (ap (λ (t : List ℕ). lines_in t) at.0 ∙ slice_split_at (λ c. c == line_feed) text line_feed ys none refl))
-    (λ rest. ⊎_elim
-    (λ at. inr (ap (λ (t : List ℕ). lines_in t) at.0 ∙ slice_split_none (λ c. c == line_feed) text none, at.1))
-    (λ long. absurd (too_long text long.1 is)) rest)
-    ends
-
-no_feed : (line rest : List ℕ) → line ++ line_feed ∷ rest ≡ [] → ⊥
-no_feed [] rest e = absurd (cc)
-no_feed (x ∷ line) rest e = absurd (cc)
-
-no_length : (line rest : List ℕ) → line ++ rest ≡ [] → longest_line < length line → ⊥
-no_length [] rest e long = omega arith
-no_length (x ∷ line) rest e long = absurd (cc)
-
--- where nothing is left, there is no line
-pub nothing_left : (xs ys text : List ℕ) → xs ≡ [] → EndsLine xs ys text true → ⊥
-nothing_left xs ys text is ends = ⊎_elim
-    (λ at. no_feed text ys (sym at.0 ∙ is))
-    (λ rest. ⊎_elim
-    (λ at. false≢true (sym (at.2.1 (sym at.0 ∙ is))))
-    (λ long. no_length text ys (sym long.0 ∙ is) long.1) rest)
-    ends
-
-at_end : (xs ys text : List ℕ) → EndsLine xs ys text false → xs ≡ []
-at_end xs ys text ends = ⊎_elim
-    (λ at. absurd (false≢true at.1))
-    (λ rest. ⊎_elim (λ at. at.0 ∙ at.2.0 refl) (λ long. absurd (false≢true long.2)) rest)
-    ends
-
-leaves_all : (known : Option (List ℕ)) → Leaves known known []
-leaves_all None = tt
-leaves_all (Some xs) = inl refl
-
--- one more line was read
-read_on : (xs ys zs : List ℕ) (texts : List (List ℕ)) (text : List ℕ) → AreRead xs texts ys → HasNoFeed text → EndsLine ys zs text true → IsLine text → AreRead xs (texts ++ text ∷ []) zs
-read_on xs ys zs texts text h none ends is = ⊎_elim
-    (λ at. ⊎_elim
-    (λ next. inl (at ∙ (ap (λ (l : List (List ℕ)). texts ++ l) next ∙ sym (append_assoc texts (text ∷ []) (lines_in zs)))))
-    (λ last. inr (at ∙ ap (λ (l : List (List ℕ)). texts ++ l) last.0, last.1))
-    (lines_after ys zs text is none ends))
-    (λ all. absurd (nothing_left ys zs text all.1 ends))
-    h
-
-leaves_on : (a b c : Option (List ℕ)) (texts : List (List ℕ)) (text : List ℕ) → Leaves a b texts → ReadsLine b c text true → IsLine text → Leaves a c (texts ++ text ∷ [])
-leaves_on None b c texts text h r is = tt
-leaves_on (Some xs) None c texts text h r is = absurd h
-leaves_on (Some xs) (Some ys) None texts text h r is = absurd r
-leaves_on (Some xs) (Some ys) (Some zs) texts text h r is = read_on xs ys zs texts text h r.0 r.1 is
+    ap (λ (b : Bool). cond b None (cond (is_skipped text) (Some line.Nothing) (line_for (words_of text)))) over
 
 -- before the first line
 pub lines_none : {C : Type 0} (m : Meaning C) (w : Simulated C) (known from : Option (List ℕ)) → RunsLines m w w known known from from 1
@@ -127,7 +76,7 @@ lines_on m a b c x y z from to last number text slice is_there there same p r q 
       runs = subst (λ (l : List CellLine). RunsOn m a c x z l) (sym (flat_map-append asked_on p.texts (slice ∷ []) ∙ ap (λ (l : List CellLine). flat_map asked_on p.texts ++ l) (append-nil (asked_on slice))))
           (runs_on m a b c x y z (flat_map asked_on p.texts) (asked_on slice) p.runs (runs_text m b c y z slice q));
       are_lines = All-append IsLine p.texts (slice ∷ []) p.are_lines (All-cons IsLine slice [] is (All-nil IsLine));
-      leaves = leaves_on from to last p.texts slice p.leaves (subst (λ t. ReadsLine to last t true) (sym same) (subst (λ i. ReadsLine to last text i) there r)) is;
+      leaves = leaves_on from to last p.texts slice p.leaves (subst (λ t. ReadsLine to last t true) (sym same) (subst (λ i. ReadsLine to last text i) there r)) (λ long. is (too_long slice long));
       number_is = omega (arith, p.number_is, length-append p.texts (slice ∷ []));
     }
 

@@ -14,87 +14,17 @@ use Rattle.script.specs.declared.script_fault.ScriptFault.{ScriptFault}
 use Rattle.script.specs.declared.script_fault.ScriptFault.TheVariants as fault
 use Rattle.script.specs.declared.cell_lines.CellLine.{CellLine}
 use Rattle.script.specs.declared.cell_lines.CellLine.TheVariants as line
-use Rattle.script.specs.CellLines.{line_of, line_for}
+use Rattle.script.specs.CellLines.{line_of}
+use Rattle.script.specs.Reading.{lines_in, ReadsLine, Leaves}
+use Rattle.script.proofs.Bytes.{keeps_all}
+use Rattle.script.proofs.LinesRead.{all_left, stopped_next}
 use Rattle.cell_simulator.specs.Cells.{Meaning}
-use Rattle.cell_simulator.specs.Steps.{Simulated, line_feed}
+use Rattle.cell_simulator.specs.Steps.{Simulated}
 use Rattle.cell_simulator.specs.declared.lines.LineEnd.{LineEnd}
 use Rattle.cell_simulator.specs.declared.lines.LineEnd.TheVariants as ends
 use Rattle.cell_simulator.specs.Lines.{Ends}
-use Rattle.cell_simulator.specs.Reading.{longest_line, HasNoFeed, EndsLine, ReadsLine}
-use Rattle.cell_simulator.specs.Scripts.{last_number, lines_in, AreRead, Leaves, RunsLines, IsBad, IsBadNext, IsEndlessOn, IsEndlessNext, StopsWith, StopsOn}
-use Rattle.cell_simulator.proofs.Bytes.{keeps_all}
-use Rattle.cell_simulator.proofs.LineLemmas.{nothing_left}
-
--- the line that is read next: the whole of it asks for what was read of it, and others follow
-record NextLine (xs text : List ℕ) : Type 0 where
-  pub whole : List ℕ
-  pub later : List (List ℕ)
-  pub lines_are : lines_in xs ≡ whole ∷ later
-  pub same : line_of whole ≡ line_of text
-
--- a list before the first byte at which lines end begins the first of them
-record FirstLine (text rest : List ℕ) : Type 0 where
-  pub part : List ℕ
-  pub later : List (List ℕ)
-  pub lines_are : lines_in (text ++ rest) ≡ (text ++ part) ∷ later
-
-some_line : (rest : List ℕ) (lines : List (List ℕ)) → 0 < length lines → lines_in rest ≡ lines → FirstLine [] rest
-some_line rest [] more is = absurd (omega arith)
-some_line rest (part ∷ later) more is = record { part = part; later = later; lines_are = is }
-
-first_line : (text rest : List ℕ) → HasNoFeed text → FirstLine text rest
-first_line [] rest none = some_line rest (lines_in rest) (omega (arith, length-slice_split (λ c. c == line_feed) rest)) refl
-first_line (x ∷ text) rest none =
-    let f : FirstLine text rest = first_line text rest (All-tail (λ c. (c == line_feed) ≡ false) x text none) in
-    record {
-      part = f.part;
-      later = f.later;
-      lines_are = slice_split-cons_no (λ c. c == line_feed) x (text ++ rest) (All-head (λ c. (c == line_feed) ≡ false) x text none) ∙ ap (onto_first x) f.lines_are;
-    }
-
-too_long : (text : List ℕ) → longest_line < length text → line_of text ≡ None
-too_long text long =
-    let over : nat_lt 8192 (length text) ≡ true = grind (arith, nat_tests) in
-    ap (λ (b : Bool). cond b None (cond (is_skipped text) (Some line.Nothing) (line_for (words_of text)))) over
-
-next_line : (xs ys text : List ℕ) → HasNoFeed text → EndsLine xs ys text true → NextLine xs text
-next_line xs ys text none ends = ⊎_elim
-    (λ at. record { whole = text; later = lines_in ys; lines_are = ap (λ (t : List ℕ). lines_in t) at.0 ∙ slice_split_at (λ c. c == line_feed) text line_feed ys none refl; same = refl })
-    (λ rest. ⊎_elim
-    (λ at. record { whole = text; later = []; lines_are = ap (λ (t : List ℕ). lines_in t) at.0 ∙ slice_split_none (λ c. c == line_feed) text none; same = refl })
-    (λ long.
-    let f : FirstLine text ys = first_line text ys none in
-    record {
-      whole = text ++ f.part;
-      later = f.later;
-      lines_are = ap (λ (t : List ℕ). lines_in t) long.0 ∙ f.lines_are;
-      same = too_long (text ++ f.part) (omega (arith, long.1, length-append text f.part)) ∙ sym (too_long text long.1);
-    }) rest)
-    ends
-
--- the lines that are left, the first of them read
-next_left : (xs ys zs : List ℕ) (texts : List (List ℕ)) (text : List ℕ) → AreRead xs texts ys → HasNoFeed text → EndsLine ys zs text true
-    → (whole : List ℕ) × (later : List (List ℕ)) × (lines_in xs ≡ texts ++ whole ∷ later) × (line_of whole ≡ line_of text)
-next_left xs ys zs texts text h none ends = ⊎_elim
-    (λ at.
-    let n : NextLine ys text = next_line ys zs text none ends in
-    (n.whole, n.later, at ∙ ap (λ (l : List (List ℕ)). texts ++ l) n.lines_are, n.same))
-    (λ all. absurd (nothing_left ys zs text all.1 ends))
-    h
-
--- the lines that are left
-all_left : (xs ys : List ℕ) (texts : List (List ℕ)) → AreRead xs texts ys → (later : List (List ℕ)) × (lines_in xs ≡ texts ++ later)
-all_left xs ys texts h = ⊎_elim (λ at. (lines_in ys, at)) (λ all. ([], all.0 ∙ sym (append-nil texts))) h
-
-stopped_next : (from to last : Option (List ℕ)) (texts : List (List ℕ)) (text : List ℕ) (Why : Option CellLine → Type 0) (Next : List (List ℕ) → Type 0) → Leaves from to texts → ReadsLine to last text true
-    → ((whole : List ℕ) (later : List (List ℕ)) → Why (line_of whole) → Next (whole ∷ later)) → Why (line_of text)
-    → IfSome from (λ all. (later : List (List ℕ)) × (lines_in all ≡ texts ++ later) × Next later)
-stopped_next None to last texts text Why Next h r so why = tt
-stopped_next (Some xs) None last texts text Why Next h r so why = absurd h
-stopped_next (Some xs) (Some ys) None texts text Why Next h r so why = absurd r
-stopped_next (Some xs) (Some ys) (Some zs) texts text Why Next h r so why =
-    let n = next_left xs ys zs texts text h r.0 r.1 in
-    (n.0 ∷ n.1, n.2, so n.0 n.1 (subst (λ (l : Option CellLine). Why l) (sym n.3) why))
+use Rattle.cell_simulator.specs.Scripts.{last_number, RunsLines, IsBad, IsBadNext, IsEndlessOn, IsEndlessNext, StopsWith, StopsOn}
+use Rattle.cell_simulator.proofs.LineLemmas.{too_long}
 
 stopped_left : (from to : Option (List ℕ)) (texts : List (List ℕ)) (Next : List (List ℕ) → Type 0) → Leaves from to texts → ((later : List (List ℕ)) → Next later)
     → IfSome from (λ all. (later : List (List ℕ)) × (lines_in all ≡ texts ++ later) × Next later)
@@ -113,7 +43,7 @@ stops_on m a b x y z from to last number text (fault.Line n) p r s = record {
   world = b;
   middle = y;
   runs = p.runs;
-  stopped = stopped_next from to last p.texts text (IsBad m b.cell) (IsBadNext m n z b y) p.leaves r (λ whole later bad. (s.1, inl bad)) s.2;
+  stopped = stopped_next line_of too_long from to last p.texts text (IsBad m b.cell) (IsBadNext m n z b y) p.leaves r (λ whole later bad. (s.1, inl bad)) s.2;
 }
 stops_on m a b x y z from to last number text (fault.NoEnd n) p r s = record {
   texts = p.texts;
@@ -122,7 +52,7 @@ stops_on m a b x y z from to last number text (fault.NoEnd n) p r s = record {
   world = b;
   middle = y;
   runs = p.runs;
-  stopped = stopped_next from to last p.texts text (IsEndlessOn m b y z) (IsEndlessNext m z b y) p.leaves r (λ whole later endless. endless) s.1;
+  stopped = stopped_next line_of too_long from to last p.texts text (IsEndlessOn m b y z) (IsEndlessNext m z b y) p.leaves r (λ whole later endless. endless) s.1;
 }
 stops_on m a b x y z from to last number text fault.Start p r s = absurd s
 stops_on m a b x y z from to last number text fault.Read p r s = absurd s

@@ -2,7 +2,6 @@ pub mod Cells
 pub mod Steps
 pub mod Shown
 pub mod Lines
-pub mod Reading
 pub mod Scripts
 pub mod Network
 pub mod Answered

@@ -1,23 +1,20 @@
 -- What running a script comes to, line by line, and why it stops.
 use Rattle.std.specs.Prelude.{◌≡◌, ◌≢◌, ◌⊎◌, ⊤, ℕ, ◌+◌, ◌==◌, true, List, [], ◌∷◌, ◌++◌, length, Option, Some, None, IfSome}
-use Rattle.std.specs.List.{All, flat_map, slice_split}
+use Rattle.std.specs.List.{All, flat_map}
 use Rattle.std.specs.Option.{option_to_list}
 use Rattle.std.specs.Io.KnownBytes.{Appends, Keeps}
 use Rattle.script.specs.declared.script_fault.ScriptFault.{ScriptFault}
 use Rattle.script.specs.declared.script_fault.ScriptFault.TheVariants as fault
 use Rattle.script.specs.declared.cell_lines.CellLine.{CellLine}
 use Rattle.script.specs.CellLines.{line_of}
+use Rattle.script.specs.Reading.{lines_in, Leaves}
 use Rattle.cell_simulator.specs.Cells.{Meaning}
-use Rattle.cell_simulator.specs.Steps.{Simulated, line_feed}
+use Rattle.cell_simulator.specs.Steps.{Simulated}
 use Rattle.cell_simulator.specs.Lines.{is_bad, ComesTo, Runs, IsEndless}
 
 -- the greatest number of a line
 abbrev pub last_number : ℕ
 last_number = 18446744073709551615
-
--- a script's lines: what stands between its line feeds, and behind the last one
-abbrev pub lines_in : List ℕ → List (List ℕ)
-lines_in script = slice_split (λ c. c == line_feed) script
 
 abbrev pub asked_on : List ℕ → List CellLine
 asked_on text = option_to_list (line_of text)
@@ -50,16 +47,6 @@ pub record RunsText {C : Type 0} (m : Meaning C) (old new : Simulated C) (before
   pub line : CellLine
   pub line_is : line_of text ≡ Some line
   pub runs : Runs m old line new before after
-
--- these lines were read of xs, and ys is left: it has the other lines, or there is no other
-abbrev pub AreRead : List ℕ → List (List ℕ) → List ℕ → Type 0
-AreRead xs texts ys = (lines_in xs ≡ texts ++ lines_in ys) ⊎ ((lines_in xs ≡ texts) × (ys ≡ []))
-
--- these lines were read of the known bytes
-abbrev pub Leaves : Option (List ℕ) → Option (List ℕ) → List (List ℕ) → Type 0
-Leaves None new texts = ⊤
-Leaves (Some xs) None texts = ⊥
-Leaves (Some xs) (Some ys) texts = AreRead xs texts ys
 
 -- the lines that were read, up to the one of this number
 pub record RunsLines {C : Type 0} (m : Meaning C) (old new : Simulated C) (before after : Option (List ℕ)) (from to : Option (List ℕ)) (number : ℕ) : Type 0 where

@@ -8,6 +8,7 @@ use Rattle.gfs_types.specs.declared.ids.Node.TheVariants as node
 use Rattle.messages.specs.declared.event.Event.{Event}
 use Rattle.messages.specs.declared.event.Event.TheVariants as event
 use Rattle.script.specs.Answers.{answer_line}
+use Rattle.script.specs.Reading.{line_feed}
 use Rattle.cell_simulator.specs.Cells.{Meaning}
 
 -- an event that happened at a node, and its answer
@@ -75,9 +76,6 @@ Lead {C} m old (s ∷ rest) new = (v : C) × Stays m old v × (w : C) × (node_o
 abbrev pub Rise : ℕ → List Step → ℕ → Type 0
 Rise from [] to = from ≤ to
 Rise from (s ∷ rest) to = (from ≤ moment_of from s.event) × Rise (moment_of from s.event) rest to
-
-abbrev pub line_feed : ℕ
-line_feed = 10
 
 abbrev pub with_feed : List ℕ → List ℕ
 with_feed line = line ++ line_feed ∷ []

@@ -6,7 +6,6 @@ pub mod lines;
 pub mod looks;
 pub mod network;
 pub mod printing;
-mod reading;
 pub mod rounds;
 pub mod run;
 pub mod simulator;

@@ -6,9 +6,9 @@ ghost use Rattle.cell_simulator.specs.Scripts.{RunsScript, RunsText, StopsOn, St
 
 use crate::cell::SimulatedCell;
 use crate::lines::LineEnd;
-use crate::reading::read_line;
 use crate::simulator::Simulator;
 use script::cell_lines::parse;
+use script::reading::read_line;
 use script::script_fault::ScriptFault;
 use std::alloc::Global;
 use std::io::{BufRead, Write};

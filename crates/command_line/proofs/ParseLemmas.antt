@@ -14,7 +14,7 @@ use Rattle.clap.specs.declared.error.kind.ErrorKind.{ErrorKind}
 use Rattle.clap.proofs.OnLiterals.{clap_on_literals}
 use Rattle.command_line.specs.Program.{names_heap, option_names, program}
 use Rattle.command_line.proofs.FaultLemmas.{are_alike, faults_are_alike, first_tells}
-use Rattle.command_line.specs.Asking.{asked, asked_by, Wanted, to_run, to_simulate, to_play, to_be_shown, nothing, Answers, Becomes, Runs, all_numbered, faults, is_live, is_numbered, is_shown, names_heap_of, options_of, run_asked, run_by, run_of}
+use Rattle.command_line.specs.Asking.{asked, asked_by, Wanted, to_run, to_simulate, to_play, to_be_shown, nothing, Answers, Becomes, Runs, all_numbered, faults, is_live, is_numbered, is_shown, run_asked, run_by, run_of, wanted_by}
 use Rattle.script.specs.declared.options.Options.{Options}
 use Rattle.command_line.specs.declared.command.CommandFault.{CommandFault}
 use Rattle.command_line.specs.declared.command.CommandFault.TheVariants.{Bad, NoMemory}
@@ -64,9 +64,9 @@ pub run_some : (name : Text) (rows : List Row) (live : Bool) (file : Text) (want
 run_some name rows live file wanted is run = ap₂ (λ (b : Bool) (o : Option (Text × Wanted)). option_map (λ (r : Text × Wanted). (b, r)) o) is run
 
 abbrev given : List Row → Bool → Option Text → Option (Text × Wanted)
-given rows b file = cond b (option_map (λ (f : Text). (f, (names_heap_of rows, options_of rows))) file) None
+given rows b file = cond b (option_map (λ (f : Text). (f, wanted_by rows)) file) None
 
-pub run_is : (rows : List Row) (file : Text) → true ≡ is_numbered rows names_heap → true ≡ all_numbered rows option_names → Some file ≡ first_of (codes "FILE") rows → run_of rows ≡ Some (file, (names_heap_of rows, options_of rows))
+pub run_is : (rows : List Row) (file : Text) → true ≡ is_numbered rows names_heap → true ≡ all_numbered rows option_names → Some file ≡ first_of (codes "FILE") rows → run_of rows ≡ Some (file, wanted_by rows)
 run_is rows file heap all is =
     ap (λ b. given rows (b && all_numbered rows option_names) (first_of (codes "FILE") rows)) (sym heap)
     ∙ ap (λ b. given rows b (first_of (codes "FILE") rows)) (sym all) ∙ ap (given rows true) (sym is)
@@ -93,7 +93,7 @@ by_fault (first ∷ rest) run k b alike among is = ap (λ b. cond b to_be_shown 
 
 pub of_fault : (words : List Text) (e : Error) (r : Result Request CommandFault) → HasKind (faults words) e → Becomes (kind_of e) r → Answers words r
 of_fault words e (Ok (Sim file bytes options)) h b = absurd b
-of_fault words e (Ok (Live file options)) h b = absurd b
+of_fault words e (Ok (Live file tells options)) h b = absurd b
 of_fault words e (Ok (Show text)) (inl is) b = absurd (true≢false (sym b ∙ ap is_shown is))
 of_fault words e (Ok (Show text)) (inr among) b = by_fault (faults words) (run_asked words) (kind_of e) true (faults_are_alike words) among b
 of_fault words e (Err Bad) (inl is) b = absurd (b.1 is)
@@ -113,9 +113,12 @@ pub of_bad : (words : List Text) (r : Result Request CommandFault) (fault : Comm
 of_bad words (Ok x) fault is bad none run = absurd is
 of_bad words (Err e) fault is bad none run = subst (λ e. Answers words (Err e)) (sym (is ∙ bad)) (ap₂ asked_by none run)
 
-pub of_run : (words : List Text) (live : Bool) (file : Text) (bytes : Option ℕ) (options : Options) (r : Request) → asked words ≡ to_run (live, (file, (bytes, options))) → Runs live file bytes options r → Answers words (Ok r)
-of_run words live file bytes options (Sim f b o) is runs =
-    is ∙ ap (λ (l : Bool). to_run (l, (file, (bytes, options)))) runs.0 ∙ ap₂ (λ (g : Text) (w : Wanted). to_simulate g w.0 w.1) (sym runs.1) (λ i. (sym runs.2 i, sym runs.3 i))
-of_run words live file bytes options (Live f o) is runs =
-    is ∙ ap (λ (l : Bool). to_run (l, (file, (bytes, options)))) runs.0 ∙ ap₂ to_play (sym runs.1) (sym runs.2)
-of_run words live file bytes options (Show text) is runs = absurd runs
+pub of_run : (words : List Text) (live : Bool) (file : Text) (bytes : Option ℕ) (tells : Bool) (options : Options) (r : Request)
+    → asked words ≡ to_run (live, (file, (bytes, (tells, options)))) → Runs live file bytes tells options r → Answers words (Ok r)
+of_run words live file bytes tells options (Sim f b o) is runs =
+    is ∙ ap (λ (l : Bool). to_run (l, (file, (bytes, (tells, options))))) runs.0
+    ∙ ap₂ (λ (g : Text) (w : Option ℕ × Options). to_simulate g w.0 w.1) (sym runs.1) (λ i. (sym runs.2 i, sym runs.3 i))
+of_run words live file bytes tells options (Live f t o) is runs =
+    is ∙ ap (λ (l : Bool). to_run (l, (file, (bytes, (tells, options))))) runs.0
+    ∙ ap₂ (λ (g : Text) (w : Bool × Options). to_play g w.0 w.1) (sym runs.1) (λ i. (sym runs.2 i, sym runs.3 i))
+of_run words live file bytes tells options (Show text) is runs = absurd runs

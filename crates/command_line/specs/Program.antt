@@ -3,7 +3,7 @@ use Rattle.std.specs.Prelude.{true, false, List, [], ◌∷◌, ◌++◌, map, S
 use Rattle.std.specs.Borrow.{Bor}
 use Rattle.clap.specs.Walk.{Rule, Text}
 use Rattle.clap.specs.Simple.{App, Shape, new_rule, new_shape, on_top}
-use Rattle.clap.specs.declared.builder.action.ArgAction.TheVariants.{Set}
+use Rattle.clap.specs.declared.builder.action.ArgAction.TheVariants.{Set, SetTrue}
 
 -- the options of the cell's settings
 abbrev pub setting_names : List Text
@@ -20,6 +20,10 @@ option_named name = record (new_rule name) { long = Some name; value_names = 1; 
 -- an option for each name more
 abbrev pub with_options : App → List Text → App
 with_options a names = on_top (λ s. record s { rules = s.rules ++ map option_named names }) a
+
+-- a flag by a long name
+abbrev pub flag_named : Text → Rule
+flag_named name = record (new_rule name) { long = Some name; action = Some SetTrue }
 
 -- the names of a list of options, each with what the help says of it
 abbrev pub names : List (Bor Text × Bor Text) → List Text
@@ -40,6 +44,13 @@ names_heap = codes "names-heap"
 abbrev pub simulator : Shape
 simulator = record (runner (codes "sim")) { rules = (runner (codes "sim")).rules ++ (option_named names_heap ∷ []) }
 
+-- the flag of the cell with threads alone
+abbrev pub progress : Text
+progress = codes "progress"
+
+abbrev pub player : Shape
+player = record (runner (codes "live")) { rules = (runner (codes "live")).rules ++ (flag_named progress ∷ []) }
+
 abbrev pub gfscell : Shape
 gfscell = record (new_shape (codes "gfscell")) {
   is_leaf = false;
@@ -49,4 +60,4 @@ gfscell = record (new_shape (codes "gfscell")) {
 }
 
 abbrev pub program : App
-program = record { top = gfscell; subs = simulator ∷ runner (codes "live") ∷ [] }
+program = record { top = gfscell; subs = simulator ∷ player ∷ [] }

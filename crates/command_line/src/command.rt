@@ -2,8 +2,8 @@
 
 ghost use Rattle.std.specs.Prelude.{◌≡◌, Some, IfOk, IfErr, is_ok, map, string_bytes, false};
 ghost use Rattle.clap.specs.Words.{app_of, shape_of, found_of, kind_of, rows_of, rule_of};
-ghost use Rattle.command_line.specs.Program.{names, names_heap, option_named, option_names, program, runner, setting_names, simulator, with_options};
-ghost use Rattle.command_line.specs.Asking.{Answers, Becomes, Runs, all_numbered, config_of, is_live, is_numbered, names_heap_of, narrow_for, number_for, options_of};
+ghost use Rattle.command_line.specs.Program.{flag_named, names, names_heap, option_named, option_names, player, program, runner, setting_names, simulator, with_options};
+ghost use Rattle.command_line.specs.Asking.{Answers, Becomes, Runs, all_numbered, config_of, is_given, is_live, is_numbered, names_heap_of, narrow_for, number_for, options_of};
 ghost use Rattle.command_line.specs.Faults.{fault_text};
 ghost use Rattle.command_line.specs.declared.command.CommandFault.TheVariants.{Bad, NoMemory};
 
@@ -26,9 +26,10 @@ pub enum Request<'a> {
         names_heap: Option<u64>,
         options: Options,
     },
-    /// To run it on a cell with threads.
+    /// To run it on a cell with threads, and perhaps to tell meanwhile how far it is.
     Live {
         file: &'a str,
+        tells_progress: bool,
         options: Options,
     },
     /// To print this text: the help or the version.
@@ -112,6 +113,17 @@ const REGION: [(&str, &str); 1] = [(
     "Bytes of a region for the names [default: none, they share the memory of all]",
 )];
 
+/// A flag by a long name.
+fn flag<'a>(alloc: Global, name: &'a str, help: &'a str) -> Arg<'a>
+    ensures rule { rule_of result ≡ flag_named name.entry.now }
+    ensures local { result.global ≡ false }
+{
+    Arg::new(alloc, name)
+        .long(name)
+        .help(help)
+        .action(ArgAction::SetTrue)
+}
+
 /// An option by a long name, which takes one number.
 fn option<'a>(alloc: Global, name: &'a str, help: &'a str) -> Arg<'a>
     ensures rule { rule_of result ≡ option_named name.entry.now }
@@ -157,6 +169,18 @@ fn simulator<'a>(alloc: Global) -> Result<Command<'a>, AllocError>
     with_options(alloc, command, &REGION)
 }
 
+/// The subcommand that runs a script on a cell with threads.
+fn player<'a>(alloc: Global) -> Result<Command<'a>, AllocError>
+    ensures { IfOk result (λ command. shape_of command ≡ player) }
+{
+    let command = runner(alloc, "live", "Runs a script on a cell with threads")?;
+    command.arg(flag(
+        alloc,
+        "progress",
+        "Tells on standard error, once a second, calls answered, events, and room left in the journal",
+    ))
+}
+
 fn command<'a>(alloc: Global) -> Result<Command<'a>, AllocError>
     ensures { IfOk result (λ command. app_of command ≡ program) }
 {
@@ -166,7 +190,7 @@ fn command<'a>(alloc: Global) -> Result<Command<'a>, AllocError>
         .disable_help_subcommand(true)
         .subcommand_required(true)
         .subcommand(simulator(alloc)?)?
-        .subcommand(runner(alloc, "live", "Runs a script on a cell with threads")?)
+        .subcommand(player(alloc)?)
 }
 
 /// The value of an option, or `default` where it isn't given.
@@ -241,6 +265,16 @@ fn options(matches: &ArgMatches<'_>) -> Result<Options, CommandFault>
     })
 }
 
+/// Whether a flag is given.
+fn is_given(matches: &ArgMatches<'_>, name: &str) -> bool
+    ensures { result ≡ is_given (rows_of (found_of matches.now)) name.now }
+{
+    match matches.get_str(name) {
+        Some(text) => text == "true",
+        None => false,
+    }
+}
+
 /// What a parse that found no matches comes to: a text to show, or a fault.
 fn shown<'a>(alloc: Global, error: &clap::Error) -> Result<Request<'a>, CommandFault>
     ensures { Becomes (kind_of error.now) result }
@@ -269,7 +303,8 @@ pub fn parse<'a>(alloc: Global, words: &'a [String]) -> Result<Request<'a>, Comm
     let file = given.get_str("FILE").ok_or(CommandFault::Bad)?;
     let names_heap = names_heap(given)?;
     let options = options(given)?;
-    Ok(request_for(name, file, names_heap, options))
+    let tells_progress = is_given(given, "progress");
+    Ok(request_for(name, file, names_heap, tells_progress, options))
 }
 
 /// What the subcommand of a name asks for.
@@ -277,12 +312,17 @@ fn request_for<'a>(
     name: &str,
     file: &'a str,
     names_heap: Option<u64>,
+    tells_progress: bool,
     options: Options,
 ) -> Request<'a>
-    ensures { Runs (is_live name.now) file.now names_heap options result }
+    ensures { Runs (is_live name.now) file.now names_heap tells_progress options result }
 {
     if name == "live" {
-        Request::Live { file, options }
+        Request::Live {
+            file,
+            tells_progress,
+            options,
+        }
     } else {
         Request::Sim {
             file,

@@ -7,8 +7,9 @@ ghost use Rattle.gfscell.specs.Faults.{fault_text};
 ghost use Rattle.gfscell.specs.Status.{status_of};
 ghost use Rattle.gfscell.specs.declared.ProgramFault.TheVariants as faults;
 
+use cell_run::{Progress, Watcher};
 use command_line::command::{CommandFault, Request, parse};
-use live::run::run_live;
+use live::run::{run_live, run_live_watched};
 use script::options::Options;
 use script::script_fault::ScriptFault;
 use shell::run::{run_script, run_script_in_region};
@@ -86,17 +87,43 @@ fn simulate<S: Read + Drop>(
     }
 }
 
-/// Runs the script that a source gives on a cell with threads.
+/// Tells on standard error how far a running cell is.
+#[derive(Drop)]
+struct ErrorWatcher {
+    rt: HostRuntime,
+}
+
+impl Watcher for ErrorWatcher {
+    fn tell(&self, progress: Progress) {
+        let Progress {
+            answered,
+            events,
+            room,
+        } = progress;
+        // Nothing can tell of a standard error that can't be written.
+        let _ = eprintln!(self.rt;
+            "gfscell: {answered} calls answered, {events} events, room for {room}"
+        );
+    }
+}
+
+/// Runs the script that a source gives on a cell with threads, and tells meanwhile how far it is, where that is wanted.
 fn play<T: Threads + Wait + Clock + Copy + Send + Sync + 'static, S: Read + Drop>(
     threads: T,
     rt: &HostRuntime,
+    tells_progress: bool,
     options: &Options,
     source: S,
 ) -> Result<(), ScriptFault> {
     let alloc = rt.alloc();
     let mut reader = BufReader::new(alloc, source).map_err(|e| ScriptFault::of_read(&e))?;
     let mut writer = BufWriter::new(alloc, io::writer(rt)).map_err(|e| ScriptFault::of_write(&e))?;
-    run_live(threads, alloc, options, &mut reader, &mut writer)
+    if tells_progress {
+        let watcher = Some(ErrorWatcher { rt: *rt });
+        run_live_watched(threads, alloc, options, watcher, &mut reader, &mut writer)
+    } else {
+        run_live(threads, alloc, options, &mut reader, &mut writer)
+    }
 }
 
 /// The words of the command line. Words that are no text are a bad command line.
@@ -131,10 +158,18 @@ fn run<T: Threads + Wait + Clock + Copy + Send + Sync + 'static>(
             let script = File::open(rt, file).map_err(|e| ScriptFault::of_read(&e))?;
             simulate(rt, names_heap, &options, script)?;
         }
-        Request::Live { file: "-", options } => play(threads, rt, &options, rt.reader())?,
-        Request::Live { file, options } => {
+        Request::Live {
+            file: "-",
+            tells_progress,
+            options,
+        } => play(threads, rt, tells_progress, &options, rt.reader())?,
+        Request::Live {
+            file,
+            tells_progress,
+            options,
+        } => {
             let script = File::open(rt, file).map_err(|e| ScriptFault::of_read(&e))?;
-            play(threads, rt, &options, script)?;
+            play(threads, rt, tells_progress, &options, script)?;
         }
     }
     Ok(())

@@ -1,24 +1,80 @@
 -- What was read is played, and what was answered is printed.
-use Rattle.std.proofs.Common.{◌≡◌, ℕ, List, Option, Some, None, map, subst, ◌∙◌}
+use Rattle.std.proofs.Common.{◌≡◌, ◌⊎◌, ℕ, suc, List, [], ◌∷◌, ◌++◌, ⊎_elim, Option, Some, None, map, refl, sym, ap, subst}
 use Rattle.std.specs.Prelude.{IfSome}
-use Rattle.std.specs.Io.KnownBytes.{Appends}
+use Rattle.std.specs.Io.KnownBytes.{Appends, Keeps}
+use Rattle.gfs_types.specs.declared.answer.Answer.{Answer}
+use Rattle.gfs_types.specs.declared.call.Call.{Call}
 use Rattle.script.specs.declared.live_lines.LiveLine.{LiveLine}
-use Rattle.script.specs.Scripts.{AreLines}
+use Rattle.script.specs.declared.live_lines.LiveLine.TheVariants.{Nothing}
+use Rattle.script.specs.declared.script_fault.ScriptFault.{ScriptFault}
+use Rattle.script.specs.declared.script_fault.ScriptFault.TheVariants as fault
+use Rattle.script.specs.Scripts.{AreReadLines, HasFault}
+use Rattle.script.specs.ScriptFaults.{IsOfWrite}
 use Rattle.script.specs.declared.options.Options.{Options}
+use Rattle.script.proofs.Bytes.{keeps_all}
 use Rattle.live.specs.declared.play.Player.{Player}
-use Rattle.live.specs.Live.{AreAnswersOf, Prints, told_from}
+use Rattle.live.specs.Faults.{IsOfRun}
+use Rattle.live.specs.Live.{IsScript, HasAnswers, AreAnswersOf, Prints, Stops, told_from}
+use Rattle.live.specs.Playing.{calls_on, calls_of}
 
-lines_read : (clients : ℕ) (script : Option (List ℕ)) (bytes seen : List ℕ) (lines : List LiveLine) → IfSome script (λ s. bytes ≡ s) → seen ≡ bytes → AreLines clients seen lines → IfSome script (λ s. AreLines clients s lines)
-lines_read clients None bytes seen lines read same are = tt
-lines_read clients (Some s) bytes seen lines read same are = subst (λ l. AreLines clients l lines) (same ∙ read) are
+-- an empty line more makes no call
+no_more_calls : (client : ℕ) (lines : List LiveLine) → calls_of client lines ≡ calls_of client (lines ++ Nothing ∷ [])
+no_more_calls client [] = refl
+no_more_calls client (line ∷ rest) = ap (λ (l : List Call). calls_on client line ++ l) (no_more_calls client rest)
 
-pub prints_so : (options : Options) (script before after : Option (List ℕ)) (bytes seen : List ℕ) (lines played : List LiveLine) (players printed : List Player) → IfSome script (λ s. bytes ≡ s) → seen ≡ bytes
-    → AreLines options.clients seen lines → played ≡ lines → AreAnswersOf options played (map (λ (p : Player). p.answers.items) players) → printed ≡ players
-    → Appends before after (told_from 1 (map (λ (p : Player). p.answers.items) printed)) → Prints options script before after
-prints_so options script before after bytes seen lines played players printed read same are all answered these told = record {
-  lines = lines;
-  lines_are = lines_read options.clients script bytes seen lines read same are;
-  answers = map (λ (p : Player). p.answers.items) players;
-  answered = subst (λ (l : List LiveLine). AreAnswersOf options l (map (λ (p : Player). p.answers.items) players)) all answered;
-  printed = subst (λ (l : List Player). Appends before after (told_from 1 (map (λ (p : Player). p.answers.items) l))) these told;
+answers_of_more : (options : Options) (lines : List LiveLine) (answers : List (List Answer)) → AreAnswersOf options lines answers → AreAnswersOf options (lines ++ Nothing ∷ []) answers
+answers_of_more options lines answers a = record {
+  cell = a.cell;
+  cell_is = a.cell_is;
+  entries = a.entries;
+  lawful = a.lawful;
+  clocks = a.clocks;
+  explained = a.explained;
+  clients = a.clients;
+  each = λ k replies at. subst (λ (calls : List Call). HasAnswers a.entries (suc k) calls replies) (no_more_calls (suc k) lines) (a.each k replies at);
 }
+
+-- each line of what was read is in the language
+pub script_read : (clients : ℕ) (script : Option (List ℕ)) (lines : List LiveLine) → IfSome script (λ s. AreReadLines clients s lines) → IfSome script (IsScript clients)
+script_read clients None lines are = tt
+script_read clients (Some s) lines are = ⊎_elim (λ all. (lines, all)) (λ all. (lines ++ Nothing ∷ [], all)) are
+
+module _ (options : Options) (before after : Option (List ℕ)) (lines : List LiveLine) (answers : List (List Answer)) (answered : AreAnswersOf options lines answers) (told : Appends before after (told_from 1 answers)) where
+  prints_read : (script : Option (List ℕ)) → IfSome script (λ s. AreReadLines options.clients s lines) → Prints options script before after
+  prints_read None are = record { lines = lines; lines_are = tt; answers = answers; answered = answered; printed = told }
+  prints_read (Some s) are = ⊎_elim
+      (λ all. record { lines = lines; lines_are = all; answers = answers; answered = answered; printed = told })
+      (λ all. record { lines = lines ++ Nothing ∷ []; lines_are = all; answers = answers; answered = answers_of_more options lines answers answered; printed = told })
+      are
+
+pub prints_so : (options : Options) (script before after : Option (List ℕ)) (lines played : List LiveLine) (players printed : List Player) → IfSome script (λ s. AreReadLines options.clients s lines)
+    → played ≡ lines → AreAnswersOf options played (map (λ (p : Player). p.answers.items) players) → printed ≡ players
+    → Appends before after (told_from 1 (map (λ (p : Player). p.answers.items) printed)) → Prints options script before after
+prints_so options script before after lines played players printed are all answered these told =
+    prints_read options before after lines (map (λ (p : Player). p.answers.items) players)
+    (subst (λ (l : List LiveLine). AreAnswersOf options l (map (λ (p : Player). p.answers.items) players)) all answered)
+    (subst (λ (l : List Player). Appends before after (told_from 1 (map (λ (p : Player). p.answers.items) l))) these told)
+    script are
+
+-- a script that is not read to its end
+pub stops_reading : (clients : ℕ) (script known : Option (List ℕ)) (f : ScriptFault) → HasFault clients script f → Stops clients script known known f
+stops_reading clients script known (fault.Line number) h = (h, keeps_all known)
+stops_reading clients script known (fault.NoEnd number) h = h
+stops_reading clients script known fault.Start h = absurd h
+stops_reading clients script known fault.NoMemory h = tt
+stops_reading clients script known fault.Read h = keeps_all known
+stops_reading clients script known fault.Write h = absurd h
+
+-- a cell that is not to be had
+pub stops_starting : (clients : ℕ) (script known : Option (List ℕ)) (lines : List LiveLine) (f : ScriptFault) → IfSome script (λ s. AreReadLines clients s lines) → IsOfRun f → Stops clients script known known f
+stops_starting clients script known lines f are of = ⊎_elim
+    (λ (is : f ≡ fault.NoMemory). subst (λ (g : ScriptFault). Stops clients script known known g) (sym is) tt)
+    (λ (is : f ≡ fault.Start). subst (λ (g : ScriptFault). Stops clients script known known g) (sym is) (script_read clients script lines are, keeps_all known))
+    of
+
+-- a writer that fails
+pub stops_writing : (clients : ℕ) (script before after : Option (List ℕ)) (lines : List LiveLine) (f : ScriptFault) → IfSome script (λ s. AreReadLines clients s lines) → IsOfWrite f → Stops clients script before after f
+stops_writing clients script before after lines f are of = ⊎_elim
+    (λ (is : f ≡ fault.NoMemory). subst (λ (g : ScriptFault). Stops clients script before after g) (sym is) tt)
+    (λ (is : f ≡ fault.Write). subst (λ (g : ScriptFault). Stops clients script before after g) (sym is) (script_read clients script lines are))
+    of

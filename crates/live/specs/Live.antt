@@ -19,15 +19,12 @@ use Rattle.script.specs.Answers.{answer_line}
 use Rattle.script.specs.declared.script_fault.ScriptFault.{ScriptFault}
 use Rattle.script.specs.declared.script_fault.ScriptFault.TheVariants as fault
 use Rattle.script.specs.declared.live_lines.LiveLine.{LiveLine}
-use Rattle.script.specs.Scripts.{lines_in, AreLines, IsFirstBad}
+use Rattle.script.specs.Scripts.{AreLines, IsBadAt}
 use Rattle.live.specs.Playing.{calls_of, AreAnswered}
 
 -- each line is in the language, and names no client but the first so many
 abbrev pub IsScript : ℕ → List ℕ → Type 0
 IsScript clients script = (lines : List LiveLine) × AreLines clients script lines
-
-abbrev pub IsBadAt : ℕ → ℕ → List ℕ → Type 0
-IsBadAt clients number script = IsFirstBad clients (lines_in script) number
 
 abbrev pub told_line : ℕ → Answer → List ℕ
 told_line client answer = answer_line client answer ++ 10 ∷ []

@@ -6,13 +6,14 @@ ghost use Rattle.live.specs.Live.{IsScript, HasSeenPart, AreAnswersOf, Prints, S
 ghost use Rattle.live.specs.Faults.{IsOfRun};
 ghost use Rattle.live.specs.Playing.{IsNewPlayer, IsPlayed, Plays, AllPlay, Each};
 ghost use Rattle.script.specs.LiveLines.{is_barrier};
-ghost use Rattle.script.specs.ScriptFaults.{IsOfRead};
 
 use crate::play::Player;
 use crate::printing::print_all;
 use cell_run::cell::{Cell, StartFault};
+use cell_run::watch::{Watch, Watcher};
 use cell_seats::gate::OpenGate;
 use cell_seats::journal::{Journal, agree};
+use cell_seats::shared_state::Progress;
 use gfs_types::ids::ClientId;
 use gfs_types::no_memory::NoMemory;
 use script::live_lines::LiveLine;
@@ -29,8 +30,16 @@ use std::time::Clock;
 /// The clients that a cell may have.
 const MOST_CLIENTS: u64 = 64;
 
+/// Is told nothing.
+#[derive(Drop)]
+struct NoWatcher;
+
+impl Watcher for NoWatcher {
+    fn tell(&self, _progress: Progress) {}
+}
+
 /// Runs a script on a new cell, each client's calls in order on a thread of its own, and prints all answers at the end, by client.
-/// All lines are looked at before the cell is made.
+/// Each line is looked at as it comes, and all of them before the cell is made: behind a bad one nothing is read.
 ///
 /// - `Line`: a line isn't in the language, or names a client that the cell doesn't have.
 /// - `Start`: a setting or a count of nodes is out of its range, or the cell could not be started.
@@ -47,30 +56,43 @@ pub fn run_live<T: Threads + Wait + Clock + Copy + Send + Sync + 'static, R: Rea
     ensures prints { OnOk result (Prints options.now (R.remaining reader.old) (W.contents writer.old) (W.contents writer.new)) }
     ensures stops { IfErr result (Stops options.now.clients (R.remaining reader.old) (W.contents writer.old) (W.contents writer.new)) }
 {
-    let script = read_all(alloc, reader)?;
-    let lines = read_script(alloc, options.clients, script.as_slice())?;
-    let players = play_on_new(rt, alloc, options, lines.as_slice())?;
+    run_live_watched(rt, alloc, options, None::<NoWatcher>, reader, writer)
+}
+
+/// The same, where a watcher, if there is one, is told once a second how far the cell is, until all calls were answered. Without memory or a thread
+/// for it the script runs all the same.
+pub fn run_live_watched<
+    T: Threads + Wait + Clock + Copy + Send + Sync + 'static,
+    P: Watcher + Send + Drop + 'static,
+    R: Read,
+    W: Write,
+>(
+    rt: T,
+    alloc: Global,
+    options: &Options,
+    watcher: Option<P>,
+    reader: &mut R,
+    writer: &mut W,
+) -> Result<(), ScriptFault>
+    ensures script { OnOk result (IfSome (R.remaining reader.old) (IsScript options.now.clients)) }
+    ensures prints { OnOk result (Prints options.now (R.remaining reader.old) (W.contents writer.old) (W.contents writer.new)) }
+    ensures stops { IfErr result (Stops options.now.clients (R.remaining reader.old) (W.contents writer.old) (W.contents writer.new)) }
+{
+    let lines = read_script(alloc, options.clients, reader)?;
+    let players = play_on_new(rt, alloc, options, lines.as_slice(), watcher)?;
     print_all(players.as_slice(), writer)
 }
 
-// All that the reader has left.
-fn read_all<R: Read>(alloc: Global, reader: &mut R) -> Result<Vec<u8>, ScriptFault>
-    ensures bytes { IfOk result (λ v. IfSome (R.remaining reader.old) (λ bytes. v.items ≡ bytes)) }
-    ensures fault { IfErr result IsOfRead }
-{
-    let mut bytes = Vec::new(alloc);
-    reader
-        .read_to_end(&mut bytes)
-        .map_err(|e| ScriptFault::of_read(&e))?;
-    Ok(bytes)
-}
-
 // The clients of a new cell once all lines were played and the cell was closed.
-fn play_on_new<T: Threads + Wait + Clock + Copy + Send + Sync + 'static>(
+fn play_on_new<
+    T: Threads + Wait + Clock + Copy + Send + Sync + 'static,
+    P: Watcher + Send + Drop + 'static,
+>(
     rt: T,
     alloc: Global,
     options: &Options,
     lines: &[LiveLine],
+    watcher: Option<P>,
 ) -> Result<Vec<Player>, ScriptFault>
     ensures players { IfOk result (λ players. AreAnswersOf options.now lines.now (map (λ p. p.answers.items) players.items)) }
     ensures fault { IfErr result IsOfRun }
@@ -79,13 +101,53 @@ fn play_on_new<T: Threads + Wait + Clock + Copy + Send + Sync + 'static>(
         return Err(ScriptFault::Start);
     }
     let mut cell = start(rt, alloc, options)?;
-    let Ok(players) = play_in(&rt, alloc, &mut cell, options.clients, lines) else {
+    let Ok(players) = play_watched(rt, alloc, &mut cell, options.clients, lines, watcher) else {
         cell.close(&rt);
         return Err(ScriptFault::NoMemory);
     };
     let journal = cell.close(&rt);
     agree_all(players.as_slice(), &journal);
     Ok(players)
+}
+
+// The clients once all lines were played, if none was refused memory. The watcher, if there is one, is told meanwhile how far the cell is.
+fn play_watched<
+    T: Threads + Wait + Clock + Copy + Send + Sync + 'static,
+    P: Watcher + Send + Drop + 'static,
+>(
+    rt: T,
+    alloc: Global,
+    cell: &mut Cell,
+    clients: u64,
+    lines: &[LiveLine],
+    watcher: Option<P>,
+) -> Result<Vec<Player>, NoMemory>
+    requires { cell.old.made ≡ 0 }
+    ensures cell { cell.new.of ≡ cell.old.of }
+    ensures count { IfOk result (λ players. length players.items ≡ clients) }
+    ensures players { IfOk result (λ players. Each (IsPlayed cell.old.of lines.now) players.items) }
+{
+    let watch = start_watch(rt, cell, watcher);
+    let played = play_in(&rt, alloc, cell, clients, lines);
+    stop_watch(&rt, watch);
+    played
+}
+
+// The thread that tells the watcher, if there is one.
+fn start_watch<
+    T: Threads + Wait + Clock + Copy + Send + 'static,
+    P: Watcher + Send + Drop + 'static,
+>(rt: T, cell: &Cell, watcher: Option<P>) -> Option<Watch> {
+    match watcher {
+        Some(watcher) => cell.watch(rt, watcher),
+        None => None,
+    }
+}
+
+fn stop_watch(rt: &impl Threads, watch: Option<Watch>) {
+    if let Some(watch) = watch {
+        watch.stop(rt);
+    }
 }
 
 // What each client saw begins the journal.

@@ -3,5 +3,7 @@ mod WordLemmas
 mod LineLemmas
 mod AnswerLemmas
 mod CellLineLemmas
-pub mod Reading
+pub mod Bytes
+pub mod LinesRead
+pub mod ReadPlans
 pub mod Repeating

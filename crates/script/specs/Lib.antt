@@ -9,5 +9,6 @@ pub mod Kinds
 pub mod CellNodes
 pub mod CellLines
 pub mod LiveLines
+pub mod Reading
 pub mod Scripts
 pub mod Chunks

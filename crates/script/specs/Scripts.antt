@@ -1,14 +1,11 @@
 -- Scripts for a running cell.
-use Rattle.std.specs.Prelude.{◌≡◌, ⊤, ℕ, ◌+◌, ◌==◌, if◌then◌else◌, List, ◌∷◌, ◌++◌, length, map, Option, Some, None, option_and_then}
-use Rattle.std.specs.List.{slice_split}
+use Rattle.std.specs.Prelude.{◌≡◌, ◌⊎◌, ⊤, ℕ, ◌+◌, if◌then◌else◌, List, [], ◌∷◌, ◌++◌, length, map, Option, Some, None, IfSome, option_and_then}
 use Rattle.script.specs.declared.script_fault.ScriptFault.{ScriptFault}
 use Rattle.script.specs.declared.script_fault.ScriptFault.TheVariants as fault
 use Rattle.script.specs.declared.live_lines.LiveLine.{LiveLine}
+use Rattle.script.specs.declared.live_lines.LiveLine.TheVariants.{Nothing}
 use Rattle.script.specs.LiveLines.{live_line_of, is_for}
-
--- a script's lines: what stands between its line feeds, and behind the last one
-abbrev pub lines_in : List ℕ → List (List ℕ)
-lines_in script = slice_split (λ c. c == 10) script
+use Rattle.script.specs.Reading.{lines_in}
 
 abbrev pub if_for : ℕ → LiveLine → Option LiveLine
 if_for clients line = if is_for clients line then Some line else None
@@ -23,6 +20,10 @@ Ask clients texts lines = map (asked_on clients) texts ≡ map (λ line. Some li
 
 abbrev pub AreLines : ℕ → List ℕ → List LiveLine → Type 0
 AreLines clients script lines = Ask clients (lines_in script) lines
+
+-- the same, without the empty line behind the last line feed, if there is one
+abbrev pub AreReadLines : ℕ → List ℕ → List LiveLine → Type 0
+AreReadLines clients script lines = AreLines clients script lines ⊎ AreLines clients script (lines ++ Nothing ∷ [])
 
 -- the line of this number is the first that asks for nothing
 pub record IsFirstBad (clients : ℕ) (texts : List (List ℕ)) (number : ℕ) : Type 0 where
@@ -41,8 +42,12 @@ IsBadLine clients text number (fault.Line n) = (n ≡ number) × (asked_on clien
 IsBadLine clients text number fault.NoMemory = ⊤
 IsBadLine clients text number other = ⊥
 
--- why a script is not run
-abbrev pub HasFault : ℕ → List (List ℕ) → ScriptFault → Type 0
-HasFault clients texts (fault.Line number) = IsFirstBad clients texts number
-HasFault clients texts fault.NoMemory = ⊤
-HasFault clients texts other = ⊥
+abbrev pub IsBadAt : ℕ → ℕ → List ℕ → Type 0
+IsBadAt clients number script = IsFirstBad clients (lines_in script) number
+
+-- why a script, whose bytes may be known, is not run
+abbrev pub HasFault : ℕ → Option (List ℕ) → ScriptFault → Type 0
+HasFault clients script (fault.Line number) = IfSome script (IsBadAt clients number)
+HasFault clients script fault.NoMemory = ⊤
+HasFault clients script fault.Read = ⊤
+HasFault clients script other = ⊥

@@ -14,6 +14,7 @@ pub mod nodes;
 pub mod numbers;
 pub mod options;
 pub mod plan;
+pub mod reading;
 pub mod script_fault;
 pub mod stored;
 pub mod words;

@@ -2,12 +2,10 @@
 
 use crate::cells::{small, wait_for};
 use crate::producers::{Found, append, create, look, open};
-use cell_journal::journal_entry::StepCause;
 use cell_run::cell::{Cell, ClientSeat};
-use cell_seats::gate::Gate;
+use cell_seats::gate::{Gate, Kind};
 use gfs_types::ids::{Node, ServerId};
-use messages::event::NodeInput;
-use messages::message::Body;
+use script::kinds::Kind as MessageKind;
 use std::alloc::{AllocError, Global};
 use std::sync::atomic::{AtomicU64, Ordering};
 use std::sync::{Arc, Wait};
@@ -36,16 +34,9 @@ impl<R: Clock + Copy + Drop> Clone for ReadGate<R> {
     }
 }
 
-fn is_read(cause: &StepCause) -> bool {
-    match cause {
-        StepCause::Takes(NodeInput::Deliver(message)) => matches!(message.body, Body::Read { .. }),
-        _ => false,
-    }
-}
-
 impl<R: Clock + Copy + Drop> Gate for ReadGate<R> {
-    fn before(&self, node: Node, cause: &StepCause) {
-        if node != Node::Server(ServerId(1)) || !is_read(cause) {
+    fn before(&self, node: Node, kind: Kind) {
+        if node != Node::Server(ServerId(1)) || kind != Kind::Message(MessageKind::Read) {
             return;
         }
         self.held.fetch_add(1, Ordering::SeqCst);

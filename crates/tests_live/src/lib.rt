@@ -15,3 +15,5 @@ mod refusals;
 mod restarts;
 #[cfg(test)]
 mod scripts;
+#[cfg(test)]
+mod watching;

@@ -4,7 +4,7 @@ use crate::cells::{hasty, small, wait_for};
 use crate::producers::{Producer, count_kept, produce_all, producers_of};
 use cell_journal::journal_entry::StepCause;
 use cell_run::cell::Cell;
-use cell_seats::gate::Gate;
+use cell_seats::gate::{Gate, Kind};
 use cell_seats::journal::Journal;
 use gfs_types::config::Config;
 use gfs_types::ids::{Node, ServerId};
@@ -43,8 +43,8 @@ impl Clone for RestartGate {
 }
 
 impl Gate for RestartGate {
-    fn before(&self, _node: Node, cause: &StepCause) {
-        if is_restart(cause) {
+    fn before(&self, _node: Node, kind: Kind) {
+        if kind == Kind::Restart {
             self.restarts.fetch_add(1, Ordering::SeqCst);
         }
     }

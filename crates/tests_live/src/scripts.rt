@@ -4,6 +4,7 @@ use crate::cells::small;
 use live::run::run_live;
 use script::options::Options;
 use script::script_fault::ScriptFault;
+use std::io::{self, Read};
 use std::str;
 use std::test::*;
 
@@ -62,6 +63,25 @@ fn no_bad_script_is_run(rt: HostRuntime) -> Result<(), Fail> {
     assert_eq!(rt;
         run_live(rt, alloc, &three_servers(65), &mut script, &mut out),
         Err(ScriptFault::Start)
+    );
+    assert!(rt; out.is_empty());
+    Ok(())
+}
+
+// A bad line is told at once, though no end comes behind it, or to it.
+#[test]
+fn a_bad_line_of_an_endless_script_is_told(rt: HostRuntime) -> Result<(), Fail> {
+    let alloc = rt.alloc();
+    let mut out = Vec::new(alloc);
+    let mut script = b"barrier\nwait 3\n".as_slice().chain(io::repeat(b'\n'));
+    assert_eq!(rt;
+        run_live(rt, alloc, &three_servers(2), &mut script, &mut out),
+        Err(ScriptFault::Line(2))
+    );
+    let mut line = io::repeat(b'#');
+    assert_eq!(rt;
+        run_live(rt, alloc, &three_servers(2), &mut line, &mut out),
+        Err(ScriptFault::Line(1))
     );
     assert!(rt; out.is_empty());
     Ok(())

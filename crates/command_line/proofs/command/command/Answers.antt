@@ -13,6 +13,6 @@ returns c =
     (ap app_of_fields c.subcommand_required.ensures) in
     let sim_is = c.in_ok-simulator.ensures in
     let first = c.in_ok-subcommand.ensures.shape (plain_fields c.in_ok-simulator.field-0 (ap (λ (s : Shape). s.is_plain) sim_is)).globals ∙ ap₂ with_subcommand top sim_is in
-    let live_is = c.in_ok-runner.ensures in
+    let live_is = c.in_ok-player.ensures in
     IfOk-weaker c.subcommand-2.result _ _ (λ r h.
-    h.shape (plain_fields c.in_ok-runner.field-0 (ap (λ (s : Shape). s.is_plain) live_is)).globals ∙ ap₂ with_subcommand first live_is) c.subcommand-2.ensures
+    h.shape (plain_fields c.in_ok-player.field-0 (ap (λ (s : Shape). s.is_plain) live_is)).globals ∙ ap₂ with_subcommand first live_is) c.subcommand-2.ensures

@@ -56,6 +56,10 @@ returns c =
     let file = ap (option_map (λ s. s.now)) (sym c.in_ok-file.ensures.ok_part) ∙ c.get_str.ensures ∙ first_value-rows (found_of c.in-Some.given.now) (codes "FILE") in
     let heap = c.in_ok-names_heap.names_heap in
     let options = c.in_ok-options.options in
-    let found = run_is rows c.in_ok-file.file.now c.in_ok-names_heap.ensures.all c.in_ok-options.ensures.all file ∙ ap₂ (λ b o. Some (c.in_ok-file.file.now, (b, o))) (sym c.in_ok-names_heap.ensures.ok) (sym c.in_ok-options.ensures.ok) in
-    of_run words (is_live name) c.in_ok-file.file.now heap options c.request_for.result
-    (ap₂ asked_by none (run ∙ run_some name rows (is_live name) c.in_ok-file.file.now (heap, options) refl found)) c.request_for.ensures
+    let tells = c.is_given-tells_progress.result in
+    let found =
+    run_is rows c.in_ok-file.file.now c.in_ok-names_heap.ensures.all c.in_ok-options.ensures.all file
+    ∙ ap₂ (λ b w. Some (c.in_ok-file.file.now, (b, w))) (sym c.in_ok-names_heap.ensures.ok)
+    (ap₂ (λ t o. (t, o)) (sym c.is_given-tells_progress.ensures) (sym c.in_ok-options.ensures.ok)) in
+    of_run words (is_live name) c.in_ok-file.file.now heap tells options c.request_for.result
+    (ap₂ asked_by none (run ∙ run_some name rows (is_live name) c.in_ok-file.file.now (heap, (tells, options)) refl found)) c.request_for.ensures

@@ -1,9 +1,9 @@
 //! Reads the lines of a script.
 
 ghost use Rattle.std.specs.Prelude.{IfOk};
-ghost use Rattle.cell_simulator.specs.Reading.{Gives, ReadsLine};
+ghost use Rattle.script.specs.Reading.{Gives, ReadsLine};
 
-use script::lines::MAX_LINE;
+use crate::lines::MAX_LINE;
 use std::io::{self, ErrorKind, Read};
 
 /// The next byte, or none at the end.

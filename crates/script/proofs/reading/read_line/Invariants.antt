@@ -1,6 +1,6 @@
 use Rattle.std.proofs.Common.{◌-◌, length}
-use Rattle.cell_simulator.specs.Reading.{HasNoFeed, Loses}
-use Rattle.cell_simulator.proofs.reading.read_line.Given as goal
+use Rattle.script.specs.Reading.{HasNoFeed, Loses}
+use Rattle.script.proofs.reading.read_line.Given as goal
 
 -- what was read is in the line
 abbrev pub invariant-loop-reader : goal.invariant-loop-reader

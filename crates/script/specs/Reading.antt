@@ -1,11 +1,18 @@
 -- How a script is read, line by line.
 use Rattle.std.specs.Prelude.{◌≡◌, ◌⊎◌, ◌↔◌, ◌<◌, ⊤, ℕ, ◌==◌, Bool, true, false, List, [], ◌∷◌, ◌++◌, length, Option, Some, None}
-use Rattle.std.specs.List.{All}
-use Rattle.cell_simulator.specs.Steps.{line_feed}
+use Rattle.std.specs.List.{All, slice_split}
+
+-- the byte at which a line ends
+abbrev pub line_feed : ℕ
+line_feed = 10
 
 -- the bytes of a line before its line feed, at most
 abbrev pub longest_line : ℕ
 longest_line = 8192
+
+-- a script's lines: what stands between its line feeds, and behind the last one
+abbrev pub lines_in : List ℕ → List (List ℕ)
+lines_in script = slice_split (λ c. c == line_feed) script
 
 -- the next of the known bytes, or none at their end
 abbrev pub Gives : Option (List ℕ) → Option (List ℕ) → Option ℕ → Type 0
@@ -35,3 +42,13 @@ abbrev pub ReadsLine : Option (List ℕ) → Option (List ℕ) → List ℕ → 
 ReadsLine None new line is_there = ⊤
 ReadsLine (Some xs) None line is_there = ⊥
 ReadsLine (Some xs) (Some ys) line is_there = HasNoFeed line × EndsLine xs ys line is_there
+
+-- these lines were read of xs, and ys is left: it has the other lines, or there is no other
+abbrev pub AreRead : List ℕ → List (List ℕ) → List ℕ → Type 0
+AreRead xs texts ys = (lines_in xs ≡ texts ++ lines_in ys) ⊎ ((lines_in xs ≡ texts) × (ys ≡ []))
+
+-- these lines were read of the known bytes
+abbrev pub Leaves : Option (List ℕ) → Option (List ℕ) → List (List ℕ) → Type 0
+Leaves None new texts = ⊤
+Leaves (Some xs) None texts = ⊥
+Leaves (Some xs) (Some ys) texts = AreRead xs texts ys

@@ -3,8 +3,7 @@ use Rattle.std.proofs.Common.{◌≡◌, ◌<◌, ℕ, Bool, true, false, List, 
 use Rattle.std.specs.Prelude.{◌↔◌}
 use Rattle.std.specs.Io.KnownBytes.{Keeps, Consumes, IsAtEnd}
 use Rattle.std.proofs.lemmas.List.{append-nil, append_assoc}
-use Rattle.cell_simulator.specs.Steps.{line_feed}
-use Rattle.cell_simulator.specs.Reading.{longest_line, HasNoFeed, ReadsLine, Gives, Loses}
+use Rattle.script.specs.Reading.{line_feed, longest_line, HasNoFeed, ReadsLine, Gives, Loses}
 
 pub keeps_all : (a : Option (List ℕ)) → Keeps a a
 keeps_all None = tt

@@ -1,6 +1,6 @@
 use Rattle.std.specs.Io.KnownBytes.{Keeps}
 use Rattle.std.proofs.Common.{◌≡◌, length}
-use Rattle.cell_simulator.proofs.reading.next_byte.Given as goal
+use Rattle.script.proofs.reading.next_byte.Given as goal
 
 -- nothing was read yet
 abbrev pub invariant-loop : goal.invariant-loop
