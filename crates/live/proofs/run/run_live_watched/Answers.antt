@@ -5,7 +5,7 @@ use Rattle.live.proofs.run.run_live_watched.Goals as goal
 
 pub returns-in_err-lines-clause-stops : goal.returns-in_err-lines-clause-stops
 returns-in_err-lines-clause-stops g c =
-    handed_on c.from_residual-in_err-lines.result _ c.in_err-lines.field-0.0 c.from_residual-in_err-lines.ensures.1
+    handed_on c.from_residual.result _ c.in_err-lines.field-0.0 c.from_residual.ensures.1
     (stops_reading c.args.options.now.clients (g.R.Read.remaining c.args.reader.now) (g.W.Write.contents c.args.writer.now) c.in_err-lines.field-0.0 c.in_err-lines.ensures.fault)
 
 pub returns-in_err-players-clause-stops : goal.returns-in_err-players-clause-stops
