@@ -85,7 +85,7 @@ class Cell:
         self.client_count = clients
         self.choose = choose
         self.program = program or Program()
-        self.world = apply(self.definition('World', 'new_world'), self.settings, servers, clients)
+        self.world = state.with_grown(apply(self.definition('World', 'new_world'), self.settings, servers, clients))
         self.happens = self.definition('World', 'happens')
         self.messages = [None]
         self.event_count = 0

@@ -2,7 +2,7 @@
 import random
 
 import state
-from words import apply
+from words import apply, begins_with
 
 
 class Unlike(Exception):
@@ -14,8 +14,10 @@ class Rebased:
 
     def __init__(self, cell):
         self.happens = cell.happens
-        self.dropped = len(state.sent(cell.world))
-        self.world = apply(cell.rebase_definition('without_messages'), cell.world)
+        # the messages of the other cell, and how many of them were dropped here
+        self.all_sent = state.sent(cell.world)
+        self.dropped = len(self.all_sent)
+        self.world = state.with_grown(apply(cell.rebase_definition('without_messages'), cell.world))
         self.raised_event = cell.rebase_definition('raised_event')
         self.all_raised = cell.rebase_definition('all_raised')
 
@@ -33,15 +35,23 @@ class Rebased:
         if apply(self.raised_event, self.dropped, own) != event:
             raise Unlike(f'{own} raised is not {event}')
         here = apply(self.happens, self.world, own, choice)
-        self.world = here['world']
         if here['out'] != happened['out']:
             raise Unlike(f'{own}: {here["out"]} and not {happened["out"]}')
         for field, value in happened['world'].items():
             if field == 'sent':
-                if apply(self.all_raised, self.dropped, self.world['sent']) != value[self.dropped:]:
+                if not self.sent_alike(here['world'][field], value):
                     raise Unlike(f'{own}: the messages differ')
-            elif self.world[field] != value:
+            elif here['world'][field] != value:
                 raise Unlike(f'{own}: {field} differs')
+        # what is equal is kept once: the next comparison sees that it is the same
+        self.world = {**happened['world'], 'sent': here['world']['sent']}
+        self.all_sent = state.sent(happened['world'])
+
+    def sent_alike(self, own, others):
+        """The messages are the same but for their numbers. Those of before were compared, so they need only be what they were."""
+        count, all_count = len(state.sent(self.world)), len(self.all_sent)
+        return (begins_with(own, state.sent(self.world)) and begins_with(others, self.all_sent)
+                and apply(self.all_raised, self.dropped, own[count:]) == others[all_count:])
 
 
 class Rebases:

@@ -4,6 +4,8 @@ Numbers that are ids may be wrapped in a record (`ServerId`) or not; `number` ta
 """
 from collections import namedtuple
 
+from words import Grown
+
 # the crate that has World, Lookups, Logged and MasterStep
 PROTOCOL = 'protocol'
 # the crate that has Rebased
@@ -53,6 +55,11 @@ def now_of(node):
 
 def sent(world):
     return world['sent']
+
+
+def with_grown(world):
+    """The world with a list of messages that costs no copy of them where it grows."""
+    return {**world, 'sent': Grown(list(world['sent']))}
 
 
 def is_kept(world):

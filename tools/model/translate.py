@@ -14,7 +14,11 @@ sys.setrecursionlimit(400_000)
 INLINE = {
     'nat_lt': '(%s < %s)', 'nat_le': '(%s <= %s)', 'nat_eq': '(%s == %s)', 'not': '(not %s)', 'suc': '(%s + 1)',
     'length': 'len(%s)', 'is_some': '(%s[0] == "Some")', 'is_none': '(%s[0] == "None")', 'bytes_eq': '(%s == %s)',
-    'min': 'min(%s, %s)', 'max': 'max(%s, %s)'}
+    'min': 'min(%s, %s)', 'max': 'max(%s, %s)', 'true': 'True', 'false': 'False'}
+# words that are written out where their first argument is a function of one argument; its term is `{each}`, of `{one}`
+EACH = {
+    'map': '[{each} for {one} in {all}]', 'filter': '[{one} for {one} in {all} if {each}]', 'list_any': 'any({each} for {one} in {all})',
+    'list_all': 'all({each} for {one} in {all})', 'flat_map': '[part for {one} in {all} for part in {each}]', 'sum_by': 'sum({each} for {one} in {all})'}
 INFIX = {
     '&&': '(%s and %s)', '||': '(%s or %s)', '==': '(%s == %s)', '+': '(%s + %s)', '++': '(%s + %s)', '*': '(%s * %s)',
     '∷': '([%s] + %s)', '-': 'less(%s, %s)', '/': 'divided(%s, %s)', '%': 'rest_of(%s, %s)'}
@@ -159,11 +163,11 @@ class Program:
         if kind in ('number', 'text'):
             return repr(term[1])
         if kind in ('name', 'apply'):
-            arguments = []
+            terms = []
             while term[0] == 'apply':
-                arguments.insert(0, part(term[2]))
+                terms.insert(0, term[2])
                 term = term[1]
-            return self.applied(module, term, arguments, names)
+            return self.each(module, term, terms, names) or self.applied(module, term, [part(it) for it in terms], names)
         if kind == 'if':
             return f'({part(term[2])} if {part(term[1])} else {part(term[3])})'
         if kind == 'operator':
@@ -195,6 +199,19 @@ class Program:
         lines.append(f'    no_case("an elim of {module.name}")')
         exec(compile('\n'.join(lines), 'definitions', 'exec'), self.space)
         return f'{me}({self.term(module, term[1], names)}, {", ".join(outer)})'
+
+    def each(self, module, head, terms, names):
+        """A word of `EACH` with both arguments, as a comprehension; None where it can't be one."""
+        if len(terms) != 2 or terms[0][0] != 'function' or len(terms[0][1]) > 1 or head[0] != 'name' or head[1][-1] not in EACH:
+            return None
+        what = self.named(module, head[1][0], head[2]) if len(head[1]) == 1 and head[1][0] not in names else None
+        if what is None or what[0] != 'word' or WORDS[what[1]][0] != 'Rattle.std.':
+            return None
+        one = self.fresh(terms[0][1][0])
+        each = self.term(module, terms[0][2], {**names, terms[0][1][0]: one})
+        elements = self.term(module, terms[1], names)
+        # a name that is bound in a comprehension is one of what stands around it
+        return None if ':=' in each + elements or 'lambda' in each else EACH[what[2]].format(each=each, one=one, all=elements)
 
     def applied(self, module, head, arguments, names):
         if head[0] != 'name':
@@ -249,7 +266,7 @@ class Program:
             direct, whole = f'w{what[1]}_{what[2]}', f'W{what[1]}_{what[2]}'
             count = WORDS[what[1]][1][what[2]][0]
             if count == 0:
-                return applied_to(direct, arguments)
+                return applied_to(INLINE.get(what[2], direct) if WORDS[what[1]][0] == 'Rattle.std.' else direct, arguments)
             if what[2] in INLINE and len(arguments) == count and WORDS[what[1]][0] == 'Rattle.std.':
                 return INLINE[what[2]] % tuple(arguments)
         if not arguments:

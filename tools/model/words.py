@@ -4,16 +4,56 @@ Lists are lists, numbers are numbers, records and pairs are dictionaries, varian
 name, and finite maps are FiniteMap.
 """
 import hashlib
+from functools import partial
+from itertools import islice
 
 
 class FiniteMap:
-    __slots__ = ('items',)
+    """A finite map, which is never changed. Its entries in the order of their keys are listed when they are first asked for."""
+    __slots__ = ('items', 'listed')
 
     def __init__(self, items):
         self.items = items
+        self.listed = None
 
     def __eq__(self, other):
         return isinstance(other, FiniteMap) and self.items == other.items
+
+
+class Grown:
+    """A list to whose end much is put, one after another: those that it became begin in the same store, so that none is copied."""
+    __slots__ = ('store', 'count')
+
+    def __init__(self, store):
+        self.store = store
+        self.count = len(store)
+
+    def __len__(self):
+        return self.count
+
+    def __iter__(self):
+        return islice(self.store, self.count)
+
+    def __getitem__(self, place):
+        return self.store[slice(*place.indices(self.count)) if isinstance(place, slice) else range(self.count)[place]]
+
+    def __add__(self, more):
+        store = self.store if len(self.store) == self.count else self[:]
+        store.extend(more)
+        return Grown(store)
+
+    def __radd__(self, before):
+        return before + self[:]
+
+    def __eq__(self, other):
+        return len(self) == len(other) and self[:] == other[:]
+
+
+def begins_with(elements, start):
+    """Whether a list begins with another one."""
+    if isinstance(elements, Grown) and isinstance(start, Grown) and elements.store is start.store:
+        return start.count <= elements.count
+    return elements[:len(start)] == start[:]
 
 
 class Function:
@@ -34,15 +74,24 @@ def some(value):
 
 
 def apply(head, *arguments):
-    for argument in arguments:
-        if isinstance(head, Function):
-            given = head.given + (argument,)
-            head = head.run(*given) if len(given) == head.count else Function(head.count, head.run, given)
-        elif isinstance(head, tuple):
-            head = head + (argument,)
-        else:
-            raise TypeError(f'{head!r} is applied')
+    if isinstance(head, Function):
+        given = head.given + arguments
+        more = len(given) - head.count
+        if more < 0:
+            return Function(head.count, head.run, given)
+        return apply(head.run(*given[:head.count]), *given[head.count:]) if more else head.run(*given)
+    if isinstance(head, tuple):
+        return head + arguments
+    if arguments:
+        raise TypeError(f'{head!r} is applied')
     return head
+
+
+def of_one(function):
+    """A function or a variant as a Python function of one argument."""
+    if isinstance(function, Function) and function.count == len(function.given) + 1:
+        return partial(function.run, *function.given) if function.given else function.run
+    return partial(apply, function)
 
 
 def pair(first, second):
@@ -51,6 +100,8 @@ def pair(first, second):
 
 def to_key(key):
     """A key of a finite map as Python can hash it: a list as a tuple, and a record or pair as its fields."""
+    if isinstance(key, int):
+        return key
     if isinstance(key, list):
         return tuple(key) if not key or isinstance(key[0], int) else tuple(to_key(k) for k in key)
     return ('fields', *((n, to_key(v)) for n, v in key.items())) if isinstance(key, dict) else key
@@ -62,6 +113,17 @@ def from_key(key):
     if key[:1] == ('fields',):
         return {n: from_key(v) for n, v in key[1:]}
     return list(key) if not key or isinstance(key[0], int) else [from_key(k) for k in key]
+
+
+def map_get(table, key):
+    found = to_key(key)
+    return some(table.items[found]) if found in table.items else NONE
+
+
+def map_entries(table):
+    if table.listed is None:
+        table.listed = [pair(from_key(k), table.items[k]) for k in sorted(table.items)]
+    return table.listed
 
 
 def map_insert(table, key, value):
@@ -84,15 +146,17 @@ def map_of(entries):
 
 
 def first_that(test, elements):
+    passes = of_one(test)
     for element in elements:
-        if apply(test, element):
+        if passes(element):
             return some(element)
     return NONE
 
 
 def position(test, elements):
+    passes = of_one(test)
     for place, element in enumerate(elements):
-        if apply(test, element):
+        if passes(element):
             return some(place)
     return NONE
 
@@ -120,8 +184,9 @@ def split_at(test, elements):
 
 
 def last_place(test, elements):
+    passes = of_one(test)
     for place in range(len(elements) - 1, -1, -1):
-        if apply(test, elements[place]):
+        if passes(elements[place]):
             return place
     return None
 
@@ -177,13 +242,13 @@ def demoted(test, entries):
 # how many arguments each takes, and what it gives
 LIBRARY = {
     'length': (1, len), 'take': (2, lambda n, xs: xs[:n]), 'drop': (2, lambda n, xs: xs[n:]),
-    'map': (2, lambda f, xs: [apply(f, x) for x in xs]),
-    'filter': (2, lambda f, xs: [x for x in xs if apply(f, x)]),
-    'flat_map': (2, lambda f, xs: [y for x in xs for y in apply(f, x)]),
-    'filter_map': (2, lambda f, xs: [r[1] for r in (apply(f, x) for x in xs) if r[0] == 'Some']),
+    'map': (2, lambda f, xs: list(map(of_one(f), xs))),
+    'filter': (2, lambda f, xs: list(filter(of_one(f), xs))),
+    'flat_map': (2, lambda f, xs: [y for ys in map(of_one(f), xs) for y in ys]),
+    'filter_map': (2, lambda f, xs: [r[1] for r in map(of_one(f), xs) if r[0] == 'Some']),
     'find': (2, first_that), 'position': (2, position), 'position_or_len': (2, place_or_length),
-    'list_any': (2, lambda f, xs: any(apply(f, x) for x in xs)),
-    'list_all': (2, lambda f, xs: all(apply(f, x) for x in xs)),
+    'list_any': (2, lambda f, xs: any(map(of_one(f), xs))),
+    'list_all': (2, lambda f, xs: all(map(of_one(f), xs))),
     'take_while': (2, lambda f, xs: xs[:place_or_length(Function(1, lambda x: not apply(f, x)), xs)]),
     'before_first': (2, lambda f, xs: xs[:place_or_length(f, xs)]),
     'after_first': (2, lambda f, xs: xs[place_or_length(f, xs) + 1:]),
@@ -205,8 +270,8 @@ LIBRARY = {
     'slice_set': (3, lambda xs, i, x: xs[:i] + [x] + xs[i + 1:] if i < len(xs) else xs),
     'slice_index_or': (3, lambda xs, i, default: xs[i] if i < len(xs) else default),
     'slice_set': (3, lambda xs, i, x: xs[:i] + [x] + xs[i + 1:] if i < len(xs) else xs),
-    'sum': (1, sum), 'sum_by': (2, lambda f, xs: sum(apply(f, x) for x in xs)),
-    'count_by': (2, lambda f, xs: sum(1 for x in xs if apply(f, x))),
+    'sum': (1, sum), 'sum_by': (2, lambda f, xs: sum(map(of_one(f), xs))),
+    'count_by': (2, lambda f, xs: len(list(filter(of_one(f), xs)))),
     'nat_lt': (2, lambda a, b: a < b), 'nat_le': (2, lambda a, b: a <= b), 'nat_eq': (2, lambda a, b: a == b),
     'cond': (3, lambda b, yes, no: yes if b else no),
     'not': (1, lambda b: not b), 'true': (0, True), 'false': (0, False), 'tt': (0, None),
@@ -222,12 +287,11 @@ LIBRARY = {
 }
 FINITE_MAPS = {
     'empty': (0, FiniteMap({})),
-    'get': (2, lambda m, k: some(m.items[to_key(k)]) if to_key(k) in m.items else NONE),
+    'get': (2, map_get),
     'insert': (3, map_insert), 'remove': (2, map_remove),
     'contains_key': (2, lambda m, k: to_key(k) in m.items),
-    'entries': (1, lambda m: [pair(from_key(k), m.items[k]) for k in sorted(m.items)]),
-    'keys': (1, lambda m: [from_key(k) for k in sorted(m.items)]),
-    'values': (1, lambda m: [m.items[k] for k in sorted(m.items)]),
+    'entries': (1, map_entries), 'keys': (1, lambda m: [entry['0'] for entry in map_entries(m)]),
+    'values': (1, lambda m: [entry['1'] for entry in map_entries(m)]),
     'retain_keys': (2, lambda m, f: FiniteMap({k: v for k, v in m.items.items() if apply(f, from_key(k))})),
     'len': (1, lambda m: len(m.items)), 'from_entries': (1, map_of),
 }
