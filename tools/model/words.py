@@ -269,7 +269,6 @@ LIBRARY = {
     'slice_get': (2, lambda xs, i: some(xs[i]) if i < len(xs) else NONE), 'slice_index': (2, lambda xs, i: xs[i]),
     'slice_set': (3, lambda xs, i, x: xs[:i] + [x] + xs[i + 1:] if i < len(xs) else xs),
     'slice_index_or': (3, lambda xs, i, default: xs[i] if i < len(xs) else default),
-    'slice_set': (3, lambda xs, i, x: xs[:i] + [x] + xs[i + 1:] if i < len(xs) else xs),
     'sum': (1, sum), 'sum_by': (2, lambda f, xs: sum(map(of_one(f), xs))),
     'count_by': (2, lambda f, xs: len(list(filter(of_one(f), xs)))),
     'nat_lt': (2, lambda a, b: a < b), 'nat_le': (2, lambda a, b: a <= b), 'nat_eq': (2, lambda a, b: a == b),
