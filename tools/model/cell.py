@@ -7,7 +7,7 @@ from words import apply
 REFUSALS = {
     'BadPath': 1, 'NoParent': 2, 'Exists': 3, 'NotFound': 4, 'NotFile': 5, 'NotDir': 6, 'NotEmpty': 7, 'Reserved': 8,
     'Inside': 9, 'Busy': 10, 'TooLong': 11, 'BadFd': 12, 'NamesFull': 13, 'Collected': 14, 'NoReplica': 15,
-    'Failed': 16, 'Unknown': 17, 'NoMemory': 18, 'ClockBroken': 19, 'JournalFull': 20, 'Closed': 21}
+    'Failed': 16, 'Unknown': 17, 'NoMemory': 18, 'ClockBroken': 19, 'JournalFull': 20, 'Closed': 21, 'BadSize': 22}
 
 # name, least, greatest and default of each setting
 SETTINGS = [
@@ -41,7 +41,11 @@ def call_of(call):
     """A call as (name, argument, ..) becomes the definitions' Call. Paths and data are bytes."""
     name, arguments = call[0], call[1:]
     variant = name.capitalize()
-    if name in ('mkdir', 'rmdir', 'create', 'open', 'delete', 'list', 'rename', 'snapshot'):
+    if name == 'create':
+        # without a shape that of the settings
+        shape = ('Some', {'chunk': arguments[1], 'goal': arguments[2]}) if len(arguments) > 1 else ('None',)
+        return (variant, list(arguments[0]), shape)
+    if name in ('mkdir', 'rmdir', 'open', 'delete', 'list', 'rename', 'snapshot'):
         return (variant, *[list(path) for path in arguments])
     if name in ('close', 'length'):
         return (variant, wrapped(arguments[0]))

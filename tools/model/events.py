@@ -39,6 +39,10 @@ def random_settings(rnd):
         'slots': rnd.choice([4, 16, 16]), 'log_bytes': rnd.choice([4096, 4096, 100000])}
 
 
+# the goals of files that are made with a shape, by how much larger or smaller than the settings' their chunks would be: some don't fit
+SHAPES = [(0, 1), (0, 2), (0, 3), (0, 1), (0, 3), (0, 2), (0, 3), (8, 2), (-16, 2), (16, 2), (0, 0), (0, 9)]
+
+
 class Explorer:
     """One random list of events."""
 
@@ -46,6 +50,9 @@ class Explorer:
         self.rnd = rnd = random.Random(seed)
         self.rebases = Rebases(seed, are_rebased)
         self.has_faults = has_faults
+        # in two of three lists files are made with shapes; what these are doesn't change what else happens
+        self.shaping = random.Random(seed + 1_000_003)
+        self.has_shapes = seed % 3 != 0
         self.cell = Cell(random_settings(rnd), rnd.choice([2, 3, 3, 4]), 2, program=program)
         self.facts = Facts(self.cell)
         self.answer_facts = AnswerFacts(self.cell, self.facts)
@@ -155,6 +162,10 @@ class Explorer:
         call = snapshot or self.name_call() if snapshot or not descriptors or rnd.random() < self.naming else self.file_call(sorted(descriptors))
         if not snapshot and self.first_calls and (self.first_calls[0][0] not in ('append', 'write') or 1 in descriptors):
             call, self.first_calls = self.first_calls[0], self.first_calls[1:]
+        if call[0] == 'create' and self.has_shapes and self.shaping.random() < .8:
+            # the first ones fit
+            more, goal = self.shaping.choice(SHAPES[:7] if self.first_calls else SHAPES)
+            call = (*call, self.cell.settings['chunk'] + more, goal)
         file = descriptors.get(call[1]) if call[0] in ('append', 'write', 'read', 'length', 'close') else None
         self.answer_facts.called(client, call, state.calls_made(world, client) + 1, file)
         return ('Call', wrapped(client), call_of(call), wrapped(now))
@@ -258,6 +269,9 @@ class Explorer:
         if event is self.rebases.last_restart:
             self.drop_messages()
 
+    def is_shaped(self, message):
+        return message.kind == 'Name' and message.body[3][0] == 'Create' and message.body[3][2][0] == 'Some'
+
     def drop_messages(self):
         self.counts['rebases'] += 1
         self.pending, self.aside, self.by_kind = [], [], {}
@@ -267,6 +281,7 @@ class Explorer:
         """What happened often enough to have been tested."""
         counts = self.counts
         counts['events'] += 1
+        counts['shapes'] += event[0] == 'Deliver' and self.is_shaped(self.cell.messages[event[1]])
         counts['restarts'] += event[0] == 'Restart'
         master = state.master(self.cell.world)
         counts['checkpoints'] += state.is_up(master) and state.checkpoint_of(master) is not state.checkpoint_of(state.master(before))

@@ -47,6 +47,9 @@ class Facts:
         # by (handle, version): the members; by (server, handle, version): the ends that the master told
         self.grants = {}
         self.ends = {}
+        # the shape of each file, and of each chunk, also of those that are gone
+        self.shapes = {}
+        self.chunk_shapes = {}
         self.lapsed = set()
 
     def world(self):
@@ -67,6 +70,7 @@ class Facts:
             self.check_new_entries(before)
             self.check_settled(event, before)
         self.check_log(before)
+        self.check_shapes(event, before)
         self.check_chunks()
         self.check_expired(event, before)
         self.check_clones(new)
@@ -186,6 +190,45 @@ class Facts:
                 if not lease or lease.version != entry.round or max(state.now_of(primary), state.number(event[2])) + self.skew >= lease.until:
                     raise Broken(f'chunk {handle}: an entry is settled by a server whose lease does not count')
 
+    # ------------------------------------------------------------ shapes
+
+    def asked_shape(self, event, before, path):
+        """The shape that a file new at this path has to have: that of its Create, or of the file that a snapshot copied there."""
+        message = self.cell.messages[event[1]] if event[0] == 'Deliver' else None
+        call = message.body[3] if message and message.kind == 'Name' else ('None',)
+        if call[0] == 'Create' and bytes(call[1]) == path:
+            return call[2][1] if call[2][0] == 'Some' else state.usual_shape(self.cell.settings)
+        old = state.master(before)
+        pairs = state.snapshot_paths(old) + ([call[1:3]] if call[0] == 'Snapshot' else [])
+        sources = {bytes(source) + path[len(copy):] for source, copy in pairs if path == bytes(copy) or path.startswith(bytes(copy) + b'/')}
+        names = {bytes(other): node for other, node in state.names(state.logged(old)).items()}
+        shapes = [self.shapes[names[source][1]] for source in sources if names.get(source, ('Dir',))[0] == 'File']
+        return shapes[0] if len(shapes) == 1 else None
+
+    def check_shapes(self, event, before):
+        """A file keeps the shape that it was made with, and its chunks have it, also a copy under way."""
+        master, old = state.master(self.world()), state.master(before)
+        if not state.is_up(master) or state.logged(master) is state.logged(old):
+            return
+        logged = state.logged(master)
+        shapes = state.shapes(logged)
+        if sorted(shapes) != sorted(state.files(logged)):
+            raise Broken('the files and the shapes differ')
+        for file, shape in shapes.items():
+            if file not in self.shapes:
+                path = next(bytes(path) for path, node in state.names(logged).items() if node[0] == 'File' and node[1] == file)
+                if self.asked_shape(event, before, path) not in (shape, None):
+                    raise Broken(f'file {file} is made with another shape than was asked for')
+            if self.shapes.setdefault(file, shape) != shape:
+                raise Broken(f'the shape of file {file} changes')
+        rows = state.rows(logged)
+        owned = [(handle, file) for file, handles in state.files(logged).items() for handle in handles]
+        for handle, file in owned + [(handle, copy['file']) for handle, copy in state.copies(logged).items()]:
+            if rows[handle].shape != shapes[file]:
+                raise Broken(f'chunk {handle} has another shape than file {file}')
+            if self.chunk_shapes.setdefault(handle, shapes[file]) != shapes[file]:
+                raise Broken(f'the shape of chunk {handle} changes')
+
     # ------------------------------------------------------------ the master's state
 
     def check_log(self, before):
@@ -199,7 +242,7 @@ class Facts:
         for field in state.LOGGED_FIELDS:
             if kept[field] != replayed[field]:
                 raise Broken(f'the log and the state differ in {field}')
-        if state.files(kept) != state.files(replayed) or without_lease_ends(kept) != without_lease_ends(replayed):
+        if state.files(kept) != state.files(replayed) or state.shapes(kept) != state.shapes(replayed) or without_lease_ends(kept) != without_lease_ends(replayed):
             raise Broken('the log and the state differ in the table of chunks')
 
     def replayed(self, log):

@@ -9,6 +9,8 @@ KINDS = set((
 ARGUMENTS = {
     'mkdir': 'p', 'rmdir': 'p', 'create': 'p', 'open': 'p', 'close': 'n', 'delete': 'p', 'rename': 'pp', 'list': 'p',
     'length': 'n', 'snapshot': 'pp', 'write': 'nnd', 'append': 'nd', 'read': 'nnn'}
+# a file may be made with the size of its chunks and its goal
+WITH_SHAPE = 'pnn'
 LONGEST_DATA = 67108864
 LONGEST_LINE = 8192
 MOST_ROUNDS = 1_000_000
@@ -156,6 +158,8 @@ class Simulator:
     def parsed_call(self, words):
         name = words[0].decode('ascii', 'replace')
         kinds = ARGUMENTS.get(name)
+        if name == 'create' and len(words) == 4:
+            kinds = WITH_SHAPE
         if kinds is None or len(kinds) != len(words) - 1:
             raise BadLine()
         readers = {'p': path_of, 'n': number, 'd': data}

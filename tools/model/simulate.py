@@ -36,6 +36,7 @@ class Simulation:
         self.parts = [(name, self.definition(module, name)) for module, name in PARTS]
         self.message_parts = [(name, self.definition(module, name)) for module, name in MESSAGE_PARTS]
         self.machine_part = self.definition('MachineParts', 'IsMachine')
+        self.shape_part = self.definition('ShapeParts', 'AreShapes')
         self.shown_part = program.function(state.PROTOCOL, 'Explained', 'IsShown')
         self.clients_part = self.definition('ClientParts', 'AreClients')
         self.client_message = self.definition('ClientParts', 'ClientInFlight')
@@ -111,6 +112,8 @@ class Simulation:
             del statements.broken[:]
             if not apply(self.machine_part, found, self.machines[was_made], self.spots):
                 raise Broken(f'IsMachine: {statements.broken}')
+            if not apply(self.shape_part, found, self.machines[was_made]):
+                raise Broken(f'AreShapes: {statements.broken}')
             if not apply(self.clients_part, found, self.machines[was_made], ghost):
                 raise Broken(f'AreClients: {statements.broken}')
             for message in messages:

@@ -12,7 +12,7 @@ PROTOCOL = 'protocol'
 REBASE = 'laws_rebase'
 
 Entry = namedtuple('Entry', 'client call attempt round serial kind offset content is_settled')
-Row = namedtuple('Row', 'granted issued references primary members lease_end')
+Row = namedtuple('Row', 'granted issued references primary members lease_end shape')
 Lease = namedtuple('Lease', 'version until members')
 Replica = namedtuple('Replica', 'version serial bytes changed')
 Snapshot = namedtuple('Snapshot', 'client deadline')
@@ -131,13 +131,22 @@ def files(state):
     return state['table']['files'].items
 
 
+def shapes(state):
+    """By file, how its chunks are."""
+    return state['table']['shapes'].items
+
+
+def usual_shape(settings):
+    return {'chunk': settings['chunk'], 'goal': settings['goal']}
+
+
 def rows(state):
     chunks = state['table']['chunks']
     return kept_of(chunks, lambda: {handle: row_of(row) for handle, row in chunks.items.items()})
 
 
 def row_of(row):
-    return Row(row['granted'], row['issued'], row['references'], number(row['primary']), numbers(row['members']), row['lease_end'])
+    return Row(row['granted'], row['issued'], row['references'], number(row['primary']), numbers(row['members']), row['lease_end'], row['shape'])
 
 
 # what a replay of the log gives back, but for the table of chunks
@@ -159,6 +168,10 @@ def attempted_versions(node):
 
 def pending_snapshots(node):
     return [Snapshot(number(s['client']), s['deadline']) for s in node['snapshots']]
+
+
+def snapshot_paths(node):
+    return [(s['from'], s['to']) for s in node['snapshots']]
 
 
 # ---------------------------------------------------------------- servers and clients

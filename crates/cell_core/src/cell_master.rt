@@ -15,7 +15,7 @@ use gfs_types::torn::Torn;
 use master_cell::fault::MasterFault;
 use master_cell::master::Master;
 use master_cell::shown::ShownFiles;
-use master_state::name_kind::NameKind;
+use namespace::name_kind::NameKind;
 use messages::event::StepOut;
 use messages::message::Message;
 use operation_log::log::OperationLog;

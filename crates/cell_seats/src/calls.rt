@@ -13,6 +13,7 @@ use gfs_types::call::Call;
 use gfs_types::ids::Fd;
 use gfs_types::lists::{NameList, RoundList, Text};
 use gfs_types::refusal::Refusal;
+use gfs_types::shape::Shape;
 use std::sync::Wait;
 use std::time::Clock;
 
@@ -31,11 +32,17 @@ impl<N: Stepper + Drop> Seat<N> {
         done_in(self.call(rt, Call::Rmdir(path)))
     }
 
-    pub fn create<R: Wait + Clock>(&mut self, rt: &R, path: Text) -> Result<(), Refusal>
-        ensures ok { IfOk result (λ _. IsAnswered self.old self.new (call.Create path) answer.Done) }
-        ensures err { IfErr result (λ refusal. Fails self.old self.new (call.Create path) refusal) }
+    /// Without a shape the file has the settings'.
+    pub fn create<R: Wait + Clock>(
+        &mut self,
+        rt: &R,
+        path: Text,
+        shape: Option<Shape>,
+    ) -> Result<(), Refusal>
+        ensures ok { IfOk result (λ _. IsAnswered self.old self.new (call.Create path shape) answer.Done) }
+        ensures err { IfErr result (λ refusal. Fails self.old self.new (call.Create path shape) refusal) }
     {
-        done_in(self.call(rt, Call::Create(path)))
+        done_in(self.call(rt, Call::Create(path, shape)))
     }
 
     pub fn open<R: Wait + Clock>(&mut self, rt: &R, path: Text) -> Result<Fd, Refusal>

@@ -6,6 +6,7 @@ use Rattle.std.specs.Cmp.{nat_cmp_total}
 use Rattle.std.proofs.lemmas.List.Sums.{sum_by-cons}
 use Rattle.std.proofs.lemmas.Bool.{eq-eqb, ne_eqb}
 use Rattle.std.proofs.lemmas.Bool.Decides.{nat_tests}
+use Rattle.gfs_types.specs.declared.shape.Shape.{Shape}
 use Rattle.chunk_table.specs.ChunkTable.{NumberTable, ChunkRow, changed_at, share_one, share_all, leave_one, leave_all, row_shared, row_left, owned_row, own_one, with_owned}
 use Rattle.chunk_table.specs.Owners.{times, references_in, references_at, IsSoundRow}
 use Rattle.chunk_table.proofs.Lookups.{at_key, get_changed, get_left, row_after}
@@ -142,39 +143,39 @@ pub rows_all_left : (next : ℕ) (handles : List ℕ) (m : NumberTable ChunkRow)
 rows_all_left next [] m rows = rows
 rows_all_left next (k ∷ rest) m rows = rows_all_left next rest (leave_one m k) (rows_left next m k rows)
 
-owned_here : (k : ℕ) (o : Option ChunkRow) → references_in (Some (owned_row o)) ≡ references_in o + one_at k k
-owned_here k None = let one = one_here k in omega arith
-owned_here k (Some row) = ap (λ n. row.references + n) (sym (one_here k))
+owned_here : (shape : Shape) (k : ℕ) (o : Option ChunkRow) → references_in (Some (owned_row shape o)) ≡ references_in o + one_at k k
+owned_here shape k None = let one = one_here k in omega arith
+owned_here shape k (Some row) = ap (λ n. row.references + n) (sym (one_here k))
 
-pub references_owned : (m : NumberTable ChunkRow) (k q : ℕ) → references_at (own_one m k) q ≡ references_at m q + one_at k q
-references_owned m k q =
-    ap references_in (get-insert nat_cmp_total m k (owned_row (get m k)) q)
-    ∙ at_key (λ x o. references_in o ≡ references_at m x + one_at k x) q k (Some (owned_row (get m k))) (get m q) (owned_here k (get m k))
+pub references_owned : (shape : Shape) (m : NumberTable ChunkRow) (k q : ℕ) → references_at (own_one shape m k) q ≡ references_at m q + one_at k q
+references_owned shape m k q =
+    ap references_in (get-insert nat_cmp_total m k (owned_row shape (get m k)) q)
+    ∙ at_key (λ x o. references_in o ≡ references_at m x + one_at k x) q k (Some (owned_row shape (get m k))) (get m q) (owned_here shape k (get m k))
     (λ apart. let z : one_at k q ≡ 0 = one_there k q apart in omega arith)
 
 cond_le : (b : Bool) → cond b 1 0 ≤ 1
 cond_le true = omega arith
 cond_le false = omega arith
 
-pub references_owned_le : (m : NumberTable ChunkRow) (k q : ℕ) → references_at (own_one m k) q ≤ references_at m q + 1
-references_owned_le m k q =
-    let r = references_owned m k q in
+pub references_owned_le : (shape : Shape) (m : NumberTable ChunkRow) (k q : ℕ) → references_at (own_one shape m k) q ≤ references_at m q + 1
+references_owned_le shape m k q =
+    let r = references_owned shape m k q in
     let le : one_at k q ≤ 1 = cond_le (eqb k q) in
     omega arith
 
-pub references_all_owned : (handles : List ℕ) (m : NumberTable ChunkRow) (q : ℕ) → references_at (with_owned m handles) q ≡ references_at m q + times q handles
-references_all_owned [] m q = sym (omega arith)
-references_all_owned (k ∷ rest) m q =
-    let ih = references_all_owned rest (own_one m k) q in
-    let r = references_owned m k q in
+pub references_all_owned : (shape : Shape) (handles : List ℕ) (m : NumberTable ChunkRow) (q : ℕ) → references_at (with_owned shape m handles) q ≡ references_at m q + times q handles
+references_all_owned shape [] m q = sym (omega arith)
+references_all_owned shape (k ∷ rest) m q =
+    let ih = references_all_owned shape rest (own_one shape m k) q in
+    let r = references_owned shape m k q in
     let t = times_more q k rest in
     omega arith
 
-owned_is_sound : (next k : ℕ) (o : Option ChunkRow) → 1 ≤ k → k < next → IfSome o (IsSoundRow next k) → IsSoundRow next k (owned_row o)
-owned_is_sound next k None from given h = record { from_one = from; given = given; granted_was_issued = omega arith; within_limit = omega arith }
-owned_is_sound next k (Some row) from given h = record { from_one = h.from_one; given = h.given; granted_was_issued = h.granted_was_issued; within_limit = h.within_limit }
+owned_is_sound : (shape : Shape) (next k : ℕ) (o : Option ChunkRow) → 1 ≤ k → k < next → IfSome o (IsSoundRow next k) → IsSoundRow next k (owned_row shape o)
+owned_is_sound shape next k None from given h = record { from_one = from; given = given; granted_was_issued = omega arith; within_limit = omega arith }
+owned_is_sound shape next k (Some row) from given h = record { from_one = h.from_one; given = h.given; granted_was_issued = h.granted_was_issued; within_limit = h.within_limit }
 
-pub rows_one_owned : (next : ℕ) (m : NumberTable ChunkRow) (k : ℕ) → 1 ≤ k → k < next → AllRows next m → AllRows next (own_one m k)
-rows_one_owned next m k from given rows q =
-    subst (λ o. IfSome o (IsSoundRow next q)) (sym (get-insert nat_cmp_total m k (owned_row (get m k)) q))
-    (at_key (λ x o. IfSome o (IsSoundRow next x)) q k (Some (owned_row (get m k))) (get m q) (owned_is_sound next k (get m k) from given (rows k)) (λ _. rows q))
+pub rows_one_owned : (shape : Shape) (next : ℕ) (m : NumberTable ChunkRow) (k : ℕ) → 1 ≤ k → k < next → AllRows next m → AllRows next (own_one shape m k)
+rows_one_owned shape next m k from given rows q =
+    subst (λ o. IfSome o (IsSoundRow next q)) (sym (get-insert nat_cmp_total m k (owned_row shape (get m k)) q))
+    (at_key (λ x o. IfSome o (IsSoundRow next x)) q k (Some (owned_row shape (get m k))) (get m q) (owned_is_sound shape next k (get m k) from given (rows k)) (λ _. rows q))

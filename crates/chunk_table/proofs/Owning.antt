@@ -5,11 +5,13 @@ use Rattle.std.specs.Cmp.{nat_cmp_total}
 use Rattle.std.specs.FinMap.{get, insert, get-insert}
 use Rattle.std.proofs.lemmas.Bool.Decides.{nat_tests}
 use Rattle.gfs_types.specs.Counters.{counter_limit}
+use Rattle.gfs_types.specs.declared.shape.Shape.{Shape}
 use Rattle.chunk_table.specs.ChunkTable.{NumberTable, ChunkRow, with_owned, own_one}
 use Rattle.chunk_table.specs.Owners.{times, IsSoundFile}
 use Rattle.chunk_table.specs.Refusals.{is_given}
 use Rattle.chunk_table.proofs.Lookups.{at_key}
 use Rattle.chunk_table.proofs.Sums.{total_added}
+use Rattle.chunk_table.proofs.Shaped.{shapes_added}
 use Rattle.chunk_table.proofs.Counts.{AllRows, references_all_owned, rows_one_owned}
 use Rattle.chunk_table.proofs.Sound.{Holds}
 
@@ -27,26 +29,28 @@ second_of : (a b : Bool) → a && b ≡ true → b ≡ true
 second_of true b e = e
 second_of false b e = cc
 
-rows_all_owned : (next : ℕ) (handles : List ℕ) (m : NumberTable ChunkRow) → list_all (is_given next) handles ≡ true → AllRows next m → AllRows next (with_owned m handles)
-rows_all_owned next [] m e rows = rows
-rows_all_owned next (k ∷ rest) m e rows =
+rows_all_owned : (shape : Shape) (next : ℕ) (handles : List ℕ) (m : NumberTable ChunkRow) → list_all (is_given next) handles ≡ true → AllRows next m → AllRows next (with_owned shape m handles)
+rows_all_owned shape next [] m e rows = rows
+rows_all_owned shape next (k ∷ rest) m e rows =
     let here : is_given next k ≡ true = first_of (is_given next k) (list_all (is_given next) rest) e in
-    rows_all_owned next rest (own_one m k) (second_of (is_given next k) (list_all (is_given next) rest) e)
-    (rows_one_owned next m k (given_from_one next k here) (given_below next k here) rows)
+    rows_all_owned shape next rest (own_one shape m k) (second_of (is_given next k) (list_all (is_given next) rest) e)
+    (rows_one_owned shape next m k (given_from_one next k here) (given_below next k here) rows)
 
-pub holds_file_put : (files : NumberTable (List ℕ)) (chunks : NumberTable ChunkRow) (nf nh n : ℕ) → Holds files chunks nf nh n → (file : ℕ) (handles : List ℕ)
+pub holds_file_put : (files : NumberTable (List ℕ)) (shapes : NumberTable Shape) (chunks : NumberTable ChunkRow) (nf nh n : ℕ) → Holds files shapes chunks nf nh n
+    → (file : ℕ) (shape : Shape) (handles : List ℕ)
     → get files file ≡ None → is_given nf file ≡ true → list_all (is_given nh) handles ≡ true → n + length handles ≤ counter_limit
-    → Holds (insert files file handles) (with_owned chunks handles) nf nh (n + length handles)
-holds_file_put files chunks nf nh n h file handles fresh given all_given room =
+    → Holds (insert files file handles) (insert shapes file shape) (with_owned shape chunks handles) nf nh (n + length handles)
+holds_file_put files shapes chunks nf nh n h file shape handles fresh given all_given room =
     let sizes = total_added (λ x. length x) files file handles fresh in (
       record {
         files = λ f. subst (λ o. OnSome o (IsSoundFile nf f)) (sym (get-insert nat_cmp_total files file handles f))
             (at_key (λ x o. OnSome o (IsSoundFile nf x)) f file (Some handles) (get files f)
             (record { from_one = given_from_one nf file given; given = given_below nf file given }) (λ _. h.0.files f));
-        chunks = rows_all_owned nh handles chunks all_given h.0.chunks;
+        chunks = rows_all_owned shape nh handles chunks all_given h.0.chunks;
+        shapes = shapes_added files shapes file handles shape h.0.shapes;
         references = λ q. (
             let there = total_added (times q) files file handles fresh in
-            let here = references_all_owned handles chunks q in
+            let here = references_all_owned shape handles chunks q in
             let was = h.0.references q in
             omega arith);
         next_file_from_one = h.0.next_file_from_one;

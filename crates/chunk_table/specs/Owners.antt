@@ -1,5 +1,5 @@
--- What holds of every table: a chunk's reference count is the number of its owners, and no number is used twice (sections 2.6.1 and 3.4).
-use Rattle.std.specs.Prelude.{◌≡◌, ℕ, ◌<◌, ◌≤◌, ◌==◌, List, length, Option, Some, None, IfSome, OnSome, count_by, sum_by}
+-- What holds of every table: a chunk's reference count is the number of its owners, no number is used twice, and each file has a shape (sections 2.6.1 and 3.4).
+use Rattle.std.specs.Prelude.{◌≡◌, ℕ, ◌<◌, ◌≤◌, ◌==◌, List, length, Option, Some, None, IfSome, OnSome, is_some, count_by, sum_by}
 use Rattle.std.specs.FinMap as map
 use Rattle.gfs_types.specs.Counters.{counter_limit}
 use Rattle.chunk_table.specs.ChunkTable.{NumberTable, ChunkRow, TableState}
@@ -42,6 +42,7 @@ pub record IsSoundFile (next : ℕ) (file : ℕ) : Type 0 where
 pub record IsSound (s : TableState) : Type 0 where
   pub files : (file : ℕ) → OnSome (map.get s.table.files file) (IsSoundFile s.next_file file)
   pub chunks : (handle : ℕ) → IfSome (map.get s.table.chunks handle) (IsSoundRow s.next_handle handle)
+  pub shapes : (file : ℕ) → is_some (map.get s.table.shapes file) ≡ is_some (map.get s.table.files file)
   pub references : (handle : ℕ) → references_at s.table.chunks handle ≡ owners s.table.files handle
   pub next_file_from_one : 1 ≤ s.next_file
   pub next_file_within_limit : s.next_file ≤ counter_limit

@@ -2,16 +2,21 @@
 
 ghost use Rattle.std.specs.Prelude.{◌≡◌, ◌<◌};
 ghost use Rattle.gfs_types.specs.Counters.{counter_limit};
-ghost use Rattle.chunk_table.specs.ChunkTable.{new_row, row_issued, row_granted, row_ended, row_put, row_shared, row_left};
+ghost use Rattle.chunk_table.specs.ChunkTable.{new_row, row_issued, row_granted, row_ended, row_put, row_shared, row_left, row_restarted, known_shape};
 
 use gfs_types::ids::{Moment, ServerId, Version};
 use gfs_types::lists::ServerList;
+use gfs_types::shape::Shape;
 use std::alloc::Global;
 use std::marker::Model;
 
-/// A chunk's versions, the number of its owners, and its last lease. Contracts see a record of numbers.
+/// The shape of a file whose shape isn't known: that of a log which doesn't tell it, until the master's opening.
+pub const NO_SHAPE: Shape = Shape { chunk: 0, goal: 0 };
+
+/// A chunk's shape, its versions, the number of its owners, and its last lease. Contracts see a record of numbers.
 #[derive(Drop)]
 pub struct Chunk {
+    shape: Shape,
     granted: Version,
     issued: Version,
     references: u64,
@@ -28,6 +33,7 @@ impl Model for Chunk {
     ghost coded = { coded_row };
 
     ghost view = { λ c. record {
+      shape = c.shape;
       granted = c.granted.0;
       issued = c.issued.0;
       references = c.references;
@@ -38,6 +44,13 @@ impl Model for Chunk {
 }
 
 impl Chunk {
+    /// The shape of its file. [`NO_SHAPE`] where it isn't known.
+    pub fn shape(&self) -> Shape
+        ensures { result ≡ self.now.shape }
+    {
+        self.shape
+    }
+
     /// The version of the last lease, 0 where there was none.
     pub fn granted(&self) -> Version
         ensures { result.0 ≡ self.now.granted }
@@ -80,10 +93,11 @@ impl Chunk {
         self.lease_end
     }
 
-    pub(crate) fn new(alloc: Global, issued: Version, references: u64) -> Chunk
-        ensures { result ≡ record new_row { issued = issued.0; references = references } }
+    pub(crate) fn new(alloc: Global, shape: Shape, issued: Version, references: u64) -> Chunk
+        ensures { result ≡ record new_row { shape = shape; issued = issued.0; references = references } }
     {
         Chunk {
+            shape,
             granted: Version(0),
             issued,
             references,
@@ -124,6 +138,15 @@ impl Chunk {
         self.members = members;
     }
 
+    pub(crate) fn restart(&mut self, until: Moment, usual: Shape)
+        ensures { self.new ≡ row_restarted until.0 usual self.old }
+    {
+        self.shape = known_shape(usual, self.shape);
+        if self.granted.0 > 0 {
+            self.lease_end = until;
+        }
+    }
+
     pub(crate) fn set_end(&mut self, moment: Moment)
         ensures { self.new ≡ row_ended moment.0 self.old }
     {
@@ -143,4 +166,11 @@ impl Chunk {
     {
         self.references -= 1;
     }
+}
+
+// A shape that isn't known is the usual one.
+pub(crate) fn known_shape(usual: Shape, shape: Shape) -> Shape
+    ensures { result ≡ known_shape usual shape }
+{
+    if shape.chunk == 0 { usual } else { shape }
 }

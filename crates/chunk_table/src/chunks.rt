@@ -3,13 +3,14 @@
 ghost use Rattle.std.specs.Prelude.{◌≡◌, ℕ, ◌+◌, ◌<◌, ◌≤◌, length, IfSome, OnSome, OnOk};
 ghost use Rattle.std.specs.FinMap as map;
 ghost use Rattle.gfs_types.specs.Counters.{counter_limit};
-ghost use Rattle.chunk_table.specs.ChunkTable.{changed_at, row_issued, row_granted, row_ended, row_put, share_one, share_all, leave_one, leave_all, own_one, with_owned};
+ghost use Rattle.chunk_table.specs.ChunkTable.{changed_at, row_issued, row_granted, row_ended, row_put, row_restarted, share_one, share_all, leave_one, leave_all, own_one, with_owned};
 ghost use Rattle.chunk_table.specs.Owners.{references_at};
 
 use crate::chunk::Chunk;
 use gfs_types::ids::{Moment, ServerId, Version};
 use gfs_types::lists::ServerList;
 use gfs_types::no_memory::NoMemory;
+use gfs_types::shape::Shape;
 use ordered_map::number_map::NumberMap;
 use std::alloc::Global;
 
@@ -58,6 +59,14 @@ pub(crate) fn end_at(chunks: &mut NumberMap<Chunk>, handle: u64, moment: Moment)
     }
 }
 
+pub(crate) fn restart_at(chunks: &mut NumberMap<Chunk>, handle: u64, until: Moment, usual: Shape)
+    ensures { chunks.new ≡ changed_at chunks.old handle (row_restarted until.0 usual) }
+{
+    if let Some(chunk) = chunks.get_mut(handle) {
+        chunk.restart(until, usual);
+    }
+}
+
 pub(crate) fn share_at(chunks: &mut NumberMap<Chunk>, handle: u64)
     requires { references_at chunks.old handle < counter_limit }
     ensures { chunks.new ≡ share_one chunks.old handle }
@@ -101,30 +110,32 @@ pub(crate) fn leave_each(chunks: &mut NumberMap<Chunk>, handles: &[u64])
 
 pub(crate) fn own_at(
     alloc: Global,
+    shape: Shape,
     chunks: &mut NumberMap<Chunk>,
     handle: u64,
 ) -> Result<(), NoMemory>
     requires { references_at chunks.old handle < counter_limit }
-    ensures { OnOk result (chunks.new ≡ own_one chunks.old handle) }
+    ensures { OnOk result (chunks.new ≡ own_one shape chunks.old handle) }
 {
     if chunks.get(handle).is_some() {
         share_at(chunks, handle);
         return Ok(());
     }
-    chunks.insert(handle, Chunk::new(alloc, Version(0), 1))?;
+    chunks.insert(handle, Chunk::new(alloc, shape, Version(0), 1))?;
     Ok(())
 }
 
 pub(crate) fn own_each(
     alloc: Global,
+    shape: Shape,
     chunks: &mut NumberMap<Chunk>,
     handles: &[u64],
 ) -> Result<(), NoMemory>
     requires { (handle : ℕ) → references_at chunks.old handle + length handles.now ≤ counter_limit }
-    ensures { OnOk result (chunks.new ≡ with_owned chunks.old handles.now) }
+    ensures { OnOk result (chunks.new ≡ with_owned shape chunks.old handles.now) }
 {
     for handle in handles {
-        own_at(alloc, chunks, *handle)?;
+        own_at(alloc, shape, chunks, *handle)?;
     }
     Ok(())
 }

@@ -4,26 +4,31 @@ ghost use Rattle.std.specs.Prelude.{◌≡◌, ℕ, ◌<◌, ◌≤◌, Some, No
 ghost use Rattle.std.specs.List.{list_all};
 ghost use Rattle.std.specs.Option.{option_copied};
 ghost use Rattle.gfs_types.specs.Counters.{counter_limit};
-ghost use Rattle.chunk_table.specs.ChunkTable.{new_table, new_chunk_table, file_of, chunk_of, row_issued, row_granted, row_ended, row_put, with_file, with_chunk, with_row_changed, with_shared, with_swapped, without_file, with_copy, without_copy, with_counters, with_put_file};
+ghost use Rattle.chunk_table.specs.ChunkTable.{new_table, new_chunk_table, file_of, shape_of, chunk_of, shape_in, row_issued, row_granted, row_ended, row_put, row_restarted, with_file, with_chunk, with_known_shape, with_row_changed, with_shared, with_swapped, without_file, with_copy, without_copy, with_counters, with_put_file};
 ghost use Rattle.chunk_table.specs.Owners.{IsSound};
 ghost use Rattle.chunk_table.specs.Refusals.{RefusedFor, RefusedExactly, add_file_refusal, add_chunk_refusal, issue_refusal, grant_refusal, put_row_refusal, share_refusal, swap_refusal, drop_refusal, start_copy_refusal, give_up_copy_refusal, version_after, is_given, counters_refusal, put_file_refusal};
 
-use crate::chunk::Chunk;
-use crate::chunks::{end_at, grant_at, issue_at, leave_at, leave_each, own_each, put_at, share_at};
+use crate::chunk::{Chunk, NO_SHAPE};
+use crate::chunks::{
+    end_at, grant_at, issue_at, leave_at, leave_each, own_each, put_at, restart_at, share_at,
+};
 use crate::fault::TableFault;
-use crate::files::{push_at, set_at, share_file};
+use crate::files::{insert_file, know_at, push_at, set_at, share_file};
 use gfs_types::ids::{FileId, Handle, MAX_COUNTER, Moment, ServerId, Version};
 use gfs_types::lists::{HandleList, ServerList};
 use gfs_types::no_memory::NoMemory;
+use gfs_types::shape::Shape;
 use ordered_map::number_map::NumberMap;
 use std::alloc::Global;
 use std::marker::Model;
 
-/// The files' lists of handles and the chunks by handle, with the next file id and the next handle.
+/// The files' lists of handles, their shapes, and the chunks by handle, with the next file id and the next handle.
 #[derive(Drop)]
 pub struct Table {
     alloc: Global,
     files: NumberMap<HandleList>,
+    // of the same files
+    shapes: NumberMap<Shape>,
     chunks: NumberMap<Chunk>,
     next_file: u64,
     next_handle: u64,
@@ -41,14 +46,14 @@ impl Model for Table {
     ghost coded = { coded_table };
 
     ghost view = { λ t. record {
-      table = record { files = t.files; chunks = t.chunks };
+      table = record { files = t.files; shapes = t.shapes; chunks = t.chunks };
       next_file = t.next_file;
       next_handle = t.next_handle;
     } };
 
     ghost invariant = { λ t. IsSound
         (record {
-          table = record { files = t.files; chunks = t.chunks };
+          table = record { files = t.files; shapes = t.shapes; chunks = t.chunks };
           next_file = t.next_file;
           next_handle = t.next_handle;
         })
@@ -72,6 +77,7 @@ impl Table {
         Table {
             alloc,
             files: NumberMap::new(alloc),
+            shapes: NumberMap::new(alloc),
             chunks: NumberMap::new(alloc),
             next_file,
             next_handle,
@@ -100,6 +106,16 @@ impl Table {
         self.files.get(file.0)
     }
 
+    /// A file's shape. [`NO_SHAPE`] where it isn't known, or where there is no such file.
+    pub fn shape(&self, file: FileId) -> Shape
+        ensures { result ≡ shape_of self.now.table file.0 }
+    {
+        match self.shapes.get(file.0) {
+            Some(shape) => *shape,
+            None => NO_SHAPE,
+        }
+    }
+
     /// What is kept of a chunk.
     pub fn chunk(&self, handle: Handle) -> Option<&Chunk>
         ensures { option_copied result ≡ chunk_of self.now.table handle.0 }
@@ -115,25 +131,26 @@ impl Table {
         let _next = &self.next_file;
     }
 
-    /// A new file without chunks, under the next id. Refused: Limit; NoMemory.
-    pub fn add_file(&mut self) -> Result<FileId, TableFault>
+    /// A new file of this shape without chunks, under the next id. Refused: Limit; NoMemory.
+    pub fn add_file(&mut self, shape: Shape) -> Result<FileId, TableFault>
         ensures refusal { RefusedFor result (add_file_refusal self.old) }
         ensures file { IfOk result (λ file. file.0 ≡ self.old.next_file) }
-        ensures ok { OnOk result (self.new ≡ with_file self.old) }
+        ensures ok { OnOk result (self.new ≡ with_file self.old shape) }
         ensures err { OnErr result (self.new ≡ self.old) }
     {
         let file = self.next_file;
         if file >= MAX_COUNTER {
             return Err(TableFault::Limit);
         }
-        let Ok(()) = self.files.insert(file, HandleList::empty(self.alloc)) else {
+        let none = HandleList::empty(self.alloc);
+        let Ok(()) = insert_file(&mut self.files, &mut self.shapes, file, shape, none) else {
             return Err(TableFault::NoMemory);
         };
         self.next_file = file + 1;
         Ok(FileId(file))
     }
 
-    /// A new chunk at a file's end, under the next handle. It has one owner and no version. Refused: NoFile; Limit; NoMemory.
+    /// A new chunk at a file's end, under the next handle. It has the file's shape, one owner and no version. Refused: NoFile; Limit; NoMemory.
     pub fn add_chunk(&mut self, file: FileId) -> Result<Handle, TableFault>
         ensures refusal { RefusedFor result (add_chunk_refusal self.old file.0) }
         ensures handle { IfOk result (λ handle. handle.0 ≡ self.old.next_handle) }
@@ -147,7 +164,7 @@ impl Table {
         if handle >= MAX_COUNTER || self.owners >= MAX_COUNTER {
             return Err(TableFault::Limit);
         }
-        let chunk = Chunk::new(self.alloc, Version(0), 1);
+        let chunk = Chunk::new(self.alloc, self.shape(file), Version(0), 1);
         let Ok(()) = self.chunks.insert(handle, chunk) else {
             return Err(TableFault::NoMemory);
         };
@@ -255,16 +272,22 @@ impl Table {
         Ok(())
     }
 
-    /// The table with a file of this list, as a checkpoint has it: each chunk of the list gets one owner more, and is new where the
+    /// The table with a file of this shape and list, as a checkpoint has it: each chunk of the list gets one owner more, and is new where the
     /// table doesn't have it. Id and handles are below the counters. A table that refuses is dropped.
     /// Refused: Exists; NotGiven; Limit; NoMemory.
-    pub fn put_file(self, file: FileId, handles: HandleList) -> Result<Table, TableFault>
+    pub fn put_file(
+        self,
+        file: FileId,
+        shape: Shape,
+        handles: HandleList,
+    ) -> Result<Table, TableFault>
         ensures refusal { RefusedFor result (put_file_refusal self file.0 handles) }
-        ensures ok { IfOk result (λ table. table ≡ with_put_file self file.0 handles) }
+        ensures ok { IfOk result (λ table. table ≡ with_put_file self file.0 shape handles) }
     {
         let Table {
             alloc,
             mut files,
+            mut shapes,
             mut chunks,
             next_file,
             next_handle,
@@ -280,15 +303,16 @@ impl Table {
         if count > MAX_COUNTER - owners {
             return Err(TableFault::Limit);
         }
-        let Ok(()) = own_each(alloc, &mut chunks, handles.as_slice()) else {
+        let Ok(()) = own_each(alloc, shape, &mut chunks, handles.as_slice()) else {
             return Err(TableFault::NoMemory);
         };
-        let Ok(()) = files.insert(file.0, handles) else {
+        let Ok(()) = insert_file(&mut files, &mut shapes, file.0, shape, handles) else {
             return Err(TableFault::NoMemory);
         };
         Ok(Table {
             alloc,
             files,
+            shapes,
             chunks,
             next_file,
             next_handle,
@@ -303,7 +327,22 @@ impl Table {
         end_at(&mut self.chunks, handle.0, moment);
     }
 
-    /// A new file, under the next id, of the same chunks, each of which gets one owner more. Refused: NoFile; Limit; NoMemory.
+    /// Gives a file the usual shape where its own isn't known; its chunks keep theirs. Takes no memory.
+    pub fn know_shape(&mut self, file: FileId, usual: Shape)
+        ensures { self.new ≡ with_known_shape self.old file.0 usual }
+    {
+        know_at(&mut self.shapes, file.0, usual);
+    }
+
+    /// What a restart makes of a chunk: the lease of one that was granted ends at this moment, and it has the usual shape where its
+    /// own isn't known. Nothing changes where there is no such chunk. Takes no memory.
+    pub fn restart_chunk(&mut self, handle: Handle, until: Moment, usual: Shape)
+        ensures { self.new ≡ with_row_changed self.old handle.0 (row_restarted until.0 usual) }
+    {
+        restart_at(&mut self.chunks, handle.0, until, usual);
+    }
+
+    /// A new file, under the next id, of the same shape and the same chunks, each of which gets one owner more. Refused: NoFile; Limit; NoMemory.
     pub fn share(&mut self, file: FileId) -> Result<FileId, TableFault>
         ensures refusal { RefusedFor result (share_refusal self.old file.0) }
         ensures file { IfOk result (λ file. file.0 ≡ self.old.next_file) }
@@ -321,7 +360,8 @@ impl Table {
         let Ok(list) = handles.copy(self.alloc) else {
             return Err(TableFault::NoMemory);
         };
-        let Ok(()) = self.files.insert(copy, list) else {
+        let shape = self.shape(file);
+        let Ok(()) = insert_file(&mut self.files, &mut self.shapes, copy, shape, list) else {
             return Err(TableFault::NoMemory);
         };
         share_file(&self.files, &mut self.chunks, copy);
@@ -366,17 +406,18 @@ impl Table {
         let Some(handles) = self.files.remove(file.0) else {
             return Err(TableFault::NoFile);
         };
+        self.shapes.remove(file.0);
         leave_each(&mut self.chunks, handles.as_slice());
         self.owners -= handles.len() as u64;
         Ok(())
     }
 
-    /// A new chunk without owner, under the next handle, for a copy of a chunk. Its first version number is issued: one more than
+    /// A new chunk without owner, under the next handle, for a copy of a chunk, whose shape it has. Its first version number is issued: one more than
     /// the last that was issued for that chunk. Refused: NoChunk; Limit; NoMemory.
     pub fn start_copy(&mut self, source: Handle) -> Result<Handle, TableFault>
         ensures refusal { RefusedFor result (start_copy_refusal self.old source.0) }
         ensures handle { IfOk result (λ handle. handle.0 ≡ self.old.next_handle) }
-        ensures ok { OnOk result (self.new ≡ with_copy self.old (version_after (chunk_of self.old.table source.0))) }
+        ensures ok { OnOk result (self.new ≡ with_copy self.old source.0 (version_after (chunk_of self.old.table source.0))) }
         ensures err { OnErr result (self.new ≡ self.old) }
     {
         let Some(chunk) = self.chunks.get(source.0) else {
@@ -386,22 +427,29 @@ impl Table {
         if issued >= MAX_COUNTER || self.next_handle >= MAX_COUNTER {
             return Err(TableFault::Limit);
         }
-        let Ok(copy) = self.add_copy(Version(issued + 1)) else {
+        let shape = chunk.shape();
+        let Ok(copy) = self.add_copy(source, shape, Version(issued + 1)) else {
             return Err(TableFault::NoMemory);
         };
         Ok(copy)
     }
 
-    // A new chunk without owner, under the next handle, of which that version number is the last that was issued.
-    pub(crate) fn add_copy(&mut self, issued: Version) -> Result<Handle, NoMemory>
+    // A new chunk without owner, under the next handle, of its source's shape, of which that version number is the last that was issued.
+    pub(crate) fn add_copy(
+        &mut self,
+        source: Handle,
+        shape: Shape,
+        issued: Version,
+    ) -> Result<Handle, NoMemory>
+        requires shape { shape ≡ shape_in (chunk_of self.old.table source.0) }
         requires handle { self.old.next_handle < counter_limit }
         requires version { issued.0 ≤ counter_limit }
         ensures handle { IfOk result (λ handle. handle.0 ≡ self.old.next_handle) }
-        ensures ok { OnOk result (self.new ≡ with_copy self.old issued.0) }
+        ensures ok { OnOk result (self.new ≡ with_copy self.old source.0 issued.0) }
         ensures err { OnErr result (self.new ≡ self.old) }
     {
         let handle = self.next_handle;
-        let copy = Chunk::new(self.alloc, issued, 0);
+        let copy = Chunk::new(self.alloc, shape, issued, 0);
         let Ok(()) = self.chunks.insert(handle, copy) else {
             return Err(NoMemory);
         };

@@ -89,7 +89,7 @@ fn main(rt: HostRuntime) -> Result<()> {
     let mut cell = Cell::start(rt, alloc, Config::default(), 3, OpenGate)?;
     let mut producers = new_producers(alloc, &mut cell)?;
     let mut reader = cell.client()?;
-    reader.create(&rt, Text::from_str("/log", alloc)?)?;
+    reader.create(&rt, Text::from_str("/log", alloc)?, None)?;
     let run = |_: usize, producer: &mut Producer| producer.run(&rt, alloc);
     thread::for_each_mut(&rt, producers.as_mut_slice(), 4, &run);
     for producer in producers.as_slice() {

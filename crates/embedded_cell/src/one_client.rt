@@ -15,7 +15,7 @@ pub fn reads_its_record<R: Threads + Wait + Clock + Copy + Send + 'static>(
 ) -> Result<bool> {
     let mut cell = Cell::start(rt, alloc, Config::default(), 3, OpenGate)?;
     let mut seat = cell.client()?;
-    seat.create(&rt, Text::from_str("/log", alloc)?)?;
+    seat.create(&rt, Text::from_str("/log", alloc)?, None)?;
     let fd = seat.open(&rt, Text::from_str("/log", alloc)?)?;
     let offset = seat.append(&rt, fd, Bytes::from_static(b"a record"))?;
     let (bytes, _rounds) = seat.read(&rt, fd, offset, 8)?;

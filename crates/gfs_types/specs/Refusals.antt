@@ -1,9 +1,9 @@
 -- The number and the printed name of each refusal.
 use Rattle.std.specs.Prelude.{ℕ, List, codes}
 use Rattle.gfs_types.specs.declared.refusal.Refusal.{Refusal}
-use Rattle.gfs_types.specs.declared.refusal.Refusal.TheVariants.{BadPath, NoParent, Exists, NotFound, NotFile, NotDir, NotEmpty, Reserved, Inside, Busy, TooLong, BadFd, NamesFull, Collected, NoReplica, Failed, Unknown, NoMemory, ClockBroken, JournalFull, Closed, NoChunk, Version, NoLease, NoData, OldSerial, OldRequest, Late, Corrupt, NoRoom, OldOrder, ChunkFull, ServerTooLong}
+use Rattle.gfs_types.specs.declared.refusal.Refusal.TheVariants.{BadPath, NoParent, Exists, NotFound, NotFile, NotDir, NotEmpty, Reserved, Inside, Busy, TooLong, BadFd, NamesFull, Collected, NoReplica, Failed, Unknown, NoMemory, ClockBroken, JournalFull, Closed, BadSize, NoChunk, Version, NoLease, NoData, OldSerial, OldRequest, Late, Corrupt, NoRoom, OldOrder, ChunkFull, ServerTooLong}
 
--- 1 to 21 are a client's refusals, 31 to 42 a chunkserver's
+-- 1 to 22 are a client's refusals, 31 to 42 a chunkserver's
 abbrev pub number_of : Refusal → ℕ
 number_of BadPath = 1
 number_of NoParent = 2
@@ -26,6 +26,7 @@ number_of NoMemory = 18
 number_of ClockBroken = 19
 number_of JournalFull = 20
 number_of Closed = 21
+number_of BadSize = 22
 number_of NoChunk = 31
 number_of Version = 32
 number_of NoLease = 33
@@ -62,6 +63,7 @@ name_of NoMemory = codes "NoMemory"
 name_of ClockBroken = codes "ClockBroken"
 name_of JournalFull = codes "JournalFull"
 name_of Closed = codes "Closed"
+name_of BadSize = codes "BadSize"
 name_of NoChunk = codes "NoChunk"
 name_of Version = codes "Version"
 name_of NoLease = codes "NoLease"

@@ -114,7 +114,7 @@ module _ (first : Logged) (q version file : ℕ) (unsourced : IsSourceOf first q
       by_record (log.Grant h v primary members) is plain row = absurd plain
       by_record (log.Mkdir client n path) is plain row = record { copies = h.copies; row = row; there = h.there }
       by_record (log.Rmdir client n path) is plain row = record { copies = h.copies; row = row; there = h.there }
-      by_record (log.Create client n new path) is plain row = record { copies = h.copies; row = row; there = λ has. file_put l.table.files new.0 [] file (h.there has) }
+      by_record (log.Create client n new shape path) is plain row = record { copies = h.copies; row = row; there = λ has. file_put l.table.files new.0 [] file (h.there has) }
       by_record (log.Delete client n moment path) is plain row = record { copies = h.copies; row = row; there = h.there }
       by_record (log.Rename client n from to) is plain row = record { copies = h.copies; row = row; there = h.there }
       by_record (log.Snapshot client n from to) is plain row =

@@ -120,7 +120,7 @@ outcome_taken m client outcome h new = step_taken m client (λ current. record c
 performs : (m : Machine) (c : Call) (moment : ℕ) → AreMade m → AreMade (performed m c moment)
 performs m (call.Mkdir p) moment h = record { names = inserted m.names p Dir tt h.names; clients = h.clients }
 performs m (call.Rmdir p) moment h = record { names = removed m.names p h.names; clients = h.clients }
-performs m (call.Create p) moment h = record { names = inserted m.names p (File (suc m.file_count)) (omega arith) h.names; clients = h.clients }
+performs m (call.Create p shape) moment h = record { names = inserted m.names p (File (suc m.file_count)) (omega arith) h.names; clients = h.clients }
 performs m (call.Delete p) moment h = record { names = hid m.names p moment (node_at m.names p) (h.names p) h.names; clients = h.clients }
 performs m (call.Rename p q) moment h = record { names = renamed (map.remove m.names p) q (node_at m.names p) (h.names p) (removed m.names p h.names); clients = h.clients }
 performs m (call.Snapshot p q) moment h = record { names = copied m.names (suc m.file_count) (copied_entries m.names p q) (omega arith) h.names; clients = h.clients }
@@ -168,7 +168,7 @@ made_step m (ReturnFd client fd file) a h =
     })
 made_step m (Step client moment outcome) a h =
     at_some AreMade (λ current. stepped m client moment outcome current) m _ a.0 a.1
-    (steps m client moment outcome a.0 h (subst IsMadeOutcome (sym a.2.2) (by_made m.names (a.0).asked.call (refusal_of m.names (a.0).asked.call) h.names)))
+    (steps m client moment outcome a.0 h (subst IsMadeOutcome (sym a.2.2) (by_made m.names (a.0).asked.call (refusal_of m.config m.names (a.0).asked.call) h.names)))
 made_step m (FindBusy client holder) a h = outcome_taken m client (Replies (answer.Refused Busy)) h tt
 made_step m (FindFull client) a h = outcome_taken m client (Replies (answer.Refused NamesFull)) h tt
 made_step m (Lock client) a h = step_taken m client (λ current. record current { has_locks = true }) h (λ c made. made)

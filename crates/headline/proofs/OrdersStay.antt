@@ -2,12 +2,13 @@
 use Rattle.std.proofs.Common.{◌≡◌, ℕ, suc, ◌<◌, ◌≤◌, true, false, cond, List, [], ◌∷◌, refl, sym, ap, subst, ◌∙◌, arith}
 use Rattle.std.specs.List.{list_all}
 use Rattle.std.proofs.lemmas.Bool.{and_parts}
+use Rattle.gfs_types.specs.declared.shape.Shape.{Shape}
 use Rattle.gfs_types.specs.declared.call.Call.{Call}
 use Rattle.gfs_types.specs.declared.call.Call.TheVariants as call
 use Rattle.gfs_types.specs.Paths.{Path}
 use Rattle.relaxed_file.specs.Names.{Node, Dir, File, copied_entries, id_after}
 use Rattle.relaxed_file.specs.Machine.{Machine, FileState, Chunk, new_chunk, new_file, chunk_at, chunk_count, with_chunk}
-use Rattle.relaxed_file.specs.NameStep.{performed, is_refused, stepped, with_outcome, with_copied_file, with_copied_files}
+use Rattle.relaxed_file.specs.NameStep.{made_file, performed, is_refused, stepped, with_outcome, with_copied_file, with_copied_files}
 use Rattle.relaxed_file.specs.Chunks.{chunk_added}
 use Rattle.relaxed_file.specs.Run.{Action, Step, FindBusy, FindFull, Lock, Expire, Add, OpenRound, CloseRound, IsLawful, Allows, after, after_all, asked_file}
 use Rattle.relaxed_file.proofs.Tables.{put_at, put_other, at_some}
@@ -30,14 +31,14 @@ file_on a b c h g index low =
     let two = g index one.0 in
     (two.0, two.1 ∙ one.1)
 
-new_stays : (old new : FileState) → old ≡ new_file → FileStays old new
+new_stays : {shape : Shape} (old new : FileState) → old ≡ new_file shape → FileStays old new
 new_stays old new is = subst (λ (f : FileState). FileStays f new) (sym is) (λ index low. absurd (omega (arith, low)))
 
-copied_file_stays : (files : ℕ → FileState) (next : ℕ) (node : Node) → ((k : ℕ) → next ≤ k → files k ≡ new_file) → FilesStay files (with_copied_file files next node)
+copied_file_stays : {shape : Shape} (files : ℕ → FileState) (next : ℕ) (node : Node) → ((k : ℕ) → next ≤ k → files k ≡ new_file shape) → FilesStay files (with_copied_file files next node)
 copied_file_stays files next Dir fresh k = same_file (files k)
 copied_file_stays files next (File id) fresh k = put_at (λ j f. FileStays (files j) f) next (files id) files (new_stays (files next) (files id) (fresh next (omega arith))) (λ j. same_file (files j)) k
 
-copied_files_stay : (entries : List (Path × Node)) (files : ℕ → FileState) (next : ℕ) → ((k : ℕ) → next ≤ k → files k ≡ new_file) → FilesStay files (with_copied_files files next entries)
+copied_files_stay : {shape : Shape} (entries : List (Path × Node)) (files : ℕ → FileState) (next : ℕ) → ((k : ℕ) → next ≤ k → files k ≡ new_file shape) → FilesStay files (with_copied_files files next entries)
 copied_files_stay [] files next fresh k = same_file (files k)
 copied_files_stay (e ∷ rest) files next fresh k =
     file_on (files k) (with_copied_file files next e.1 k) (with_copied_files (with_copied_file files next e.1) (id_after next e.1) rest k) (copied_file_stays files next e.1 fresh k)
@@ -55,7 +56,7 @@ module _ (m : Machine) (h : Known m) where
       (λ i low. (low, put_at (λ j c. c.order ≡ ((m.files file).chunks j).order) index chunk (m.files file).chunks is (λ j. refl) i)) same
 
   performed_stays : (c : Call) (moment : ℕ) → Stay (performed m c moment)
-  performed_stays (call.Create p) moment = put_at (λ k f. FileStays (m.files k) f) (suc m.file_count) new_file m.files (new_stays (m.files (suc m.file_count)) new_file (h.fresh (suc m.file_count) (omega arith))) same
+  performed_stays (call.Create p shape) moment = put_at (λ k f. FileStays (m.files k) f) (suc m.file_count) (made_file m shape) m.files (new_stays (m.files (suc m.file_count)) (made_file m shape) (h.fresh (suc m.file_count) (omega arith))) same
   performed_stays (call.Snapshot p q) moment = copied_files_stay (copied_entries m.names p q) m.files (suc m.file_count) (λ k l. h.fresh k (omega (arith, l)))
   performed_stays other moment = same
 

@@ -8,8 +8,8 @@ use Rattle.gfs_types.specs.declared.call.Call.TheVariants as call
 use Rattle.gfs_types.specs.Paths.{Path}
 use Rattle.relaxed_file.specs.Names.{Node, Dir, File, copied_entries, id_after}
 use Rattle.relaxed_file.specs.Order.{CallId, Entry}
-use Rattle.relaxed_file.specs.Machine.{Machine, FileState, Chunk, new_chunk, new_file, chunk_at, chunk_count, with_chunk}
-use Rattle.relaxed_file.specs.NameStep.{performed, is_refused, stepped, with_outcome, with_copied_file, with_copied_files}
+use Rattle.relaxed_file.specs.Machine.{Machine, FileState, Chunk, new_chunk, chunk_at, chunk_count, with_chunk}
+use Rattle.relaxed_file.specs.NameStep.{made_file, performed, is_refused, stepped, with_outcome, with_copied_file, with_copied_files}
 use Rattle.relaxed_file.specs.Chunks.{tries_in, chunk_added}
 use Rattle.relaxed_file.specs.Answers.{returned}
 use Rattle.relaxed_file.specs.Reads.{looked}
@@ -53,7 +53,7 @@ module _ (m : Machine) where
   copies_keep (e ∷ rest) files next h = copies_keep rest (with_copied_file files next e.1) (id_after next e.1) (copy_keeps files next e.1 h)
 
   performed_keeps : (c : Call) (moment : ℕ) → Holds (performed m c moment)
-  performed_keeps (call.Create p) moment = put_keeps HoldsOfFile (suc m.file_count) new_file m.files new_has first
+  performed_keeps (call.Create p shape) moment = put_keeps HoldsOfFile (suc m.file_count) (made_file m shape) m.files new_has first
   performed_keeps (call.Snapshot p q) moment = copies_keep (copied_entries m.names p q) m.files (suc m.file_count) first
   performed_keeps other moment = first
 

@@ -83,7 +83,7 @@ module _ (handle version : ℕ) where
         | inl before ↦ subst (λ (n : ℕ). StandsAt l.table.files n index handle) (sym same) before
         | inr last ↦ absurd (let one = last.1 in let next = due.0 in omega (arith, used, one, next))
       ]) at
-  stood_before l (log.Create client n new path) used named due plain apart file index at = stood_put l.table.files new.0 [] file index handle (λ same there. none_some handle there) at
+  stood_before l (log.Create client n new shape path) used named due plain apart file index at = stood_put l.table.files new.0 [] file index handle (λ same there. none_some handle there) at
   stood_before l (log.Expired gone) used named due plain apart file index at =
       elim (same_or_not file gone.0) [
         | inl same ↦ none_some handle (ap (λ (o : Option (List ℕ)). element_at (unwrap_or o []) index) (sym (gone_there l.table.files gone.0 file same)) ∙ at)
@@ -97,7 +97,7 @@ module _ (handle version : ℕ) where
       λ x id has i some. let of = copied_of from to (table.entries l.names) x (File id) has in apart of.0 id of.2 (entry_is l.names of.0 (File id) of.1) (placed_stands (chunks_at l.table.files id) i handle some) in
       stood_copied es l.table l.next_file handle known none file index at
   stood_before l (log.Grant chunk number primary members) used named due plain apart file index at = absurd plain
-  stood_before l (log.FileItem path of_file handles) used named due plain apart file index at = absurd due
+  stood_before l (log.FileItem path of_file shape handles) used named due plain apart file index at = absurd due
   stood_before l other used named due plain apart file index at = at
 
   -- nor does it become a copy

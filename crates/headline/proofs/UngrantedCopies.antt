@@ -91,7 +91,7 @@ ungranted_after l k (log.Expired file) due h handle c is row at =
 ungranted_after l k (log.Epoch epoch) due h handle c is row at = absurd due
 ungranted_after l k (log.Mkdir client n path) due h handle c is row at = h handle c is row at
 ungranted_after l k (log.Rmdir client n path) due h handle c is row at = h handle c is row at
-ungranted_after l k (log.Create client n file path) due h handle c is row at = h handle c is row at
+ungranted_after l k (log.Create client n file shape path) due h handle c is row at = h handle c is row at
 ungranted_after l k (log.Delete client n moment path) due h handle c is row at = h handle c is row at
 ungranted_after l k (log.Rename client n from to) due h handle c is row at = h handle c is row at
 ungranted_after l k (log.Refused client n refusal) due h handle c is row at = h handle c is row at
@@ -116,7 +116,7 @@ copies_kept =
       records = λ l k r same due names h. (rows_kept.records l k r same due names h.0, ungranted_after l k r due h.1);
       checkpoint = λ l k same tree h. (rows_kept.checkpoint l k same tree h.0, λ handle c is. none_some c (sym (checkpoint_no_copies l handle) ∙ is));
       less = λ l k handles copied h. (rows_kept.less l k handles copied h.0, h.1);
-      rows = λ l k chunks same h. (rows_kept.rows l k chunks same h.0, h.1);
+      rows = λ l k shapes chunks same h. (rows_kept.rows l k shapes chunks same h.0, h.1);
     }
 
 -- no Grant of it was sent

@@ -10,7 +10,7 @@ use Rattle.relaxed_file.specs.Names.{Names, Node, Dir, File, node_at, id_after, 
 use Rattle.relaxed_file.proofs.NamesTree.{Tree, entry_is}
 use Rattle.protocol.specs.Tables.{Table, element_at, with_at}
 use Rattle.protocol.specs.Sending.{file_id, handle_of}
-use Rattle.chunk_table.specs.ChunkTable.{ChunkRow, ChunkTable, handles_of, grant}
+use Rattle.chunk_table.specs.ChunkTable.{ChunkRow, ChunkTable, handles_of, grant, shape_of}
 use Rattle.protocol.specs.Logged.{Logged, KeptCall, Copy, first_logged, after_record, after_records, copies_for_file, copies_given_up, all_copies_given_up, swapped_in, with_copied_node, with_copied_nodes, checkpoint_of, name_item, node_item, chunk_item, client_item}
 use Rattle.laws_base.specs.Laws.{times_in}
 use Rattle.laws_base.proofs.Steps.{none_some, same_or_not, put_cases, put_split, put_there, put_other, gone_other, gone_split, kept_cases, removed_cases}
@@ -26,6 +26,7 @@ use Rattle.laws_base.proofs.NamesReached.{IsKeptByLog, AreSameButEnds, without_e
 use Rattle.laws_base.proofs.FilesLogged.{without_copy, copies_after, copies_are_after, same_copy, records_logged, checkpoint_logged, checkpoint_no_copies, less_logged, restart_logged, first_log_of, epochs_logged, rows_logged}
 use Rattle.laws_base.proofs.Owners.{chunks_at, times_new, references_of, owned_refs, AreCounted, none_counted, no_times, changed_refs, fewer_counted}
 use Rattle.laws_base.proofs.CountsLogged.{AreApart, HaveRows, IsPlacedIn, ArePlaced, AreAlone, IsCountDue, IsCopyPlaced, IsFoundCounts, IsCountedLog, apart_here, files_below, new_is_none, counted_after, fresh, apart_after, below_after, unlisted, rows_after}
+use Rattle.gfs_types.specs.declared.shape.Shape.{Shape}
 
 -- places of copies after a record
 
@@ -72,7 +73,7 @@ place_swapped files g c handle (inr other) apart at =
     place_stays files (table.insert files g.file (with_at (chunks_at files g.file) g.index handle)) c (put_other files g.file (with_at (chunks_at files g.file) g.index handle) c.file other) at
 
 placed_after : (l : Logged) (r : Record) → IsDue (Unit {0}) l r → HasOneName l → AreAlone l.copies → ArePlaced l.copies l.table.files → ArePlaced (copies_after l.copies r) (after_record l r).table.files
-placed_after l (log.Create client n file path) due one alone placed = λ handle c is.
+placed_after l (log.Create client n file shape path) due one alone placed = λ handle c is.
     let low = files_below l one c.file (one.copied handle c is) in
     place_stays l.table.files (table.insert l.table.files file.0 []) c (put_other l.table.files file.0 [] c.file (λ same. omega (arith, low, due, same))) (placed handle c is)
 placed_after l (log.Snapshot client n from to) due one alone placed = λ handle c is.
@@ -97,7 +98,7 @@ placed_after l (log.Grant chunk version primary members) due one alone placed = 
     by_copy (Some g) some handle c is =
         let old = gone_split l.copies chunk.0 handle c is in
         place_swapped l.table.files g c chunk.0 (same_or_not c.file g.file) (λ file index. old.0 (alone handle chunk.0 c g old.1 some file index)) (placed handle c old.1)
-placed_after l (log.FileItem path file handles) due one alone placed = absurd due
+placed_after l (log.FileItem path file shape handles) due one alone placed = absurd due
 placed_after l other due one alone placed = placed
 
 alone_after : (l : Logged) (r : Record) → IsDue (Unit {0}) l r → AreAlone l.copies → AreAlone (copies_after l.copies r)
@@ -125,7 +126,7 @@ alone_after l other due alone = alone
 -- what records ask is there, in the state and in the log
 
 state_due : (l k : Logged) (r : Record) → parts_of l ≡ parts_of k → IsDue (Unit {0}) l r → IsCountedLog l k → IsCountDue l r
-state_due l k (log.Create client n file path) same due h = ap (λ (m : ℕ). table.get l.table.files m) due ∙ new_is_none l.table.files l.next_file (files_below l h.base.here)
+state_due l k (log.Create client n file shape path) same due h = ap (λ (m : ℕ). table.get l.table.files m) due ∙ new_is_none l.table.files l.next_file (files_below l h.base.here)
 state_due l k (log.Snapshot client n from to) same due h = files_below l h.base.here
 state_due l k (log.Expired file) same due h = apart_here l k h
 state_due l k (log.AddChunk file handle) same due h =
@@ -133,12 +134,12 @@ state_due l k (log.AddChunk file handle) same due h =
 state_due l k (log.Grant handle version primary members) same due h = λ c is. (h.rows handle.0 c is, h.placed handle.0 c is)
 state_due l k (log.CopyStart file index handle copy copy_version) same due h =
     ap (λ (f : Files). times_in f copy.0) h.base.files ∙ fresh (times_in k.table.files copy.0) k.next_handle copy.0 (h.log.below copy.0) (due.0 ∙ ap (λ (p : Parts). p.next_handle) same)
-state_due l k (log.FileItem path file handles) same due h = absurd due
+state_due l k (log.FileItem path file shape handles) same due h = absurd due
 state_due l k (log.ChunkItem handle granted issued primary members) same due h = absurd due
 state_due l k other same due h = tt
 
 log_due : (l k : Logged) (r : Record) → parts_of l ≡ parts_of k → IsDue (Unit {0}) l r → IsCountedLog l k → IsCountDue k r
-log_due l k (log.Create client n file path) same due h =
+log_due l k (log.Create client n file shape path) same due h =
     ap (λ (m : ℕ). table.get k.table.files m) (due ∙ ap (λ (p : Parts). p.next_file) same) ∙ new_is_none k.table.files k.next_file (files_below k h.log.base.one_name)
 log_due l k (log.Snapshot client n from to) same due h = files_below k h.log.base.one_name
 log_due l k (log.Expired file) same due h = h.log.apart
@@ -147,13 +148,13 @@ log_due l k (log.Grant handle version primary members) same due h = λ c is.
     let also = same_copy l.copies k.copies (rows_of l) handle.0 due.0 due.1 h.base.among h.base.alone ∙ is in
     (h.log.rows handle.0 c is, subst (λ (f : Files). IsPlacedIn f c) h.base.files (h.placed handle.0 c also))
 log_due l k (log.CopyStart file index handle copy copy_version) same due h = fresh (times_in k.table.files copy.0) k.next_handle copy.0 (h.log.below copy.0) (due.0 ∙ ap (λ (p : Parts). p.next_handle) same)
-log_due l k (log.FileItem path file handles) same due h = absurd due
+log_due l k (log.FileItem path file shape handles) same due h = absurd due
 log_due l k (log.ChunkItem handle granted issued primary members) same due h = absurd due
 log_due l k other same due h = tt
 
 copy_placed : (l j : Logged) (r : Record) → IsDue (Unit {0}) l r → IsCountDue j r → IsCopyPlaced j r
 copy_placed l j (log.Grant handle version primary members) due fit = λ c is. (fit c is).1
-copy_placed l j (log.FileItem path file handles) due fit = absurd fit
+copy_placed l j (log.FileItem path file shape handles) due fit = absurd fit
 copy_placed l j other due fit = tt
 
 records_counted : (l k : Logged) (r : Record) → parts_of l ≡ parts_of k → IsDue (Unit {0}) l r → AreNames l r → IsCountedLog l k → IsCountedLog (after_record l r) (after_record k r)
@@ -208,7 +209,7 @@ items_counted t (e ∷ es) k others new h = items_counted t es (after_record k (
     one : (n : Node) → e.1 ≡ n → AreCounted (after_record k (node_item t e.0 n)).table
     one Dir is = h
     one (File id) is = λ q.
-        let more = owned_refs (rows_of k) (handles_of t id) q in
+        let more = owned_refs (shape_of t id) (rows_of k) (handles_of t id) q in
         let put = times_new k.table.files id (handles_of t id) q (new.0 id is) in
         let old = h q in
         omega (arith, more, put, old)
@@ -302,10 +303,10 @@ ended_row : (o p : Option ChunkRow) → option_map without_end o ≡ option_map 
 ended_row o (Some row) same has = (row, refl)
 ended_row o None same has = none_some (without_end has.0) (sym same ∙ ap (λ (x : Option ChunkRow). option_map without_end x) has.1)
 
-rows_counted : (l k : Logged) (chunks : Table ChunkRow) → AreSameButEnds l.table.chunks chunks → IsCountedLog l k → IsCountedLog (record l { table = record l.table { chunks = chunks } }) k
-rows_counted l k chunks same h =
+rows_counted : (l k : Logged) (shapes : Table Shape) (chunks : Table ChunkRow) → AreSameButEnds l.table.chunks chunks → IsCountedLog l k → IsCountedLog (record l { table = record l.table { shapes = shapes; chunks = chunks } }) k
+rows_counted l k shapes chunks same h =
     record {
-      base = rows_logged l k chunks same h.base;
+      base = rows_logged l k shapes chunks same h.base;
       log = h.log;
       counted = λ q. sym (ended_references (table.get chunks q)) ∙ sym (ap references_of (same q)) ∙ ended_references (table.get l.table.chunks q) ∙ h.counted q;
       rows = λ handle c is. ended_row (table.get l.table.chunks handle) (table.get chunks handle) (same handle) (h.rows handle c is);

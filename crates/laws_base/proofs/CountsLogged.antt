@@ -10,7 +10,7 @@ use Rattle.log_records.specs.declared.record.Record.TheVariants as log
 use Rattle.gfs_types.specs.Paths.{Path}
 use Rattle.relaxed_file.specs.Names.{Node, Dir, File, id_after, copied_entries}
 use Rattle.protocol.specs.Tables.{Table, removed_all, element_at, with_at}
-use Rattle.chunk_table.specs.ChunkTable.{ChunkRow, ChunkTable, new_row, changed_by, share_one, share_all, left_by, leave_one, leave_all, handles_of, row_granted, grant}
+use Rattle.chunk_table.specs.ChunkTable.{ChunkRow, ChunkTable, changed_by, share_one, share_all, left_by, leave_one, leave_all, handles_of, row_granted, grant, added_row, copied_row, no_shape}
 use Rattle.protocol.specs.Logged.{Logged, Copy, after_record, copies_for_file, swapped_in, with_copied_node, with_copied_nodes}
 use Rattle.laws_base.specs.Laws.{times_in}
 use Rattle.laws_base.proofs.Steps.{on_cond, none_some, count-cons, count-append, same_or_not, put_cases, put_there, put_other, gone_other, gone_split, kept_cases, removed_cases, now_gone}
@@ -22,6 +22,7 @@ use Rattle.laws_base.proofs.FilesNamed.{Files, HasFile}
 use Rattle.laws_base.proofs.OneName.{HasOneName}
 use Rattle.laws_base.proofs.FilesLogged.{IsFoundLog, IsLogOf, without_copy, copies_after}
 use Rattle.laws_base.proofs.Owners.{stands, chunks_at, times_put, times_gone, times_at_least, HasRow, tally_same, tally_other, shared_row, AreCounted, file_counted, copied_counted, dropped_counted, added_counted, unowned_counted, changed_refs, fewer_counted, placed_stands, swapped_counted}
+use Rattle.gfs_types.specs.Shapes.{shape_or}
 
 -- a copy's handle stands in no file
 abbrev pub AreApart : Table Copy → Files → Type 0
@@ -79,13 +80,13 @@ new_is_none files next below = by_file (table.get files next) refl
 
 -- what the counts ask of a record
 abbrev pub IsCountDue : Logged → Record → Type 0
-IsCountDue j (log.Create client n file path) = table.get j.table.files file.0 ≡ None
+IsCountDue j (log.Create client n file shape path) = table.get j.table.files file.0 ≡ None
 IsCountDue j (log.Snapshot client n from to) = AreFilesBelow j.table.files j.next_file
 IsCountDue j (log.Expired file) = AreApart j.copies j.table.files
 IsCountDue j (log.AddChunk file handle) = times_in j.table.files handle.0 ≡ 0
 IsCountDue j (log.Grant handle version primary members) = (c : Copy) → table.get j.copies handle.0 ≡ Some c → HasRow (rows_of j) handle.0 × IsPlacedIn j.table.files c
 IsCountDue j (log.CopyStart file index handle copy copy_version) = times_in j.table.files copy.0 ≡ 0
-IsCountDue j (log.FileItem path file handles) = ⊥
+IsCountDue j (log.FileItem path file shape handles) = ⊥
 IsCountDue j (log.ChunkItem handle granted issued primary members) = ⊥
 IsCountDue j other = Unit {0}
 
@@ -128,7 +129,7 @@ key_below : (files : Files) (next : ℕ) → AreFilesBelow files next → (id : 
 key_below files next below id hs is = below id (ap is_some is)
 
 pub counted_after : (j : Logged) (r : Record) → IsCountDue j r → AreCounted j.table → AreCounted (after_record j r).table
-counted_after j (log.Create client n file path) due h = file_counted j.table file.0 due h
+counted_after j (log.Create client n file shape path) due h = file_counted j.table file.0 (shape_or no_shape shape) due h
 counted_after j (log.Snapshot client n from to) due h = snapshot_counted j.table j.next_file (copied_entries j.names from to) (key_below j.table.files j.next_file due) h
 counted_after j (log.Expired file) due h =
     let handles : List ℕ = copies_for_file j file.0 in
@@ -141,8 +142,8 @@ counted_after j (log.Grant handle version primary members) due h =
     swap_counted (record j { table = grant j.table handle.0 version.0 primary.0 members }) handle.0 (table.get j.copies handle.0)
     (λ c is. (keeps_row (rows_of j) handle.0 change (table.get (rows_of j) handle.0) handle.0 (due c is).0, (due c is).1))
     (λ q. changed_refs (rows_of j) handle.0 change (table.get (rows_of j) handle.0) refl (λ row. refl) q ∙ h q)
-counted_after j (log.CopyStart file index handle copy copy_version) due h = unowned_counted j.table copy.0 (record new_row { issued = copy_version.0 }) refl due h
-counted_after j (log.FileItem path file handles) due h = absurd due
+counted_after j (log.CopyStart file index handle copy copy_version) due h = unowned_counted j.table copy.0 (copied_row j.table handle.0 copy_version.0) refl due h
+counted_after j (log.FileItem path file shape handles) due h = absurd due
 counted_after j (log.ChunkItem handle granted issued primary members) due h = absurd due
 counted_after j other due h = h
 
@@ -151,7 +152,7 @@ counted_after j other due h = h
 abbrev IsOther : Logged → Record → ℕ → Type 0
 IsOther j (log.AddChunk file handle) q = q ≡ handle.0 → ⊥
 IsOther j (log.Grant handle version primary members) q = (c : Copy) → table.get j.copies handle.0 ≡ Some c → q ≡ handle.0 → ⊥
-IsOther j (log.FileItem path file handles) q = ⊥
+IsOther j (log.FileItem path file shape handles) q = ⊥
 IsOther j other q = Unit {0}
 
 snapshot_none : (t : ChunkTable) (next : ℕ) (es : List (Path × Node)) (q : ℕ) → times_in t.files q ≡ 0 → times_in (with_copied_nodes t next es).files q ≡ 0
@@ -179,7 +180,7 @@ swap_none j handle (Some c) q other none =
     omega (arith, put, low, none)
 
 none_after : (j : Logged) (r : Record) (q : ℕ) → IsOther j r q → times_in j.table.files q ≡ 0 → times_in (after_record j r).table.files q ≡ 0
-none_after j (log.Create client n file path) q other none = let put = times_put j.table.files file.0 [] q in omega (arith, put, none)
+none_after j (log.Create client n file shape path) q other none = let put = times_put j.table.files file.0 [] q in omega (arith, put, none)
 none_after j (log.Snapshot client n from to) q other none = snapshot_none j.table j.next_file (copied_entries j.names from to) q none
 none_after j (log.Expired file) q other none = let gone = times_gone j.table.files file.0 q in omega (arith, gone, none)
 none_after j (log.AddChunk file handle) q other none =
@@ -190,7 +191,7 @@ none_after j (log.AddChunk file handle) q other none =
     omega (arith, put, more, last, no_last, none)
 none_after j (log.Grant handle version primary members) q other none =
     swap_none (record j { table = grant j.table handle.0 version.0 primary.0 members }) handle.0 (table.get j.copies handle.0) q other none
-none_after j (log.FileItem path file handles) q other none = absurd other
+none_after j (log.FileItem path file shape handles) q other none = absurd other
 none_after j more q other none = none
 
 pub fresh : (n next q : ℕ) → (1 ≤ n → q < next) → q ≡ next → n ≡ 0
@@ -215,7 +216,7 @@ apart_after l k (log.Grant chunk version primary members) same due h = one (tabl
     one : (o : Option Copy) → table.get k.copies chunk.0 ≡ o → AreApart (without_copy k.copies chunk.0 o) (after_record k entry).table.files
     one None none handle c is = none_after k entry handle (λ x at same. none_some x (sym none ∙ at)) (h.apart handle c is)
     one (Some x) some handle c is = let old = gone_split k.copies chunk.0 handle c is in none_after k entry handle (λ y at same. old.0 same) (h.apart handle c old.1)
-apart_after l k (log.FileItem path file handles) same due h = absurd due
+apart_after l k (log.FileItem path file shape handles) same due h = absurd due
 apart_after l k more same due h = λ handle c is. none_after k more handle tt (h.apart handle c is)
 
 pub next_grows : (l k : Logged) (r : Record) → IsDue (Unit {0}) l r → k.next_handle ≤ (after_record k r).next_handle
@@ -254,7 +255,7 @@ below_after l k (log.Grant chunk version primary members) due h = λ q more.
     one q more None none key = below_step k entry q (λ x at same. none_some x (sym none ∙ at)) h more
     one q more (Some c) some (inl same) = let low = h.base.numbered chunk.0 c some in omega (arith, low, same)
     one q more (Some c) some (inr other) = below_step k entry q (λ x at same. other same) h more
-below_after l k (log.FileItem path file handles) due h = absurd due
+below_after l k (log.FileItem path file shape handles) due h = absurd due
 below_after l k other due h = λ q more. let low = below_step k other q tt h more in let high = next_grows l k other due in omega (arith, low, high)
 
 -- rows of copies after a record
@@ -262,7 +263,7 @@ below_after l k other due h = λ q more. let low = below_step k other q tt h mor
 abbrev IsRowDue : Logged → Record → ℕ → Type 0
 IsRowDue j (log.Expired file) q = list_any (eq_by_cmp nat_cmp q) (copies_for_file j file.0) ≡ false
 IsRowDue j (log.Grant handle version primary members) q = (c : Copy) → table.get j.copies handle.0 ≡ Some c → IsPlacedIn j.table.files c
-IsRowDue j (log.FileItem path file handles) q = ⊥
+IsRowDue j (log.FileItem path file shape handles) q = ⊥
 IsRowDue j other q = Unit {0}
 
 all_shared_row : (rows : Rows) (hs : List ℕ) (q : ℕ) → HasRow rows q → HasRow (share_all rows hs) q
@@ -305,13 +306,13 @@ row_after j (log.Snapshot client n from to) q due none has = snapshot_row j.tabl
 row_after j (log.Expired file) q due none has =
     all_left_row (removed_all (rows_of j) (copies_for_file j file.0)) (chunks_at j.table.files file.0) q
     (let low = times_at_least j.table.files file.0 q in omega (arith, low, none)) (has.0, removed_other (rows_of j) (copies_for_file j file.0) q due ∙ has.1)
-row_after j (log.AddChunk file handle) q due none has = keeps_put (rows_of j) handle.0 (record new_row { references = 1 }) q has
-row_after j (log.CopyStart file index handle copy copy_version) q due none has = keeps_put (rows_of j) copy.0 (record new_row { issued = copy_version.0 }) q has
+row_after j (log.AddChunk file handle) q due none has = keeps_put (rows_of j) handle.0 (added_row j.table file.0) q has
+row_after j (log.CopyStart file index handle copy copy_version) q due none has = keeps_put (rows_of j) copy.0 (copied_row j.table handle.0 copy_version.0) q has
 row_after j (log.Issue handle version) q due none has = keeps_row (rows_of j) handle.0 (λ row. record row { issued = version.0 }) (table.get (rows_of j) handle.0) q has
 row_after j (log.Grant handle version primary members) q due none has =
     swap_row (record j { table = grant j.table handle.0 version.0 primary.0 members }) handle.0 (table.get j.copies handle.0) q due none
     (keeps_row (rows_of j) handle.0 (row_granted version.0 primary.0 members) (table.get (rows_of j) handle.0) q has)
-row_after j (log.FileItem path file handles) q due none has = absurd due
+row_after j (log.FileItem path file shape handles) q due none has = absurd due
 row_after j (log.ChunkItem handle granted issued primary members) q due none has =
     keeps_row (rows_of j) handle.0 (λ row. record row { granted = granted.0; issued = issued.0; primary = primary.0; members = members }) (table.get (rows_of j) handle.0) q has
 row_after j other q due none has = has
@@ -327,7 +328,7 @@ unlisted t ns q x is = by_key (list_any (eq_by_cmp nat_cmp q) ns) refl
 -- what a Grant asks of its copy
 abbrev pub IsCopyPlaced : Logged → Record → Type 0
 IsCopyPlaced j (log.Grant handle version primary members) = (c : Copy) → table.get j.copies handle.0 ≡ Some c → IsPlacedIn j.table.files c
-IsCopyPlaced j (log.FileItem path file handles) = ⊥
+IsCopyPlaced j (log.FileItem path file shape handles) = ⊥
 IsCopyPlaced j other = Unit {0}
 
 pub rows_after : (j : Logged) (r : Record) → IsCopyPlaced j r → AreApart j.copies j.table.files → HaveRows j.copies (rows_of j) → HaveRows (copies_after j.copies r) (rows_of (after_record j r))
@@ -335,7 +336,7 @@ rows_after j (log.Expired file) placed apart rows = λ handle c is.
     let old = removed_cases j.copies (copies_for_file j file.0) handle c is in
     row_after j (log.Expired file) handle (unlisted j.copies (copies_for_file j file.0) handle c is) (apart handle c old) (rows handle c old)
 rows_after j (log.CopyStart file index source copy copy_version) placed apart rows = λ handle c is.
-    let new : ChunkRow = record new_row { issued = copy_version.0 } in
+    let new : ChunkRow = copied_row j.table source.0 copy_version.0 in
     elim (put_cases j.copies copy.0 (record { file = file.0; index = index; source = source.0 }) handle c is) [
       | inl now ↦ (new, put_there (rows_of j) copy.0 new handle now.0)
       | inr before ↦ keeps_put (rows_of j) copy.0 new handle (rows handle c before)
@@ -348,5 +349,5 @@ rows_after j (log.Grant chunk version primary members) placed apart rows = one (
     one : (o : Option Copy) → HaveRows (without_copy j.copies chunk.0 o) (rows_of (after_record j entry))
     one None handle c is = row_after j entry handle placed (apart handle c is) (rows handle c is)
     one (Some x) handle c is = let old = kept_cases j.copies chunk.0 handle c is in row_after j entry handle placed (apart handle c old) (rows handle c old)
-rows_after j (log.FileItem path file handles) placed apart rows = absurd placed
+rows_after j (log.FileItem path file shape handles) placed apart rows = absurd placed
 rows_after j other placed apart rows = λ handle c is. row_after j other handle tt (apart handle c is) (rows handle c is)

@@ -15,7 +15,7 @@ use Rattle.relaxed_file.specs.Names.{Node, Dir, File, id_after, copied_entries}
 use Rattle.relaxed_file.proofs.NamesTree.{Tree, HasAt, found_at, entry_is}
 use Rattle.protocol.specs.Tables.{Table, removed_all}
 use Rattle.protocol.specs.Sending.{file_id, handle_of}
-use Rattle.chunk_table.specs.ChunkTable.{ChunkRow, ChunkTable, handles_of, new_row, changed_by, row_granted, grant, swap}
+use Rattle.chunk_table.specs.ChunkTable.{ChunkRow, ChunkTable, handles_of, changed_by, row_granted, grant, swap, added_row, copied_row}
 use Rattle.protocol.specs.Logged.{Logged, Copy, first_logged, after_record, after_records, copies_for_file, copies_given_up, all_copies_given_up, swapped_in, with_copied_node, with_copied_nodes, checkpoint_of, name_item, node_item}
 use Rattle.laws_base.proofs.Steps.{none_some, same_some, put_cases, put_split, put_there, put_other, gone_split, gone_other, same_or_not, kept_cases, removed_cases, now_gone}
 use Rattle.laws_base.proofs.Entries.{AllOf, all_found, IsFound}
@@ -26,6 +26,7 @@ use Rattle.laws_base.proofs.LoggedParts.{Parts, parts_of}
 use Rattle.laws_base.proofs.FilesNamed.{Files}
 use Rattle.laws_base.proofs.OneName.{HasOneName, Kept, records_keep, less_keep, first_one_name, checkpoint_keep, checkpoint_kept, items_named, items_copies, left_copy}
 use Rattle.laws_base.proofs.NamesReached.{AreSameButEnds, without_end}
+use Rattle.gfs_types.specs.declared.shape.Shape.{Shape}
 
 -- handles of copies are below the next one
 abbrev pub AreNumbered : Logged → Type 0
@@ -66,7 +67,7 @@ swapped_files l k handle o p same are = subst (λ (x : Option Copy). (swapped_in
   where
     one : (x : Option Copy) → (swapped_in l handle x).table.files ≡ (swapped_in k handle x).table.files
     one None = same
-    one (Some c) = ap (λ (f : Files). (swap (record { files = f; chunks = table.empty }) c.file c.index c.source handle).files) same
+    one (Some c) = ap (λ (f : Files). (swap (record { files = f; shapes = table.empty; chunks = table.empty }) c.file c.index c.source handle).files) same
 
 -- a chunk with a row is copied in both or in none
 pub same_copy : (few many : Table Copy) (rows : Rows) (handle : ℕ) (row : ChunkRow) → table.get rows handle ≡ Some row → AreAmong few many → HasNoRow few many rows → table.get few handle ≡ table.get many handle
@@ -78,7 +79,7 @@ same_copy few many rows handle row is among alone = by_copy (table.get few handl
     by_copy None (Some c) few_is many_is = none_some row (sym (alone handle c many_is few_is) ∙ is)
 
 files_after : (l k : Logged) (r : Record) → parts_of l ≡ parts_of k → IsDue (Unit {0}) l r → IsLogOf l k → (after_record l r).table.files ≡ (after_record k r).table.files
-files_after l k (log.Create client n file path) same due h = ap (λ (f : Files). table.insert f file.0 []) h.files
+files_after l k (log.Create client n file shape path) same due h = ap (λ (f : Files). table.insert f file.0 []) h.files
 files_after l k (log.Snapshot client n from to) same due h =
     copied_files l.table k.table l.next_file (copied_entries l.names from to) h.files
     ∙ ap (λ (p : Parts). (with_copied_nodes k.table p.next_file (copied_entries p.names from to)).files) same
@@ -87,7 +88,7 @@ files_after l k (log.AddChunk file handle) same due h = ap (λ (f : Files). tabl
 files_after l k (log.Grant handle version primary members) same due h =
     swapped_files (record l { table = grant l.table handle.0 version.0 primary.0 members }) (record k { table = grant k.table handle.0 version.0 primary.0 members }) handle.0
     (table.get l.copies handle.0) (table.get k.copies handle.0) h.files (same_copy l.copies k.copies (rows_of l) handle.0 due.0 due.1 h.among h.alone)
-files_after l k (log.FileItem path file handles) same due h = absurd due
+files_after l k (log.FileItem path file shape handles) same due h = absurd due
 files_after l k other same due h = h.files
 
 -- copies after a record
@@ -201,13 +202,13 @@ alone_after l k (log.Snapshot client n from to) same due h = λ handle c is none
 alone_after l k (log.Issue chunk version) same due h = λ handle c is none.
     changed_none (rows_of l) chunk.0 (λ row. record row { issued = version.0 }) (table.get (rows_of l) chunk.0) refl handle (h.alone handle c is none)
 alone_after l k (log.AddChunk file chunk) same due h = λ handle c is none.
-    put_other (rows_of l) chunk.0 (record new_row { references = 1 }) handle
+    put_other (rows_of l) chunk.0 (added_row l.table file.0) handle
     (λ at. let low = h.log.numbered handle c is in let one = due.0 in let two = ap (λ (p : Parts). p.next_handle) same in omega (arith, low, one, two, at)) ∙ h.alone handle c is none
 alone_after l k (log.CopyStart file index source copy copy_version) same due h = λ handle c is none.
     let new : Copy = record { file = file.0; index = index; source = source.0 } in
     elim (put_split k.copies copy.0 new handle c is) [
       | inl now ↦ none_some new (sym none ∙ put_there l.copies copy.0 new handle now.0)
-      | inr apart ↦ put_other (rows_of l) copy.0 (record new_row { issued = copy_version.0 }) handle apart.0 ∙ h.alone handle c apart.1 (sym (put_other l.copies copy.0 new handle apart.0) ∙ none)
+      | inr apart ↦ put_other (rows_of l) copy.0 (copied_row l.table source.0 copy_version.0) handle apart.0 ∙ h.alone handle c apart.1 (sym (put_other l.copies copy.0 new handle apart.0) ∙ none)
     ]
 alone_after l k (log.Grant chunk version primary members) same due h =
     subst (λ (o : Option Copy). HasNoRow (without_copy l.copies chunk.0 (table.get l.copies chunk.0)) (without_copy k.copies chunk.0 o) (rows_of (after_record l (log.Grant chunk version primary members))))
@@ -225,7 +226,7 @@ alone_after l k (log.Grant chunk version primary members) same due h =
     one (Some x) = λ handle c is none.
         let old = gone_split k.copies chunk.0 handle c is in
         fewer (Some x) handle (h.alone handle c old.1 (sym (gone_other l.copies chunk.0 handle old.0) ∙ none))
-alone_after l k (log.FileItem path file handles) same due h = absurd due
+alone_after l k (log.FileItem path file shape handles) same due h = absurd due
 alone_after l k (log.ChunkItem chunk granted issued primary members) same due h = absurd due
 alone_after l k other same due h = h.alone
 
@@ -375,8 +376,8 @@ epochs_logged l k epoch h =
       alone = h.alone;
     }
 
-pub rows_logged : (l k : Logged) (chunks : Table ChunkRow) → AreSameButEnds l.table.chunks chunks → IsLogOf l k → IsLogOf (record l { table = record l.table { chunks = chunks } }) k
-rows_logged l k chunks same h =
+pub rows_logged : (l k : Logged) (shapes : Table Shape) (chunks : Table ChunkRow) → AreSameButEnds l.table.chunks chunks → IsLogOf l k → IsLogOf (record l { table = record l.table { shapes = shapes; chunks = chunks } }) k
+rows_logged l k shapes chunks same h =
     record {
       here = record { named = h.here.named; copied = h.here.copied };
       log = h.log;

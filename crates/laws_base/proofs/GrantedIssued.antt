@@ -1,6 +1,6 @@
 -- The granted version of a chunk is at most the issued one.
 use Rattle.std.proofs.Common.{◌≡◌, ℕ, suc, ◌≤◌, true, false, List, [], take, drop, Some, refl, sym, ap, subst, ◌∙◌, arith}
-use Rattle.std.specs.Prelude.{nat_lt, ◌+◌, ◌&&◌, not, IsTrue}
+use Rattle.std.specs.Prelude.{◌+◌, ◌&&◌, not, IsTrue}
 use Rattle.std.specs.Ordering.{nat_cmp}
 use Rattle.std.specs.FinMap as table
 use Rattle.gfs_types.specs.declared.config.Config.{Config}
@@ -14,7 +14,7 @@ use Rattle.chunk_table.specs.ChunkTable.{ChunkRow, changed_by}
 use Rattle.protocol.specs.LogSizes.{checkpoint_fits}
 use Rattle.protocol.specs.Logged.{Logged, LogDisk, LogChange, AppendRecord, WriteCheckpoint, log_changed, log_changed_by_all, after_record, checkpoint_of, replayed, all_copies_given_up}
 use Rattle.protocol.specs.Master.{MasterState, MasterDoing, stopped_master, master_begins, fits, appends, writes_checkpoint, logs_after_checkpoint, is_of_copy}
-use Rattle.protocol.specs.MasterStep.{master_goes, master_ends, master_bounded, master_step, is_within_limits, may_end, found_log, lease_after_restart, started_master, opening, has_opened, opens_as, new_master, first_log}
+use Rattle.protocol.specs.MasterStep.{master_goes, master_ends, master_bounded, master_step, is_within_limits, may_end, found_log, row_after_restart, started_master, opening, has_opened, opens_as, new_master, first_log}
 use Rattle.laws_base.specs.Laws.{GrantedIsAtMostIssued}
 use Rattle.laws_base.proofs.Steps.{on_cond, none_some}
 use Rattle.laws_base.proofs.MasterMoves.{Core, core_of, IsDue, Nothing, NoneEnded, Keeps, core_changed, core_appended, core_ended, grant_record}
@@ -129,17 +129,15 @@ step_issued m moment i choice h =
     (λ _. h))
     (λ _. h)
 
-later_ends : (config : Config) (moment : ℕ) (r : ChunkRow) → HaveSameVersions r (lease_after_restart config moment r)
-later_ends config moment r =
-    on_cond (λ (x : ChunkRow). HaveSameVersions r x) (nat_lt 0 r.granted) (record r { lease_end = moment + config.skew_ms + config.lease_ms }) r
-    (λ _. (refl, refl, refl)) (λ _. (refl, refl, refl))
+later_ends : (config : Config) (moment : ℕ) (r : ChunkRow) → HaveSameVersions r (row_after_restart config moment r)
+later_ends config moment r = (refl, refl, refl)
 
 -- the rows of a master that has read its log
-pub started_from : (config : Config) (found : LogDisk) (moment : ℕ) → From (rows_of (state_of found)) (map_values (lease_after_restart config moment) (rows_of (replayed found)))
+pub started_from : (config : Config) (found : LogDisk) (moment : ℕ) → From (rows_of (state_of found)) (map_values (row_after_restart config moment) (rows_of (replayed found)))
 started_from config found moment =
     let rows : Rows = rows_of (state_of found) in
     let left : Rows = rows_of (replayed found) in
-    then_from rows left (map_values (lease_after_restart config moment) left) (removed_from rows (table.keys (state_of found).copies)) (mapped_from left (lease_after_restart config moment) (later_ends config moment))
+    then_from rows left (map_values (row_after_restart config moment) left) (removed_from rows (table.keys (state_of found).copies)) (mapped_from left (row_after_restart config moment) (later_ends config moment))
 
 opening_issuing : (config : Config) (count : ℕ) (found : LogDisk) (moment : ℕ) → IsGood found → IsIssuing found (core_of (opening (started_master config count found moment)))
 opening_issuing config count found moment good =

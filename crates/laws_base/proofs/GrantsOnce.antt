@@ -13,7 +13,7 @@ use Rattle.relaxed_file.specs.Names.{copied_entries}
 use Rattle.relaxed_file.proofs.NamesTree.{Tree}
 use Rattle.protocol.specs.Choice.{Choice, Ending, Goes, Lost, Stops, in_order, decided_changes}
 use Rattle.protocol.specs.Seen.{Taken, no_step}
-use Rattle.chunk_table.specs.ChunkTable.{ChunkRow, new_row, changed_by, row_granted, grant}
+use Rattle.chunk_table.specs.ChunkTable.{ChunkRow, changed_by, row_granted, grant, added_row, copied_row}
 use Rattle.protocol.specs.Logged.{Logged, Copy, LogDisk, LogChange, AppendRecord, WriteCheckpoint, first_logged, log_changed, log_changed_by_all, after_record, after_records, checkpoint_of, copies_given_up, all_copies_given_up, swapped_in}
 use Rattle.protocol.specs.Master.{MasterState, MasterDoing, stopped_master, master_begins, writes_checkpoint}
 use Rattle.protocol.specs.MasterStep.{master_at, master_goes, master_ends, master_bounded, master_step, is_within_limits, may_end, found_log, started_master, opening, has_opened, opens_as, new_master}
@@ -128,10 +128,10 @@ granted_within count k chunk number primary members above h handle version some 
 
 within_after : (count : ℕ → ℕ → ℕ) (l k : Logged) (r : Record) → IsDue (Unit {0}) l r → IsFresh count k r → AreWithin count k → AreWithin count (after_record k r)
 within_after count l k (log.AddChunk file handle) due new h =
-    put_within count k (after_record k (log.AddChunk file handle)) handle.0 (record new_row { references = 1 }) refl new (next_grows l k (log.AddChunk file handle) due) h
+    put_within count k (after_record k (log.AddChunk file handle)) handle.0 (added_row k.table file.0) refl new (next_grows l k (log.AddChunk file handle) due) h
 within_after count l k (log.CopyStart file index handle copy copy_version) due new h =
     let r : Record = log.CopyStart file index handle copy copy_version in
-    put_within count k (after_record k r) copy.0 (record new_row { issued = copy_version.0 }) refl new (next_grows l k r due) h
+    put_within count k (after_record k r) copy.0 (copied_row k.table handle.0 copy_version.0) refl new (next_grows l k r due) h
 within_after count l k (log.Issue handle version) due new h = issued_within count k handle.0 version.0 h
 within_after count l k (log.Grant handle version primary members) due new h =
     let one : Logged = with_grant k handle.0 version.0 primary.0 members in
@@ -141,7 +141,7 @@ within_after count l k (log.Snapshot client n from to) due new h =
     within_from count k (after_record k (log.Snapshot client n from to)) (all_copied_from k.table k.next_file (copied_entries k.names from to)) (omega arith) h
 within_after count l k (log.Expired file) due new h = within_from count k (after_record k (log.Expired file)) (expired_from k file) (omega arith) h
 within_after count l k (log.Counters next_file next_handle epoch) due new h = absurd due
-within_after count l k (log.FileItem path file handles) due new h = absurd due
+within_after count l k (log.FileItem path file shape handles) due new h = absurd due
 within_after count l k (log.ChunkItem handle granted issued primary members) due new h = absurd due
 within_after count l k other due new h = h
 

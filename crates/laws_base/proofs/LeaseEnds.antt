@@ -13,7 +13,7 @@ use Rattle.log_records.specs.declared.record.Record.TheVariants as log
 use Rattle.relaxed_file.specs.Names.{copied_entries}
 use Rattle.relaxed_file.proofs.NamesTree.{Tree}
 use Rattle.protocol.specs.Sending.{message, the_server, handle_of, version_of, moment_of, order_number}
-use Rattle.chunk_table.specs.ChunkTable.{ChunkRow, new_row, chunk_of, row_granted}
+use Rattle.chunk_table.specs.ChunkTable.{ChunkRow, chunk_of, row_granted, added_row, copied_row}
 use Rattle.protocol.specs.Logged.{Logged, LogDisk, LogChange, AppendRecord, WriteCheckpoint, first_logged, log_changed, log_changed_by_all, after_record, after_records, checkpoint_of, copies_given_up, all_copies_given_up}
 use Rattle.laws_base.specs.Laws.{is_grant, tells_end}
 use Rattle.laws_base.proofs.Steps.{none_some, same_some, put_cases}
@@ -48,12 +48,12 @@ kept_owned t u f handle row is = let was = f handle row is in (was.0, was.1, ap 
 -- after a record that grants nothing, a row was there or is of the next handle
 rows_after : (l k : Logged) (r : Record) → IsDue (Unit {0}) l r → IsNoGrantRecord r → (q : ℕ) (row : ChunkRow) → table.get (rows_of (after_record k r)) q ≡ Some row → IsKeptRow (rows_of k) q row ⊎ (q ≡ l.next_handle)
 rows_after l k (log.AddChunk file handle) due plain q row is =
-    elim (put_cases (rows_of k) handle.0 (record new_row { references = 1 }) q row is) [
+    elim (put_cases (rows_of k) handle.0 (added_row k.table file.0) q row is) [
       | inl same ↦ inr (same.0 ∙ due.0)
       | inr before ↦ inl (row, before, refl, refl)
     ]
 rows_after l k (log.CopyStart file index handle copy copy_version) due plain q row is =
-    elim (put_cases (rows_of k) copy.0 (record new_row { issued = copy_version.0 }) q row is) [
+    elim (put_cases (rows_of k) copy.0 (copied_row k.table handle.0 copy_version.0) q row is) [
       | inl same ↦ inr (same.0 ∙ due.0)
       | inr before ↦ inl (row, before, refl, refl)
     ]
@@ -66,7 +66,7 @@ rows_after l k (log.Snapshot client n from to) due plain q row is =
     inl (kept_owned (rows_of k) (rows_of (after_record k (log.Snapshot client n from to))) (all_copied_owned k.table k.next_file (copied_entries k.names from to)) q row is)
 rows_after l k (log.Expired file) due plain q row is = inl (kept_owned (rows_of k) (rows_of (after_record k (log.Expired file))) (expired_owned k file) q row is)
 rows_after l k (log.Grant handle version primary members) due plain q row is = absurd plain
-rows_after l k (log.FileItem path file handles) due plain q row is = absurd due
+rows_after l k (log.FileItem path file shape handles) due plain q row is = absurd due
 rows_after l k (log.ChunkItem handle granted issued primary members) due plain q row is = absurd due
 rows_after l k other due plain q row is = inl (row, is, refl, refl)
 

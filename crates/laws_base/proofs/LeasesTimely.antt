@@ -19,7 +19,7 @@ use Rattle.protocol.specs.Sending.{server_number}
 use Rattle.chunk_table.specs.ChunkTable.{ChunkRow}
 use Rattle.protocol.specs.Logged.{Logged, LogDisk, LogChange, log_changed_by_all, replayed}
 use Rattle.protocol.specs.Master.{MasterState, MasterDoing, stopped_master, master_begins, writes_checkpoint}
-use Rattle.protocol.specs.MasterStep.{master_at, master_goes, master_ends, master_bounded, master_step, is_within_limits, may_end, found_log, lease_after_restart, started_master, opening, has_opened, opens_as, new_master}
+use Rattle.protocol.specs.MasterStep.{master_at, master_goes, master_ends, master_bounded, master_step, is_within_limits, may_end, found_log, row_after_restart, started_master, opening, has_opened, opens_as, new_master}
 use Rattle.protocol.specs.ServerStep.{server_step, server_restart}
 use Rattle.protocol.specs.World.{WorldState, stamped, IsReached}
 use Rattle.laws_base.specs.Laws.{tells_end, is_grant}
@@ -175,9 +175,9 @@ step_timely sent k greatest lease m moment i choice logged is reached early long
 
 module _ (sent : List Message) (greatest lease : ℕ) (config : Config) (moment : ℕ) (long : config.lease_ms ≡ lease) (kept : greatest ≤ moment + config.skew_ms) where
   row_says : (handle version until : ℕ) (row : ChunkRow) → until ≤ greatest + lease → 1 ≤ version → HasVersion greatest sent handle version until row.granted row.lease_end
-      → HasEnd greatest sent handle version until (lease_after_restart config moment row).granted (lease_after_restart config moment row).lease_end
+      → HasEnd greatest sent handle version until (row_after_restart config moment row).granted (row_after_restart config moment row).lease_end
   row_says handle version until row bound some says =
-      on_cond (λ (r : ChunkRow). HasEnd greatest sent handle version until r.granted r.lease_end) (nat_lt 0 row.granted) (record row { lease_end = moment + config.skew_ms + config.lease_ms }) row
+      on_cond (λ (later : ℕ). HasEnd greatest sent handle version until row.granted later) (nat_lt 0 row.granted) (moment + config.skew_ms + config.lease_ms) row.lease_end
       (λ _. (says.0, elim (says.1) [ inl past ↦ inl past | inr last ↦ inr (last, omega (arith, bound, long, kept)) ]))
       (λ none. absurd (let least = ltb-false 0 row.granted none in let high = says.0 in omega (arith, least, high, some)))
 
@@ -189,7 +189,7 @@ module _ (sent : List Message) (greatest lease : ℕ) (config : Config) (moment 
       let all : Logged = state_of found in (
         old.0,
         λ row at.
-            let was = mapped_cases (lease_after_restart config moment) (rows_of (replayed found)) handle row at in
+            let was = mapped_cases (row_after_restart config moment) (rows_of (replayed found)) handle row at in
             let there = removed_cases (rows_of all) (table.keys all.copies) handle was.0 was.1 in
             subst (λ (r : ChunkRow). HasEnd greatest sent handle version until r.granted r.lease_end) was.2 (row_says handle version until was.0 numbers.0 numbers.1 (old.1 was.0 there)),
       )

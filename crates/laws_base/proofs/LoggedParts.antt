@@ -35,7 +35,7 @@ abbrev pub parts_of : Logged → Parts
 parts_of l = record { names = l.names; next_file = l.next_file; next_handle = l.next_handle; epoch = l.epoch; kept = l.kept }
 
 abbrev next_after : ℕ → Names → Record → ℕ
-next_after next names (log.Create client n file path) = max next (file.0 + 1)
+next_after next names (log.Create client n file shape path) = max next (file.0 + 1)
 next_after next names (log.Snapshot client n from to) = id_after_all next (copied_entries names from to)
 next_after next names (log.Counters next_file next_handle epoch) = next_file.0
 next_after next names other = next
@@ -57,7 +57,7 @@ answered kept client number refusal = table.insert kept client (record { number 
 abbrev kept_after : Table KeptCall → Record → Table KeptCall
 kept_after kept (log.Mkdir client n path) = answered kept client.0 n None
 kept_after kept (log.Rmdir client n path) = answered kept client.0 n None
-kept_after kept (log.Create client n file path) = answered kept client.0 n None
+kept_after kept (log.Create client n file shape path) = answered kept client.0 n None
 kept_after kept (log.Delete client n moment path) = answered kept client.0 n None
 kept_after kept (log.Rename client n from to) = answered kept client.0 n None
 kept_after kept (log.Snapshot client n from to) = answered kept client.0 n None

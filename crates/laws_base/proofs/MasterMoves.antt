@@ -16,7 +16,7 @@ use Rattle.log_records.specs.declared.record.Record.{Record}
 use Rattle.log_records.specs.declared.record.Record.TheVariants as log
 use Rattle.protocol.specs.Tables.{Table, removed_all, element_at, has_number}
 use Rattle.protocol.specs.Sending.{message, the_server, server_id, handle_of, version_of, moment_of, order_number}
-use Rattle.chunk_table.specs.ChunkTable.{ChunkRow, new_row, chunk_of, handles_of, set_end}
+use Rattle.chunk_table.specs.ChunkTable.{ChunkRow, chunk_of, handles_of, set_end, added_row, copied_row}
 use Rattle.protocol.specs.LogSizes.{checkpoint_fits}
 use Rattle.protocol.specs.Logged.{Logged, Copy, LogDisk, LogChange, AppendRecord, WriteCheckpoint, log_changed, after_record, checkpoint_of, copies_for_file, copies_given_up}
 use Rattle.protocol.specs.Master.{MasterDoing, VersionAttempt, PendingSnapshot, tells, ends_at, fits, appends, writes_checkpoint, logs, logs_after_checkpoint, is_of_copy}
@@ -61,7 +61,7 @@ core_of d =
 -- what is known of a record that is logged in a step, where it is asked for that copies are sound and versions above what was granted
 abbrev pub IsDue : Type 0 → Logged → Record → Type 0
 IsDue Asks l (log.Epoch epoch) = ⊥
-IsDue Asks l (log.Create client n file path) = file.0 ≡ l.next_file
+IsDue Asks l (log.Create client n file shape path) = file.0 ≡ l.next_file
 IsDue Asks l (log.AddChunk file handle) = (handle.0 ≡ l.next_handle) × (table.contains_key l.table.files file.0 ≡ true)
 IsDue Asks l (log.Issue handle version) = (row : ChunkRow) × (chunk_of l.table handle.0 ≡ Some row) × (version.0 ≡ suc row.issued)
 IsDue Asks l (log.Grant handle version primary members) = (row : ChunkRow) × (chunk_of l.table handle.0 ≡ Some row) × (Asks → row.granted < version.0)
@@ -69,7 +69,7 @@ IsDue Asks l (log.CopyStart file index handle copy copy_version) =
     (copy.0 ≡ l.next_handle) × (table.contains_key l.table.files file.0 ≡ true) × (element_at (handles_of l.table file.0) index ≡ Some handle.0) × (Asks → IsUncopied l file.0 index)
 IsDue Asks l (log.Counters next_file next_handle epoch) = ⊥
 IsDue Asks l (log.DirItem path) = ⊥
-IsDue Asks l (log.FileItem path file handles) = ⊥
+IsDue Asks l (log.FileItem path file shape handles) = ⊥
 IsDue Asks l (log.ChunkItem handle granted issued primary members) = ⊥
 IsDue Asks l (log.ClientItem client n refusal) = ⊥
 IsDue Asks l other = Unit {0}
@@ -186,14 +186,14 @@ removed_other t (n ∷ ns) q h =
 -- a record that is no copy's is still due after a checkpoint
 pub due_later : (Asks : Type 0) (l : Logged) (r : Record) → is_of_copy l r ≡ false → IsDue Asks l r → IsDue Asks (copies_given_up l (table.keys l.copies)) r
 due_later Asks l (log.Epoch epoch) h due = due
-due_later Asks l (log.Create client n file path) h due = due
+due_later Asks l (log.Create client n file shape path) h due = due
 due_later Asks l (log.AddChunk file handle) h due = due
 due_later Asks l (log.Issue handle version) h due =
     (due.0, removed_other l.table.chunks (table.keys l.copies) handle.0 (sym (table.contains_key-keys l.copies handle.0) ∙ h) ∙ due.1, due.2)
 due_later Asks l (log.CopyStart file index handle copy copy_version) h due = (due.0, due.1, due.2, λ asks other c is. due.3 asks other c (removed_cases l.copies (table.keys l.copies) other c is))
 due_later Asks l (log.Counters next_file next_handle epoch) h due = due
 due_later Asks l (log.DirItem path) h due = due
-due_later Asks l (log.FileItem path file handles) h due = due
+due_later Asks l (log.FileItem path file shape handles) h due = due
 due_later Asks l (log.ChunkItem handle granted issued primary members) h due = due
 due_later Asks l (log.ClientItem client n refusal) h due = due
 due_later Asks l (log.Mkdir client n path) h due = tt
@@ -235,33 +235,33 @@ abbrev pub IsAfter : MasterDoing → Record → MasterDoing → Type 0
 IsAfter d r e = (e ≡ appends d r) ⊎ (e ≡ appends (writes_checkpoint d) r)
 
 ahead_after : (Asks : Type 0) (attempts : Table VersionAttempt) (l : Logged) (r : Record) → IsDue Asks l r → IsNoGrantRecord r → AreAhead attempts (rows_of l) → AreAhead attempts (rows_of (after_record l r))
-ahead_after Asks attempts l (log.AddChunk file handle) due plain h = new_ahead attempts (rows_of l) handle.0 (record new_row { references = 1 }) refl h
-ahead_after Asks attempts l (log.CopyStart file index handle copy copy_version) due plain h = new_ahead attempts (rows_of l) copy.0 (record new_row { issued = copy_version.0 }) refl h
+ahead_after Asks attempts l (log.AddChunk file handle) due plain h = new_ahead attempts (rows_of l) handle.0 (added_row l.table file.0) refl h
+ahead_after Asks attempts l (log.CopyStart file index handle copy copy_version) due plain h = new_ahead attempts (rows_of l) copy.0 (copied_row l.table handle.0 copy_version.0) refl h
 ahead_after Asks attempts l (log.Issue handle version) due plain h = issue_ahead attempts (rows_of l) handle.0 version.0 due.0 due.1 due.2 h
 ahead_after Asks attempts l (log.Snapshot client n from to) due plain h =
     ahead_from attempts (rows_of l) (rows_of (after_record l (log.Snapshot client n from to))) (all_copied_from l.table l.next_file (copied_entries l.names from to)) h
 ahead_after Asks attempts l (log.Expired file) due plain h = ahead_from attempts (rows_of l) (rows_of (after_record l (log.Expired file))) (expired_from l file) h
 ahead_after Asks attempts l (log.Grant handle version primary members) due plain h = absurd plain
-ahead_after Asks attempts l (log.FileItem path file handles) due plain h = absurd due
+ahead_after Asks attempts l (log.FileItem path file shape handles) due plain h = absurd due
 ahead_after Asks attempts l (log.ChunkItem handle granted issued primary members) due plain h = absurd due
 ahead_after Asks attempts l other due plain h = h
 
 ended_after : (Asks : Type 0) (now : ℕ) (l : Logged) (r : Record) → IsDue Asks l r → IsNoGrantRecord r → (q : ℕ) → HasEnded now (rows_of l) q → HasEnded now (rows_of (after_record l r)) q
-ended_after Asks now l (log.AddChunk file handle) due plain q h = ended_put now (rows_of l) handle.0 (record new_row { references = 1 }) q refl h
-ended_after Asks now l (log.CopyStart file index handle copy copy_version) due plain q h = ended_put now (rows_of l) copy.0 (record new_row { issued = copy_version.0 }) q refl h
+ended_after Asks now l (log.AddChunk file handle) due plain q h = ended_put now (rows_of l) handle.0 (added_row l.table file.0) q refl h
+ended_after Asks now l (log.CopyStart file index handle copy copy_version) due plain q h = ended_put now (rows_of l) copy.0 (copied_row l.table handle.0 copy_version.0) q refl h
 ended_after Asks now l (log.Issue handle version) due plain q h = ended_issued now (rows_of l) handle.0 version.0 q h
 ended_after Asks now l (log.Snapshot client n from to) due plain q h =
     ended_owned now (rows_of l) (rows_of (after_record l (log.Snapshot client n from to))) q (all_copied_owned l.table l.next_file (copied_entries l.names from to)) h
 ended_after Asks now l (log.Expired file) due plain q h = ended_owned now (rows_of l) (rows_of (after_record l (log.Expired file))) q (expired_owned l file) h
 ended_after Asks now l (log.Grant handle version primary members) due plain q h = absurd plain
-ended_after Asks now l (log.FileItem path file handles) due plain q h = absurd due
+ended_after Asks now l (log.FileItem path file shape handles) due plain q h = absurd due
 ended_after Asks now l (log.ChunkItem handle granted issued primary members) due plain q h = absurd due
 ended_after Asks now l other due plain q h = h
 
 copied_after : (Asks : Type 0) (now : ℕ) (l : Logged) (r : Record) → IsDue Asks l r → IsNoGrantRecord r → ((q : ℕ) (c : Copy) → table.get l.copies q ≡ Some c → HasEnded now (rows_of l) q) → (q : ℕ) (c : Copy)
     → table.get (after_record l r).copies q ≡ Some c → HasEnded now (rows_of (after_record l r)) q
 copied_after Asks now l (log.CopyStart file index handle copy copy_version) due plain h q c is =
-    let new : ChunkRow = record new_row { issued = copy_version.0 } in
+    let new : ChunkRow = copied_row l.table handle.0 copy_version.0 in
     elim (put_cases l.copies copy.0 (record { file = file.0; index = index; source = handle.0 }) q c is) [
       | inl same ↦ subst (λ (n : ℕ). HasEnded now (table.insert (rows_of l) copy.0 new) n) (sym same.0) (ended_new now (rows_of l) copy.0 new refl)
       | inr before ↦ ended_put now (rows_of l) copy.0 new q refl (h q c before)
@@ -271,7 +271,7 @@ copied_after Asks now l (log.AddChunk file handle) due plain h q c is = ended_af
 copied_after Asks now l (log.Issue handle version) due plain h q c is = ended_after Asks now l (log.Issue handle version) due plain q (h q c is)
 copied_after Asks now l (log.Snapshot client n from to) due plain h q c is = ended_after Asks now l (log.Snapshot client n from to) due plain q (h q c is)
 copied_after Asks now l (log.Grant handle version primary members) due plain h q c is = absurd plain
-copied_after Asks now l (log.FileItem path file handles) due plain h q c is = absurd due
+copied_after Asks now l (log.FileItem path file shape handles) due plain h q c is = absurd due
 copied_after Asks now l (log.ChunkItem handle granted issued primary members) due plain h q c is = absurd due
 copied_after Asks now l other due plain h q c is = h q c is
 

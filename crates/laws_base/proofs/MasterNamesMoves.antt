@@ -21,7 +21,7 @@ use Rattle.chunk_table.specs.ChunkTable.{ChunkRow, chunk_of}
 use Rattle.protocol.specs.Logged.{KeptCall}
 use Rattle.protocol.specs.Master.{MasterDoing, PendingSnapshot, tells, orders, has_lease, gives_up_copies, without_attempts}
 use Rattle.protocol.specs.MasterSnapshots.{revokes_row, revokes, revokes_all, takes_locks, begins_snapshot, snapshot_handles, snapshot_files, copies_for_files, reply_of, answers_name, settles_name, refuses_name, changes_names, first_is_true, all_but_first, lets_go, is_same_snapshot, takes_snapshot, takes_ready, is_ready}
-use Rattle.protocol.specs.MasterNames.{master_refusal, reply_by, takes_look, performs, names_by, is_waiting_call, names_anew, names_kept, takes_name}
+use Rattle.protocol.specs.MasterNames.{master_refusal, reply_by, takes_look, performs, names_by, is_waiting_call, names_anew, names_kept, takes_name, told_shape}
 use Rattle.laws_base.proofs.LeaseOrders.{revoke_order}
 use Rattle.laws_base.proofs.Steps.{on_cond}
 use Rattle.laws_base.proofs.Entries.{AllOf}
@@ -127,9 +127,9 @@ module _ (Asks : Type 0) (Told : ℕ → ℕ → ℕ → Type 0) (Ended : ℕ �
       changes_keeps d client number (call.Mkdir p) (log.Mkdir (client_id client) number p) tt tt (λ asks. mkdir_named d.master (client_id client) number p d.master.logged.next_file may (h.2 asks)) h
   performs_keeps d client number deadline (call.Rmdir p) may new bound h =
       changes_keeps d client number (call.Rmdir p) (log.Rmdir (client_id client) number p) tt tt (λ asks. rmdir_named d.master (client_id client) number p d.master.logged.next_file may (h.2 asks)) h
-  performs_keeps d client number deadline (call.Create p) may new bound h =
-      changes_keeps d client number (call.Create p) (log.Create (client_id client) number (file_id d.master.logged.next_file) p) refl tt
-      (λ asks. create_named d.master (client_id client) number (file_id d.master.logged.next_file) p d.master.logged.next_file may (h.2 asks)) h
+  performs_keeps d client number deadline (call.Create p shape) may new bound h =
+      changes_keeps d client number (call.Create p shape) (log.Create (client_id client) number (file_id d.master.logged.next_file) (told_shape d.master.config shape) p) refl tt
+      (λ asks. create_named d.master (client_id client) number (file_id d.master.logged.next_file) shape (told_shape d.master.config shape) p d.master.logged.next_file may (h.2 asks)) h
   performs_keeps d client number deadline (call.Delete p) may new bound h =
       changes_keeps d client number (call.Delete p) (log.Delete (client_id client) number (moment_of d.master.now) p) tt tt
       (λ asks. delete_named d.master (client_id client) number (moment_of d.master.now) p d.master.logged.next_file (bound asks) may (h.2 asks)) h

@@ -1,6 +1,6 @@
 -- In each world that is reached, a master that is up has the names, counters, epoch and kept answers of its log, and what else its records keep of them.
 use Rattle.std.proofs.Common.{◌≡◌, ℕ, suc, ◌+◌, ◌≤◌, Bool, true, false, cond, List, [], ◌∷◌, map, take, drop, Option, Some, None, refl, sym, ap, subst, ◌∙◌, arith}
-use Rattle.std.specs.Prelude.{◌==◌, ◌&&◌, nat_lt, not, option_map, IsTrue}
+use Rattle.std.specs.Prelude.{◌==◌, ◌&&◌, not, option_map, IsTrue}
 use Rattle.std.specs.Ordering.{nat_cmp, eq_by_cmp}
 use Rattle.std.specs.Cmp.{nat_cmp_total, unsigned_tied}
 use Rattle.std.specs.FinMap.Entries.{find}
@@ -16,11 +16,11 @@ use Rattle.gfs_types.specs.Counters.{counter_limit}
 use Rattle.protocol.specs.Tables.{Table, map_values}
 use Rattle.protocol.specs.Choice.{Choice, Ending, Goes, Lost, Stops}
 use Rattle.protocol.specs.Seen.{Taken, no_step}
-use Rattle.chunk_table.specs.ChunkTable.{ChunkRow, changed_by}
+use Rattle.chunk_table.specs.ChunkTable.{ChunkRow, changed_by, no_shape, known_shape}
 use Rattle.protocol.specs.LogSizes.{checkpoint_fits}
 use Rattle.protocol.specs.Logged.{Logged, LogDisk, LogChange, AppendRecord, WriteCheckpoint, first_logged, log_changed, log_changed_by_all, after_record, after_records, checkpoint_of, copies_given_up, all_copies_given_up}
 use Rattle.protocol.specs.Master.{MasterState, MasterDoing, stopped_master, master_begins, fits, appends, writes_checkpoint, logs_after_checkpoint, is_of_copy}
-use Rattle.protocol.specs.MasterStep.{master_goes, master_ends, master_bounded, master_step, is_within_limits, may_end, found_log, lease_after_restart, started_master, opening, has_opened, opens_as, new_master, first_log}
+use Rattle.protocol.specs.MasterStep.{master_goes, master_ends, master_bounded, master_step, is_within_limits, may_end, found_log, row_after_restart, started_master, opening, has_opened, opens_as, new_master, first_log}
 use Rattle.protocol.specs.World.{WorldState, IsReached}
 use Rattle.laws_base.proofs.Steps.{on_cond, none_some}
 use Rattle.laws_base.proofs.ChunkRows.{Rows, rows_of, AreIssued, issued_from}
@@ -33,10 +33,12 @@ use Rattle.laws_base.proofs.MasterSteps.{no_input, goes_named}
 use Rattle.laws_base.proofs.OrderNumbers.{state_of, state-appended, AllStops, stops_push, changed-push, AllFound, found_same, found_stopped}
 use Rattle.laws_base.proofs.LoggedParts.{Parts, parts_of, same_after, checkpoint_parts}
 use Rattle.laws_base.proofs.MasterReached.{reached_here}
+use Rattle.gfs_types.specs.declared.shape.Shape.{Shape}
+use Rattle.gfs_types.specs.Shapes.{usual_shape}
 
 -- the ends of leases aside
 abbrev pub without_end : ChunkRow → ChunkRow
-without_end row = record row { lease_end = 0 }
+without_end row = record row { shape = no_shape; lease_end = 0 }
 
 abbrev pub AreSameButEnds : Table ChunkRow → Table ChunkRow → Type 0
 AreSameButEnds t u = (handle : ℕ) → option_map without_end (table.get t handle) ≡ option_map without_end (table.get u handle)
@@ -52,7 +54,7 @@ pub record IsKeptByLog (G : Logged → Type 0) (R : Logged → Logged → Type 0
   pub records : (l k : Logged) (r : Record) → parts_of l ≡ parts_of k → IsDue (Unit {0}) l r → AreNames l r → R l k → R (after_record l r) (after_record k r)
   pub checkpoint : (l k : Logged) → parts_of l ≡ parts_of k → Tree l.names → R l k → R (all_copies_given_up l) (after_records first_logged (checkpoint_of l))
   pub less : (l k : Logged) (handles : List ℕ) → AreCopied l handles → R l k → R (copies_given_up l handles) k
-  pub rows : (l k : Logged) (chunks : Table ChunkRow) → AreSameButEnds l.table.chunks chunks → R l k → R (record l { table = record l.table { chunks = chunks } }) k
+  pub rows : (l k : Logged) (shapes : Table Shape) (chunks : Table ChunkRow) → AreSameButEnds l.table.chunks chunks → R l k → R (record l { table = record l.table { shapes = shapes; chunks = chunks } }) k
 
 -- a chunk whose lease's end is set is the same but for that
 pub ended_same : (t : Table ChunkRow) (handle moment : ℕ) → AreSameButEnds t (changed_by t handle (λ row. record row { lease_end = moment }) (table.get t handle))
@@ -86,9 +88,8 @@ mapped_same t change same q =
     ap (λ (o : Option ChunkRow). option_map without_end o) (table.get-entries t q) ∙ same_found change same (table.entries t) q
     ∙ sym (ap (λ (o : Option ChunkRow). option_map without_end o) (table.get-from_entries nat_cmp_total (map (λ e. (e.0, change e.1)) (table.entries t)) q))
 
-later_end : (config : Config) (moment : ℕ) (row : ChunkRow) → without_end row ≡ without_end (lease_after_restart config moment row)
-later_end config moment row =
-    on_cond (λ (x : ChunkRow). without_end row ≡ without_end x) (nat_lt 0 row.granted) (record row { lease_end = moment + config.skew_ms + config.lease_ms }) row (λ _. refl) (λ _. refl)
+later_end : (config : Config) (moment : ℕ) (row : ChunkRow) → without_end row ≡ without_end (row_after_restart config moment row)
+later_end config moment row = refl
 
 module _ (G : Logged → Type 0) (R : Logged → Logged → Type 0) (b : IsKeptByLog G R) where
   abbrev pub IsGood : LogDisk → Type 0
@@ -137,7 +138,7 @@ module _ (G : Logged → Type 0) (R : Logged → Logged → Type 0) (b : IsKeptB
   ended : (start : LogDisk) (c : Core) (handle moment : ℕ) → IsNaming start c → IsNaming start (core_ended c handle moment)
   ended start c handle moment h =
       let rows : Table ChunkRow = changed_by c.logged.table.chunks handle (λ row. record row { lease_end = moment }) (table.get c.logged.table.chunks handle) in
-      quieter start c (record c.logged { table = record c.logged.table { chunks = rows } }) refl (b.rows c.logged (state_of c.disk) rows (ended_same c.logged.table.chunks handle moment) h.tied) h
+      quieter start c (record c.logged { table = record c.logged.table { chunks = rows } }) refl (b.rows c.logged (state_of c.disk) c.logged.table.shapes rows (ended_same c.logged.table.chunks handle moment) h.tied) h
 
   pub naming_keeps : (start : LogDisk) → (Ended : ℕ → ℕ → Type 0) → Keeps (Unit {0}) Nothing Ended (IsNaming start)
   naming_keeps start Ended =
@@ -212,9 +213,10 @@ module _ (G : Logged → Type 0) (R : Logged → Logged → Type 0) (b : IsKeptB
   pub opening_first : (config : Config) (count : ℕ) (found : LogDisk) (moment : ℕ) → IsGood found → IsNaming found (core_of (master_begins (started_master config count found moment) []))
   opening_first config count found moment good =
       let given_up : Logged = all_copies_given_up (state_of found) in
-      let rows : Rows = map_values (lease_after_restart config moment) given_up.table.chunks in
-      let kept : R (record given_up { table = record given_up.table { chunks = rows } }) (state_of found) =
-      b.rows given_up (state_of found) rows (mapped_same given_up.table.chunks (lease_after_restart config moment) (later_end config moment)) (b.restart (state_of found) good.1) in
+      let rows : Rows = map_values (row_after_restart config moment) given_up.table.chunks in
+      let shapes : Table Shape = map_values (known_shape (usual_shape config)) given_up.table.shapes in
+      let kept : R (record given_up { table = record given_up.table { shapes = shapes; chunks = rows } }) (state_of found) =
+      b.rows given_up (state_of found) shapes rows (mapped_same given_up.table.chunks (row_after_restart config moment) (later_end config moment)) (b.restart (state_of found) good.1) in
       record { none = refl; disk = refl; same = refl; tied = kept; stops = good }
 
   pub opening_naming : (config : Config) (count : ℕ) (found : LogDisk) (moment : ℕ) → IsGood found → AreIssued (rows_of (state_of found))

@@ -27,6 +27,8 @@ use Rattle.protocol.specs.MasterSnapshots.{is_same_snapshot}
 use Rattle.protocol.specs.MasterNames.{snapshot_call, is_busy, master_refusal}
 use Rattle.laws_base.proofs.Steps.{on_cond, none_some, same_some}
 use Rattle.laws_base.proofs.Entries.{AllOf, all_filtered, all_joined, same_number}
+use Rattle.gfs_types.specs.declared.config.Config.{Config}
+use Rattle.gfs_types.specs.declared.shape.Shape.{Shape}
 
 -- a snapshot's paths, and its target, which is free
 pub record IsFree (names : Names) (from to : Path) : Type 0 where
@@ -77,13 +79,13 @@ tests_of (t ∷ a) b r c h =
     let rest : (b ≡ false) × (first_refusal (a ++ c) ≡ None) = tests_of a b r c one.1 in
     (rest.0, ap (λ (x : Bool). cond x (Some t.1) (first_refusal (a ++ c))) one.0 ∙ rest.1)
 
-pub not_refused : (m : MasterState) (c : Call) → master_refusal m c ≡ None → (is_busy m c ≡ false) × (refusal_of m.logged.names c ≡ None)
-not_refused m c h = tests_of (path_tests c) (is_busy m c) Busy (name_tests m.logged.names c) h
+pub not_refused : (m : MasterState) (c : Call) → master_refusal m c ≡ None → (is_busy m c ≡ false) × (refusal_of m.config m.logged.names c ≡ None)
+not_refused m c h = tests_of (path_tests m.config c) (is_busy m c) Busy (name_tests m.logged.names c) h
 
 -- a snapshot that meets no refusal
-pub snapshot_is_free : (names : Names) (from to : Path) → refusal_of names (call.Snapshot from to) ≡ None → IsFree names from to
-snapshot_is_free names from to h =
-    let all = tests_passed (path_tests (call.Snapshot from to) ++ name_tests names (call.Snapshot from to)) h in
+pub snapshot_is_free : (config : Config) (names : Names) (from to : Path) → refusal_of config names (call.Snapshot from to) ≡ None → IsFree names from to
+snapshot_is_free config names from to h =
+    let all = tests_passed (path_tests config (call.Snapshot from to) ++ name_tests names (call.Snapshot from to)) h in
     record {
       path_from = true_from (is_path from) all.0;
       path_to = true_from (is_path to) all.1.0;
@@ -253,12 +255,13 @@ dir_stays names p v q other dir = ap is_dir_node (inserted_other names p v q oth
 dir_left : (names : Names) (p q : Path) → (q ≡ p → ⊥) → is_dir names q ≡ true → is_dir (table.remove names p) q ≡ true
 dir_left names p q other dir = ap is_dir_node (removed_other names p q other) ∙ dir
 
-abbrev TestsOf : Names → Call → Type 0
-TestsOf names c = refusal_of names c ≡ None
+-- the call meets no refusal, in a cell with some settings
+abbrev pub TestsOf : Names → Call → Type 0
+TestsOf names c = (config : Config) × (refusal_of config names c ≡ None)
 
 pub mkdir_names : (names : Names) (p : Path) (ss : List PendingSnapshot) → TestsOf names (call.Mkdir p) → AreQuiet (p ∷ []) ss → IsNamespace names ss → IsNamespace (table.insert names p Dir) ss
 mkdir_names names p ss h quiet is =
-    let all = tests_passed (path_tests (call.Mkdir p) ++ name_tests names (call.Mkdir p)) h in
+    let all = tests_passed (path_tests h.0 (call.Mkdir p) ++ name_tests names (call.Mkdir p)) h.1 in
     next_names names (table.insert names p Dir) (p ∷ []) ss
     (added names p Dir is.tree (true_from (is_dir names (parent p)) all.1.1.0) (λ q dir same. refl) (λ moment id same. absurd (not_hidden p all.1.0 moment id same)))
     (λ s apart f. stays_free names (table.insert names p Dir) s.from s.to (put_free names p Dir s.to apart.0 f.free) (dir_kept names p Dir (parent s.to) (λ same. refl) f.above) f)
@@ -266,7 +269,7 @@ mkdir_names names p ss h quiet is =
 
 pub rmdir_names : (names : Names) (p : Path) (ss : List PendingSnapshot) → TestsOf names (call.Rmdir p) → AreQuiet (p ∷ []) ss → IsNamespace names ss → IsNamespace (table.remove names p) ss
 rmdir_names names p ss h quiet is =
-    let all = tests_passed (path_tests (call.Rmdir p) ++ name_tests names (call.Rmdir p)) h in
+    let all = tests_passed (path_tests h.0 (call.Rmdir p) ++ name_tests names (call.Rmdir p)) h.1 in
     let out = outside_of p all.1.0 in
     next_names names (table.remove names p) (p ∷ []) ss (rmdir_tree names p is.tree all.1.0 all.1.1.1.1.0)
     (λ s apart f. stays_free names (table.remove names p) s.from s.to (gone_free names p s.to f.free)
@@ -280,11 +283,11 @@ rmdir_names names p ss h quiet is =
         by_both true b g = refl
         by_both false b g = absurd (true≢false (sym g))
 
-pub create_names : (names : Names) (p : Path) (id : ℕ) (ss : List PendingSnapshot) → TestsOf names (call.Create p) → AreQuiet (p ∷ []) ss → IsNamespace names ss → IsNamespace (table.insert names p (File id)) ss
-create_names names p id ss h quiet is =
-    let all = tests_passed (path_tests (call.Create p) ++ name_tests names (call.Create p)) h in
-    let plain : is_dir names p ≡ false = not_taken_no_dir (node_at names p) all.1.1.1.0 in
-    next_names names (table.insert names p (File id)) (p ∷ []) ss (file_added names p id is.tree (true_from (is_dir names (parent p)) all.1.1.0) plain)
+pub create_names : (names : Names) (p : Path) (shape : Option Shape) (id : ℕ) (ss : List PendingSnapshot) → TestsOf names (call.Create p shape) → AreQuiet (p ∷ []) ss → IsNamespace names ss → IsNamespace (table.insert names p (File id)) ss
+create_names names p shape id ss h quiet is =
+    let all = tests_passed (path_tests h.0 (call.Create p shape) ++ name_tests names (call.Create p shape)) h.1 in
+    let plain : is_dir names p ≡ false = not_taken_no_dir (node_at names p) all.1.1.1.1.0 in
+    next_names names (table.insert names p (File id)) (p ∷ []) ss (file_added names p id is.tree (true_from (is_dir names (parent p)) all.1.1.1.0) plain)
     (λ s apart f. stays_free names (table.insert names p (File id)) s.from s.to (put_free names p (File id) s.to apart.0 f.free)
     (dir_stays names p (File id) (parent s.to) (other_dir names p (parent s.to) plain f.above) f.above) f)
     quiet is
@@ -309,7 +312,7 @@ delete_names names p moment ss (Some (File id)) at quiet is =
 pub rename_names : (names : Names) (p q : Path) (ss : List PendingSnapshot) → (o : Option Node) → node_at names p ≡ o → TestsOf names (call.Rename p q) → AreQuiet (p ∷ q ∷ []) ss → IsNamespace names ss
     → IsNamespace (with_node (table.remove names p) q o) ss
 rename_names names p q ss o at h quiet is =
-    let all = tests_passed (path_tests (call.Rename p q) ++ name_tests names (call.Rename p q)) h in
+    let all = tests_passed (path_tests h.0 (call.Rename p q) ++ name_tests names (call.Rename p q)) h.1 in
     let plain : is_dir names p ≡ false = all.1.1.1.1.0 in
     let free : is_taken names q ≡ false = all.1.1.1.1.1.1.0 in
     next_names names (with_node (table.remove names p) q o) (p ∷ q ∷ []) ss (rename_tree names p q o at is.tree plain (true_from (is_dir names (parent q)) all.1.1.1.1.1.0) free)
@@ -405,13 +408,13 @@ expired_names names file ss is = by_name (find (λ e. is_this_file file e.1) (ta
 abbrev pub names_after : Names → ℕ → Record → Names
 names_after names next (log.Mkdir client n path) = table.insert names path Dir
 names_after names next (log.Rmdir client n path) = table.remove names path
-names_after names next (log.Create client n file path) = table.insert names path (File file.0)
+names_after names next (log.Create client n file shape path) = table.insert names path (File file.0)
 names_after names next (log.Delete client n moment path) = hidden names path moment.0 (node_at names path)
 names_after names next (log.Rename client n from to) = with_node (table.remove names from) to (node_at names from)
 names_after names next (log.Snapshot client n from to) = with_copies names next (copied_entries names from to)
 names_after names next (log.Expired file) = without_file names file.0
 names_after names next (log.DirItem path) = table.insert names path Dir
-names_after names next (log.FileItem path file handles) = table.insert names path (File file.0)
+names_after names next (log.FileItem path file shape handles) = table.insert names path (File file.0)
 names_after names next other = names
 
 swapped_names : (l : Logged) (handle : ℕ) (o : Option Copy) → (swapped_in l handle o).names ≡ l.names
@@ -424,11 +427,11 @@ names_are_after l other = refl
 
 -- what is known of the names at a record of a step
 abbrev pub IsNameDue : Names → ℕ → Record → Type 0
-IsNameDue names next (log.Mkdir client n path) = refusal_of names (call.Mkdir path) ≡ None
-IsNameDue names next (log.Rmdir client n path) = refusal_of names (call.Rmdir path) ≡ None
-IsNameDue names next (log.Create client n file path) = refusal_of names (call.Create path) ≡ None
-IsNameDue names next (log.Delete client n moment path) = (refusal_of names (call.Delete path) ≡ None) × (next ≤ counter_limit)
-IsNameDue names next (log.Rename client n from to) = refusal_of names (call.Rename from to) ≡ None
+IsNameDue names next (log.Mkdir client n path) = TestsOf names (call.Mkdir path)
+IsNameDue names next (log.Rmdir client n path) = TestsOf names (call.Rmdir path)
+IsNameDue names next (log.Create client n file shape path) = (asked : Option Shape) × TestsOf names (call.Create path asked)
+IsNameDue names next (log.Delete client n moment path) = TestsOf names (call.Delete path) × (next ≤ counter_limit)
+IsNameDue names next (log.Rename client n from to) = TestsOf names (call.Rename from to)
 IsNameDue names next (log.Snapshot client n from to) = IsFree names from to
 IsNameDue names next other = Unit {0}
 
@@ -441,38 +444,38 @@ pub mkdir_named : (m : MasterState) (client : ClientId) (n : ℕ) (p : Path) (ne
     → IsNamed m.logged.names next (log.Mkdir client n p) m.snapshots
 mkdir_named m client n p next h is =
     let may = not_refused m (call.Mkdir p) h in
-    record { due = may.1; after = mkdir_names m.logged.names p m.snapshots may.1 (not_busy (call.Mkdir p) refl m.snapshots may.0) is }
+    record { due = (m.config, may.1); after = mkdir_names m.logged.names p m.snapshots (m.config, may.1) (not_busy (call.Mkdir p) refl m.snapshots may.0) is }
 
 pub rmdir_named : (m : MasterState) (client : ClientId) (n : ℕ) (p : Path) (next : ℕ) → master_refusal m (call.Rmdir p) ≡ None → IsNamespace m.logged.names m.snapshots
     → IsNamed m.logged.names next (log.Rmdir client n p) m.snapshots
 rmdir_named m client n p next h is =
     let may = not_refused m (call.Rmdir p) h in
-    record { due = may.1; after = rmdir_names m.logged.names p m.snapshots may.1 (not_busy (call.Rmdir p) refl m.snapshots may.0) is }
+    record { due = (m.config, may.1); after = rmdir_names m.logged.names p m.snapshots (m.config, may.1) (not_busy (call.Rmdir p) refl m.snapshots may.0) is }
 
-pub create_named : (m : MasterState) (client : ClientId) (n : ℕ) (file : FileId) (p : Path) (next : ℕ) → master_refusal m (call.Create p) ≡ None → IsNamespace m.logged.names m.snapshots
-    → IsNamed m.logged.names next (log.Create client n file p) m.snapshots
-create_named m client n file p next h is =
-    let may = not_refused m (call.Create p) h in
-    record { due = may.1; after = create_names m.logged.names p file.0 m.snapshots may.1 (not_busy (call.Create p) refl m.snapshots may.0) is }
+pub create_named : (m : MasterState) (client : ClientId) (n : ℕ) (file : FileId) (shape told : Option Shape) (p : Path) (next : ℕ) → master_refusal m (call.Create p shape) ≡ None
+    → IsNamespace m.logged.names m.snapshots → IsNamed m.logged.names next (log.Create client n file told p) m.snapshots
+create_named m client n file shape told p next h is =
+    let may = not_refused m (call.Create p shape) h in
+    record { due = (shape, m.config, may.1); after = create_names m.logged.names p shape file.0 m.snapshots (m.config, may.1) (not_busy (call.Create p shape) refl m.snapshots may.0) is }
 
 pub delete_named : (m : MasterState) (client : ClientId) (n : ℕ) (moment : Moment) (p : Path) (next : ℕ) → next ≤ counter_limit → master_refusal m (call.Delete p) ≡ None → IsNamespace m.logged.names m.snapshots
     → IsNamed m.logged.names next (log.Delete client n moment p) m.snapshots
 delete_named m client n moment p next bound h is =
     let may = not_refused m (call.Delete p) h in
-    record { due = (may.1, bound); after = delete_names m.logged.names p moment.0 m.snapshots (node_at m.logged.names p) refl (not_busy (call.Delete p) refl m.snapshots may.0) is }
+    record { due = ((m.config, may.1), bound); after = delete_names m.logged.names p moment.0 m.snapshots (node_at m.logged.names p) refl (not_busy (call.Delete p) refl m.snapshots may.0) is }
 
 pub rename_named : (m : MasterState) (client : ClientId) (n : ℕ) (p q : Path) (next : ℕ) → master_refusal m (call.Rename p q) ≡ None → IsNamespace m.logged.names m.snapshots
     → IsNamed m.logged.names next (log.Rename client n p q) m.snapshots
 rename_named m client n p q next h is =
     let may = not_refused m (call.Rename p q) h in
-    record { due = may.1; after = rename_names m.logged.names p q m.snapshots (node_at m.logged.names p) refl may.1 (not_busy (call.Rename p q) refl m.snapshots may.0) is }
+    record { due = (m.config, may.1); after = rename_names m.logged.names p q m.snapshots (node_at m.logged.names p) refl (m.config, may.1) (not_busy (call.Rename p q) refl m.snapshots may.0) is }
 
 -- a snapshot that begins to wait
 pub waits_named : (m : MasterState) (s : PendingSnapshot) → master_refusal m (call.Snapshot s.from s.to) ≡ None → list_any (λ t. (t.client == s.client) && (t.number == s.number)) m.snapshots ≡ false
     → IsNamespace m.logged.names m.snapshots → IsNamespace m.logged.names (m.snapshots ++ s ∷ [])
 waits_named m s h new is =
     let may = not_refused m (call.Snapshot s.from s.to) h in
-    one_more_waits m.logged.names m.snapshots s (not_busy (call.Snapshot s.from s.to) refl m.snapshots may.0) new (snapshot_is_free m.logged.names s.from s.to may.1) is
+    one_more_waits m.logged.names m.snapshots s (not_busy (call.Snapshot s.from s.to) refl m.snapshots may.0) new (snapshot_is_free m.config m.logged.names s.from s.to may.1) is
 
 -- one that is taken
 pub taken_named : (names : Names) (ss : List PendingSnapshot) (client : ClientId) (n : ℕ) (s : PendingSnapshot) (next : ℕ) → IsAmong ss s → IsNamespace names ss

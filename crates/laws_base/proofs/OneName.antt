@@ -30,7 +30,7 @@ use Rattle.chunk_table.specs.ChunkTable.{ChunkRow, ChunkTable, handles_of, grant
 use Rattle.protocol.specs.Logged.{Logged, KeptCall, Copy, copies_given_up, first_logged, after_record, after_records, copies_for_file, swapped_in, with_copied_node, with_copied_nodes, checkpoint_of, name_item, node_item, chunk_item, client_item}
 use Rattle.laws_base.proofs.Steps.{on_cond, none_some, same_some, put_cases, kept_cases, removed_cases}
 use Rattle.laws_base.proofs.Entries.{AllOf, same_number}
-use Rattle.laws_base.proofs.Namespace.{IsFree, IsNameDue}
+use Rattle.laws_base.proofs.Namespace.{IsFree, IsNameDue, TestsOf}
 use Rattle.laws_base.proofs.MasterMoves.{IsDue, AreNames}
 use Rattle.laws_base.proofs.HiddenNames.{hidden_digits}
 use Rattle.laws_base.proofs.FilesNamed.{Files, IsNameOf, HasFile, AreNamed, split_key, put_key, left_key, dir_put, dir_gone, file_put, file_moved, hidden_is_free, file_gone, put_again, IsNew, AreDistinct, copies_named}
@@ -46,13 +46,13 @@ pub record HasOneName (l : Logged) : Type 0 where
   pub copied : AreCopiesOf l.copies l.table.files
 
 abbrev IsDueOf : Logged → Record → Type 0
-IsDueOf l (log.Create client n file path) = file.0 ≡ l.next_file
+IsDueOf l (log.Create client n file shape path) = file.0 ≡ l.next_file
 IsDueOf l (log.AddChunk file handle) = HasFile l.table.files file.0
 IsDueOf l (log.CopyStart file index handle copy copy_version) = HasFile l.table.files file.0
 IsDueOf l (log.Epoch epoch) = ⊥
 IsDueOf l (log.Counters next_file next_handle epoch) = ⊥
 IsDueOf l (log.DirItem path) = ⊥
-IsDueOf l (log.FileItem path file handles) = ⊥
+IsDueOf l (log.FileItem path file shape handles) = ⊥
 IsDueOf l (log.ChunkItem handle granted issued primary members) = ⊥
 IsDueOf l (log.ClientItem client n refusal) = ⊥
 IsDueOf l other = Unit {0}
@@ -65,8 +65,8 @@ record IsFit (l : Logged) (r : Record) : Type 0 where
 
 -- names and files after a record
 
-tests : (names : Names) (c : Call) → refusal_of names c ≡ None → AllByRecursion (λ t. t.0 ≡ false) (path_tests c ++ name_tests names c)
-tests names c h = tests_passed (path_tests c ++ name_tests names c) h
+tests : (names : Names) (c : Call) (h : TestsOf names c) → AllByRecursion (λ t. t.0 ≡ false) (path_tests h.0 c ++ name_tests names c)
+tests names c h = tests_passed (path_tests h.0 c ++ name_tests names c) h.1
 
 deleted_named : (names : Names) (next : ℕ) (files : Files) (p : Path) (moment : ℕ) (o : Option Node) → node_at names p ≡ o → Tree names → next ≤ counter_limit → is_in_trash p ≡ false
     → AreNamed names next files → AreNamed (hidden names p moment o) next files
@@ -156,11 +156,11 @@ granted_named l handle (Some c) is h = put_again l.names l.next_file l.table.fil
 fit_named : (l : Logged) (r : Record) → IsFit l r → HasOneName l → AreNamed (after_record l r).names (after_record l r).next_file (after_record l r).table.files
 fit_named l (log.Mkdir client n path) fit h = dir_put l.names l.next_file l.table.files path (tests l.names (call.Mkdir path) fit.due).1.1.1.0 h.named
 fit_named l (log.Rmdir client n path) fit h = dir_gone l.names l.next_file l.table.files path (true_from (is_dir l.names path) (tests l.names (call.Rmdir path) fit.due).1.1.1.0) h.named
-fit_named l (log.Create client n file path) fit h =
-    let all = tests l.names (call.Create path) fit.due in
+fit_named l (log.Create client n file shape path) fit h =
+    let all = tests l.names (call.Create path fit.due.0) fit.due.1 in
     let more = le-max_right l.next_file (l.next_file + 1) in
     subst (λ (k : ℕ). AreNamed (table.insert l.names path (File k)) (max l.next_file (k + 1)) (table.insert l.table.files k [])) (sym fit.table)
-    (file_put l.names l.next_file (max l.next_file (l.next_file + 1)) l.table.files path [] all.1.1.1.0 (λ moment id same. not_hidden path all.1.0 moment id same) (omega (arith, more)) h.named)
+    (file_put l.names l.next_file (max l.next_file (l.next_file + 1)) l.table.files path [] all.1.1.1.1.0 (λ moment id same. not_hidden path all.1.1.0 moment id same) (omega (arith, more)) h.named)
 fit_named l (log.Delete client n moment path) fit h =
     deleted_named l.names l.next_file l.table.files path moment.0 (node_at l.names path) refl fit.tree fit.due.1 (tests l.names (call.Delete path) fit.due.0).1.0 h.named
 fit_named l (log.Rename client n from to) fit h =
@@ -177,7 +177,7 @@ fit_named l (log.Refused client n refusal) fit h = h.named
 fit_named l (log.Epoch epoch) fit h = absurd fit.table
 fit_named l (log.Counters next_file next_handle epoch) fit h = absurd fit.table
 fit_named l (log.DirItem path) fit h = absurd fit.table
-fit_named l (log.FileItem path file handles) fit h = absurd fit.table
+fit_named l (log.FileItem path file shape handles) fit h = absurd fit.table
 fit_named l (log.ChunkItem handle granted issued primary members) fit h = absurd fit.table
 fit_named l (log.ClientItem client n refusal) fit h = absurd fit.table
 
@@ -243,7 +243,7 @@ granted_copied l handle None h = h.copied
 granted_copied l handle (Some c) h = λ other x is. put_key l.table.files c.file _ x.file (inr (h.copied other x (kept_cases l.copies handle other x is)))
 
 fit_copied : (l : Logged) (r : Record) → IsFit l r → HasOneName l → AreCopiesOf (after_record l r).copies (after_record l r).table.files
-fit_copied l (log.Create client n file path) fit h = λ handle c is. put_key l.table.files file.0 [] c.file (inr (h.copied handle c is))
+fit_copied l (log.Create client n file shape path) fit h = λ handle c is. put_key l.table.files file.0 [] c.file (inr (h.copied handle c is))
 fit_copied l (log.Snapshot client n from to) fit h = λ handle c is. copied_has l.table l.next_file (copied_entries l.names from to) c.file (h.copied handle c is)
 fit_copied l (log.Expired file) fit h = λ handle c is.
     let old = left_copy l file.0 handle c is in
@@ -256,7 +256,7 @@ fit_copied l (log.CopyStart file index source new copy_version) fit h = λ handl
       | inl same ↦ subst (λ (x : Copy). HasFile l.table.files x.file) same.1 fit.table
       | inr before ↦ h.copied handle c before
     ]
-fit_copied l (log.FileItem path file handles) fit h = absurd fit.table
+fit_copied l (log.FileItem path file shape handles) fit h = absurd fit.table
 fit_copied l other fit h = h.copied
 
 fit_keeps : (l : Logged) (r : Record) → IsFit l r → HasOneName l → HasOneName (after_record l r)
@@ -265,13 +265,13 @@ fit_keeps l r fit h = record { named = fit_named l r fit h; copied = fit_copied 
 -- what is due in the state is due in the log
 
 table_due : (l : Logged) (r : Record) → IsDue (Unit {0}) l r → IsDueOf l r
-table_due l (log.Create client n file path) due = due
+table_due l (log.Create client n file shape path) due = due
 table_due l (log.AddChunk file handle) due = due.1
 table_due l (log.CopyStart file index handle copy copy_version) due = due.1
 table_due l (log.Epoch epoch) due = due
 table_due l (log.Counters next_file next_handle epoch) due = due
 table_due l (log.DirItem path) due = due
-table_due l (log.FileItem path file handles) due = due
+table_due l (log.FileItem path file shape handles) due = due
 table_due l (log.ChunkItem handle granted issued primary members) due = due
 table_due l (log.ClientItem client n refusal) due = due
 table_due l other due = tt
@@ -280,13 +280,13 @@ same_there : (l k : Logged) (id : ℕ) → l.names ≡ k.names → HasOneName l 
 same_there l k id same h g has = let name = h.named.named id has in g.named.there name.0 id (subst (λ (n : Names). IsNameOf n name.0 id) same name.1)
 
 other_due : (l k : Logged) (r : Record) → l.names ≡ k.names → l.next_file ≡ k.next_file → HasOneName l → HasOneName k → IsDueOf l r → IsDueOf k r
-other_due l k (log.Create client n file path) same next h g due = due ∙ next
+other_due l k (log.Create client n file shape path) same next h g due = due ∙ next
 other_due l k (log.AddChunk file handle) same next h g due = same_there l k file.0 same h g due
 other_due l k (log.CopyStart file index handle copy copy_version) same next h g due = same_there l k file.0 same h g due
 other_due l k (log.Epoch epoch) same next h g due = due
 other_due l k (log.Counters next_file next_handle epoch) same next h g due = due
 other_due l k (log.DirItem path) same next h g due = due
-other_due l k (log.FileItem path file handles) same next h g due = due
+other_due l k (log.FileItem path file shape handles) same next h g due = due
 other_due l k (log.ChunkItem handle granted issued primary members) same next h g due = due
 other_due l k (log.ClientItem client n refusal) same next h g due = due
 other_due l k other same next h g due = tt

@@ -11,13 +11,14 @@ use Rattle.std.specs.FinMap.Entries.{find, put, by_order}
 use Rattle.std.specs.declared.cmp.Ordering.{Ordering}
 use Rattle.std.specs.declared.cmp.Ordering.TheVariants.{Less, Equal, Greater}
 use Rattle.protocol.specs.Tables.{removed_all, element_at, with_at}
-use Rattle.chunk_table.specs.ChunkTable.{ChunkRow, ChunkTable, new_row, new_chunk_table, row_shared, changed_by, share_one, share_all, left_by, leave_one, leave_all, handles_of, add_file, add_chunk, copy_file, drop_file, with_row, swap, owned_row, with_owned}
+use Rattle.chunk_table.specs.ChunkTable.{ChunkRow, ChunkTable, new_row, new_chunk_table, row_shared, changed_by, share_one, share_all, left_by, leave_one, leave_all, handles_of, add_file, add_chunk, copy_file, drop_file, with_row, swap, owned_row, with_owned, added_row}
 use Rattle.laws_base.specs.Laws.{times_in}
 use Rattle.laws_base.proofs.Steps.{on_cond, none_some, same_some, tally, count-cons, count-append, same_or_not, put_there, put_other, gone_there, gone_other, now_gone}
 use Rattle.laws_base.proofs.Entries.{same_number}
 use Rattle.laws_base.proofs.MasterMoves.{removed_other}
 use Rattle.laws_base.proofs.ChunkRows.{Rows}
 use Rattle.laws_base.proofs.FilesNamed.{Files}
+use Rattle.gfs_types.specs.declared.shape.Shape.{Shape}
 
 -- how many times a handle stands in a list
 abbrev pub stands : ℕ → List ℕ → ℕ
@@ -185,20 +186,20 @@ all_left_refs rows (x ∷ xs) q low =
     let whole = count-cons (λ h. h == q) x xs in
     omega (arith, first, rest, whole)
 
-pub owned_refs : (rows : Rows) (hs : List ℕ) (q : ℕ) → refs (with_owned rows hs) q ≡ refs rows q + stands q hs
-owned_refs rows [] q = omega arith
-owned_refs rows (x ∷ xs) q =
+pub owned_refs : (shape : Shape) (rows : Rows) (hs : List ℕ) (q : ℕ) → refs (with_owned shape rows hs) q ≡ refs rows q + stands q hs
+owned_refs shape rows [] q = omega arith
+owned_refs shape rows (x ∷ xs) q =
     let first = one (table.get rows x) refl (same_or_not q x) in
-    let rest = owned_refs (table.insert rows x (owned_row (table.get rows x))) xs q in
+    let rest = owned_refs shape (table.insert rows x (owned_row shape (table.get rows x))) xs q in
     let whole = count-cons (λ h. h == q) x xs in
     omega (arith, first, rest, whole)
   where
-    one : (o : Option ChunkRow) → table.get rows x ≡ o → (q ≡ x) ⊎ (q ≡ x → ⊥) → refs (table.insert rows x (owned_row o)) q ≡ refs rows q + tally (x == q)
+    one : (o : Option ChunkRow) → table.get rows x ≡ o → (q ≡ x) ⊎ (q ≡ x → ⊥) → refs (table.insert rows x (owned_row shape o)) q ≡ refs rows q + tally (x == q)
     one None is (inl same) =
-        let a = put_refs rows x (record new_row { references = 1 }) q same in
+        let a = put_refs rows x (record new_row { shape = shape; references = 1 }) q same in
         let b = ap (λ (n : ℕ). refs rows n) same ∙ ap references_of is in let c = tally_same x q same in
         omega (arith, a, b, c)
-    one None is (inr other) = let a = other_refs rows x (record new_row { references = 1 }) q other in let c = tally_other x q other in omega (arith, a, c)
+    one None is (inr other) = let a = other_refs rows x (record new_row { shape = shape; references = 1 }) q other in let c = tally_other x q other in omega (arith, a, c)
     one (Some row) is key = raised_refs rows x q row (row_shared row) is refl
 
 -- Each row has as many references as its handle stands in files; what has no row stands in none.
@@ -219,8 +220,8 @@ none_counted q = ap references_of (table.get-empty nat_cmp q) ∙ sym (no_times 
 pub chunk_row : (t : ChunkTable) (id q : ℕ) → AreCounted t → 1 ≤ stands q (handles_of t id) → HasRow t.chunks q
 chunk_row t id q counted more = has_row t.chunks q (let low = times_at_least t.files id q in let is = counted q in omega (arith, low, is, more))
 
-pub file_counted : (t : ChunkTable) (id : ℕ) → table.get t.files id ≡ None → AreCounted t → AreCounted (add_file t id)
-file_counted t id none h q = let new = times_new t.files id [] q none in let old = h q in omega (arith, new, old)
+pub file_counted : (t : ChunkTable) (id : ℕ) (shape : Shape) → table.get t.files id ≡ None → AreCounted t → AreCounted (add_file t id shape)
+file_counted t id shape none h q = let new = times_new t.files id [] q none in let old = h q in omega (arith, new, old)
 
 pub copied_counted : (t : ChunkTable) (from to : ℕ) → table.get t.files to ≡ None → AreCounted t → AreCounted (copy_file t from to)
 copied_counted t from to none h q =
@@ -252,7 +253,7 @@ put_counted t handle row q none h = by_key (handle == q) refl
 
 pub added_counted : (t : ChunkTable) (file handle : ℕ) → times_in t.files handle ≡ 0 → AreCounted t → AreCounted (add_chunk t file handle)
 added_counted t file handle none h q =
-    let row = put_counted t handle (record new_row { references = 1 }) q none h in
+    let row = put_counted t handle (added_row t file) q none h in
     let more = times_put t.files file (handles_of t file ++ handle ∷ []) q in
     let last = count-append (λ x. x == q) (handles_of t file) (handle ∷ []) in
     let one = count-cons (λ x. x == q) handle [] in

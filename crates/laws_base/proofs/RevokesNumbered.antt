@@ -468,12 +468,12 @@ due_less : (l : Logged) (r : Record) → IsDue (Unit {0}) l r → IsDue ⊥ l r
 due_less l (log.Grant handle version primary members) due = (due.0, due.1, λ asks. absurd asks)
 due_less l (log.CopyStart file index handle copy copy_version) due = (due.0, due.1, due.2, λ asks. absurd asks)
 due_less l (log.Epoch epoch) due = due
-due_less l (log.Create client n file path) due = due
+due_less l (log.Create client n file shape path) due = due
 due_less l (log.AddChunk file handle) due = due
 due_less l (log.Issue handle version) due = due
 due_less l (log.Counters next_file next_handle epoch) due = due
 due_less l (log.DirItem path) due = due
-due_less l (log.FileItem path file handles) due = due
+due_less l (log.FileItem path file shape handles) due = due
 due_less l (log.ChunkItem handle granted issued primary members) due = due
 due_less l (log.ClientItem client n refusal) due = due
 due_less l other due = tt

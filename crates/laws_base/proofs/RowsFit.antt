@@ -5,7 +5,7 @@ use Rattle.std.specs.FinMap as table
 use Rattle.log_records.specs.declared.record.Record.{Record}
 use Rattle.log_records.specs.declared.record.Record.TheVariants as log
 use Rattle.relaxed_file.specs.Names.{copied_entries}
-use Rattle.chunk_table.specs.ChunkTable.{ChunkRow, new_row, changed_by, row_granted}
+use Rattle.chunk_table.specs.ChunkTable.{ChunkRow, changed_by, row_granted, added_row, copied_row}
 use Rattle.protocol.specs.Logged.{Logged, after_record, swapped_in}
 use Rattle.laws_base.proofs.Steps.{none_some, same_some, put_cases}
 use Rattle.laws_base.proofs.ChunkRows.{Rows, rows_of, From, all_copied_from, swapped_from, expired_from}
@@ -59,8 +59,8 @@ module _ (F : ℕ → ℕ → ℕ → Type 0) where
   IsFitRecord other = Unit {0}
 
   pub fit_after : (l k : Logged) (r : Record) → IsDue (Unit {0}) l r → IsFitRecord r → AreFit F (rows_of k) → AreFit F (rows_of (after_record k r))
-  fit_after l k (log.AddChunk file handle) due new h = fit_put (rows_of k) handle.0 (record new_row { references = 1 }) new h
-  fit_after l k (log.CopyStart file index handle copy copy_version) due new h = fit_put (rows_of k) copy.0 (record new_row { issued = copy_version.0 }) new h
+  fit_after l k (log.AddChunk file handle) due new h = fit_put (rows_of k) handle.0 (added_row k.table file.0) new h
+  fit_after l k (log.CopyStart file index handle copy copy_version) due new h = fit_put (rows_of k) copy.0 (copied_row k.table handle.0 copy_version.0) new h
   fit_after l k (log.Issue handle version) due new h = fit_changed (rows_of k) handle.0 (λ row. record row { issued = version.0 }) (λ old is. h handle.0 old is) h
   fit_after l k (log.Grant handle version primary members) due new h =
       let one : Logged = granted_logged k handle.0 version.0 primary.0 members in
@@ -68,6 +68,6 @@ module _ (F : ℕ → ℕ → ℕ → Type 0) where
       (fit_changed (rows_of k) handle.0 (row_granted version.0 primary.0 members) (λ old is. new) h)
   fit_after l k (log.Snapshot client n from to) due new h = fit_from (rows_of k) (rows_of (after_record k (log.Snapshot client n from to))) (all_copied_from k.table k.next_file (copied_entries k.names from to)) h
   fit_after l k (log.Expired file) due new h = fit_from (rows_of k) (rows_of (after_record k (log.Expired file))) (expired_from k file) h
-  fit_after l k (log.FileItem path file handles) due new h = absurd due
+  fit_after l k (log.FileItem path file shape handles) due new h = absurd due
   fit_after l k (log.ChunkItem handle granted issued primary members) due new h = absurd due
   fit_after l k other due new h = h

@@ -14,7 +14,7 @@ use Rattle.relaxed_file.specs.Names.{Node, Dir, File}
 use Rattle.relaxed_file.proofs.NamesTree.{Tree}
 use Rattle.protocol.specs.Tables.{Table, removed_all}
 use Rattle.protocol.specs.Sending.{file_id, handle_of}
-use Rattle.chunk_table.specs.ChunkTable.{ChunkRow, ChunkTable, handles_of, owned_row, with_owned}
+use Rattle.chunk_table.specs.ChunkTable.{ChunkRow, ChunkTable, handles_of, owned_row, with_owned, shape_of}
 use Rattle.protocol.specs.Logged.{Logged, KeptCall, Copy, first_logged, after_record, after_records, copies_given_up, all_copies_given_up, checkpoint_of, name_item, node_item, chunk_item, client_item}
 use Rattle.laws_base.specs.Laws.{times_in}
 use Rattle.laws_base.proofs.Steps.{none_some, same_some, removed_cases, now_gone}
@@ -31,14 +31,15 @@ use Rattle.laws_base.proofs.CountsLogged.{IsCountedLog, keeps_row}
 use Rattle.laws_base.proofs.CountsKept.{counts_kept}
 use Rattle.laws_base.proofs.RowsSame.{AreSameAt, IsSameRow, changed_at, IsOwned, owned_look, none_owned, changed_owned, put_owned}
 use Rattle.laws_base.proofs.RowsLogged.{IsFoundRows, IsRowedLog, records_rowed}
+use Rattle.gfs_types.specs.declared.shape.Shape.{Shape}
 
 -- rows of a checkpoint are owned
 
-all_owned : (rows : Rows) (hs : List ℕ) (q : ℕ) → IsOwned (table.get rows q) → IsOwned (table.get (with_owned rows hs) q)
-all_owned rows [] q h = h
-all_owned rows (x ∷ xs) q h = all_owned (table.insert rows x (owned_row (table.get rows x))) xs q (put_owned rows x (owned_row (table.get rows x)) q (one (table.get rows x)) h)
+all_owned : (shape : Shape) (rows : Rows) (hs : List ℕ) (q : ℕ) → IsOwned (table.get rows q) → IsOwned (table.get (with_owned shape rows hs) q)
+all_owned shape rows [] q h = h
+all_owned shape rows (x ∷ xs) q h = all_owned shape (table.insert rows x (owned_row shape (table.get rows x))) xs q (put_owned rows x (owned_row shape (table.get rows x)) q (one (table.get rows x)) h)
   where
-    one : (o : Option ChunkRow) → 1 ≤ (owned_row o).references
+    one : (o : Option ChunkRow) → 1 ≤ (owned_row shape o).references
     one None = omega arith
     one (Some row) = omega arith
 
@@ -48,7 +49,7 @@ items_owned t (e ∷ es) k q h = items_owned t es (after_record k (name_item t e
   where
     one : (n : Node) → IsOwned (table.get (rows_of (after_record k (node_item t e.0 n))) q)
     one Dir = h
-    one (File id) = all_owned (rows_of k) (handles_of t id) q h
+    one (File id) = all_owned (shape_of t id) (rows_of k) (handles_of t id) q h
 
 -- the row as a chunk's item writes it
 abbrev written_by : ChunkRow → ChunkRow → ChunkRow
@@ -293,10 +294,10 @@ owned_ends o None same h = tt
 owned_ends None (Some row) same h = none_some (without_end row) same
 owned_ends (Some old) (Some row) same h = let count = ap (λ (x : ChunkRow). x.references) (same_some (without_end old) (without_end row) same) in omega (arith, count, h)
 
-rows_rowed : (l k : Logged) (chunks : Table ChunkRow) → AreSameButEnds l.table.chunks chunks → IsRowedLog l k → IsRowedLog (record l { table = record l.table { chunks = chunks } }) k
-rows_rowed l k chunks same h =
+rows_rowed : (l k : Logged) (shapes : Table Shape) (chunks : Table ChunkRow) → AreSameButEnds l.table.chunks chunks → IsRowedLog l k → IsRowedLog (record l { table = record l.table { shapes = shapes; chunks = chunks } }) k
+rows_rowed l k shapes chunks same h =
     record {
-      base = counts_kept.rows l k chunks same h.base;
+      base = counts_kept.rows l k shapes chunks same h.base;
       log = h.log;
       owned = λ q none. owned_ends (table.get l.table.chunks q) (table.get chunks q) (same q) (h.owned q none);
       same = λ q agree. sym (same q) ∙ h.same q agree;

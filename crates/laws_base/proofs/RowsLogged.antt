@@ -9,7 +9,7 @@ use Rattle.log_records.specs.declared.record.Record.TheVariants as log
 use Rattle.gfs_types.specs.Paths.{Path}
 use Rattle.relaxed_file.specs.Names.{Node, copied_entries}
 use Rattle.protocol.specs.Tables.{Table, removed_all}
-use Rattle.chunk_table.specs.ChunkTable.{ChunkRow, new_row, changed_by, share_one, leave_all, handles_of, row_granted, grant}
+use Rattle.chunk_table.specs.ChunkTable.{ChunkRow, changed_by, share_one, leave_all, handles_of, row_granted, grant, added_row, copied_row}
 use Rattle.protocol.specs.Logged.{Logged, Copy, after_record, copies_for_file, swapped_in, with_copied_nodes}
 use Rattle.laws_base.proofs.Steps.{none_some, same_or_not, put_there, put_other, gone_other, now_gone}
 use Rattle.laws_base.proofs.CopiesUnderWay.{listed_copied}
@@ -106,11 +106,11 @@ same_after l k (log.Snapshot client n from to) parts due h q agree =
     let es : List (Path × Node) = copied_entries l.names from to in
     subst (λ (p : Parts). AreSameAt (with_copied_nodes l.table l.next_file es).chunks (with_copied_nodes k.table p.next_file (copied_entries p.names from to)).chunks q) parts
     (snapshot_same l.table k.table l.next_file es q h.base.base.files (h.same q agree))
-same_after l k (log.AddChunk file chunk) parts due h q agree = put_same (rows_of l) (rows_of k) chunk.0 (record new_row { references = 1 }) q (λ other. h.same q agree)
+same_after l k (log.AddChunk file chunk) parts due h q agree = put_same (rows_of l) (rows_of k) chunk.0 (added_row l.table file.0) (added_row k.table file.0) q refl (λ other. h.same q agree)
 same_after l k (log.Issue chunk version) parts due h q agree = changed_same (rows_of l) (rows_of k) chunk.0 q (λ row. record row { issued = version.0 }) (λ row. refl) (h.same q agree)
 same_after l k (log.CopyStart file index source copy copy_version) parts due h q agree =
     let new : Copy = record { file = file.0; index = index; source = source.0 } in
-    put_same (rows_of l) (rows_of k) copy.0 (record new_row { issued = copy_version.0 }) q (λ other. h.same q (sym (put_other l.copies copy.0 new q other) ∙ agree ∙ put_other k.copies copy.0 new q other))
+    put_same (rows_of l) (rows_of k) copy.0 (copied_row l.table source.0 copy_version.0) (copied_row k.table source.0 copy_version.0) q refl (λ other. h.same q (sym (put_other l.copies copy.0 new q other) ∙ agree ∙ put_other k.copies copy.0 new q other))
 same_after l k (log.Grant chunk version primary members) parts due h q agree =
     let at = same_copy l.copies k.copies (rows_of l) chunk.0 due.0 due.1 h.base.base.among h.base.base.alone in
     let before = agreed l.copies k.copies chunk.0 (table.get l.copies chunk.0) q at
@@ -118,7 +118,7 @@ same_after l k (log.Grant chunk version primary members) parts due h q agree =
     let l2 : Logged = swapped_in (record l { table = grant l.table chunk.0 version.0 primary.0 members }) chunk.0 (table.get l.copies chunk.0) in
     subst (λ (o : Option Copy). AreSameAt (rows_of l2) (rows_of (swapped_in (record k { table = grant k.table chunk.0 version.0 primary.0 members }) chunk.0 o)) q) at
     (granted_same l k chunk.0 version.0 primary.0 members (table.get l.copies chunk.0) q (h.same q before))
-same_after l k (log.FileItem path file handles) parts due h q agree = absurd due
+same_after l k (log.FileItem path file shape handles) parts due h q agree = absurd due
 same_after l k (log.ChunkItem chunk granted issued primary members) parts due h q agree = absurd due
 same_after l k other parts due h q agree = h.same q agree
 
@@ -150,7 +150,7 @@ owned_after l j (log.Expired file) due h q none = all_left_owned (removed_all (r
     by_list true a = none_owned (table.get (removed_all (rows_of j) handles) q) (now_gone (rows_of j) handles q a)
     by_list false a = owned_look (table.get (removed_all (rows_of j) handles) q) (table.get (rows_of j) q) (removed_other (rows_of j) handles q a) (h q (sym (removed_other j.copies handles q a) ∙ none))
 owned_after l j (log.Snapshot client n from to) due h q none = snapshot_owned j.table j.next_file (copied_entries j.names from to) q (h q none)
-owned_after l j (log.AddChunk file chunk) due h q none = put_owned (rows_of j) chunk.0 (record new_row { references = 1 }) q (omega arith) (h q none)
+owned_after l j (log.AddChunk file chunk) due h q none = put_owned (rows_of j) chunk.0 (added_row j.table file.0) q (omega arith) (h q none)
 owned_after l j (log.Issue chunk version) due h q none = changed_owned (rows_of j) chunk.0 q (λ row. record row { issued = version.0 }) (λ row. omega arith) (h q none)
 owned_after l j (log.CopyStart file index source copy copy_version) due h q none = by_key (same_or_not q copy.0)
   where
@@ -158,13 +158,13 @@ owned_after l j (log.CopyStart file index source copy copy_version) due h q none
     new = record { file = file.0; index = index; source = source.0 }
 
     row : ChunkRow
-    row = record new_row { issued = copy_version.0 }
+    row = copied_row j.table source.0 copy_version.0
 
     by_key : (q ≡ copy.0) ⊎ (q ≡ copy.0 → ⊥) → IsOwned (table.get (table.insert (rows_of j) copy.0 row) q)
     by_key (inl same) = none_some new (sym none ∙ put_there j.copies copy.0 new q same)
     by_key (inr other) = owned_look (table.get (table.insert (rows_of j) copy.0 row) q) (table.get (rows_of j) q) (put_other (rows_of j) copy.0 row q other) (h q (sym (put_other j.copies copy.0 new q other) ∙ none))
 owned_after l j (log.Grant chunk version primary members) due h q none = granted_owned j chunk.0 version.0 primary.0 members (table.get j.copies chunk.0) q h none
-owned_after l j (log.FileItem path file handles) due h q none = absurd due
+owned_after l j (log.FileItem path file shape handles) due h q none = absurd due
 owned_after l j (log.ChunkItem chunk granted issued primary members) due h q none = absurd due
 owned_after l j other due h q none = h q none
 

@@ -109,12 +109,12 @@ pub all_left_same : (t u : Rows) (xs : List ℕ) (q : ℕ) → AreSameAt t u q �
 all_left_same t u [] q h = h
 all_left_same t u (x ∷ xs) q h = all_left_same (leave_one t x) (leave_one u x) xs q (left_same t u x q h)
 
-pub put_same : (t u : Rows) (x : ℕ) (row : ChunkRow) (q : ℕ) → ((q ≡ x → ⊥) → AreSameAt t u q) → AreSameAt (table.insert t x row) (table.insert u x row) q
-put_same t u x row q h = by_key (same_or_not q x)
+pub put_same : (t u : Rows) (x : ℕ) (row other : ChunkRow) (q : ℕ) → without_end row ≡ without_end other → ((q ≡ x → ⊥) → AreSameAt t u q) → AreSameAt (table.insert t x row) (table.insert u x other) q
+put_same t u x row other q alike h = by_key (same_or_not q x)
   where
-    by_key : (q ≡ x) ⊎ (q ≡ x → ⊥) → AreSameAt (table.insert t x row) (table.insert u x row) q
-    by_key (inl same) = ap (λ (o : Option ChunkRow). option_map without_end o) (put_there t x row q same ∙ sym (put_there u x row q same))
-    by_key (inr other) = by_looks (table.get (table.insert t x row) q) (table.get t q) (table.get (table.insert u x row) q) (table.get u q) (put_other t x row q other) (put_other u x row q other) (h other)
+    by_key : (q ≡ x) ⊎ (q ≡ x → ⊥) → AreSameAt (table.insert t x row) (table.insert u x other) q
+    by_key (inl same) = by_looks (table.get (table.insert t x row) q) (Some row) (table.get (table.insert u x other) q) (Some other) (put_there t x row q same) (put_there u x other q same) (ap (λ (r : ChunkRow). Some r) alike)
+    by_key (inr differs) = by_looks (table.get (table.insert t x row) q) (table.get t q) (table.get (table.insert u x other) q) (table.get u q) (put_other t x row q differs) (put_other u x other q differs) (h differs)
 
 -- what a snapshot shares, of the same files
 pub snapshot_same : (t u : ChunkTable) (next : ℕ) (es : List (Path × Node)) (q : ℕ) → t.files ≡ u.files → AreSameAt t.chunks u.chunks q → AreSameAt (with_copied_nodes t next es).chunks (with_copied_nodes u next es).chunks q

@@ -164,11 +164,11 @@ rising_servers : (ns : List ℕ) → AreServerNumbers ns → AreServerNumbers (r
 rising_servers [] all = tt
 rising_servers (n ∷ ns) all = number_in (rising ns) n all.0 (rising_servers ns all.1)
 
-placement_servers : (m : MasterState) → AreServerNumbers (placement m)
-placement_servers m =
+placement_servers : (m : MasterState) (row : ChunkRow) → AreServerNumbers (placement m row)
+placement_servers m row =
     let present : List ℕ = filter (is_present m) (servers_of m) in
-    rising_servers (take m.config.goal (ranked (chunks_held m) present))
-    (taken_servers m.config.goal (ranked (chunks_held m) present)
+    rising_servers (take row.shape.goal (ranked (chunks_held m) present))
+    (taken_servers row.shape.goal (ranked (chunks_held m) present)
     (ranked_servers (chunks_held m) present (all_filtered IsServerNumber (is_present m) (servers_of m) (first_servers m.server_count))))
 
 abbrev AreHolders : List HeldAt → Type 0
@@ -213,9 +213,9 @@ current_servers m handle row = holders_servers m handle (λ v. nat_le row.grante
 
 targets_of : (m : MasterState) (handle : ℕ) (row : ChunkRow) (hs : List HeldAt) → AreHolders hs → AreTargets (targets_by m handle row hs)
 targets_of m handle row [] all =
-    on_cond AreTargets (nat_lt 0 row.granted) (map holder_target (present_current_holders m handle row)) (placed_targets m handle)
+    on_cond AreTargets (nat_lt 0 row.granted) (map holder_target (present_current_holders m handle row)) (placed_targets m handle row)
     (λ _. holder_targets (present_current_holders m handle row) (all_filtered (λ h. IsServerNumber h.server) (λ h. is_present m h.server) (current_holders m handle row) (current_servers m handle row)))
-    (λ _. placed_at (λ s. version_held m handle s) (placement m) (placement_servers m))
+    (λ _. placed_at (λ s. version_held m handle s) (placement m row) (placement_servers m row))
 targets_of m handle row (h ∷ hs) all = holder_targets (h ∷ hs) all
 
 pub targets_servers : (m : MasterState) (handle : ℕ) (row : ChunkRow) → AreTargets (targets_by m handle row (recorded_holders m handle row))
@@ -223,6 +223,6 @@ targets_servers m handle row = targets_of m handle row (recorded_holders m handl
 
 pub copy_servers : (m : MasterState) (handle : ℕ) (row : ChunkRow) → AreTargets (copy_targets m handle row)
 copy_servers m handle row =
-    on_cond AreTargets (nat_lt 0 row.granted) (map holder_target (current_holders m handle row)) (map (λ s. record { server = s; base = None }) (placement m))
+    on_cond AreTargets (nat_lt 0 row.granted) (map holder_target (current_holders m handle row)) (map (λ s. record { server = s; base = None }) (placement m row))
     (λ _. holder_targets (current_holders m handle row) (current_servers m handle row))
-    (λ _. placed_at (λ s. None) (placement m) (placement_servers m))
+    (λ _. placed_at (λ s. None) (placement m row) (placement_servers m row))

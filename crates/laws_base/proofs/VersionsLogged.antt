@@ -9,13 +9,14 @@ use Rattle.log_records.specs.declared.record.Record.TheVariants as log
 use Rattle.gfs_types.specs.Paths.{Path}
 use Rattle.relaxed_file.specs.Names.{Node, Dir, File, copied_entries}
 use Rattle.protocol.specs.Sending.{file_id, handle_of}
-use Rattle.chunk_table.specs.ChunkTable.{ChunkRow, ChunkTable, new_row, row_shared, changed_by, handles_of, row_granted, owned_row, with_owned}
+use Rattle.chunk_table.specs.ChunkTable.{ChunkRow, ChunkTable, new_row, row_shared, changed_by, handles_of, row_granted, owned_row, with_owned, added_row, copied_row, shape_of}
 use Rattle.protocol.specs.Logged.{Logged, KeptCall, first_logged, after_record, after_records, swapped_in, checkpoint_of, name_item, node_item, chunk_item, client_item}
 use Rattle.laws_base.proofs.Steps.{none_some, same_some, put_split}
 use Rattle.laws_base.proofs.Entries.{AllOf, all_filtered, all_found, IsFound}
 use Rattle.laws_base.proofs.MasterMoves.{IsDue}
 use Rattle.laws_base.proofs.OrderNumbers.{after-append}
 use Rattle.laws_base.proofs.ChunkRows.{Rows, rows_of, AreIssued, IsBelow, From, same_from, issued_from, below_from, put_from, put_issued, all_copied_from, swapped_from, expired_from}
+use Rattle.gfs_types.specs.declared.shape.Shape.{Shape}
 
 -- two tables to which one record is applied
 
@@ -103,10 +104,9 @@ issued_both l k handle version row at is h =
 -- a record of a step
 pub both_record : (l k : Logged) (r : Record) → IsDue ⊥ l r → Both (rows_of l) (rows_of k) → Both (rows_of (after_record l r)) (rows_of (after_record k r))
 both_record l k (log.AddChunk file handle) due h =
-    put_both (rows_of l) (rows_of k) handle.0 (record new_row { references = 1 }) (record new_row { references = 1 }) (omega arith) (omega arith) (omega arith) h
+    put_both (rows_of l) (rows_of k) handle.0 (added_row l.table file.0) (added_row k.table file.0) (omega arith) (omega arith) (omega arith) h
 both_record l k (log.CopyStart file index handle copy copy_version) due h =
-    let new : ChunkRow = record new_row { issued = copy_version.0 } in
-    put_both (rows_of l) (rows_of k) copy.0 new new (omega arith) (omega arith) (omega arith) h
+    put_both (rows_of l) (rows_of k) copy.0 (copied_row l.table handle.0 copy_version.0) (copied_row k.table handle.0 copy_version.0) (omega arith) (omega arith) (omega arith) h
 both_record l k (log.Issue handle version) due h = issued_both (rows_of l) (rows_of k) handle.0 version.0 due.0 due.1 due.2 h
 both_record l k (log.Grant handle version primary members) due h =
     let change : ChunkRow → ChunkRow = row_granted version.0 primary.0 members in
@@ -121,18 +121,18 @@ both_record l k (log.Expired file) due h =
     both_from (rows_of l) (rows_of k) (rows_of (after_record l (log.Expired file))) (rows_of (after_record k (log.Expired file))) (expired_from l file) (expired_from k file) h
 both_record l k (log.Epoch epoch) due h = h
 both_record l k (log.Counters next_file next_handle epoch) due h = h
-both_record l k (log.FileItem path file handles) due h = absurd due
+both_record l k (log.FileItem path file shape handles) due h = absurd due
 both_record l k (log.ChunkItem handle granted issued primary members) due h = absurd due
 both_record l k other due h = h
 
 -- a checkpoint, read again, against the state that it was made of
 
-owned_right : (l k : Rows) (handles : List ℕ) → Both l k → Both l (with_owned k handles)
-owned_right l k [] h = h
-owned_right l k (x ∷ xs) h = owned_right l (table.insert k x (owned_row (table.get k x))) xs (one (table.get k x) refl)
+owned_right : (shape : Shape) (l k : Rows) (handles : List ℕ) → Both l k → Both l (with_owned shape k handles)
+owned_right shape l k [] h = h
+owned_right shape l k (x ∷ xs) h = owned_right shape l (table.insert k x (owned_row shape (table.get k x))) xs (one (table.get k x) refl)
   where
-    one : (o : Option ChunkRow) → table.get k x ≡ o → Both l (table.insert k x (owned_row o))
-    one None is = put_right l k x (record new_row { references = 1 }) (omega arith) (λ r at. omega arith) h
+    one : (o : Option ChunkRow) → table.get k x ≡ o → Both l (table.insert k x (owned_row shape o))
+    one None is = put_right l k x (record new_row { shape = shape; references = 1 }) (omega arith) (λ r at. omega arith) h
     one (Some row) is = both_from l k l (table.insert k x (row_shared row)) (same_from l) (put_from k x row (row_shared row) is (refl, refl, refl)) h
 
 abbrev IsIn : Rows → ℕ × ChunkRow → Type 0
@@ -144,7 +144,7 @@ names_right l t (e ∷ es) k h = names_right l t es (after_record k (name_item t
   where
     one : (n : Node) → Both l (rows_of (after_record k (node_item t e.0 n)))
     one Dir = h
-    one (File id) = owned_right l (rows_of k) (handles_of t id) h
+    one (File id) = owned_right (shape_of t id) l (rows_of k) (handles_of t id) h
 
 chunks_right : (l : Rows) (es : List (ℕ × ChunkRow)) (k : Logged) → AllOf (IsIn l) es → Both l (rows_of k) → Both l (rows_of (after_records k (map chunk_item es)))
 chunks_right l [] k all h = h

@@ -16,7 +16,7 @@ use Rattle.relaxed_file.specs.Names.{Names, File, IsTree, node_at}
 use Rattle.protocol.specs.Tables.{Table, element_at, has_number}
 use Rattle.protocol.specs.Sending.{the_server, handle_of, version_of, order_number}
 use Rattle.protocol.specs.Choice.{Choice}
-use Rattle.chunk_table.specs.ChunkTable.{ChunkRow, ChunkTable, chunk_of}
+use Rattle.chunk_table.specs.ChunkTable.{ChunkRow, ChunkTable, chunk_of, no_shape}
 use Rattle.protocol.specs.Logged.{Logged, all_copies_given_up, replayed}
 use Rattle.leases.specs.LeaseHeld.{LeaseHeld, counts_at}
 use Rattle.primary_order.specs.SerialOrder.{SerialOrder}
@@ -205,14 +205,14 @@ ReferencesAreCounted =
     (config : Config) (servers clients : ℕ) (w : WorldState) → IsReached config servers clients w → IsTrue w.master.up
     → HasAllReferences w.master.logged.table × HasAllReferences (replayed w.master.disk).table
 
--- a chunk's row, the end of its lease aside
+-- a chunk's row, the end of its lease and its shape aside: shapes that a log doesn't tell are known from the opening on
 abbrev pub row_but_end : ChunkRow → ChunkRow
-row_but_end row = record row { lease_end = 0 }
+row_but_end row = record row { shape = no_shape; lease_end = 0 }
 
 abbrev pub chunk_but_end : ChunkTable → ℕ → Option ChunkRow
 chunk_but_end t handle = option_map row_but_end (chunk_of t handle)
 
--- The log, replayed, has the chunks of a master that is up, but for the ends of leases and for copies under way, which a restart gives up (sections 2.6.3 and 3.4).
+-- The log, replayed, has the chunks of a master that is up, but for the ends of leases, for shapes and for copies under way, which a restart gives up (sections 2.6.3 and 3.4).
 abbrev pub LogHasTheChunks : Type 0
 LogHasTheChunks =
     (config : Config) (servers clients : ℕ) (w : WorldState) → IsReached config servers clients w → IsTrue w.master.up

@@ -11,7 +11,7 @@ use Rattle.messages.specs.declared.message.Body.TheVariants as body
 use Rattle.messages.specs.declared.message.Message.{Message}
 use Rattle.log_records.specs.declared.record.Record.{Record}
 use Rattle.log_records.specs.declared.record.Record.TheVariants as log
-use Rattle.chunk_table.specs.ChunkTable.{ChunkRow, new_row, chunk_of}
+use Rattle.chunk_table.specs.ChunkTable.{ChunkRow, chunk_of, added_row}
 use Rattle.protocol.specs.Sending.{message, file_id, handle_of, version_of}
 use Rattle.protocol.specs.Choice.{Choice, Ending, Goes, Lost, Stops}
 use Rattle.protocol.specs.Seen.{Taken, no_step}
@@ -61,7 +61,7 @@ passed_added handle version l file h =
     let used = h.0 in
     let grows = le-max_left l.next_handle (l.next_handle + 1) in (
       omega (arith, used, grows),
-      λ row is. elim (put_cases (rows_of l) l.next_handle (record new_row { references = 1 }) handle row is) [
+      λ row is. elim (put_cases (rows_of l) l.next_handle (added_row l.table file.0) handle row is) [
         | inl same ↦ absurd (let there = same.0 in omega (arith, used, there))
         | inr before ↦ h.1 row before
       ],

@@ -4,7 +4,7 @@ use Rattle.std.specs.Prelude.{unwrap_or, option_and_then, option_map}
 use Rattle.gfs_types.specs.declared.ids.FileId.{FileId}
 use Rattle.gfs_types.specs.declared.ids.Handle.{Handle}
 use Rattle.log_records.specs.declared.record.Record.TheVariants as log
-use Rattle.chunk_table.specs.ChunkTable.{ChunkRow, new_row, file_of, handles_of, chunk_of, add_file}
+use Rattle.chunk_table.specs.ChunkTable.{ChunkRow, file_of, handles_of, chunk_of, add_file, added_row}
 use Rattle.relaxed_file.specs.Order.{CallId}
 use Rattle.relaxed_file.specs.Machine.{Machine, Chunk, FileState, Asked, new_chunk, new_file, put, chunk_at, chunk_count}
 use Rattle.relaxed_file.specs.Chunks.{chunk_added}
@@ -18,6 +18,7 @@ use Rattle.protocol_invariant.specs.Actions.{Spot}
 use Rattle.laws_machine.specs.ChunksAlike.{ChunkSides, chunk_in, entries_in, StandsAt, StoodAt, IsRoundOpen, IsFileAlike, HasAlike, IsGoneSpot, AreChunksAlike, NoneEnds, KeepsChunks}
 use Rattle.laws_machine.specs.ChunkRecords.{IsUnused, AddedChunksAreAdded, NewFilesHaveNoChunk}
 use Rattle.laws_machine.proofs.Sides.{listed, still_open, still_alike, last_cases, one_longer}
+use Rattle.gfs_types.specs.declared.shape.Shape.{Shape}
 
 module _ (k : ChunkSides) (file : FileId) (handle : Handle) (handles : List ℕ) (id : CallId) (h : AreChunksAlike k) (is : file_of k.log.table file.0 ≡ Some handles) (unused : IsUnused k handle.0) where
   abbrev added : ChunkSides
@@ -33,7 +34,7 @@ module _ (k : ChunkSides) (file : FileId) (handle : Handle) (handles : List ℕ)
   longer = ap (λ (o : Option (List ℕ)). unwrap_or o [] ++ handle.0 ∷ []) is
 
   row_stays : (other : ℕ) → (other ≡ handle.0 → ⊥) → chunk_of added.log.table other ≡ chunk_of k.log.table other
-  row_stays other is_other = steps.put_other k.log.table.chunks handle.0 (record new_row { references = 1 }) other is_other
+  row_stays other is_other = steps.put_other k.log.table.chunks handle.0 (added_row k.log.table file.0) other is_other
 
   -- whoever has a row is another handle
   is_older : (other : ℕ) (row : ChunkRow) → chunk_of k.log.table other ≡ Some row → other ≡ handle.0 → ⊥
@@ -61,8 +62,8 @@ module _ (k : ChunkSides) (file : FileId) (handle : Handle) (handles : List ℕ)
     | inr last ↦
         let chunk_is : chunk_at added.machine file.0 index ≡ new_chunk = ap (λ (s : FileState). s.chunks index) (here file.0 refl)
         ∙ tables.put_is (chunk_count k.machine file.0) new_chunk (k.machine.files file.0).chunks index (last.0 ∙ sym old.count) in (
-          record new_row { references = 1 },
-          steps.put_there k.log.table.chunks handle.0 (record new_row { references = 1 }) other (sym last.1),
+          added_row k.log.table file.0,
+          steps.put_there k.log.table.chunks handle.0 (added_row k.log.table file.0) other (sym last.1),
           record {
             order = ap (λ (n : ℕ). entries_in k.orders n) (sym last.1) ∙ unused.no_entry ∙ ap (λ (c : Chunk). c.order) (sym chunk_is);
             round = ap (λ (c : Chunk). c.round) chunk_is;
@@ -136,23 +137,23 @@ added_chunks_are_added k file handle handles id asked h is unused may =
           (keeps k file handle handles id h is unused);
     }
 
-module _ (k : ChunkSides) (h : AreChunksAlike k) (next_is : k.log.next_file ≡ suc k.machine.file_count) where
+module _ (k : ChunkSides) (told made : Shape) (h : AreChunksAlike k) (next_is : k.log.next_file ≡ suc k.machine.file_count) where
   abbrev created : ChunkSides
   created = record k {
-    log = record k.log { table = add_file k.log.table k.log.next_file; next_file = suc k.log.next_file };
-    machine = record k.machine { file_count = suc k.machine.file_count; files = put (suc k.machine.file_count) new_file k.machine.files };
+    log = record k.log { table = add_file k.log.table k.log.next_file told; next_file = suc k.log.next_file };
+    machine = record k.machine { file_count = suc k.machine.file_count; files = put (suc k.machine.file_count) (new_file made) k.machine.files };
   }
 
   below_is_other : (n : ℕ) → n < k.log.next_file → n ≡ k.log.next_file → ⊥
   below_is_other n low same = absurd (omega (arith, low, same))
 
   file_stays : (n : ℕ) → n < k.log.next_file → created.machine.files n ≡ k.machine.files n
-  file_stays n low = tables.put_other (suc k.machine.file_count) new_file k.machine.files n (λ same. let is = next_is in absurd (omega (arith, low, same, is)))
+  file_stays n low = tables.put_other (suc k.machine.file_count) (new_file made) k.machine.files n (λ same. let is = next_is in absurd (omega (arith, low, same, is)))
 
   new_one : IsFileAlike created k.log.next_file []
   new_one = record {
     numbered = omega arith;
-    count = ap (λ (s : FileState). s.chunk_count) (tables.put_is (suc k.machine.file_count) new_file k.machine.files k.log.next_file next_is);
+    count = ap (λ (s : FileState). s.chunk_count) (tables.put_is (suc k.machine.file_count) (new_file made) k.machine.files k.log.next_file next_is);
     chunks = λ index x at. steps.none_some x at;
   }
 
@@ -189,7 +190,7 @@ module _ (k : ChunkSides) (h : AreChunksAlike k) (next_is : k.log.next_file ≡ 
   each_round other version s was_open (inr stood) = still_open k created other version s was_open (inr stood) refl (ap (λ (f : FileState). f.chunks s.index) (file_stays s.file (h.gone other s stood.0).numbered))
 
 pub new_files_have_no_chunk : NewFilesHaveNoChunk
-new_files_have_no_chunk k h next_is = record {
-  alike = record { there = each_there k h next_is; gone = each_gone k h next_is; apart = h.apart };
-  rounds = λ other version s was_open. inr (each_round k h next_is other version s was_open was_open.place);
+new_files_have_no_chunk k told made h next_is = record {
+  alike = record { there = each_there k told made h next_is; gone = each_gone k told made h next_is; apart = h.apart };
+  rounds = λ other version s was_open. inr (each_round k told made h next_is other version s was_open was_open.place);
 }

@@ -46,7 +46,7 @@ goes_at l gone (log.Expired file) handle s was = file_goes l gone file.0 handle 
 goes_at l gone (log.Epoch epoch) handle s was = inl was
 goes_at l gone (log.Mkdir client n path) handle s was = inl was
 goes_at l gone (log.Rmdir client n path) handle s was = inl was
-goes_at l gone (log.Create client n file path) handle s was = inl was
+goes_at l gone (log.Create client n file shape path) handle s was = inl was
 goes_at l gone (log.Delete client n moment path) handle s was = inl was
 goes_at l gone (log.Rename client n from to) handle s was = inl was
 goes_at l gone (log.Snapshot client n from to) handle s was = inl was
@@ -57,7 +57,7 @@ goes_at l gone (log.Grant chunk version primary members) handle s was = inl was
 goes_at l gone (log.CopyStart file index chunk copy version) handle s was = inl was
 goes_at l gone (log.Counters next_file next_handle epoch) handle s was = inl was
 goes_at l gone (log.DirItem path) handle s was = inl was
-goes_at l gone (log.FileItem path file handles) handle s was = inl was
+goes_at l gone (log.FileItem path file shape handles) handle s was = inl was
 goes_at l gone (log.ChunkItem chunk granted issued primary members) handle s was = inl was
 goes_at l gone (log.ClientItem client n refusal) handle s was = inl was
 

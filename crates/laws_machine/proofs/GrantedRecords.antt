@@ -6,7 +6,7 @@ use Rattle.gfs_types.specs.declared.config.Config.{Config}
 use Rattle.messages.specs.declared.event.NodeInput.{NodeInput}
 use Rattle.log_records.specs.declared.record.Record.{Record}
 use Rattle.log_records.specs.declared.record.Record.TheVariants as log
-use Rattle.chunk_table.specs.ChunkTable.{ChunkRow, new_row, chunk_of, changed_by, row_granted}
+use Rattle.chunk_table.specs.ChunkTable.{ChunkRow, chunk_of, changed_by, row_granted, added_row}
 use Rattle.relaxed_file.specs.Names.{copied_entries}
 use Rattle.protocol.specs.Sending.{handle_of, version_of}
 use Rattle.protocol.specs.Logged.{Logged, Copy, LogDisk, LogChange, AppendRecord, WriteCheckpoint, log_changed, log_changed_by_all, after_record, checkpoint_of, copies_for_file, swapped_in}
@@ -135,12 +135,12 @@ module _ (first : Logged) (tried : Attempts) where
   rows_after l (log.Issue handle version) low due plain h = inl tt
   rows_after l (log.CopyStart file index handle copy version) low due plain h = inl tt
   rows_after l (log.AddChunk file handle) low due plain h = inr (λ q row is.
-      elim (put_cases (rows_of l) handle.0 (record new_row { references = 1 }) q row is) [ inl new ↦ inl (let at = new.0 in let next = due.0 in omega (arith, low, at, next)) | inr before ↦ h q row before ])
+      elim (put_cases (rows_of l) handle.0 (added_row l.table file.0) q row is) [ inl new ↦ inl (let at = new.0 in let next = due.0 in omega (arith, low, at, next)) | inr before ↦ h q row before ])
   rows_after l (log.Snapshot client n from to) low due plain h =
       inr (rows_owned (rows_of l) (rows_of (after_record l (log.Snapshot client n from to))) (all_copied_owned l.table l.next_file (copied_entries l.names from to)) h)
   rows_after l (log.Expired file) low due plain h = inr (rows_owned (rows_of l) (rows_of (after_record l (log.Expired file))) (expired_owned l file) h)
   rows_after l (log.Grant handle version primary members) low due plain h = absurd plain
-  rows_after l (log.FileItem path file handles) low due plain h = absurd due
+  rows_after l (log.FileItem path file shape handles) low due plain h = absurd due
   rows_after l (log.ChunkItem handle granted issued primary members) low due plain h = absurd due
   rows_after l other low due plain h = inr h
 

@@ -11,7 +11,7 @@ use Rattle.messages.specs.declared.message.Body.{Body}
 use Rattle.messages.specs.declared.message.Body.TheVariants as body
 use Rattle.log_records.specs.declared.record.Record.{Record}
 use Rattle.log_records.specs.declared.record.Record.TheVariants as log
-use Rattle.chunk_table.specs.ChunkTable.{ChunkRow, new_row, chunk_of, handles_of, grant, changed_by, row_granted}
+use Rattle.chunk_table.specs.ChunkTable.{ChunkRow, chunk_of, handles_of, grant, changed_by, row_granted, added_row, copied_row}
 use Rattle.relaxed_file.specs.Names.{Node, File, node_at, copied_entries}
 use Rattle.relaxed_file.proofs.NamesTree.{HasAt, copied_of, entry_is}
 use Rattle.protocol.specs.Tables.{element_at, with_at, removed_all}
@@ -114,12 +114,12 @@ kept_owned t u f handle row is = let was = f handle row is in (was.0, was.1, ap 
 
 rows_after : (l : Logged) (r : Record) → IsDue (Unit {0}) l r → IsNoGrantRecord r → (q : ℕ) (row : ChunkRow) → table.get (rows_of (after_record l r)) q ≡ Some row → IsKeptRow (rows_of l) q row ⊎ (q ≡ l.next_handle)
 rows_after l (log.AddChunk file handle) due plain q row is =
-    elim (put_cases (rows_of l) handle.0 (record new_row { references = 1 }) q row is) [
+    elim (put_cases (rows_of l) handle.0 (added_row l.table file.0) q row is) [
       | inl same ↦ inr (same.0 ∙ due.0)
       | inr before ↦ inl (row, before, refl, refl)
     ]
 rows_after l (log.CopyStart file index handle copy copy_version) due plain q row is =
-    elim (put_cases (rows_of l) copy.0 (record new_row { issued = copy_version.0 }) q row is) [
+    elim (put_cases (rows_of l) copy.0 (copied_row l.table handle.0 copy_version.0) q row is) [
       | inl same ↦ inr (same.0 ∙ due.0)
       | inr before ↦ inl (row, before, refl, refl)
     ]
@@ -132,7 +132,7 @@ rows_after l (log.Snapshot client n from to) due plain q row is =
     inl (kept_owned (rows_of l) (rows_of (after_record l (log.Snapshot client n from to))) (all_copied_owned l.table l.next_file (copied_entries l.names from to)) q row is)
 rows_after l (log.Expired file) due plain q row is = inl (kept_owned (rows_of l) (rows_of (after_record l (log.Expired file))) (expired_owned l file) q row is)
 rows_after l (log.Grant handle version primary members) due plain q row is = absurd plain
-rows_after l (log.FileItem path file handles) due plain q row is = absurd due
+rows_after l (log.FileItem path file shape handles) due plain q row is = absurd due
 rows_after l (log.ChunkItem handle granted issued primary members) due plain q row is = absurd due
 rows_after l other due plain q row is = inl (row, is, refl, refl)
 

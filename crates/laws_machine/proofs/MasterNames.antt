@@ -28,6 +28,7 @@ use Rattle.laws_machine.proofs.Adds.{new_files_have_no_chunk}
 use Rattle.laws_machine.proofs.Rows.{granted_of}
 use Rattle.laws_machine.specs.MasterSteps.{IsWhole, is_of_master, Comes, QuietRunsAreTaken, EndsAt, HasOpened, recorded}
 use Rattle.laws_machine.proofs.MasterKept.{keeps_both, comes_both, stays_whole, names_place_nothing}
+use Rattle.gfs_types.specs.declared.shape.Shape.{Shape}
 
 pub more_end : (E F : ℕ → Type 0) (k j : ChunkSides) (n : Machine) → ((handle : ℕ) → E handle → F handle) → Comes E k j n → Comes F k j n
 more_end E F k j n f h = record {
@@ -143,18 +144,18 @@ module _ (k : ChunkSides) (n : Machine) (h : IsWhole k n) where
       (after k.machine action, more_end NoneEnds (EndsAt k.log entry) k (recorded k entry (after k.machine action)) (after n action) (λ handle none. absurd none) one, tt)
 
   -- a file that is created
-  pub created : (l : Logged) (action : Action) → is_name_action action ≡ true → shown action ≡ None → Allows n action → IsReady k.machine action → HasNamesOf k.log n
-      → (after k.machine action).files ≡ put (suc k.machine.file_count) new_file k.machine.files → l.table ≡ add_file k.log.table k.log.next_file → suc k.log.next_file ≤ l.next_file → k.log.next_handle ≤ l.next_handle
+  pub created : (told made : Shape) (l : Logged) (action : Action) → is_name_action action ≡ true → shown action ≡ None → Allows n action → IsReady k.machine action → HasNamesOf k.log n
+      → (after k.machine action).files ≡ put (suc k.machine.file_count) (new_file made) k.machine.files → l.table ≡ add_file k.log.table k.log.next_file told → suc k.log.next_file ≤ l.next_file → k.log.next_handle ≤ l.next_handle
       → Comes NoneEnds k (record k { log = l; machine = after k.machine action }) (after n action)
-  created l action is unseen may ready named files table_is next_file next_handle =
+  created told made l action is unseen may ready named files table_is next_file next_handle =
       let took = name_actions_are_taken k.machine n action h.names is may ready in
       let j : ChunkSides = record k { log = l; machine = after k.machine action } in
       let next_is : k.log.next_file ≡ suc k.machine.file_count = named.1 ∙ ap (λ (count : ℕ). suc count) h.names.count in
       let made : ChunkSides = record k {
-        log = record k.log { table = add_file k.log.table k.log.next_file; next_file = suc k.log.next_file };
-        machine = record k.machine { file_count = suc k.machine.file_count; files = put (suc k.machine.file_count) new_file k.machine.files };
+        log = record k.log { table = add_file k.log.table k.log.next_file told; next_file = suc k.log.next_file };
+        machine = record k.machine { file_count = suc k.machine.file_count; files = put (suc k.machine.file_count) (new_file made) k.machine.files };
       } in
-      let one : KeepsChunks NoneEnds k made = new_files_have_no_chunk k h.chunks next_is in
+      let one : KeepsChunks NoneEnds k made = new_files_have_no_chunk k told made h.chunks next_is in
       let two : KeepsChunks NoneEnds made j =
       other_changes_keep_chunks made j one.alike
       (record {

@@ -30,6 +30,8 @@ use Rattle.laws_machine.proofs.MasterKept.{copies_may_come_and_go}
 use Rattle.laws_machine.proofs.MasterNames.{more_end, whole_call, ready_for, done_files, refused_files, plainly_taken, refused_taken, created, quiet_runs_are_taken}
 use Rattle.laws_machine.proofs.MasterSnapshots.{snapshot_taken_whole}
 use Rattle.laws_machine.proofs.MasterChunks.{Taken, epoch_taken, issue_taken, start_taken, add_taken, grant_taken, expired_taken}
+use Rattle.gfs_types.specs.Shapes.{usual_shape, shape_or}
+use Rattle.protocol.specs.MasterNames.{told_shape}
 
 module _ (k : ChunkSides) (n : Machine) (h : IsWhole k n) (named : HasNamesOf k.log n) where
   chunk_taken : (r : Record) → IsChunkRecord r → IsDueAt k r → Taken k n r
@@ -48,7 +50,7 @@ module _ (k : ChunkSides) (n : Machine) (h : IsWhole k n) (named : HasNamesOf k.
     abbrev IsTaken : Record → Type 0
     IsTaken r = IsDueAt k r → Taken k (after n action) r
 
-    call_taken : (number : ℕ) (c : Call) (l : Logged) (r : Record) → HasCall n client c → l.next_file ≡ suc n.file_count → record_of l client number moment c ≡ Some r → IsTaken r
+    call_taken : (number : ℕ) (c : Call) (l : Logged) (r : Record) → HasCall n client c → l.next_file ≡ suc n.file_count → record_of n.config l client number moment c ≡ Some r → IsTaken r
     call_taken number (call.Mkdir p) l r has next is =
         let its = whole_call k n client (call.Mkdir p) h has in
         subst IsTaken (from_some is) (λ due. (
@@ -81,15 +83,15 @@ module _ (k : ChunkSides) (n : Machine) (h : IsWhole k n) (named : HasNamesOf k.
               (plainly_taken k n h (after_record k.log (log.Rename (client_id client) number p q)) action refl refl may (ready_for k.machine client moment outcome (call.Rename p q) its (λ _. tt)) (done_files k.machine client moment outcome (call.Rename p q) its plain) refl (omega arith) (omega arith)),
           tt,
         ))
-    call_taken number (call.Create p) l r has next is =
-        let its = whole_call k n client (call.Create p) h has in
+    call_taken number (call.Create p shape) l r has next is =
+        let its = whole_call k n client (call.Create p shape) h has in
         let same : l.next_file ≡ k.log.next_file = next ∙ sym named.1 in
         let more : l.next_file + 1 ≤ max k.log.next_file (l.next_file + 1) = le-max_right k.log.next_file (l.next_file + 1) in
         subst IsTaken (from_some is) (λ due. (
           after k.machine action,
           more_end NoneEnds _ k _ (after n action) (λ q none. absurd none)
-              (created k n h (after_record k.log (log.Create (client_id client) number (file_id l.next_file) p)) action refl refl may (ready_for k.machine client moment outcome (call.Create p) its (λ _. tt)) named
-              (done_files k.machine client moment outcome (call.Create p) its plain) (ap (λ (f : ℕ). add_file k.log.table f) same) (omega (arith, same, more)) (omega arith)),
+              (created k n h (shape_or (usual_shape n.config) shape) (shape_or (usual_shape k.machine.config) shape) (after_record k.log (log.Create (client_id client) number (file_id l.next_file) (told_shape n.config shape) p)) action refl refl may (ready_for k.machine client moment outcome (call.Create p shape) its (λ _. tt)) named
+              (done_files k.machine client moment outcome (call.Create p shape) its plain) (ap (λ (f : ℕ). add_file k.log.table f (shape_or (usual_shape n.config) shape)) same) (omega (arith, same, more)) (omega arith)),
           tt,
         ))
     call_taken number (call.Snapshot p q) l r has next is = subst IsTaken (from_some is) (λ due. snapshot_taken_whole k n h named client number moment p q outcome has plain may due)

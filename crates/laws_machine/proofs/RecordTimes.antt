@@ -87,7 +87,7 @@ times_after l (log.AddChunk file handle) q below named due plain apart once =
           omega (arith, put, more, last, one, none)
       | inr other ↦ let no_one = tally_other handle.0 q other in omega (arith, put, more, last, no_one, once)
     ]
-times_after l (log.Create client n file path) q below named due plain apart once = let put = times_put l.table.files file.0 [] q in omega (arith, put, once)
+times_after l (log.Create client n file shape path) q below named due plain apart once = let put = times_put l.table.files file.0 [] q in omega (arith, put, once)
 times_after l (log.Expired file) q below named due plain apart once = let gone = times_gone l.table.files file.0 q in omega (arith, gone, once)
 times_after l (log.Snapshot client n from to) q below named due plain apart once =
     let es : List (Path × Node) = copied_entries l.names from to in
@@ -98,5 +98,5 @@ times_after l (log.Snapshot client n from to) q below named due plain apart once
     let low = copied_times es l.table l.next_file q known none in
     omega (arith, low, once)
 times_after l (log.Grant chunk version primary members) q below named due plain apart once = absurd plain
-times_after l (log.FileItem path file handles) q below named due plain apart once = absurd due
+times_after l (log.FileItem path file shape handles) q below named due plain apart once = absurd due
 times_after l other q below named due plain apart once = once

@@ -60,20 +60,20 @@ chunk_handles l (log.Grant handle version primary members) is = swapped_handles 
 chunk_handles l (log.CopyStart file index handle copy version) is = le-max_left l.next_handle (copy.0 + 1)
 chunk_handles l other is = absurd is
 
-call_handles : (l k : Logged) (r : Record) (client number moment : ℕ) (c : Call) → record_of k client number moment c ≡ Some r → AreNumberedOn l r
-call_handles l k r client number moment (call.Mkdir p) is = subst (λ (x : Record). AreNumberedOn l x) (from_some is) (omega arith)
-call_handles l k r client number moment (call.Rmdir p) is = subst (λ (x : Record). AreNumberedOn l x) (from_some is) (omega arith)
-call_handles l k r client number moment (call.Create p) is = subst (λ (x : Record). AreNumberedOn l x) (from_some is) (omega arith)
-call_handles l k r client number moment (call.Delete p) is = subst (λ (x : Record). AreNumberedOn l x) (from_some is) (omega arith)
-call_handles l k r client number moment (call.Rename p q) is = subst (λ (x : Record). AreNumberedOn l x) (from_some is) (omega arith)
-call_handles l k r client number moment (call.Snapshot p q) is = subst (λ (x : Record). AreNumberedOn l x) (from_some is) (omega arith)
-call_handles l k r client number moment other is = none_some r is
+call_handles : (config : Config) (l k : Logged) (r : Record) (client number moment : ℕ) (c : Call) → record_of config k client number moment c ≡ Some r → AreNumberedOn l r
+call_handles config l k r client number moment (call.Mkdir p) is = subst (λ (x : Record). AreNumberedOn l x) (from_some is) (omega arith)
+call_handles config l k r client number moment (call.Rmdir p) is = subst (λ (x : Record). AreNumberedOn l x) (from_some is) (omega arith)
+call_handles config l k r client number moment (call.Create p shape) is = subst (λ (x : Record). AreNumberedOn l x) (from_some is) (omega arith)
+call_handles config l k r client number moment (call.Delete p) is = subst (λ (x : Record). AreNumberedOn l x) (from_some is) (omega arith)
+call_handles config l k r client number moment (call.Rename p q) is = subst (λ (x : Record). AreNumberedOn l x) (from_some is) (omega arith)
+call_handles config l k r client number moment (call.Snapshot p q) is = subst (λ (x : Record). AreNumberedOn l x) (from_some is) (omega arith)
+call_handles config l k r client number moment other is = none_some r is
 
 refusal_handles : (l : Logged) (r : Record) (client : ℕ) → IsRefusal client r → AreNumberedOn l r
 refusal_handles l r client is = subst (λ (x : Record). AreNumberedOn l x) (sym is.2) (omega arith)
 
 action_handles : (l : Logged) (m : Machine) (r : Record) (action : Action) → IsActionOf m r action → AreNumberedOn l r
-action_handles l m r (Step client moment outcome) (inl done) = let of = done.1 in call_handles l of.2 r client of.0 moment of.1 of.5
+action_handles l m r (Step client moment outcome) (inl done) = let of = done.1 in call_handles m.config l of.2 r client of.0 moment of.1 of.5
 action_handles l m r (Step client moment outcome) (inr refused) = refusal_handles l r client refused.1
 action_handles l m r (FindBusy client holder) is = refusal_handles l r client is
 action_handles l m r (FindFull client) is = refusal_handles l r client is

@@ -20,6 +20,7 @@ use Rattle.protocol.specs.Logged.{Logged, Copy, after_record, snapshot_logged}
 use Rattle.laws_base.specs.Laws.{HasAllReferences, times_in}
 use Rattle.protocol_invariant.specs.Actions.{Spot, opening, closings, index_in, first_spot}
 use Rattle.laws_machine.specs.ChunksAlike.{ChunkSides, StandsAt, IsRoundOpen, AreChunksAlike, NoneEnds, entries_in, moved, KeepsChunks, Follows}
+use Rattle.gfs_types.specs.declared.shape.Shape.{Shape}
 
 -- the same rows as far as the machine has them: which versions were granted
 abbrev pub HaveSameGrants : Logged → Logged → Type 0
@@ -120,13 +121,13 @@ CollectedFilesKeepTheirChunks =
     → KeepsChunks (λ ended. 2 ≤ times_in k.log.table.files ended) k
     (record { log = record k.log { table = drop_file k.log.table file.0 }; gone = gone_after file.0 handles k.gone; orders = k.orders; machine = expired k.machine file.0 moment })
 
--- A new file has no chunk.
+-- A new file has no chunk, whatever its shape.
 abbrev pub NewFilesHaveNoChunk : Type 0
 NewFilesHaveNoChunk =
-    (k : ChunkSides) → AreChunksAlike k → k.log.next_file ≡ suc k.machine.file_count
+    (k : ChunkSides) (told made : Shape) → AreChunksAlike k → k.log.next_file ≡ suc k.machine.file_count
     → KeepsChunks NoneEnds k (record k {
-      log = record k.log { table = add_file k.log.table k.log.next_file; next_file = suc k.log.next_file };
-      machine = record k.machine { file_count = suc k.machine.file_count; files = put (suc k.machine.file_count) new_file k.machine.files };
+      log = record k.log { table = add_file k.log.table k.log.next_file told; next_file = suc k.log.next_file };
+      machine = record k.machine { file_count = suc k.machine.file_count; files = put (suc k.machine.file_count) (new_file made) k.machine.files };
     })
 
 -- each file that is copied is there

@@ -26,7 +26,7 @@ use Rattle.protocol.specs.LogSizes.{checkpoint_fits}
 use Rattle.protocol.specs.Sending.{client_id, client_number, file_id, moment_of}
 use Rattle.protocol.specs.Logged.{Logged, KeptCall, LogDisk, LogChange, AppendRecord, WriteCheckpoint, log_changed, log_changed_by_all, after_record, checkpoint_of, copies_given_up, all_copies_given_up}
 use Rattle.protocol.specs.Master.{MasterDoing, PendingSnapshot, orders, without_attempts, gives_up_copies, fits, appends, writes_checkpoint, logs, logs_after_checkpoint, is_of_copy, has_lease}
-use Rattle.protocol.specs.MasterNames.{master_refusal, performs, names_by, is_waiting_call, names_anew, names_kept}
+use Rattle.protocol.specs.MasterNames.{master_refusal, performs, names_by, is_waiting_call, names_anew, names_kept, told_shape}
 use Rattle.protocol.specs.MasterSnapshots.{answers_name, settles_name, refuses_name, first_is_true, all_but_first, changes_names, takes_locks, begins_snapshot, snapshot_handles, snapshot_files, copies_for_files, revokes_row, revokes, revokes_all, is_same_snapshot, lets_go, takes_snapshot, takes_ready, is_ready}
 use Rattle.protocol.specs.MasterClones.{CloneOrder, best_clone, orders_clone}
 use Rattle.protocol.specs.MasterStep.{master_takes, master_does, gives_up_attempts, gives_up_lost_copies, lost_copies, expired_files, expires_all, expires_old}
@@ -213,7 +213,7 @@ module _ (Asked : ℕ → ℕ → Type 0) where
     performs_at : (d : MasterDoing) (client number deadline : ℕ) (c : Call) → Asked client number → At d → At (performs d client number deadline c)
     performs_at d client number deadline (call.Mkdir p) asked h = changes_at d client number (call.Mkdir p) (log.Mkdir (client_id client) number p) (λ l. refl) asked h
     performs_at d client number deadline (call.Rmdir p) asked h = changes_at d client number (call.Rmdir p) (log.Rmdir (client_id client) number p) (λ l. refl) asked h
-    performs_at d client number deadline (call.Create p) asked h = changes_at d client number (call.Create p) (log.Create (client_id client) number (file_id d.master.logged.next_file) p) (λ l. refl) asked h
+    performs_at d client number deadline (call.Create p shape) asked h = changes_at d client number (call.Create p shape) (log.Create (client_id client) number (file_id d.master.logged.next_file) (told_shape d.master.config shape) p) (λ l. refl) asked h
     performs_at d client number deadline (call.Delete p) asked h = changes_at d client number (call.Delete p) (log.Delete (client_id client) number (moment_of d.master.now) p) (λ l. refl) asked h
     performs_at d client number deadline (call.Rename p q) asked h = changes_at d client number (call.Rename p q) (log.Rename (client_id client) number p q) (λ l. refl) asked h
     performs_at d client number deadline (call.Snapshot p q) asked h = begins_at d (record { client = client; number = number; deadline = deadline; from = p; to = q }) asked h

@@ -100,11 +100,11 @@ module _ (config : Config) (requests : Requests) (first : Machine) (start : LogD
       (h.alike).files file ∙ and_from (nat_lt 0 file && nat_le file n.file_count) (not (n.files file).is_collected) (and_from (nat_lt 0 file) (nat_le file n.file_count) (lt-ltb 0 file there.0) (le-leb file n.file_count there.1)) (ap not there.2)
 
   -- a message
-  takes_at : (n : Machine) (d : MasterDoing) (x : Message) (b : Body) → IsOfOpenCall d n requests x b → IsTimely n d.master.now → AreCopiesOfFiles d.master.logged → Beside n d → Comes n (master_takes d x b)
-  takes_at n d x (body.Name number deadline c) of timely copied h =
-      name_at requests (IsFollowing config requests first start) (following_keeps config requests first start) n d (client_number x.sender) number deadline.0 c (named_there n d h) timely of h
-  takes_at n d x (body.Look number c) of timely copied h = look_at requests (IsFollowing config requests first start) (following_keeps config requests first start) n d x.sender number c of.0 of.1 h
-  takes_at n d x other of timely copied h =
+  takes_at : (n : Machine) (d : MasterDoing) (x : Message) (b : Body) → IsOfOpenCall d n requests x b → n.config ≡ d.master.config → IsTimely n d.master.now → AreCopiesOfFiles d.master.logged → Beside n d → Comes n (master_takes d x b)
+  takes_at n d x (body.Name number deadline c) of settings timely copied h =
+      name_at requests (IsFollowing config requests first start) (following_keeps config requests first start) n d (client_number x.sender) number deadline.0 c (named_there n d h) settings timely of h
+  takes_at n d x (body.Look number c) of settings timely copied h = look_at requests (IsFollowing config requests first start) (following_keeps config requests first start) n d x.sender number c settings of.0 of.1 h
+  takes_at n d x other of settings timely copied h =
       here requests (IsFollowing config requests first start) (following_keeps config requests first start) n (master_takes d x other)
       (takes_here (IsFollowingHere config requests first start n) (following_chunks config requests first start n) d x other tt (h, copied)).0
 
@@ -126,7 +126,7 @@ module _ (config : Config) (requests : Requests) (first : Machine) (start : LogD
 
   does_at : (n : Machine) (d : MasterDoing) (i : NodeInput) → IsInputOfOpenCall d n requests i → n.config ≡ d.master.config → IsTimely n d.master.now → AreCopiesOfFiles d.master.logged → AreDue d.master (expired_files d.master) → Beside n d
       → Comes n (master_does d i)
-  does_at n d (input.Deliver x) of settings timely copied due h = takes_at n d x x.body of timely copied h
+  does_at n d (input.Deliver x) of settings timely copied due h = takes_at n d x x.body of settings timely copied h
   does_at n d input.Tick of settings timely copied due h = ticks_at n d settings timely due h
 
   -- snapshots that are ready

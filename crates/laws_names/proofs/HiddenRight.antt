@@ -90,17 +90,17 @@ named_less names (Some e) h = less_right names e.0 h
 pub record_right : (l : Logged) (r : Record) → IsDue (Unit {0}) l r → AreNames l r → HidesRight l.names → HidesRight (names_after l.names l.next_file r)
 record_right l (log.Mkdir client n path) due names h = dir_right l.names path h
 record_right l (log.Rmdir client n path) due names h = less_right l.names path h
-record_right l (log.Create client n file path) due names h =
-    let all = tests_passed (path_tests (call.Create path) ++ name_tests l.names (call.Create path)) names.due in
-    outside_right l.names path (File file.0) all.1.0 h
+record_right l (log.Create client n file shape path) due names h =
+    let all = tests_passed (path_tests names.due.1.0 (call.Create path names.due.0) ++ name_tests l.names (call.Create path names.due.0)) names.due.1.1 in
+    outside_right l.names path (File file.0) all.1.1.0 h
 record_right l (log.Delete client n moment path) due names h = deleted_right l.names path moment.0 (node_at l.names path) h
 record_right l (log.Rename client n from to) due names h =
-    let all = tests_passed (path_tests (call.Rename from to) ++ name_tests l.names (call.Rename from to)) names.due in
+    let all = tests_passed (path_tests names.due.0 (call.Rename from to) ++ name_tests l.names (call.Rename from to)) names.due.1 in
     renamed_right l.names from to (node_at l.names from) all.1.1.0 h
 record_right l (log.Snapshot client n from to) due names h = copied_right l.names from to l.next_file names.before names.due h
 record_right l (log.Expired file) due names h = named_less l.names (find (λ e. is_this_file file.0 e.1) (table.entries l.names)) h
 record_right l (log.DirItem path) due names h = absurd due
-record_right l (log.FileItem path file handles) due names h = absurd due
+record_right l (log.FileItem path file shape handles) due names h = absurd due
 record_right l other due names h = h
 
 pub first_right : HidesRight first_names
@@ -132,5 +132,5 @@ right_kept =
       checkpoint = λ l k same tree h.
           (counts_kept.checkpoint l k same tree h.0, h.1, subst (λ (ns : Names). HidesRight ns) (sym (ap (λ (p : Parts). p.names) (checkpoint_parts l tree))) h.1);
       less = λ l k handles copied h. (counts_kept.less l k handles copied h.0, h.1, h.2);
-      rows = λ l k chunks same h. (counts_kept.rows l k chunks same h.0, h.1, h.2);
+      rows = λ l k shapes chunks same h. (counts_kept.rows l k shapes chunks same h.0, h.1, h.2);
     }

@@ -19,11 +19,11 @@ use Rattle.relaxed_file.proofs.Tables.{from_some}
 use Rattle.relaxed_file.proofs.NamesTree.{HasAt, found_at, entry_is}
 use Rattle.protocol.specs.Logged.{Logged, Copy, after_record, copies_given_up, is_this_file, name_removed, without_file, swapped_in}
 use Rattle.protocol.specs.Master.{PendingSnapshot}
-use Rattle.protocol.specs.MasterNames.{snapshot_call}
 use Rattle.laws_names.specs.Alike.{Requests, AreUntaken, HoldsLocks, AreAlike}
 use Rattle.laws_names.specs.NameSteps.{LocksAreTaken, LocksGoBack, ExpiredFilesAreCollected, IsOnlyName, IsOfChunks, ChunksChangeNoNames}
 use Rattle.laws_names.proofs.OpenCalls.{GoesOn, step_goes_on, kept_stays, untaken_stays, all_hold_still, none_of_client, some_hold, one_more_holds, waits_still, all_still}
 use Rattle.laws_names.proofs.FilesThere.{AreIn, files_in, files_alike, file_out, put_again}
+use Rattle.laws_names.specs.Names.{snapshot_refusal}
 
 pub locks_are_taken : LocksAreTaken
 locks_are_taken l snapshots m requests s h new free =
@@ -40,7 +40,7 @@ locks_are_taken l snapshots m requests s h new free =
         (
           ap is_snapshot new.call_is,
           new.untaken,
-          ap (λ (c : Call). refusal_of m.names c) new.call_is ∙ ap (λ (names : Names). refusal_of names (snapshot_call s)) (sym h.names) ∙ free,
+          ap (λ (c : Call). refusal_of m.config m.names c) new.call_is ∙ ap (λ (names : Names). snapshot_refusal names s) (sym h.names) ∙ free,
         ),
       ),
       record {

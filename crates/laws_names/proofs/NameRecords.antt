@@ -28,7 +28,7 @@ logged_as d client number c r entry h = ap (λ (x : Record). logs_call d client 
 pub records_are_logged : RecordsAreLogged
 records_are_logged d client number deadline (call.Mkdir p) entry is plain = logged_as d client number (call.Mkdir p) _ entry is
 records_are_logged d client number deadline (call.Rmdir p) entry is plain = logged_as d client number (call.Rmdir p) _ entry is
-records_are_logged d client number deadline (call.Create p) entry is plain = logged_as d client number (call.Create p) _ entry is
+records_are_logged d client number deadline (call.Create p shape) entry is plain = logged_as d client number (call.Create p shape) _ entry is
 records_are_logged d client number deadline (call.Delete p) entry is plain = logged_as d client number (call.Delete p) _ entry is
 records_are_logged d client number deadline (call.Rename p q) entry is plain = logged_as d client number (call.Rename p q) _ entry is
 records_are_logged d client number deadline (call.Snapshot p q) entry is plain = absurd (plain p q refl)
@@ -46,8 +46,8 @@ records_do_the_name_step l m client number moment (call.Mkdir p) entry h is =
     done l m _ entry (call.Mkdir p) moment is (ap (λ (n : Names). table.insert n p Dir) h.0, h.1)
 records_do_the_name_step l m client number moment (call.Rmdir p) entry h is =
     done l m _ entry (call.Rmdir p) moment is (ap (λ (n : Names). table.remove n p) h.0, h.1)
-records_do_the_name_step l m client number moment (call.Create p) entry h is =
-    done l m _ entry (call.Create p) moment is (
+records_do_the_name_step l m client number moment (call.Create p shape) entry h is =
+    done l m _ entry (call.Create p shape) moment is (
       ap (λ (n : Names). table.insert n p (File l.next_file)) h.0 ∙ ap (λ (k : ℕ). table.insert m.names p (File k)) h.1,
       let next = h.1 in omega (arith, next),
     )
@@ -78,13 +78,13 @@ at_true ((false, q) ∷ rest) after r = at_true rest after r
 
 pub refusals_are_the_machines : RefusalsAreTheMachines
 refusals_are_the_machines m c = elim (is_busy m c) as (λ b. is_busy m c ≡ b
-    → (first_refusal (path_tests c ++ (b, Busy) ∷ name_tests m.logged.names c) ≡ refusal_of m.logged.names c)
-    ⊎ ((first_refusal (path_tests c ++ (b, Busy) ∷ name_tests m.logged.names c) ≡ Some Busy) × IsTrue (is_busy m c) × (first_refusal (path_tests c) ≡ None))) [
-      | true ↦ λ e. elim (at_true (path_tests c) (name_tests m.logged.names c) Busy) [ inl same ↦ inl same | inr busy ↦ inr (busy.0, e, busy.1) ]
-      | false ↦ λ e. inl (past_false (path_tests c) (name_tests m.logged.names c) Busy)
+    → (first_refusal (path_tests m.config c ++ (b, Busy) ∷ name_tests m.logged.names c) ≡ refusal_of m.config m.logged.names c)
+    ⊎ ((first_refusal (path_tests m.config c ++ (b, Busy) ∷ name_tests m.logged.names c) ≡ Some Busy) × IsTrue (is_busy m c) × (first_refusal (path_tests m.config c) ≡ None))) [
+      | true ↦ λ e. elim (at_true (path_tests m.config c) (name_tests m.logged.names c) Busy) [ inl same ↦ inl same | inr busy ↦ inr (busy.0, e, busy.1) ]
+      | false ↦ λ e. inl (past_false (path_tests m.config c) (name_tests m.logged.names c) Busy)
     ] refl
 
 pub looks_read_the_names : LooksReadTheNames
 looks_read_the_names m c idle =
     ap (λ (o : Option Refusal). outcome_by m.logged.names c o)
-    (ap (λ (b : Bool). first_refusal (path_tests c ++ (b, Busy) ∷ name_tests m.logged.names c)) idle ∙ past_false (path_tests c) (name_tests m.logged.names c) Busy)
+    (ap (λ (b : Bool). first_refusal (path_tests m.config c ++ (b, Busy) ∷ name_tests m.logged.names c)) idle ∙ past_false (path_tests m.config c) (name_tests m.logged.names c) Busy)

@@ -42,9 +42,9 @@ followed : (m : Machine) (d : MasterDoing) (requests : Requests) → Reaches req
 followed m d requests r = (r.0, r.1, record { alike = (r.2).0; told = (r.2).1 })
 
 pub name_requests_are_followed : NameRequestsAreFollowed
-name_requests_are_followed d m requests client number deadline c h there timely request =
-    followed m _ requests (name_at requests (Beside requests) (beside_keeps requests) m d client number deadline c there timely request (h.alike, h.told))
+name_requests_are_followed d m requests client number deadline c h there settings timely request =
+    followed m _ requests (name_at requests (Beside requests) (beside_keeps requests) m d client number deadline c there settings timely request (h.alike, h.told))
 
 pub looks_are_followed : LooksAreFollowed
-looks_are_followed d m requests sender number c h look asked =
-    followed m _ requests (look_at requests (Beside requests) (beside_keeps requests) m d sender number c look asked (h.alike, h.told))
+looks_are_followed d m requests sender number c h settings look asked =
+    followed m _ requests (look_at requests (Beside requests) (beside_keeps requests) m d sender number c settings look asked (h.alike, h.told))

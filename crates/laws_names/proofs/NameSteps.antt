@@ -5,6 +5,8 @@ use Rattle.std.specs.List.{AllByRecursion, list_any}
 use Rattle.std.proofs.lemmas.Option.{none-some}
 use Rattle.std.proofs.lemmas.Bool.{true≢false}
 use Rattle.std.specs.FinMap as table
+use Rattle.gfs_types.specs.declared.config.Config.{Config}
+use Rattle.gfs_types.specs.declared.shape.Shape.{Shape}
 use Rattle.gfs_types.specs.declared.call.Call.{Call}
 use Rattle.gfs_types.specs.declared.call.Call.TheVariants as call
 use Rattle.gfs_types.specs.declared.answer.Answer.TheVariants as answer
@@ -14,8 +16,8 @@ use Rattle.gfs_types.specs.Paths.{Path}
 use Rattle.log_records.specs.declared.record.Record.{Record}
 use Rattle.log_records.specs.declared.record.Record.TheVariants as log
 use Rattle.relaxed_file.specs.Names.{Names, Node, Dir, File, node_at, copied_entries, id_after_all}
-use Rattle.relaxed_file.specs.Machine.{Machine, OpenCall, Outcome, Replies, IsOpen, new_file, put}
-use Rattle.relaxed_file.specs.NameStep.{is_name_call, is_look, needs_room, path_tests, first_refusal, refusal_of, outcome_of, outcome_by, done_outcome, is_refused, performed, stepped, with_outcome, MayStep, MayTakeEffect, HasNameStepLeft}
+use Rattle.relaxed_file.specs.Machine.{Machine, OpenCall, Outcome, Replies, IsOpen, put}
+use Rattle.relaxed_file.specs.NameStep.{is_name_call, is_look, needs_room, path_tests, first_refusal, refusal_of, outcome_of, outcome_by, done_outcome, is_refused, made_file, performed, stepped, with_outcome, MayStep, MayTakeEffect, HasNameStepLeft}
 use Rattle.relaxed_file.specs.Locks.{conflict}
 use Rattle.relaxed_file.specs.Run.{Step, FindBusy, Allows, after, OnOpen}
 use Rattle.relaxed_file.proofs.Known.{ids_rise}
@@ -89,12 +91,12 @@ looked l snapshots m requests client current outcome h is look =
 
 -- records
 
-pub may_step : (m : Machine) (moment : ℕ) (outcome : Outcome) (current : OpenCall) (c : Call) → current.asked.call ≡ c → IsTrue (is_name_call c) → HasNameStepLeft current → outcome ≡ outcome_of m.names c
+pub may_step : (m : Machine) (moment : ℕ) (outcome : Outcome) (current : OpenCall) (c : Call) → current.asked.call ≡ c → IsTrue (is_name_call c) → HasNameStepLeft current → outcome ≡ outcome_of m.config m.names c
     → (IsFalse (is_refused outcome) → MayTakeEffect m c moment) → MayStep m moment outcome current
 may_step m moment outcome current c same name left is may = (
   ap is_name_call same ∙ name,
   left,
-  is ∙ ap (λ (k : Call). outcome_of m.names k) (sym same),
+  is ∙ ap (λ (k : Call). outcome_of m.config m.names k) (sym same),
   λ plain. subst (λ (k : Call). MayTakeEffect m k moment) (sym same) (may plain),
 )
 
@@ -106,7 +108,7 @@ stepped_at P m client moment outcome current c is same h =
     (subst (λ (k : Call). P (with_outcome (cond (is_refused outcome) m (performed m k moment)) client outcome)) (sym same) h)
 
 step_follows : (l k : Logged) (snapshots : List PendingSnapshot) (m : Machine) (requests : Requests) (client number moment : ℕ) (c : Call) (refusal : Option Refusal)
-    → AreAlike l snapshots m requests → IsNew snapshots m requests client number c → IsTrue (is_name_call c) → Replies (reply_of refusal) ≡ outcome_of m.names c
+    → AreAlike l snapshots m requests → IsNew snapshots m requests client number c → IsTrue (is_name_call c) → Replies (reply_of refusal) ≡ outcome_of m.config m.names c
     → (IsFalse (is_refused (Replies (reply_of refusal))) → MayTakeEffect m c moment)
     → IsBase l k m (cond (is_refused (Replies (reply_of refusal))) m (performed m c moment)) client number refusal
     → Follows k snapshots m requests (Step client moment (Replies (reply_of refusal))) client (Replies (reply_of refusal))
@@ -122,11 +124,11 @@ step_follows l k snapshots m requests client number moment c refusal h new name 
 
 -- what each record does to the files
 
-created_files : (l : Logged) (m : Machine) (hs : List ℕ) → l.next_file ≡ suc m.file_count → ((file : ℕ) → table.contains_key l.table.files file ≡ is_there m file)
-    → AreIn (table.insert l.table.files l.next_file hs) (put (suc m.file_count) new_file m.files) (suc (suc m.file_count))
-created_files l m hs next h =
-    subst (λ (n : ℕ). AreIn (table.insert l.table.files n hs) (put (suc m.file_count) new_file m.files) (suc (suc m.file_count))) (sym next)
-    (file_in l.table.files m.files (suc m.file_count) hs new_file (omega arith) refl (files_in l.table.files m h))
+created_files : (l : Logged) (m : Machine) (hs : List ℕ) (shape : Option Shape) → l.next_file ≡ suc m.file_count → ((file : ℕ) → table.contains_key l.table.files file ≡ is_there m file)
+    → AreIn (table.insert l.table.files l.next_file hs) (put (suc m.file_count) (made_file m shape) m.files) (suc (suc m.file_count))
+created_files l m hs shape next h =
+    subst (λ (n : ℕ). AreIn (table.insert l.table.files n hs) (put (suc m.file_count) (made_file m shape) m.files) (suc (suc m.file_count))) (sym next)
+    (file_in l.table.files m.files (suc m.file_count) hs (made_file m shape) (omega arith) refl (files_in l.table.files m h))
 
 node_in : (l : Logged) (m : Machine) (snapshots : List PendingSnapshot) (requests : Requests) → AreAlike l snapshots m requests → AreNamedFilesThere l → (p : Path) (v : Node) → node_at m.names p ≡ Some v → IsNodeIn m.files (suc m.file_count) v
 node_in l m snapshots requests h there p Dir is = tt
@@ -139,7 +141,7 @@ pub record IsEffect (l : Logged) (m : Machine) (client number moment : ℕ) (c :
   pub base : IsBase l (after_record l entry) m (performed m c moment) client number None
 
 pub effect_of : (l : Logged) (snapshots : List PendingSnapshot) (m : Machine) (requests : Requests) (client number moment : ℕ) (c : Call) (entry : Record)
-    → AreAlike l snapshots m requests → AreNamedFilesThere l → record_of l client number moment c ≡ Some entry → IsEffect l m client number moment c entry
+    → AreAlike l snapshots m requests → AreNamedFilesThere l → record_of m.config l client number moment c ≡ Some entry → IsEffect l m client number moment c entry
 effect_of l snapshots m requests client number moment c entry h there is = by_call c is (records_do_the_name_step l m client number moment c entry (h.names, h.next) is)
   where
     as_said : (c : Call) (r : Record) → Some r ≡ Some entry → IsEffect l m client number moment c r → IsEffect l m client number moment c entry
@@ -148,18 +150,18 @@ effect_of l snapshots m requests client number moment c entry h there is = by_ca
     names_of : (c : Call) (r : Record) → Some r ≡ Some entry → HasNamesOf (after_record l entry) (performed m c moment) → HasNamesOf (after_record l r) (performed m c moment)
     names_of c r same e = subst (λ (x : Record). HasNamesOf (after_record l x) (performed m c moment)) (sym (from_some same)) e
 
-    by_call : (c : Call) → record_of l client number moment c ≡ Some entry → HasNamesOf (after_record l entry) (performed m c moment) → IsEffect l m client number moment c entry
+    by_call : (c : Call) → record_of m.config l client number moment c ≡ Some entry → HasNamesOf (after_record l entry) (performed m c moment) → IsEffect l m client number moment c entry
     by_call (call.Mkdir p) is names =
         let g = names_of (call.Mkdir p) _ is names in
         as_said (call.Mkdir p) _ is (record { name = refl; done = λ n. refl; base = record { clients = refl; names = g.0; next = g.1; files = h.files; kept = refl } })
     by_call (call.Rmdir p) is names =
         let g = names_of (call.Rmdir p) _ is names in
         as_said (call.Rmdir p) _ is (record { name = refl; done = λ n. refl; base = record { clients = refl; names = g.0; next = g.1; files = h.files; kept = refl } })
-    by_call (call.Create p) is names =
-        let g = names_of (call.Create p) _ is names in
-        let made : (file : ℕ) → table.contains_key (table.insert l.table.files l.next_file []) file ≡ is_there (performed m (call.Create p) moment) file =
-        files_alike (table.insert l.table.files l.next_file []) (performed m (call.Create p) moment) (created_files l m [] h.next h.files) in
-        as_said (call.Create p) _ is (record { name = refl; done = λ n. refl; base = record { clients = refl; names = g.0; next = g.1; files = made; kept = refl } })
+    by_call (call.Create p shape) is names =
+        let g = names_of (call.Create p shape) _ is names in
+        let made : (file : ℕ) → table.contains_key (table.insert l.table.files l.next_file []) file ≡ is_there (performed m (call.Create p shape) moment) file =
+        files_alike (table.insert l.table.files l.next_file []) (performed m (call.Create p shape) moment) (created_files l m [] shape h.next h.files) in
+        as_said (call.Create p shape) _ is (record { name = refl; done = λ n. refl; base = record { clients = refl; names = g.0; next = g.1; files = made; kept = refl } })
     by_call (call.Delete p) is names =
         let g = names_of (call.Delete p) _ is names in
         as_said (call.Delete p) _ is (record { name = refl; done = λ n. refl; base = record { clients = refl; names = g.0; next = g.1; files = h.files; kept = refl } })
@@ -187,8 +189,8 @@ effect_of l snapshots m requests client number moment c entry h there is = by_ca
 pub records_are_steps : RecordsAreSteps
 records_are_steps l snapshots m requests client number moment c entry h there new is free may =
     let e : IsEffect l m client number moment c entry = effect_of l snapshots m requests client number moment c entry h there is in
-    let outcome : Replies answer.Done ≡ outcome_of m.names c =
-    sym (ap (λ (o : Option Refusal). outcome_by m.names c o) (ap (λ (n : Names). refusal_of n c) (sym h.names) ∙ free) ∙ e.done m.names) in
+    let outcome : Replies answer.Done ≡ outcome_of m.config m.names c =
+    sym (ap (λ (o : Option Refusal). outcome_by m.names c o) (ap (λ (n : Names). refusal_of m.config n c) (sym h.names) ∙ free) ∙ e.done m.names) in
     step_follows l (after_record l entry) snapshots m requests client number moment c None h new e.name outcome (λ plain. may) e.base
 
 -- refusals
@@ -198,19 +200,19 @@ pub refused_base : (l : Logged) (snapshots : List PendingSnapshot) (m : Machine)
 refused_base l snapshots m requests client number refusal h = record { clients = refl; names = h.names; next = h.next; files = h.files; kept = refl }
 
 -- only a name call is refused by its names
-pub refused_is_name : (names : Names) (c : Call) (refusal : Refusal) → refusal_of names c ≡ Some refusal → IsTrue (is_name_call c)
-refused_is_name names (call.Close fd) refusal is = absurd (none-some refusal is)
-refused_is_name names (call.Length fd) refusal is = absurd (none-some refusal is)
-refused_is_name names (call.Write fd offset bytes) refusal is = absurd (none-some refusal is)
-refused_is_name names (call.Append fd bytes) refusal is = absurd (none-some refusal is)
-refused_is_name names (call.Read fd offset count) refusal is = absurd (none-some refusal is)
-refused_is_name names other refusal is = refl
+pub refused_is_name : (config : Config) (names : Names) (c : Call) (refusal : Refusal) → refusal_of config names c ≡ Some refusal → IsTrue (is_name_call c)
+refused_is_name config names (call.Close fd) refusal is = absurd (none-some refusal is)
+refused_is_name config names (call.Length fd) refusal is = absurd (none-some refusal is)
+refused_is_name config names (call.Write fd offset bytes) refusal is = absurd (none-some refusal is)
+refused_is_name config names (call.Append fd bytes) refusal is = absurd (none-some refusal is)
+refused_is_name config names (call.Read fd offset count) refusal is = absurd (none-some refusal is)
+refused_is_name config names other refusal is = refl
 
 pub refusals_are_steps : RefusalsAreSteps
 refusals_are_steps l snapshots m requests client number moment c refusal h new is =
-    let outcome : Replies (answer.Refused refusal) ≡ outcome_of m.names c =
-    sym (ap (λ (o : Option Refusal). outcome_by m.names c o) (ap (λ (n : Names). refusal_of n c) (sym h.names) ∙ is)) in
-    step_follows l (after_record l (log.Refused (client_id client) number refusal)) snapshots m requests client number moment c (Some refusal) h new (refused_is_name l.names c refusal is) outcome
+    let outcome : Replies (answer.Refused refusal) ≡ outcome_of m.config m.names c =
+    sym (ap (λ (o : Option Refusal). outcome_by m.names c o) (ap (λ (n : Names). refusal_of m.config n c) (sym h.names) ∙ is)) in
+    step_follows l (after_record l (log.Refused (client_id client) number refusal)) snapshots m requests client number moment c (Some refusal) h new (refused_is_name m.config l.names c refusal is) outcome
     (λ plain. absurd (true≢false plain)) (refused_base l snapshots m requests client number refusal h)
 
 -- Busy
@@ -231,7 +233,7 @@ find_holder m requests client c (s ∷ rest) all others h = by_test (conflict c 
     by_test false e more g = more g
 
 pub busy_allowed : (m : Machine) (requests : Requests) (client : ℕ) (c : Call) (current : OpenCall) (s : PendingSnapshot) → IsOpen m client current → current.asked.call ≡ c → HasNameStepLeft current
-    → first_refusal (path_tests c) ≡ None → IsHolder m requests client c s → Allows m (FindBusy client s.client)
+    → first_refusal (path_tests m.config c) ≡ None → IsHolder m requests client c s → Allows m (FindBusy client s.client)
 busy_allowed m requests client c current s is same left lawful h =
     let held : HoldsLocks m requests s = h.holds in (
       current,
@@ -244,7 +246,7 @@ busy_allowed m requests client c current s is same left lawful h =
           left,
           held.has_locks,
           held.untaken,
-          ap (λ (k : Call). first_refusal (path_tests k)) same ∙ lawful,
+          ap (λ (k : Call). first_refusal (path_tests m.config k)) same ∙ lawful,
           ap (λ (k : Call). conflict k (held.current).asked.call) same ∙ ap (λ (k : Call). conflict c k) held.call_is ∙ h.conflicts,
         ),
       ),
@@ -267,7 +269,7 @@ full_names_are_found l snapshots m requests client number c h new room free =
         (
           ap needs_room new.call_is ∙ room,
           inr new.untaken,
-          ap (λ (k : Call). refusal_of m.names k) new.call_is ∙ ap (λ (n : Names). refusal_of n c) (sym h.names) ∙ free,
+          ap (λ (k : Call). refusal_of m.config m.names k) new.call_is ∙ ap (λ (n : Names). refusal_of m.config n c) (sym h.names) ∙ free,
         ),
       );
       alike = both.0;
@@ -291,7 +293,7 @@ either true m n h = refl
 either false m n h = h
 
 look_step : (s : MasterState) (m : Machine) (requests : Requests) (client : ℕ) (c : Call) (current : OpenCall) (outcome : Outcome) → AreAlike s.logged s.snapshots m requests → IsOpen m client current → current.asked.call ≡ c
-    → is_look c ≡ true → outcome ≡ outcome_of m.names c → Follows s.logged s.snapshots m requests (Step client 0 outcome) client outcome
+    → is_look c ≡ true → outcome ≡ outcome_of m.config m.names c → Follows s.logged s.snapshots m requests (Step client 0 outcome) client outcome
 look_step s m requests client c current outcome h is same look equal =
     let both = looked s.logged s.snapshots m requests client current outcome h is (ap is_look same ∙ look) in
     let effect = look_effect m c look 0 in
@@ -304,11 +306,11 @@ look_step s m requests client c current outcome h is same look equal =
     }
 
 pub looks_are_steps : LooksAreSteps
-looks_are_steps s m requests client number c current h waits same look =
+looks_are_steps s m requests client number c current h settings waits same look =
     elim (refusals_are_the_machines s c) [
       | inl equal ↦
           let outcome : Outcome = outcome_by s.logged.names c (master_refusal s c) in
-          let is : outcome ≡ outcome_of m.names c = ap (λ (o : Option Refusal). outcome_by s.logged.names c o) equal ∙ ap (λ (n : Names). outcome_of n c) h.names in
+          let is : outcome ≡ outcome_of m.config m.names c = ap (λ (o : Option Refusal). outcome_by s.logged.names c o) equal ∙ ap (λ (n : Names). outcome_of s.config n c) h.names ∙ ap (λ (g : Config). outcome_of g m.names c) (sym settings) in
           (Step client 0 outcome, look_step s m requests client c current outcome h waits.is_open same look is)
       | inr busy ↦
           let others = none_of_call m requests client current s.snapshots waits.is_open (λ t e. no_look c look t (sym same ∙ e)) h.locks in
@@ -317,6 +319,6 @@ looks_are_steps s m requests client number c current h waits same look =
           let both = looked s.logged s.snapshots m requests client current (Replies (answer.Refused Busy)) h waits.is_open (ap is_look same ∙ look) in (
             FindBusy client (found.0).client,
             subst (λ (o : Outcome). Follows s.logged s.snapshots m requests (FindBusy client (found.0).client) client o) told
-                (record { allowed = busy_allowed m requests client c current found.0 waits.is_open same (inl (ap is_look same ∙ look)) busy.2 found.1; alike = both.0; told = both.1 }),
+                (record { allowed = busy_allowed m requests client c current found.0 waits.is_open same (inl (ap is_look same ∙ look)) (ap (λ (g : Config). first_refusal (path_tests g c)) settings ∙ busy.2) found.1; alike = both.0; told = both.1 }),
           )
     ]

@@ -7,6 +7,7 @@ use Rattle.std.proofs.lemmas.Bool.{eqb-true, eqb-false, leb-false, ltb-false, ca
 use Rattle.std.specs.FinMap as table
 use Rattle.gfs_types.specs.declared.ids.Node.{Node}
 use Rattle.gfs_types.specs.declared.ids.Node.TheVariants as node
+use Rattle.gfs_types.specs.declared.config.Config.{Config}
 use Rattle.gfs_types.specs.declared.call.Call.{Call}
 use Rattle.gfs_types.specs.declared.call.Call.TheVariants as call
 use Rattle.gfs_types.specs.declared.answer.Answer.TheVariants as answer
@@ -19,7 +20,7 @@ use Rattle.log_records.specs.declared.record.Record.{Record}
 use Rattle.log_records.specs.declared.record.Record.TheVariants as log
 use Rattle.relaxed_file.specs.Names.{Names}
 use Rattle.relaxed_file.specs.Machine.{Machine, OpenCall, Outcome, Replies, Opens, IsOpen}
-use Rattle.relaxed_file.specs.NameStep.{is_look, is_refused, needs_room, refusal_of, outcome_of, outcome_by, performed, with_outcome, MayTakeEffect}
+use Rattle.relaxed_file.specs.NameStep.{is_look, is_refused, needs_room, first_refusal, path_tests, refusal_of, outcome_of, outcome_by, performed, with_outcome, MayTakeEffect}
 use Rattle.relaxed_file.specs.Run.{Step, FindBusy, Lock, Allows, after}
 use Rattle.relaxed_file.proofs.Tables.{from_some}
 use Rattle.chunk_table.specs.ChunkTable.{ChunkRow, chunk_of}
@@ -28,7 +29,7 @@ use Rattle.protocol.specs.Logged.{Logged, KeptCall, LogDisk, LogChange}
 use Rattle.protocol.specs.Master.{MasterState, MasterDoing, PendingSnapshot, tells, orders, without_attempts, gives_up_copies, has_lease}
 use Rattle.protocol.specs.MasterNames.{snapshot_call, master_refusal, reply_by, takes_look, performs, names_by, is_waiting_call, names_anew, names_kept, takes_name}
 use Rattle.protocol.specs.MasterSnapshots.{reply_of, answers_name, settles_name, refuses_name, first_is_true, all_but_first, changes_names, takes_locks, begins_snapshot, snapshot_handles, snapshot_files, copies_for_files, revokes_row, revokes, revokes_all}
-use Rattle.laws_names.specs.Names.{record_of}
+use Rattle.laws_names.specs.Names.{record_of, snapshot_refusal}
 use Rattle.laws_names.proofs.NameRecords.{refusals_are_the_machines}
 use Rattle.laws_names.specs.Alike.{Requests, AreAlike, IsWaiting, IsNew}
 use Rattle.laws_names.specs.NameSteps.{AreNamedFilesThere}
@@ -46,7 +47,7 @@ on_test P false x y f g = g refl
 
 -- the locks of a snapshot
 lock_move : (l : Logged) (snapshots : List PendingSnapshot) (m : Machine) (requests : Requests) (s : PendingSnapshot) → AreAlike l snapshots m requests → IsNew snapshots m requests s.client s.number (snapshot_call s)
-    → refusal_of l.names (snapshot_call s) ≡ None → IsMove m (after m (Lock s.client)) requests snapshots (snapshots ++ s ∷ []) (λ x. x)
+    → snapshot_refusal l.names s ≡ None → IsMove m (after m (Lock s.client)) requests snapshots (snapshots ++ s ∷ []) (λ x. x)
 lock_move l snapshots m requests s h new free =
     let n : Machine = after m (Lock s.client) in
     let none : IsNew [] m requests s.client s.number (snapshot_call s) = record { current = new.current; waiting = new.waiting; call_is = new.call_is; untaken = new.untaken; alone = refl } in
@@ -60,16 +61,17 @@ lock_move l snapshots m requests s h new free =
       kept_on = λ x ss a. kept_same requests x.kept;
     }
   where
-    as_free : (x : Logged) (ss : List PendingSnapshot) → AreAlike x ss m requests → refusal_of x.names (snapshot_call s) ≡ None
-    as_free x ss a = ap (λ (names : Names). refusal_of names (snapshot_call s)) (a.names ∙ sym h.names) ∙ free
+    as_free : (x : Logged) (ss : List PendingSnapshot) → AreAlike x ss m requests → snapshot_refusal x.names s ≡ None
+    as_free x ss a = ap (λ (names : Names). snapshot_refusal names s) (a.names ∙ sym h.names) ∙ free
 
 -- a Look
-look_runs : (s : MasterState) (m : Machine) (requests : Requests) (client : ℕ) (c : Call) (current : OpenCall) → AreAlike s.logged s.snapshots m requests → IsOpen m client current → current.asked.call ≡ c → is_look c ≡ true
-    → (let n : Machine = with_outcome m client (outcome_by s.logged.names c (master_refusal s c)) in RunsTo m n × RunsQuietly m n)
-look_runs s m requests client c current h is same look = elim (refusals_are_the_machines s c) [
+look_runs : (s : MasterState) (m : Machine) (requests : Requests) (client : ℕ) (c : Call) (current : OpenCall) → AreAlike s.logged s.snapshots m requests → m.config ≡ s.config → IsOpen m client current
+    → current.asked.call ≡ c → is_look c ≡ true → (let n : Machine = with_outcome m client (outcome_by s.logged.names c (master_refusal s c)) in RunsTo m n × RunsQuietly m n)
+look_runs s m requests client c current h settings is same look = elim (refusals_are_the_machines s c) [
   | inl equal ↦
       let outcome : Outcome = outcome_by s.logged.names c (master_refusal s c) in
-      let at_names : outcome ≡ outcome_of m.names c = ap (λ (o : Option Refusal). outcome_by s.logged.names c o) equal ∙ ap (λ (n : Names). outcome_of n c) h.names in
+      let at_names : outcome ≡ outcome_of m.config m.names c =
+      ap (λ (o : Option Refusal). outcome_by s.logged.names c o) equal ∙ ap (λ (n : Names). outcome_of s.config n c) h.names ∙ ap (λ (g : Config). outcome_of g m.names c) (sym settings) in
       let effect = look_effect m c look 0 in
       let base : Machine = cond (is_refused outcome) m (performed m c 0) in
       let allowed : Allows m (Step client 0 outcome) = (current, is, may_step m 0 outcome current c same (look_is_name c look) (inl (ap is_look same ∙ look)) at_names (λ plain. effect.1)) in
@@ -80,7 +82,7 @@ look_runs s m requests client c current h is same look = elim (refusals_are_the_
   | inr busy ↦
       let others = none_of_call m requests client current s.snapshots is (λ t e. no_look c look t (sym same ∙ e)) h.locks in
       let found = find_holder m requests client c s.snapshots h.locks others busy.1 in
-      let allowed : Allows m (FindBusy client (found.0).client) = busy_allowed m requests client c current found.0 is same (inl (ap is_look same ∙ look)) busy.2 found.1 in
+      let allowed : Allows m (FindBusy client (found.0).client) = busy_allowed m requests client c current found.0 is same (inl (ap is_look same ∙ look)) (ap (λ (g : Config). first_refusal (path_tests g c)) settings ∙ busy.2) found.1 in
       let run : RunsTo m (after m (FindBusy client (found.0).client)) = one_action m (FindBusy client (found.0).client) allowed refl refl in
       subst (λ (o : Outcome). RunsTo m (with_outcome m client o) × RunsQuietly m (with_outcome m client o)) (ap (λ (o : Option Refusal). outcome_by s.logged.names c o) (sym busy.0))
       (run, (FindBusy client (found.0).client ∷ [], (allowed, tt, refl)))
@@ -104,7 +106,7 @@ module _ (requests : Requests) (P : Machine → Logged → LogDisk → List LogC
   settles_at m n d client number entry refusal a h = logs_at requests P k m n d entry (λ e. answers_name e client number refusal) a.move a.change (λ e g. answers_at n e client number refusal a.told g) h
 
   pub changes_at : (m : Machine) (d : MasterDoing) (client number moment : ℕ) (c : Call) (entry : Record) → AreNamedFilesThere d.master.logged → IsNew d.master.snapshots m requests client number c
-      → record_of d.master.logged client number moment c ≡ Some entry → refusal_of d.master.logged.names c ≡ None → MayTakeEffect m c moment → At requests P k m d → Reaches requests P k m (changes_names d client number c entry)
+      → record_of m.config d.master.logged client number moment c ≡ Some entry → refusal_of m.config d.master.logged.names c ≡ None → MayTakeEffect m c moment → At requests P k m d → Reaches requests P k m (changes_names d client number c entry)
   changes_at m d client number moment c entry there new is free may h =
       let a : AreAlike d.master.logged d.master.snapshots m requests = alike_at requests P k m d h in
       let tried : MasterDoing = record d { refused = all_but_first d.refused } in
@@ -127,7 +129,7 @@ module _ (requests : Requests) (P : Machine → Logged → LogDisk → List LogC
   revokes_all_at m d [] h = h
   revokes_all_at m d (handle ∷ rest) h = revokes_all_at m (revokes d handle) rest (revokes_row_at m d handle (chunk_of d.master.logged.table handle) h)
 
-  begins_at : (m : Machine) (d : MasterDoing) (s : PendingSnapshot) → IsNew d.master.snapshots m requests s.client s.number (snapshot_call s) → refusal_of d.master.logged.names (snapshot_call s) ≡ None
+  begins_at : (m : Machine) (d : MasterDoing) (s : PendingSnapshot) → IsNew d.master.snapshots m requests s.client s.number (snapshot_call s) → snapshot_refusal d.master.logged.names s ≡ None
       → At requests P k m d → Reaches requests P k m (begins_snapshot d s)
   begins_at m d s new free h =
       let a : AreAlike d.master.logged d.master.snapshots m requests = alike_at requests P k m d h in
@@ -140,34 +142,35 @@ module _ (requests : Requests) (P : Machine → Logged → LogDisk → List LogC
       let less : At requests P k n left = k.less n d.master.logged d.master.disk d.changes d.sent (d.master.snapshots ++ s ∷ []) copies locked in
       (n, move.run, revokes_all_at n left handles less)
 
-  performs_at : (m : Machine) (d : MasterDoing) (client number deadline : ℕ) (c : Call) → AreNamedFilesThere d.master.logged → IsTimely m d.master.now → IsNew d.master.snapshots m requests client number c
-      → refusal_of d.master.logged.names c ≡ None → At requests P k m d → Reaches requests P k m (performs d client number deadline c)
-  performs_at m d client number deadline (call.Mkdir p) there timely new free h = changes_at m d client number d.master.now (call.Mkdir p) _ there new refl free tt h
-  performs_at m d client number deadline (call.Rmdir p) there timely new free h = changes_at m d client number d.master.now (call.Rmdir p) _ there new refl free tt h
-  performs_at m d client number deadline (call.Create p) there timely new free h = changes_at m d client number d.master.now (call.Create p) _ there new refl free tt h
-  performs_at m d client number deadline (call.Delete p) there timely new free h = changes_at m d client number d.master.now (call.Delete p) _ there new refl free timely h
-  performs_at m d client number deadline (call.Rename p q) there timely new free h = changes_at m d client number d.master.now (call.Rename p q) _ there new refl free tt h
-  performs_at m d client number deadline (call.Snapshot p q) there timely new free h =
+  performs_at : (m : Machine) (d : MasterDoing) (client number deadline : ℕ) (c : Call) → AreNamedFilesThere d.master.logged → m.config ≡ d.master.config → IsTimely m d.master.now → IsNew d.master.snapshots m requests client number c
+      → refusal_of m.config d.master.logged.names c ≡ None → At requests P k m d → Reaches requests P k m (performs d client number deadline c)
+  performs_at m d client number deadline (call.Mkdir p) there settings timely new free h = changes_at m d client number d.master.now (call.Mkdir p) _ there new refl free tt h
+  performs_at m d client number deadline (call.Rmdir p) there settings timely new free h = changes_at m d client number d.master.now (call.Rmdir p) _ there new refl free tt h
+  performs_at m d client number deadline (call.Create p shape) there settings timely new free h =
+      changes_at m d client number d.master.now (call.Create p shape) _ there new (ap (λ (g : Config). record_of g d.master.logged client number d.master.now (call.Create p shape)) settings) free tt h
+  performs_at m d client number deadline (call.Delete p) there settings timely new free h = changes_at m d client number d.master.now (call.Delete p) _ there new refl free timely h
+  performs_at m d client number deadline (call.Rename p q) there settings timely new free h = changes_at m d client number d.master.now (call.Rename p q) _ there new refl free tt h
+  performs_at m d client number deadline (call.Snapshot p q) there settings timely new free h =
       begins_at m d (record { client = client; number = number; deadline = deadline; from = p; to = q }) new free h
-  performs_at m d client number deadline other there timely new free h = here requests P k m d h
+  performs_at m d client number deadline other there settings timely new free h = here requests P k m d h
 
-  by_at : (m : Machine) (d : MasterDoing) (client number deadline : ℕ) (c : Call) (o : Option Refusal) → master_refusal d.master c ≡ o → AreNamedFilesThere d.master.logged → IsTimely m d.master.now
+  by_at : (m : Machine) (d : MasterDoing) (client number deadline : ℕ) (c : Call) (o : Option Refusal) → master_refusal d.master c ≡ o → AreNamedFilesThere d.master.logged → m.config ≡ d.master.config → IsTimely m d.master.now
       → IsNew d.master.snapshots m requests client number c → At requests P k m d → Reaches requests P k m (names_by d client number deadline c o)
-  by_at m d client number deadline c (Some refusal) is there timely new h =
-      let refused = refused_move d.master m requests client number c refusal (alike_at requests P k m d h) new is in
+  by_at m d client number deadline c (Some refusal) is there settings timely new h =
+      let refused = refused_move d.master m requests client number c refusal (alike_at requests P k m d h) settings new is in
       settles_at m refused.0 d client number (log.Refused (client_id client) number refusal) (Some refusal) refused.1 h
-  by_at m d client number deadline c None is there timely new h =
-      performs_at m d client number deadline c there timely new (elim (refusals_are_the_machines d.master c) [ inl equal ↦ sym equal ∙ is | inr busy ↦ absurd (none-some Busy (sym is ∙ busy.0)) ]) h
+  by_at m d client number deadline c None is there settings timely new h =
+      performs_at m d client number deadline c there settings timely new (elim (refusals_are_the_machines d.master c) [ inl equal ↦ ap (λ (g : Config). refusal_of g d.master.logged.names c) settings ∙ sym equal ∙ is | inr busy ↦ absurd (none-some Busy (sym is ∙ busy.0)) ]) h
 
-  anew_at : (m : Machine) (d : MasterDoing) (client number deadline : ℕ) (c : Call) → AreNamedFilesThere d.master.logged → IsTimely m d.master.now
+  anew_at : (m : Machine) (d : MasterDoing) (client number deadline : ℕ) (c : Call) → AreNamedFilesThere d.master.logged → m.config ≡ d.master.config → IsTimely m d.master.now
       → (d.master.now < deadline → (current : OpenCall) × IsWaiting m requests client number current × (current.asked.call ≡ c) × (current.outcomes ≡ [])) → At requests P k m d
       → Reaches requests P k m (names_anew d client number deadline c)
-  anew_at m d client number deadline c there timely opened h =
+  anew_at m d client number deadline c there settings timely opened h =
       let good : MasterDoing → Type 0 = λ x. Reaches requests P k m x in
       on_test good (nat_le deadline d.master.now) d _ (λ _. here requests P k m d h)
       (λ early. on_test good (is_waiting_call d.master client number) d (names_by d client number deadline c (master_refusal d.master c)) (λ _. here requests P k m d h)
       (λ alone. let o = opened (leb-false deadline d.master.now early) in
-      by_at m d client number deadline c (master_refusal d.master c) refl there timely (record { current = o.0; waiting = o.1; call_is = o.2; untaken = o.3; alone = alone }) h))
+      by_at m d client number deadline c (master_refusal d.master c) refl there settings timely (record { current = o.0; waiting = o.1; call_is = o.2; untaken = o.3; alone = alone }) h))
 
   -- the open call that a request is of took no step
   opened_at : (m : Machine) (d : MasterDoing) (client number deadline : ℕ) (c : Call) → IsRequest d m requests client number deadline c → ((x : KeptCall) → table.get d.master.logged.kept client ≡ Some x → x.number < number)
@@ -183,11 +186,11 @@ module _ (requests : Requests) (P : Machine → Logged → LogDisk → List LogC
       ] in
       (r.1, r.2, r.3, untaken)
 
-  kept_at : (m : Machine) (d : MasterDoing) (client number deadline : ℕ) (c : Call) (o : Option KeptCall) → table.get d.master.logged.kept client ≡ o → AreNamedFilesThere d.master.logged → IsTimely m d.master.now
+  kept_at : (m : Machine) (d : MasterDoing) (client number deadline : ℕ) (c : Call) (o : Option KeptCall) → table.get d.master.logged.kept client ≡ o → AreNamedFilesThere d.master.logged → m.config ≡ d.master.config → IsTimely m d.master.now
       → IsRequest d m requests client number deadline c → At requests P k m d → Reaches requests P k m (names_kept d client number deadline c o)
-  kept_at m d client number deadline c None is there timely request h =
-      anew_at m d client number deadline c there timely (opened_at m d client number deadline c request (λ x at. absurd (none-some x (sym is ∙ at))) h) h
-  kept_at m d client number deadline c (Some x) is there timely request h =
+  kept_at m d client number deadline c None is there settings timely request h =
+      anew_at m d client number deadline c there settings timely (opened_at m d client number deadline c request (λ x at. absurd (none-some x (sym is ∙ at))) h) h
+  kept_at m d client number deadline c (Some x) is there settings timely request h =
       let good : MasterDoing → Type 0 = λ e. Reaches requests P k m e in
       let a : AreAlike d.master.logged d.master.snapshots m requests = alike_at requests P k m d h in
       on_test good (x.number == number) (answers_name d client number x.refusal) _
@@ -195,20 +198,20 @@ module _ (requests : Requests) (P : Machine → Logged → LogDisk → List LogC
       (tells_at m d (the_client client) (body.Named number (Answered (reply_of x.refusal)))
       (λ cur w. a.kept client x is cur (record { is_open = w.is_open; number_is = w.number_is ∙ ap Some (sym (eqb-true x.number number same)) })) h))
       (λ other. on_test good (nat_lt number x.number) d (names_anew d client number deadline c) (λ _. here requests P k m d h)
-      (λ late. anew_at m d client number deadline c there timely
+      (λ late. anew_at m d client number deadline c there settings timely
       (opened_at m d client number deadline c request (λ y at. below x.number y.number (ap (λ (q : KeptCall). q.number) (from_some (sym is ∙ at))) (eqb-false x.number number other) (ltb-false number x.number late)) h) h))
     where
       below : (p q : ℕ) → p ≡ q → (p ≡ number → ⊥) → p ≤ number → q < number
       below p q same other least = elim (cases_lt q number) [ inl less ↦ less | inr more ↦ absurd (other (omega (arith, same, least, more))) ]
 
-  pub name_at : (m : Machine) (d : MasterDoing) (client number deadline : ℕ) (c : Call) → AreNamedFilesThere d.master.logged → IsTimely m d.master.now → IsRequest d m requests client number deadline c
+  pub name_at : (m : Machine) (d : MasterDoing) (client number deadline : ℕ) (c : Call) → AreNamedFilesThere d.master.logged → m.config ≡ d.master.config → IsTimely m d.master.now → IsRequest d m requests client number deadline c
       → At requests P k m d → Reaches requests P k m (takes_name d client number deadline c)
-  name_at m d client number deadline c there timely request h = kept_at m d client number deadline c (table.get d.master.logged.kept client) refl there timely request h
+  name_at m d client number deadline c there settings timely request h = kept_at m d client number deadline c (table.get d.master.logged.kept client) refl there settings timely request h
 
   -- a Look of the open call
-  look_of_open : (m : Machine) (d : MasterDoing) (sender : Node) (number : ℕ) (c : Call) (current : OpenCall) → IsWaiting m requests (client_number sender) number current → current.asked.call ≡ c → is_look c ≡ true
-      → At requests P k m d → Reaches requests P k m (takes_look d sender number c)
-  look_of_open m d sender number c current w same look h =
+  look_of_open : (m : Machine) (d : MasterDoing) (sender : Node) (number : ℕ) (c : Call) (current : OpenCall) → m.config ≡ d.master.config
+      → IsWaiting m requests (client_number sender) number current → current.asked.call ≡ c → is_look c ≡ true → At requests P k m d → Reaches requests P k m (takes_look d sender number c)
+  look_of_open m d sender number c current settings w same look h =
       let client : ℕ = client_number sender in
       let outcome : Outcome = outcome_by d.master.logged.names c (master_refusal d.master c) in
       let a : AreAlike d.master.logged d.master.snapshots m requests = alike_at requests P k m d h in
@@ -216,7 +219,7 @@ module _ (requests : Requests) (P : Machine → Logged → LogDisk → List LogC
       let later : OpenCall = record current { outcomes = outcome ∷ current.outcomes; has_begun = true } in
       let g : GoesOn m n client current later = outcome_goes_on m m client current outcome refl w.is_open in
       let reads : is_look current.asked.call ≡ true = ap is_look same ∙ look in
-      let went : RunsTo m n × RunsQuietly m n = look_runs d.master m requests client c current a w.is_open same look in
+      let went : RunsTo m n × RunsQuietly m n = look_runs d.master m requests client c current a settings w.is_open same look in
       let move : IsMove m n requests d.master.snapshots d.master.snapshots (λ x. x) = record {
         run = went.0;
         alike = λ l b. (looked l d.master.snapshots m requests client current outcome b w.is_open reads).0;
@@ -232,9 +235,9 @@ module _ (requests : Requests) (P : Machine → Logged → LogDisk → List LogC
             (k.moves m n d.master.logged d.master.disk d.changes d.sent d.master.snapshots d.master.snapshots move went.1 h),
       )
 
-  pub look_at : (m : Machine) (d : MasterDoing) (sender : Node) (number : ℕ) (c : Call) → is_look c ≡ true → ((current : OpenCall) → IsWaiting m requests (client_number sender) number current → current.asked.call ≡ c)
+  pub look_at : (m : Machine) (d : MasterDoing) (sender : Node) (number : ℕ) (c : Call) → m.config ≡ d.master.config → is_look c ≡ true → ((current : OpenCall) → IsWaiting m requests (client_number sender) number current → current.asked.call ≡ c)
       → At requests P k m d → Reaches requests P k m (takes_look d sender number c)
-  look_at m d sender number c look asked h = by_call (m.clients (client_number sender)).open_call refl
+  look_at m d sender number c settings look asked h = by_call (m.clients (client_number sender)).open_call refl
     where
       nobody : ((current : OpenCall) → IsWaiting m requests (client_number sender) number current → ⊥) → Reaches requests P k m (takes_look d sender number c)
       nobody none = here requests P k m (takes_look d sender number c) (tells_at m d sender _ (λ x y. absurd (none x y)) h)
@@ -245,7 +248,7 @@ module _ (requests : Requests) (P : Machine → Logged → LogDisk → List LogC
           elim (same_or_not other number) [
             | inl same ↦
                 let w : IsWaiting m requests (client_number sender) number current = record { is_open = is; number_is = at ∙ ap Some same } in
-                look_of_open m d sender number c current w (asked current w) look h
+                look_of_open m d sender number c current settings w (asked current w) look h
             | inr differ ↦ nobody (λ x y. differ (from_some (sym at ∙ y.number_is)))
           ]
 

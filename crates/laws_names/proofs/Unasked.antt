@@ -10,7 +10,7 @@ use Rattle.log_records.specs.declared.record.Record.{Record}
 use Rattle.log_records.specs.declared.record.Record.TheVariants as log
 use Rattle.relaxed_file.specs.Names.{Names, Node, Dir, File, node_at}
 use Rattle.relaxed_file.specs.Machine.{Machine, FileState}
-use Rattle.relaxed_file.specs.NameStep.{refusal_of, AllRoundsClosed}
+use Rattle.relaxed_file.specs.NameStep.{AllRoundsClosed}
 use Rattle.relaxed_file.specs.Names.{copied_entries}
 use Rattle.relaxed_file.specs.Run.{Expire, after}
 use Rattle.relaxed_file.proofs.Tables.{from_some, contained, put_other as put_apart}
@@ -36,6 +36,7 @@ use Rattle.laws_names.specs.Followed.{RunsTo, IsTold, IsToldTo, IsFollowed}
 use Rattle.laws_names.proofs.Moves.{IsMove, Keeps, At, Reaches, here, alike_at, appends_at, checkpoint_at, stays, join, one_action, kept_same}
 use Rattle.laws_names.proofs.NameWalk.{changes_at}
 use Rattle.laws_names.specs.UnaskedSteps.{SnapshotsAreFollowed, IsOldFile, AreOldFiles, ExpirationsAreFollowed}
+use Rattle.laws_names.specs.Names.{snapshot_refusal}
 
 on_test : {A : Type 0} (P : A → Type 0) (b : Bool) (x y : A) → (b ≡ true → P x) → (b ≡ false → P y) → P (cond b x y)
 on_test P true x y f g = f refl
@@ -162,7 +163,7 @@ module _ (requests : Requests) (P : Machine → Logged → LogDisk → List LogC
       let more : Reaches requests P k one.0 (expires_all (logs d (log.Expired (file_id file)) (λ e. e)) rest) = expires_at one.0 (logs d (log.Expired (file_id file)) (λ e. e)) rest one.3 one.2 in
       (more.0, join m one.0 more.0 one.1 more.1, more.2)
 
-  pub snapshot_at : (m : Machine) (d : MasterDoing) (s : PendingSnapshot) → AreNamedFilesThere d.master.logged → Contains d.master.snapshots s → refusal_of d.master.logged.names (snapshot_call s) ≡ None
+  pub snapshot_at : (m : Machine) (d : MasterDoing) (s : PendingSnapshot) → AreNamedFilesThere d.master.logged → Contains d.master.snapshots s → snapshot_refusal d.master.logged.names s ≡ None
       → AllRoundsClosed m (copied_entries m.names s.from s.to) → At requests P k m d → Reaches requests P k m (takes_snapshot d s)
   snapshot_at m d s there among free closed h =
       let a : AreAlike d.master.logged d.master.snapshots m requests = alike_at requests P k m d h in

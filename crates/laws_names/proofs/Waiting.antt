@@ -20,6 +20,9 @@ use Rattle.protocol.specs.MasterSnapshots.{is_same_snapshot}
 use Rattle.machine_names.proofs.PathsApart.{IsApart}
 use Rattle.machine_names.proofs.Unrefused.{PassesLocks, allowed_from, unrefused_from, locks_passed, collected_stays, copies_stay, names_done, call_leaves}
 use Rattle.laws_names.specs.WaitingSnapshots.{PassEachOther, AllPassEachOther, AreUnrefused}
+use Rattle.laws_names.specs.Names.{snapshot_refusal}
+use Rattle.gfs_types.specs.declared.config.Config.{Config}
+use Rattle.gfs_types.specs.Settings.{default_settings}
 
 pub on_test : {A : Type 0} (P : A → Type 0) (b : Bool) (x y : A) → (b ≡ true → P x) → (b ≡ false → P y) → P (cond b x y)
 on_test P true x y f g = f refl
@@ -71,7 +74,7 @@ some_pass test (s ∷ ss) h =
 
 -- those that pass a test
 pub fewer_wait : (names : Names) (test : PendingSnapshot → Bool) (ss : List PendingSnapshot) → AreUnrefused names ss → AreUnrefused names (filter test ss)
-fewer_wait names test ss h = record { unrefused = all_some (λ s. refusal_of names (snapshot_call s) ≡ None) test ss h.unrefused; apart = some_pass test ss h.apart }
+fewer_wait names test ss h = record { unrefused = all_some (λ s. snapshot_refusal names s ≡ None) test ss h.unrefused; apart = some_pass test ss h.apart }
 
 one_more_passes : (ss : List PendingSnapshot) (s : PendingSnapshot) → AllByRecursion (λ t. PassEachOther t s) ss → AllPassEachOther ss → AllPassEachOther (ss ++ s ∷ [])
 one_more_passes [] s all h = (tt, tt)
@@ -79,10 +82,10 @@ one_more_passes (t ∷ ss) s all h = (all_one_more (PassEachOther t) ss s h.0 al
 
 -- what a snapshot meets that begins to wait
 
-pub one_more_waits : (names : Names) (ss : List PendingSnapshot) (s : PendingSnapshot) → refusal_of names (snapshot_call s) ≡ None → list_any (λ t. conflict (snapshot_call s) (snapshot_call t)) ss ≡ false
+pub one_more_waits : (names : Names) (ss : List PendingSnapshot) (s : PendingSnapshot) → snapshot_refusal names s ≡ None → list_any (λ t. conflict (snapshot_call s) (snapshot_call t)) ss ≡ false
     → list_any (λ t. (t.client == s.client) && (t.number == s.number)) ss ≡ false → AreUnrefused names ss → AreUnrefused names (ss ++ s ∷ [])
 one_more_waits names ss s free quiet new h =
-    record { unrefused = all_one_more (λ t. refusal_of names (snapshot_call t) ≡ None) ss s h.unrefused free; apart = one_more_passes ss s (all_pass ss quiet new) h.apart }
+    record { unrefused = all_one_more (λ t. snapshot_refusal names t ≡ None) ss s h.unrefused free; apart = one_more_passes ss s (all_pass ss quiet new) h.apart }
   where
     all_pass : (ts : List PendingSnapshot) → list_any (λ t. conflict (snapshot_call s) (snapshot_call t)) ts ≡ false → list_any (λ t. (t.client == s.client) && (t.number == s.number)) ts ≡ false
         → AllByRecursion (λ t. PassEachOther t s) ts
@@ -94,27 +97,27 @@ one_more_waits names ss s free quiet new h =
 
 -- calls that take effect
 
-pub calls_pass : (names : Names) (c : Call) (moment next : ℕ) (ss : List PendingSnapshot) → refusal_of names c ≡ None → list_any (λ s. conflict c (snapshot_call s)) ss ≡ false
+pub calls_pass : (config : Config) (names : Names) (c : Call) (moment next : ℕ) (ss : List PendingSnapshot) → refusal_of config names c ≡ None → list_any (λ s. conflict c (snapshot_call s)) ss ≡ false
     → AreUnrefused names ss → AreUnrefused (names_done names c moment next) ss
-calls_pass names c moment next ss may quiet h = record { unrefused = each ss quiet h.unrefused; apart = h.apart }
+calls_pass config names c moment next ss may quiet h = record { unrefused = each ss quiet h.unrefused; apart = h.apart }
   where
-    each : (ts : List PendingSnapshot) → list_any (λ s. conflict c (snapshot_call s)) ts ≡ false → AllByRecursion (λ s. refusal_of names (snapshot_call s) ≡ None) ts
-        → AllByRecursion (λ s. refusal_of (names_done names c moment next) (snapshot_call s) ≡ None) ts
+    each : (ts : List PendingSnapshot) → list_any (λ s. conflict c (snapshot_call s)) ts ≡ false → AllByRecursion (λ s. snapshot_refusal names s ≡ None) ts
+        → AllByRecursion (λ s. snapshot_refusal (names_done names c moment next) s ≡ None) ts
     each [] none all = tt
     each (s ∷ ts) none all =
         let parts = or_parts (conflict c (snapshot_call s)) (list_any (λ t. conflict c (snapshot_call t)) ts) none in
-        (unrefused_from (names_done names c moment next) s.from s.to (call_leaves names c moment next s.from s.to may parts.0 (allowed_from names s.from s.to all.0)), each ts parts.1 all.1)
+        (unrefused_from default_settings (names_done names c moment next) s.from s.to (call_leaves config names c moment next s.from s.to may parts.0 (allowed_from default_settings names s.from s.to all.0)), each ts parts.1 all.1)
 
 -- a snapshot that is taken, beside those that it passes
 
 abbrev pub AllRefusedNone : Names → List PendingSnapshot → Type 0
-AllRefusedNone names ss = AllByRecursion (λ s. refusal_of names (snapshot_call s) ≡ None) ss
+AllRefusedNone names ss = AllByRecursion (λ s. snapshot_refusal names s ≡ None) ss
 
-pub copies_pass : (names : Names) (s : PendingSnapshot) (next : ℕ) (ts : List PendingSnapshot) → refusal_of names (snapshot_call s) ≡ None → AllByRecursion (AreQuiet s) ts → AllRefusedNone names ts
+pub copies_pass : (names : Names) (s : PendingSnapshot) (next : ℕ) (ts : List PendingSnapshot) → snapshot_refusal names s ≡ None → AllByRecursion (AreQuiet s) ts → AllRefusedNone names ts
     → AllRefusedNone (with_copies names next (copied_entries names s.from s.to)) ts
 copies_pass names s next ts may quiet all =
-    all_both (AreQuiet s) (λ t. refusal_of names (snapshot_call t) ≡ None) (λ t. refusal_of (with_copies names next (copied_entries names s.from s.to)) (snapshot_call t) ≡ None) ts
-    (λ t q free. unrefused_from (with_copies names next (copied_entries names s.from s.to)) t.from t.to (copies_stay names s.from s.to next t.from t.to may q.target (allowed_from names t.from t.to free)))
+    all_both (AreQuiet s) (λ t. snapshot_refusal names t ≡ None) (λ t. snapshot_refusal (with_copies names next (copied_entries names s.from s.to)) t ≡ None) ts
+    (λ t q free. unrefused_from default_settings (with_copies names next (copied_entries names s.from s.to)) t.from t.to (copies_stay default_settings names s.from s.to next t.from t.to may q.target (allowed_from default_settings names t.from t.to free)))
     quiet all
 
 -- each is the same one, or passes it
@@ -184,8 +187,8 @@ expired_passes names file ss files hidden all h = by_name (find (λ e. is_this_f
         let found = found_file file (table.entries names) e is in
         let at : node_at names e.0 ≡ Some (File file) = entry_is names e.0 (File file) (subst (λ (v : Node). HasAt (table.entries names) e.0 v) found.1 found.0) in (
           record {
-            unrefused = all_more (λ s. refusal_of names (snapshot_call s) ≡ None) (λ s. refusal_of (table.remove names e.0) (snapshot_call s) ≡ None) ss
-                (λ s free. unrefused_from (table.remove names e.0) s.from s.to (collected_stays names e.0 file s.from s.to at (hidden e.0 at) (allowed_from names s.from s.to free))) h.unrefused;
+            unrefused = all_more (λ s. snapshot_refusal names s ≡ None) (λ s. snapshot_refusal (table.remove names e.0) s ≡ None) ss
+                (λ s free. unrefused_from default_settings (table.remove names e.0) s.from s.to (collected_stays names e.0 file s.from s.to at (hidden e.0 at) (allowed_from default_settings names s.from s.to free))) h.unrefused;
             apart = h.apart;
           },
           all_more (IsHidden names) (IsHidden (table.remove names e.0)) files (λ f is_hidden. still_hidden names e.0 f is_hidden) all,

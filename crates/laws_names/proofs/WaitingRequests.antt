@@ -23,7 +23,7 @@ use Rattle.protocol.specs.Seen.{Taken, no_step}
 use Rattle.protocol.specs.Sending.{client_id, client_number, server_number, file_id, moment_of}
 use Rattle.protocol.specs.Logged.{KeptCall}
 use Rattle.protocol.specs.Master.{MasterState, MasterDoing, PendingSnapshot, master_begins, without_attempts, gives_up_copies, logs}
-use Rattle.protocol.specs.MasterNames.{master_refusal, performs, names_by, is_waiting_call, names_anew, names_kept}
+use Rattle.protocol.specs.MasterNames.{master_refusal, performs, names_by, is_waiting_call, names_anew, names_kept, told_shape}
 use Rattle.protocol.specs.MasterSnapshots.{answers_name, refuses_name, changes_names, takes_locks, begins_snapshot, snapshot_handles, snapshot_files, copies_for_files, is_same_snapshot, lets_go, takes_snapshot, takes_ready, is_ready}
 use Rattle.protocol.specs.MasterClones.{best_clone}
 use Rattle.protocol.specs.MasterReports.{holds_now}
@@ -73,7 +73,7 @@ module _ (P : PendingSnapshot → Type 0) where
   performs_at : (d : MasterDoing) (client number deadline : ℕ) (c : Call) → MayBegin client number deadline → At d → At (performs d client number deadline c)
   performs_at d client number deadline (call.Mkdir p) may h = changes_at d client number (call.Mkdir p) (log.Mkdir (client_id client) number p) h
   performs_at d client number deadline (call.Rmdir p) may h = changes_at d client number (call.Rmdir p) (log.Rmdir (client_id client) number p) h
-  performs_at d client number deadline (call.Create p) may h = changes_at d client number (call.Create p) (log.Create (client_id client) number (file_id d.master.logged.next_file) p) h
+  performs_at d client number deadline (call.Create p shape) may h = changes_at d client number (call.Create p shape) (log.Create (client_id client) number (file_id d.master.logged.next_file) (told_shape d.master.config shape) p) h
   performs_at d client number deadline (call.Delete p) may h = changes_at d client number (call.Delete p) (log.Delete (client_id client) number (moment_of d.master.now) p) h
   performs_at d client number deadline (call.Rename p q) may h = changes_at d client number (call.Rename p q) (log.Rename (client_id client) number p q) h
   performs_at d client number deadline (call.Snapshot p q) may h = begins_at d (record { client = client; number = number; deadline = deadline; from = p; to = q }) (may p q) h

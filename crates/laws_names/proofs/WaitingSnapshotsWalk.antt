@@ -25,7 +25,7 @@ use Rattle.protocol.specs.Sending.{client_id, client_number, file_id, handle_of,
 use Rattle.protocol.specs.LogSizes.{checkpoint_fits}
 use Rattle.protocol.specs.Logged.{Logged, LogDisk, LogChange, KeptCall, Copy, after_record, checkpoint_of, without_file, swapped_in}
 use Rattle.protocol.specs.Master.{MasterState, MasterDoing, PendingSnapshot, master_begins, tells, orders, without_attempts, gives_up_copies, fits, appends, writes_checkpoint, logs, logs_after_checkpoint, is_of_copy, has_lease}
-use Rattle.protocol.specs.MasterNames.{snapshot_call, is_busy, master_refusal, takes_look, performs, names_by, is_waiting_call, names_anew, names_kept, takes_name}
+use Rattle.protocol.specs.MasterNames.{snapshot_call, is_busy, master_refusal, takes_look, performs, names_by, is_waiting_call, names_anew, names_kept, takes_name, told_shape}
 use Rattle.protocol.specs.MasterSnapshots.{answers_name, settles_name, refuses_name, first_is_true, all_but_first, changes_names, takes_locks, begins_snapshot, snapshot_handles, snapshot_files, copies_for_files, revokes_row, revokes, revokes_all, is_same_snapshot, lets_go, takes_snapshot, takes_ready, is_ready, live_snapshots}
 use Rattle.protocol.specs.MasterClones.{CloneOrder, best_clone, orders_clone, clones_next}
 use Rattle.protocol.specs.MasterReports.{holds_now}
@@ -63,8 +63,8 @@ tests_of (t ∷ a) b r c h =
     (rest.0, ap (λ (x : Bool). cond x (Some t.1) (first_refusal (a ++ c))) one.0 ∙ rest.1)
 
 -- what meets no refusal meets no lock, and none of the names
-pub not_refused : (m : MasterState) (c : Call) → master_refusal m c ≡ None → (is_busy m c ≡ false) × (refusal_of m.logged.names c ≡ None)
-not_refused m c h = tests_of (path_tests c) (is_busy m c) Busy (name_tests m.logged.names c) h
+pub not_refused : (m : MasterState) (c : Call) → master_refusal m c ≡ None → (is_busy m c ≡ false) × (refusal_of m.config m.logged.names c ≡ None)
+not_refused m c h = tests_of (path_tests m.config c) (is_busy m c) Busy (name_tests m.logged.names c) h
 
 begins_waits : (d : MasterDoing) (s : PendingSnapshot) → master_refusal d.master (snapshot_call s) ≡ None → is_waiting_call d.master s.client s.number ≡ false → Waits d → Waits (begins_snapshot d s)
 begins_waits d s may new h =
@@ -78,13 +78,13 @@ effect_waits : (d : MasterDoing) (client number moment : ℕ) (c : Call) (r : Re
     → (after_record (writes_checkpoint d).master.logged r).names ≡ names_done d.master.logged.names c moment d.master.logged.next_file → Waits d → Waits (changes_names d client number c r)
 effect_waits d client number moment c r may one two h =
     let clear = not_refused d.master c may in
-    let after : AreUnrefused (names_done d.master.logged.names c moment d.master.logged.next_file) d.master.snapshots = calls_pass d.master.logged.names c moment d.master.logged.next_file d.master.snapshots clear.1 clear.0 h in
+    let after : AreUnrefused (names_done d.master.logged.names c moment d.master.logged.next_file) d.master.snapshots = calls_pass d.master.config d.master.logged.names c moment d.master.logged.next_file d.master.snapshots clear.1 clear.0 h in
     changes_holds AreUnrefused d client number c r h (subst (λ (ns : Names). AreUnrefused ns d.master.snapshots) (sym one) after) (subst (λ (ns : Names). AreUnrefused ns d.master.snapshots) (sym two) after)
 
 performs_waits : (d : MasterDoing) (client number deadline : ℕ) (c : Call) → master_refusal d.master c ≡ None → is_waiting_call d.master client number ≡ false → Waits d → Waits (performs d client number deadline c)
 performs_waits d client number deadline (call.Mkdir p) may new h = effect_waits d client number d.master.now (call.Mkdir p) (log.Mkdir (client_id client) number p) may refl refl h
 performs_waits d client number deadline (call.Rmdir p) may new h = effect_waits d client number d.master.now (call.Rmdir p) (log.Rmdir (client_id client) number p) may refl refl h
-performs_waits d client number deadline (call.Create p) may new h = effect_waits d client number d.master.now (call.Create p) (log.Create (client_id client) number (file_id d.master.logged.next_file) p) may refl refl h
+performs_waits d client number deadline (call.Create p shape) may new h = effect_waits d client number d.master.now (call.Create p shape) (log.Create (client_id client) number (file_id d.master.logged.next_file) (told_shape d.master.config shape) p) may refl refl h
 performs_waits d client number deadline (call.Delete p) may new h = effect_waits d client number d.master.now (call.Delete p) (log.Delete (client_id client) number (moment_of d.master.now) p) may refl refl h
 performs_waits d client number deadline (call.Rename p q) may new h = effect_waits d client number d.master.now (call.Rename p q) (log.Rename (client_id client) number p q) may refl refl h
 performs_waits d client number deadline (call.Snapshot p q) may new h = begins_waits d (record { client = client; number = number; deadline = deadline; from = p; to = q }) may new h

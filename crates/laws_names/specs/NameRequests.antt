@@ -15,12 +15,12 @@ use Rattle.laws_names.specs.Followed.{IsBeside, IsFollowed, IsTimely, IsRequest}
 abbrev pub NameRequestsAreFollowed : Type 0
 NameRequestsAreFollowed =
     (d : MasterDoing) (m : Machine) (requests : Requests) (client number deadline : ℕ) (c : Call)
-    → IsBeside d m requests → AreNamedFilesThere d.master.logged → IsTimely m d.master.now → IsRequest d m requests client number deadline c
+    → IsBeside d m requests → AreNamedFilesThere d.master.logged → m.config ≡ d.master.config → IsTimely m d.master.now → IsRequest d m requests client number deadline c
     → IsFollowed m (takes_name d client number deadline c) requests
 
 -- A Look: of the open call, or of one that is over.
 abbrev pub LooksAreFollowed : Type 0
 LooksAreFollowed =
     (d : MasterDoing) (m : Machine) (requests : Requests) (sender : Node) (number : ℕ) (c : Call)
-    → IsBeside d m requests → IsTrue (is_look c) → ((current : OpenCall) → IsWaiting m requests (client_number sender) number current → current.asked.call ≡ c)
+    → IsBeside d m requests → m.config ≡ d.master.config → IsTrue (is_look c) → ((current : OpenCall) → IsWaiting m requests (client_number sender) number current → current.asked.call ≡ c)
     → IsFollowed m (takes_look d sender number c) requests

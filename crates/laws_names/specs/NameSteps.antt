@@ -16,7 +16,7 @@ use Rattle.protocol.specs.Sending.{client_id, file_id}
 use Rattle.protocol.specs.Logged.{Logged, after_record, copies_given_up}
 use Rattle.protocol.specs.Master.{MasterState, PendingSnapshot}
 use Rattle.protocol.specs.MasterNames.{snapshot_call, is_busy, master_refusal}
-use Rattle.laws_names.specs.Names.{record_of}
+use Rattle.laws_names.specs.Names.{record_of, snapshot_refusal}
 use Rattle.laws_names.specs.Alike.{Requests, AreAlike, IsWaiting, IsNew, Follows}
 
 -- the file of each name is there
@@ -28,14 +28,14 @@ abbrev pub RecordsAreSteps : Type 0
 RecordsAreSteps =
     (l : Logged) (snapshots : List PendingSnapshot) (m : Machine) (requests : Requests) (client number moment : ℕ) (c : Call) (entry : Record)
     → AreAlike l snapshots m requests → AreNamedFilesThere l → IsNew snapshots m requests client number c
-    → record_of l client number moment c ≡ Some entry → refusal_of l.names c ≡ None → MayTakeEffect m c moment
+    → record_of m.config l client number moment c ≡ Some entry → refusal_of m.config l.names c ≡ None → MayTakeEffect m c moment
     → Follows (after_record l entry) snapshots m requests (Step client moment (Replies answer.Done)) client (Replies answer.Done)
 
 -- The record of a call that the names refuse: the machine's step comes to this refusal.
 abbrev pub RefusalsAreSteps : Type 0
 RefusalsAreSteps =
     (l : Logged) (snapshots : List PendingSnapshot) (m : Machine) (requests : Requests) (client number moment : ℕ) (c : Call) (refusal : Refusal)
-    → AreAlike l snapshots m requests → IsNew snapshots m requests client number c → refusal_of l.names c ≡ Some refusal
+    → AreAlike l snapshots m requests → IsNew snapshots m requests client number c → refusal_of m.config l.names c ≡ Some refusal
     → Follows (after_record l (log.Refused (client_id client) number refusal)) snapshots m requests
     (Step client moment (Replies (answer.Refused refusal))) client (Replies (answer.Refused refusal))
 
@@ -43,7 +43,7 @@ RefusalsAreSteps =
 abbrev pub BusyCallsFindAHolder : Type 0
 BusyCallsFindAHolder =
     (s : MasterState) (m : Machine) (requests : Requests) (client number : ℕ) (c : Call)
-    → AreAlike s.logged s.snapshots m requests → IsNew s.snapshots m requests client number c → IsTrue (is_busy s c) → first_refusal (path_tests c) ≡ None
+    → AreAlike s.logged s.snapshots m requests → IsNew s.snapshots m requests client number c → IsTrue (is_busy s c) → first_refusal (path_tests m.config c) ≡ None
     → (holder : ℕ) × Follows (after_record s.logged (log.Refused (client_id client) number Busy)) s.snapshots m requests
     (FindBusy client holder) client (Replies (answer.Refused Busy))
 
@@ -51,21 +51,21 @@ BusyCallsFindAHolder =
 abbrev pub FullNamesAreFound : Type 0
 FullNamesAreFound =
     (l : Logged) (snapshots : List PendingSnapshot) (m : Machine) (requests : Requests) (client number : ℕ) (c : Call)
-    → AreAlike l snapshots m requests → IsNew snapshots m requests client number c → IsTrue (needs_room c) → refusal_of l.names c ≡ None
+    → AreAlike l snapshots m requests → IsNew snapshots m requests client number c → IsTrue (needs_room c) → refusal_of m.config l.names c ≡ None
     → Follows (after_record l (log.Refused (client_id client) number NamesFull)) snapshots m requests (FindFull client) client (Replies (answer.Refused NamesFull))
 
 -- What a Look of the open call comes to at the master is an outcome at the machine, Busy included.
 abbrev pub LooksAreSteps : Type 0
 LooksAreSteps =
     (s : MasterState) (m : Machine) (requests : Requests) (client number : ℕ) (c : Call) (current : OpenCall)
-    → AreAlike s.logged s.snapshots m requests → IsWaiting m requests client number current → current.asked.call ≡ c → IsTrue (is_look c)
+    → AreAlike s.logged s.snapshots m requests → m.config ≡ s.config → IsWaiting m requests client number current → current.asked.call ≡ c → IsTrue (is_look c)
     → (action : Action) × Follows s.logged s.snapshots m requests action client (outcome_by s.logged.names c (master_refusal s c))
 
 -- A snapshot that begins to wait takes its locks.
 abbrev pub LocksAreTaken : Type 0
 LocksAreTaken =
     (l : Logged) (snapshots : List PendingSnapshot) (m : Machine) (requests : Requests) (s : PendingSnapshot)
-    → AreAlike l snapshots m requests → IsNew snapshots m requests s.client s.number (snapshot_call s) → refusal_of l.names (snapshot_call s) ≡ None
+    → AreAlike l snapshots m requests → IsNew snapshots m requests s.client s.number (snapshot_call s) → snapshot_refusal l.names s ≡ None
     → Allows m (Lock s.client) × AreAlike l (snapshots ++ s ∷ []) (after m (Lock s.client)) requests
 
 -- Locks that go back at the master change nothing.

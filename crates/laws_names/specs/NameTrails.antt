@@ -31,7 +31,7 @@ HasCall m client c = (current : OpenCall) × IsOpen m client current × (current
 -- the record of the client's open call, of a master whose next file is the machine's
 abbrev pub IsRecordOfCall : Machine → ℕ → ℕ → Record → Type 0
 IsRecordOfCall m client moment r =
-    (number : ℕ) × (c : Call) × (l : Logged) × HasCall m client c × (l.next_file ≡ suc m.file_count) × (record_of l client number moment c ≡ Some r)
+    (number : ℕ) × (c : Call) × (l : Logged) × HasCall m client c × (l.next_file ≡ suc m.file_count) × (record_of m.config l client number moment c ≡ Some r)
 
 -- a refusal of the client's call
 abbrev pub IsRefusal : ℕ → Record → Type 0

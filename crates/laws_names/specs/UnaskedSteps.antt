@@ -4,22 +4,22 @@ use Rattle.std.specs.FinMap as table
 use Rattle.gfs_types.specs.Paths.{hidden_name}
 use Rattle.relaxed_file.specs.Names.{copied_entries}
 use Rattle.relaxed_file.specs.Machine.{Machine}
-use Rattle.relaxed_file.specs.NameStep.{refusal_of, AllRoundsClosed}
+use Rattle.relaxed_file.specs.NameStep.{AllRoundsClosed}
 use Rattle.protocol.specs.Tables.{has_number}
 use Rattle.protocol.specs.Logged.{Logged}
 use Rattle.protocol.specs.Master.{MasterDoing, PendingSnapshot}
-use Rattle.protocol.specs.MasterNames.{snapshot_call}
 use Rattle.protocol.specs.MasterSnapshots.{takes_snapshot}
 use Rattle.protocol.specs.MasterStep.{expires_all}
 use Rattle.laws_names.specs.Alike.{Requests}
 use Rattle.laws_names.specs.NameSteps.{AreNamedFilesThere, IsOnlyName}
 use Rattle.laws_names.specs.Followed.{IsBeside, IsFollowed}
+use Rattle.laws_names.specs.Names.{snapshot_refusal}
 
 -- A snapshot that waits is taken, where its names still allow it and its rounds are closed: or there is no room for its names, or none in the log.
 abbrev pub SnapshotsAreFollowed : Type 0
 SnapshotsAreFollowed =
     (d : MasterDoing) (m : Machine) (requests : Requests) (s : PendingSnapshot)
-    → IsBeside d m requests → AreNamedFilesThere d.master.logged → Contains d.master.snapshots s → refusal_of d.master.logged.names (snapshot_call s) ≡ None
+    → IsBeside d m requests → AreNamedFilesThere d.master.logged → Contains d.master.snapshots s → snapshot_refusal d.master.logged.names s ≡ None
     → AllRoundsClosed m (copied_entries m.names s.from s.to) → IsFollowed m (takes_snapshot d s) requests
 
 -- The file's only name is a hidden one, whose moment is long past at the machine.

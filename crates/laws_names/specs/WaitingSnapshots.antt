@@ -4,12 +4,12 @@ use Rattle.std.specs.List.{AllByRecursion}
 use Rattle.gfs_types.specs.Paths.{Path}
 use Rattle.messages.specs.declared.event.NodeInput.{NodeInput}
 use Rattle.relaxed_file.specs.Names.{Names, File, node_at}
-use Rattle.relaxed_file.specs.NameStep.{refusal_of}
 use Rattle.relaxed_file.specs.Locks.{conflict}
 use Rattle.protocol.specs.Master.{MasterState, PendingSnapshot}
 use Rattle.protocol.specs.MasterNames.{snapshot_call}
 use Rattle.protocol.specs.MasterSnapshots.{is_same_snapshot}
 use Rattle.protocol.specs.MasterStep.{master_goes}
+use Rattle.laws_names.specs.Names.{snapshot_refusal}
 
 -- two snapshots of two requests; the later one's locks don't conflict with the earlier one's
 pub record PassEachOther (earlier later : PendingSnapshot) : Type 0 where
@@ -22,7 +22,7 @@ AllPassEachOther (s ∷ rest) = AllByRecursion (PassEachOther s) rest × AllPass
 
 -- the names refuse none of the snapshots that wait, and these pass each other's locks
 pub record AreUnrefused (names : Names) (snapshots : List PendingSnapshot) : Type 0 where
-  pub unrefused : AllByRecursion (λ s. refusal_of names (snapshot_call s) ≡ None) snapshots
+  pub unrefused : AllByRecursion (λ s. snapshot_refusal names s ≡ None) snapshots
   pub apart : AllPassEachOther snapshots
 
 -- no file has two names

@@ -19,7 +19,7 @@ use Rattle.messages.specs.declared.event.NodeInput.{NodeInput}
 use Rattle.messages.specs.declared.event.NodeInput.TheVariants as input
 use Rattle.log_records.specs.declared.record.Record.{Record}
 use Rattle.log_records.specs.declared.record.Record.TheVariants as log
-use Rattle.chunk_table.specs.ChunkTable.{ChunkRow, new_row, chunk_of, file_of, handles_of}
+use Rattle.chunk_table.specs.ChunkTable.{ChunkRow, chunk_of, file_of, handles_of, added_row}
 use Rattle.leases.specs.LeaseEnds.{has_ended}
 use Rattle.protocol.specs.Tables.{element_at}
 use Rattle.protocol.specs.LogSizes.{checkpoint_fits}
@@ -222,10 +222,10 @@ module _ (m : MasterState) (low : IsLow m) (apart : AreOwn m) where
 
     targets : IsOwn handle → (holders : List HeldAt) → AllOf (λ (x : HeldAt). version_held d.master handle x.server ≡ Some x.version) holders → AllOf IsTarget (targets_by d.master handle row holders)
     targets own [] all =
-        on_cond (AllOf IsTarget) (nat_lt 0 row.granted) (map holder_target (present_current_holders d.master handle row)) (placed_targets d.master handle)
+        on_cond (AllOf IsTarget) (nat_lt 0 row.granted) (map holder_target (present_current_holders d.master handle row)) (placed_targets d.master handle row)
         (λ _. held_targets (present_current_holders d.master handle row)
         (all_filtered (λ (x : HeldAt). version_held d.master handle x.server ≡ Some x.version) (λ x. is_present d.master x.server) (current_holders d.master handle row) (holders_held d.master handle (λ v. nat_le row.granted v) (servers_of d.master))))
-        (λ none. placed (ungranted own (let most = ltb-false 0 row.granted none in omega (arith, most))) (placement d.master))
+        (λ none. placed (ungranted own (let most = ltb-false 0 row.granted none in omega (arith, most))) (placement d.master row))
     targets own (x ∷ rest) all = held_targets (x ∷ rest) all
 
     recorded : AllOf (λ (x : HeldAt). version_held d.master handle x.server ≡ Some x.version) (recorded_holders d.master handle row)
@@ -281,9 +281,9 @@ module _ (m : MasterState) (low : IsLow m) (apart : AreOwn m) where
   copied : (d : MasterDoing) → AreKept d → (handle : ℕ) (row : ChunkRow) → IsOwn handle → chunk_of d.master.logged.table handle ≡ Some row → nat_lt 1 row.references ≡ true → (copy : ℕ)
       → AllOf (IsCopier (CopyStarted (handle_of handle) (handle_of copy) ∷ []) handle copy (suc row.issued)) (copy_targets d.master handle row)
   copied d kept handle row own at many copy =
-      on_cond (AllOf Source) (nat_lt 0 row.granted) (map holder_target (current_holders d.master handle row)) (map (λ s. record { server = s; base = None }) (placement d.master))
+      on_cond (AllOf Source) (nat_lt 0 row.granted) (map holder_target (current_holders d.master handle row)) (map (λ s. record { server = s; base = None }) (placement d.master row))
       (λ _. held_sources (current_holders d.master handle row) (all_hold d.master handle (λ v. nat_le row.granted v) (servers_of d.master)))
-      (λ none. placed_sources (let most = ltb-false 0 row.granted none in omega (arith, most)) (placement d.master))
+      (λ none. placed_sources (let most = ltb-false 0 row.granted none in omega (arith, most)) (placement d.master row))
     where
       Source : VersionTarget → Type 0
       Source t = IsCopier (CopyStarted (handle_of handle) (handle_of copy) ∷ []) handle copy (suc row.issued) t
@@ -371,7 +371,7 @@ module _ (m : MasterState) (low : IsLow m) (apart : AreOwn m) where
       let handle : ℕ = d.master.logged.next_handle in
       record {
         next = let low_next = h.next in let high = le-max_left handle (handle + 1) in omega (arith, low_next, high);
-        rows = λ q row is. elim (put_cases d.master.logged.table.chunks handle (record new_row { references = 1 }) q row is) [
+        rows = λ q row is. elim (put_cases d.master.logged.table.chunks handle (added_row d.master.logged.table file) q row is) [
           | inl same ↦ inr ((let key = same.0 in let first = h.next in omega (arith, first, key)), sym (ap (λ (x : ChunkRow). x.issued) same.1), sym (ap (λ (x : ChunkRow). x.references) same.1))
           | inr before ↦ h.rows q row before
         ];

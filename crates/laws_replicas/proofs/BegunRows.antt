@@ -1,6 +1,6 @@
 -- A chunk whose handle was used, and which, while its row is there, was granted or is a copy under way: it stays so, in the state, in the log, after each record and from a checkpoint that is read again.
 use Rattle.std.proofs.Common.{◌≡◌, ◌⊎◌, ℕ, ◌+◌, ◌≤◌, ◌<◌, Bool, true, false, List, [], ◌∷◌, Option, Some, None, refl, sym, ap, ◌∙◌, inl, inr, arith}
-use Rattle.std.specs.Prelude.{nat_le, nat_lt}
+use Rattle.std.specs.Prelude.{nat_le}
 use Rattle.std.specs.List.{list_any}
 use Rattle.std.specs.Ordering.{nat_cmp, eq_by_cmp}
 use Rattle.std.specs.FinMap as table
@@ -15,9 +15,9 @@ use Rattle.log_records.specs.declared.record.Record.{Record}
 use Rattle.log_records.specs.declared.record.Record.TheVariants as log
 use Rattle.relaxed_file.specs.Names.{copied_entries}
 use Rattle.relaxed_file.proofs.NamesTree.{Tree}
-use Rattle.chunk_table.specs.ChunkTable.{ChunkRow, new_row, row_granted, row_left, left_by, leave_one, leave_all, handles_of, set_end}
+use Rattle.chunk_table.specs.ChunkTable.{ChunkRow, row_granted, row_left, left_by, leave_one, leave_all, handles_of, set_end, added_row, copied_row}
 use Rattle.protocol.specs.Logged.{Logged, LogDisk, WriteCheckpoint, Copy, first_logged, log_changed, after_record, after_records, checkpoint_of, copies_given_up, copies_for_file, all_copies_given_up, swapped_in, replayed}
-use Rattle.protocol.specs.MasterStep.{lease_after_restart, started_master}
+use Rattle.protocol.specs.MasterStep.{row_after_restart, started_master}
 use Rattle.laws_base.proofs.Steps.{on_cond, none_some, put_cases, put_there, put_other, gone_other, removed_cases, now_gone}
 use Rattle.laws_base.proofs.Entries.{mapped_cases}
 use Rattle.laws_base.proofs.ChunkRows.{Rows, rows_of, OwnedFrom, removed_owned, all_copied_owned, swapped_owned, expired_owned}
@@ -107,11 +107,11 @@ module _ (handle : ℕ) where
 
   pub begun_after : (l k : Logged) (r : Record) → IsDue (Unit {0}) l r → IsNoGrantRecord r → IsBegun l → IsBegun k → IsBegun (after_record k r)
   begun_after l k (log.AddChunk file chunk) due plain g h =
-      put_begun l k (after_record k (log.AddChunk file chunk)) chunk.0 (record new_row { references = 1 }) refl due.0 (next_grows l k (log.AddChunk file chunk) due) refl g h
+      put_begun l k (after_record k (log.AddChunk file chunk)) chunk.0 (added_row k.table file.0) refl due.0 (next_grows l k (log.AddChunk file chunk) due) refl g h
   begun_after l k (log.CopyStart file index source copy copy_version) due plain g h =
       let r : Record = log.CopyStart file index source copy copy_version in
       let new : Copy = record { file = file.0; index = index; source = source.0 } in
-      put_begun l k (after_record k r) copy.0 (record new_row { issued = copy_version.0 }) refl due.0 (next_grows l k r due)
+      put_begun l k (after_record k r) copy.0 (copied_row k.table source.0 copy_version.0) refl due.0 (next_grows l k r due)
       (put_other k.copies copy.0 new handle (λ same. let used = g.0 in let next = due.0 in absurd (omega (arith, used, next, same)))) g h
   begun_after l k (log.Issue chunk number) due plain g h = (
     h.0,
@@ -134,7 +134,7 @@ module _ (handle : ℕ) where
       by_list row is false stays = removed_other k.copies (copies_for_file k file.0) handle stays
   begun_after l k (log.Grant chunk number primary members) due plain g h = absurd plain
   begun_after l k (log.Counters next_file next_handle epoch) due plain g h = absurd due
-  begun_after l k (log.FileItem path file handles) due plain g h = absurd due
+  begun_after l k (log.FileItem path file shape handles) due plain g h = absurd due
   begun_after l k (log.ChunkItem chunk granted issued primary members) due plain g h = absurd due
   begun_after l k other due plain g h = h
 
@@ -198,11 +198,11 @@ module _ (handle : ℕ) where
   started_begun config count found moment h = (
     h.0,
     λ row at.
-        let was = mapped_cases (lease_after_restart config moment) (rows_of (replayed found)) handle row at in
+        let was = mapped_cases (row_after_restart config moment) (rows_of (replayed found)) handle row at in
         let some = all_granted (state_of found) h was.0 was.1 in
         let granted : (was.0).granted ≡ row.granted = same_granted was.0 ∙ ap (λ (r : ChunkRow). r.granted) was.2 in
         inl (omega (arith, some, granted)),
   )
     where
-      same_granted : (row : ChunkRow) → row.granted ≡ (lease_after_restart config moment row).granted
-      same_granted row = on_cond (λ (r : ChunkRow). row.granted ≡ r.granted) (nat_lt 0 row.granted) (record row { lease_end = moment + config.skew_ms + config.lease_ms }) row (λ _. refl) (λ _. refl)
+      same_granted : (row : ChunkRow) → row.granted ≡ (row_after_restart config moment row).granted
+      same_granted row = refl

@@ -10,7 +10,7 @@ use Rattle.messages.specs.declared.message.Wanted.{Wanted}
 use Rattle.messages.specs.declared.message.Wanted.TheVariants as wanted
 use Rattle.log_records.specs.declared.record.Record.{Record}
 use Rattle.log_records.specs.declared.record.Record.TheVariants as log
-use Rattle.chunk_table.specs.ChunkTable.{ChunkRow, new_row, chunk_of, file_of}
+use Rattle.chunk_table.specs.ChunkTable.{ChunkRow, chunk_of, file_of, added_row}
 use Rattle.leases.specs.LeaseEnds.{has_ended}
 use Rattle.protocol.specs.Tables.{element_at}
 use Rattle.protocol.specs.LogSizes.{checkpoint_fits}
@@ -91,11 +91,11 @@ module _ (l : Logged) (below : (q : ℕ) (row : ChunkRow) → table.get (rows_of
       record {
         seen = h.seen;
         next = let more = h.next in omega (arith, more, grows);
-        used = λ q row is. elim (put_cases (rows_of d.master.logged) handle (record new_row { references = 1 }) q row is) [
+        used = λ q row is. elim (put_cases (rows_of d.master.logged) handle (added_row d.master.logged.table file) q row is) [
           | inl same ↦ let key = same.0 in omega (arith, key, past)
           | inr before ↦ let was = h.used q row before in omega (arith, was, grows)
         ];
-        rows = λ q row is. elim (put_cases (rows_of d.master.logged) handle (record new_row { references = 1 }) q row is) [
+        rows = λ q row is. elim (put_cases (rows_of d.master.logged) handle (added_row d.master.logged.table file) q row is) [
           | inl same ↦ let key = same.0 in inr (omega (arith, key, new))
           | inr before ↦ h.rows q row before
         ];

@@ -6,7 +6,7 @@ use Rattle.messages.specs.declared.message.Message.{Message}
 use Rattle.log_records.specs.declared.record.Record.{Record}
 use Rattle.log_records.specs.declared.record.Record.TheVariants as log
 use Rattle.relaxed_file.specs.Names.{copied_entries}
-use Rattle.chunk_table.specs.ChunkTable.{ChunkRow, new_row, changed_by, row_issued, row_granted, issue}
+use Rattle.chunk_table.specs.ChunkTable.{ChunkRow, changed_by, row_issued, row_granted, issue, copied_row}
 use Rattle.protocol.specs.Tables.{Table}
 use Rattle.protocol.specs.Sending.{file_id, handle_of, version_of, server_id}
 use Rattle.protocol.specs.declared.seen.Seen.TheVariants.{CopyStarted}
@@ -60,7 +60,7 @@ fewer_named l (log.Expired file) names =
     ((λ copy c is. removed_cases l.copies (copies_for_file l file.0) copy c is), from_owned (rows_of l) (rows_of (after_record l r)) (expired_owned l file))
 fewer_named l (log.Mkdir client n path) names = ((λ copy c is. is), same_from (rows_of l))
 fewer_named l (log.Rmdir client n path) names = ((λ copy c is. is), same_from (rows_of l))
-fewer_named l (log.Create client n file path) names = ((λ copy c is. is), same_from (rows_of l))
+fewer_named l (log.Create client n file shape path) names = ((λ copy c is. is), same_from (rows_of l))
 fewer_named l (log.Delete client n moment path) names = ((λ copy c is. is), same_from (rows_of l))
 fewer_named l (log.Rename client n from to) names = ((λ copy c is. is), same_from (rows_of l))
 fewer_named l (log.Refused client n refusal) names = ((λ copy c is. is), same_from (rows_of l))
@@ -127,7 +127,7 @@ behind_begun l file index handle copy version none apart above h q c is row at =
     ]
   where
     new : ChunkRow
-    new = record new_row { issued = version }
+    new = copied_row l.table handle version
 
 -- a grant, which is of no source
 

@@ -18,7 +18,7 @@ use Rattle.log_records.specs.declared.record.Record.TheVariants as log
 use Rattle.protocol.specs.Tables.{Table, removed_all, element_at, rising, has_number, with_number}
 use Rattle.protocol.specs.Sending.{the_server, file_id, handle_of, version_of, moment_of, order_number}
 use Rattle.protocol.specs.Logged.{Logged, LogDisk, checkpoint_of, after_record, swapped_in}
-use Rattle.chunk_table.specs.ChunkTable.{ChunkRow, new_row, changed_by, chunk_of, file_of, handles_of, grant}
+use Rattle.chunk_table.specs.ChunkTable.{ChunkRow, changed_by, chunk_of, file_of, handles_of, grant, copied_row}
 use Rattle.protocol.specs.Master.{MasterDoing, VersionAttempt, PendingSnapshot, HeldAt, tells, orders, ends_at, with_attempt, gives_up_copy, appends, writes_checkpoint, fits, is_of_copy, logs_after_checkpoint, holders_where, current_holders}
 use Rattle.leases.specs.LeaseEnds.{has_ended}
 use Rattle.protocol.specs.MasterSnapshots.{revokes, waits_for}
@@ -281,19 +281,19 @@ module _ (start : LogDisk) (Ended : ℕ → ℕ → Type 0) (P : Core → Type 0
       wait_acts (sends_copies tried handle copy version targets) a (sends_copies_acts tried handle copy version (new_attempt d.master version targets) targets (put_there d.master.attempts copy (new_attempt d.master version targets) copy refl) refl (servers_in targets) (copy_acts d file index (handle_of handle) copy version targets from above h))
 
   -- of a copy that is begun nothing was granted
-  copy_above : (d : MasterDoing) (r : Record) (copy version : ℕ) (new : ChunkRow) → new.granted ≡ 0 → new.lease_end ≡ 0 → ((l : Logged) → rows_of (after_record l r) ≡ table.insert (rows_of l) copy new) → 1 ≤ version → (e : MasterDoing)
+  copy_above : (d : MasterDoing) (r : Record) (copy version : ℕ) (new : Logged → ChunkRow) → ((l : Logged) → (new l).granted ≡ 0) → ((l : Logged) → (new l).lease_end ≡ 0) → ((l : Logged) → rows_of (after_record l r) ≡ table.insert (rows_of l) copy (new l)) → 1 ≤ version → (e : MasterDoing)
       → IsAfter d r e → IsAbove e copy version
   copy_above d r copy version new none end put one e after asks = by_case after
     where
       ended : (now : ℕ) (l : Logged) → HasEnded now (rows_of (after_record l r)) copy
-      ended now l = subst (λ (rows : Rows). HasEnded now rows copy) (sym (put l)) (ended_new now (rows_of l) copy new end)
+      ended now l = subst (λ (rows : Rows). HasEnded now rows copy) (sym (put l)) (ended_new now (rows_of l) copy (new l) (end l))
 
       at : (l : Logged) → IsAhead (rows_of (after_record l r)) copy version
       at l = (
         one,
         λ row there.
-            let same = ap (λ (x : ChunkRow). x.granted) (same_some new row (sym (put_there (rows_of l) copy new copy refl) ∙ ap (λ (rows : Rows). table.get rows copy) (sym (put l)) ∙ there)) in
-            omega (arith, same, none, one),
+            let same = ap (λ (x : ChunkRow). x.granted) (same_some (new l) row (sym (put_there (rows_of l) copy (new l) copy refl) ∙ ap (λ (rows : Rows). table.get rows copy) (sym (put l)) ∙ there)) in
+            let zero = none l in omega (arith, same, zero, one),
       )
 
       by_case : IsAfter d r e → IsReady e copy version
@@ -320,7 +320,7 @@ module _ (start : LogDisk) (Ended : ℕ → ℕ → Type 0) (P : Core → Type 0
       let copy : ℕ = d.master.logged.next_handle in
       let r : Record = log.CopyStart (file_id a.file) a.index (handle_of handle) (handle_of copy) (version_of (suc row.issued)) in
       logs_here start Ended P keeps rowing Q acts d r (λ e. sends_copy_started e a handle copy (suc row.issued) (t ∷ rest)) (refl, there.0, there.1, free) tt (λ asks. record { due = tt; after = h.0.2 asks }) (file_unawaited d a handle there none)
-      (λ e after from. started_acts a (file_id a.file) a.index handle copy (suc row.issued) (t ∷ rest) e from (copy_above d r copy (suc row.issued) (record new_row { issued = suc row.issued }) refl refl (λ l. refl) (omega arith) e after)) h
+      (λ e after from. started_acts a (file_id a.file) a.index handle copy (suc row.issued) (t ∷ rest) e from (copy_above d r copy (suc row.issued) (λ l. copied_row l.table handle (suc row.issued)) (λ l. refl) (λ l. refl) (λ l. refl) (omega arith) e after)) h
 
   wants_own_acts : (d : MasterDoing) (a : Asker) (handle : ℕ) (row : ChunkRow) → chunk_of d.master.logged.table handle ≡ Some row → IsIdle d handle → IsPlaced d a handle → IsFree d a → IsUnawaitedHere d handle → Now d
       → Now (wants_own d a handle row)

@@ -21,7 +21,7 @@ use Rattle.chunk_table.specs.ChunkTable.{ChunkRow, chunk_of}
 use Rattle.protocol.specs.Logged.{KeptCall, LogDisk}
 use Rattle.protocol.specs.Master.{MasterDoing, PendingSnapshot, orders, has_lease, gives_up_copies, without_attempts}
 use Rattle.protocol.specs.MasterSnapshots.{revokes_row, revokes, revokes_all, takes_locks, begins_snapshot, snapshot_handles, snapshot_files, copies_for_files, reply_of, answers_name, settles_name, refuses_name, changes_names, first_is_true, all_but_first, lets_go, is_same_snapshot, takes_snapshot, takes_ready, is_ready, row_has_ended}
-use Rattle.protocol.specs.MasterNames.{master_refusal, reply_by, takes_look, performs, names_by, is_waiting_call, names_anew, names_kept, takes_name}
+use Rattle.protocol.specs.MasterNames.{master_refusal, reply_by, takes_look, performs, names_by, is_waiting_call, names_anew, names_kept, takes_name, told_shape}
 use Rattle.laws_base.proofs.LeaseOrders.{revoke_order}
 use Rattle.laws_base.proofs.Steps.{on_cond, none_some, same_some, removed_cases}
 use Rattle.laws_base.proofs.Entries.{AllOf}
@@ -169,10 +169,10 @@ module _ (start : LogDisk) (Ended : ℕ → ℕ → Type 0) (P : Core → Type 0
       changes_acts d client number (call.Mkdir p) (log.Mkdir (client_id client) number p) tt tt (λ asks. mkdir_named d.master (client_id client) number p d.master.logged.next_file may (h.0.2 asks)) tt h
   performs_acts d client number deadline (call.Rmdir p) may new bound h =
       changes_acts d client number (call.Rmdir p) (log.Rmdir (client_id client) number p) tt tt (λ asks. rmdir_named d.master (client_id client) number p d.master.logged.next_file may (h.0.2 asks)) tt h
-  performs_acts d client number deadline (call.Create p) may new bound h =
-      changes_acts d client number (call.Create p) (log.Create (client_id client) number (file_id d.master.logged.next_file) p) refl tt
-      (λ asks. create_named d.master (client_id client) number (file_id d.master.logged.next_file) p d.master.logged.next_file may (h.0.2 asks))
-      (λ s among. (create_apart p d.master.snapshots (not_refused d.master (call.Create p) may).0 s among).0) h
+  performs_acts d client number deadline (call.Create p shape) may new bound h =
+      changes_acts d client number (call.Create p shape) (log.Create (client_id client) number (file_id d.master.logged.next_file) (told_shape d.master.config shape) p) refl tt
+      (λ asks. create_named d.master (client_id client) number (file_id d.master.logged.next_file) shape (told_shape d.master.config shape) p d.master.logged.next_file may (h.0.2 asks))
+      (λ s among. (create_apart p shape d.master.snapshots (not_refused d.master (call.Create p shape) may).0 s among).0) h
   performs_acts d client number deadline (call.Delete p) may new bound h =
       changes_acts d client number (call.Delete p) (log.Delete (client_id client) number (moment_of d.master.now) p) tt tt
       (λ asks. delete_named d.master (client_id client) number (moment_of d.master.now) p d.master.logged.next_file (bound asks) may (h.0.2 asks)) tt h

@@ -1,5 +1,5 @@
 -- Paths that are apart have nothing below both, and no path that isn't reserved has a hidden name below it.
-use Rattle.std.proofs.Common.{◌≡◌, ◌⊎◌, ℕ, Bool, true, false, List, [], ◌∷◌, ◌++◌, length, refl, sym, ap, subst, ◌∙◌, inl, inr, arith}
+use Rattle.std.proofs.Common.{◌≡◌, ◌⊎◌, ℕ, Bool, true, false, List, [], ◌∷◌, ◌++◌, length, refl, sym, ap, subst, ◌∙◌, inl, inr, arith, Option}
 use Rattle.std.specs.Prelude.{◌==◌, ◌||◌, ◌&&◌}
 use Rattle.std.specs.List.{list_any}
 use Rattle.std.specs.Str.{bytes_eq}
@@ -16,6 +16,7 @@ use Rattle.protocol.specs.Master.{PendingSnapshot}
 use Rattle.protocol.specs.MasterNames.{snapshot_call}
 use Rattle.laws_base.proofs.Entries.{same_number}
 use Rattle.laws_base.proofs.Namespace.{AreApart, IsAmong}
+use Rattle.gfs_types.specs.declared.shape.Shape.{Shape}
 
 pub turned : (p q : Path) → AreApart p q → AreApart q p
 turned p q h = record { other = by_test (bytes_eq q p) refl; below = h.above; above = h.below }
@@ -136,9 +137,9 @@ none_of f (x ∷ ss) s h (inr later) = none_of f ss s (or_parts (f x) (list_any 
 abbrev IsFreeOf : Call → List PendingSnapshot → Type 0
 IsFreeOf c ss = list_any (λ s. conflict c (snapshot_call s)) ss ≡ false
 
-pub create_apart : (p : Path) (ss : List PendingSnapshot) → IsFreeOf (call.Create p) ss → (s : PendingSnapshot) → IsAmong ss s → AreLocksApart p s
-create_apart p ss free s among =
-    lock_apart p s (or_parts (list_any (λ q. conflict_at true p true q) (s.from ∷ s.to ∷ [])) false (none_of (λ t. conflict (call.Create p) (snapshot_call t)) ss s free among)).0
+pub create_apart : (p : Path) (shape : Option Shape) (ss : List PendingSnapshot) → IsFreeOf (call.Create p shape) ss → (s : PendingSnapshot) → IsAmong ss s → AreLocksApart p s
+create_apart p shape ss free s among =
+    lock_apart p s (or_parts (list_any (λ q. conflict_at true p true q) (s.from ∷ s.to ∷ [])) false (none_of (λ t. conflict (call.Create p shape) (snapshot_call t)) ss s free among)).0
 
 abbrev IsFreeBoth : Path → Path → PendingSnapshot → Type 0
 IsFreeBoth p q s = list_any (λ x. conflict_at true p true x) (s.from ∷ s.to ∷ []) || (list_any (λ x. conflict_at true q true x) (s.from ∷ s.to ∷ []) || false) ≡ false

@@ -34,7 +34,7 @@ IsUntried attempts handle = (a : VersionAttempt) → table.get attempts handle �
 
 -- What is known of a record beside what is due, where these snapshots wait: names that they copy from get no file, a number is issued and a copy begins only for what none waits for; as a number is issued, its chunk has no attempt and its lease has ended; what a Snapshot copies is quiet, and its leases have ended.
 abbrev pub IsBeside : Logged → Attempts → List PendingSnapshot → ℕ → Record → Type 0
-IsBeside l attempts ss now (log.Create client n file path) = (s : PendingSnapshot) → IsAmong ss s → AreApart path s.from
+IsBeside l attempts ss now (log.Create client n file shape path) = (s : PendingSnapshot) → IsAmong ss s → AreApart path s.from
 IsBeside l attempts ss now (log.Rename client n from to) = (s : PendingSnapshot) → IsAmong ss s → AreApart to s.from
 IsBeside l attempts ss now (log.Snapshot client n from to) =
     IsFree l.names from to × ((s : PendingSnapshot) → IsAmong ss s → AreApart to s.from) × IsQuiet l attempts from
@@ -67,7 +67,7 @@ waiting_filtered l attempts ss left from h = (h.0, λ s among. h.1 s (from s amo
 
 -- a record that is no copy's is still beside it after a checkpoint
 pub beside_less : (l : Logged) (attempts : Attempts) (ss : List PendingSnapshot) (now : ℕ) (handles : List ℕ) (r : Record) → IsBeside l attempts ss now r → IsBeside (copies_given_up l handles) (removed_all attempts handles) ss now r
-beside_less l attempts ss now handles (log.Create client n file path) h = h
+beside_less l attempts ss now handles (log.Create client n file shape path) h = h
 beside_less l attempts ss now handles (log.Rename client n from to) h = h
 beside_less l attempts ss now handles (log.Snapshot client n from to) h =
     (h.0, h.1, quiet_less l attempts handles from h.2, λ x id at is handle some. ended_removed now (rows_of l) handles handle (h.3 x id at is handle some))
@@ -206,8 +206,8 @@ module _ (l : Logged) (attempts : Attempts) (ss : List PendingSnapshot) (now : �
   quiet_after : (s : PendingSnapshot) → IsAmong ss s → (r : Record) → IsDue (Unit {0}) l r → IsNoGrantRecord r → IsBeside l attempts ss now r → IsStill (after_record l r) s
   quiet_after s among (log.Mkdir client n path) due plain beside = still (after_record l (log.Mkdir client n path)) s among (dir_put l.names path s.from) same_files (λ copy c there. there)
   quiet_after s among (log.Rmdir client n path) due plain beside = still (after_record l (log.Rmdir client n path)) s among (name_gone l.names path s.from) same_files (λ copy c there. there)
-  quiet_after s among (log.Create client n file path) due plain beside =
-      still (after_record l (log.Create client n file path)) s among (name_put l.names path (File file.0) s.from (apart_outside path s.from (beside s among))) (λ x id is. empty_file l.table.files file.0 id) (λ copy c there. there)
+  quiet_after s among (log.Create client n file shape path) due plain beside =
+      still (after_record l (log.Create client n file shape path)) s among (name_put l.names path (File file.0) s.from (apart_outside path s.from (beside s among))) (λ x id is. empty_file l.table.files file.0 id) (λ copy c there. there)
   quiet_after s among (log.Delete client n moment path) due plain beside =
       let free = free_of s among in
       still (after_record l (log.Delete client n moment path)) s among (name_hidden l.names path moment.0 s.from (λ id. none_hidden_below s.from free.path_from free.open_from moment.0 id) (node_at l.names path)) same_files (λ copy c there. there)
@@ -230,7 +230,7 @@ module _ (l : Logged) (attempts : Attempts) (ss : List PendingSnapshot) (now : �
         ],
       )
   quiet_after s among (log.Grant handle version primary members) due plain beside = absurd plain
-  quiet_after s among (log.FileItem path file handles) due plain beside = absurd due
+  quiet_after s among (log.FileItem path file shape handles) due plain beside = absurd due
   quiet_after s among (log.ChunkItem handle granted issued primary members) due plain beside = absurd due
   quiet_after s among (log.DirItem path) due plain beside = absurd due
   quiet_after s among other due plain beside = wait.1 s among

@@ -1,6 +1,5 @@
 -- A number of a chunk that was issued stays issued: in the state, in the log, after each record and from a checkpoint that is read again.
 use Rattle.std.proofs.Common.{◌≡◌, ℕ, ◌+◌, ◌≤◌, ◌<◌, List, Some, refl, sym, ap, ◌∙◌, inl, inr, arith}
-use Rattle.std.specs.Prelude.{nat_lt}
 use Rattle.std.specs.FinMap as table
 use Rattle.std.proofs.Math.Nat.{le-max_left, le-max_right}
 use Rattle.gfs_types.specs.declared.config.Config.{Config}
@@ -11,10 +10,10 @@ use Rattle.log_records.specs.declared.record.Record.{Record}
 use Rattle.log_records.specs.declared.record.Record.TheVariants as log
 use Rattle.relaxed_file.specs.Names.{copied_entries}
 use Rattle.relaxed_file.proofs.NamesTree.{Tree}
-use Rattle.chunk_table.specs.ChunkTable.{ChunkRow, new_row, row_granted, set_end}
+use Rattle.chunk_table.specs.ChunkTable.{ChunkRow, row_granted, set_end, added_row, copied_row}
 use Rattle.protocol.specs.Logged.{Logged, LogDisk, WriteCheckpoint, first_logged, log_changed, after_record, after_records, checkpoint_of, copies_given_up, all_copies_given_up, replayed}
-use Rattle.protocol.specs.MasterStep.{lease_after_restart, started_master}
-use Rattle.laws_base.proofs.Steps.{on_cond, same_some, put_cases, put_there, removed_cases}
+use Rattle.protocol.specs.MasterStep.{row_after_restart, started_master}
+use Rattle.laws_base.proofs.Steps.{same_some, put_cases, put_there, removed_cases}
 use Rattle.laws_base.proofs.Entries.{mapped_cases}
 use Rattle.laws_base.proofs.ChunkRows.{Rows, rows_of, OwnedFrom, removed_owned, all_copied_owned, swapped_owned, expired_owned}
 use Rattle.laws_base.proofs.VersionsAhead.{changed_cases}
@@ -58,10 +57,10 @@ module _ (handle version : ℕ) where
 
   pub passed_after : (l k : Logged) (r : Record) → IsDue (Unit {0}) l r → IsNoGrantRecord r → IsPassed l → IsPassed k → IsPassed (after_record k r)
   passed_after l k (log.AddChunk file chunk) due plain g h =
-      put_passed l k (after_record k (log.AddChunk file chunk)) chunk.0 (record new_row { references = 1 }) refl due.0 (next_grows l k (log.AddChunk file chunk) due) g h
+      put_passed l k (after_record k (log.AddChunk file chunk)) chunk.0 (added_row k.table file.0) refl due.0 (next_grows l k (log.AddChunk file chunk) due) g h
   passed_after l k (log.CopyStart file index source copy copy_version) due plain g h =
       let r : Record = log.CopyStart file index source copy copy_version in
-      put_passed l k (after_record k r) copy.0 (record new_row { issued = copy_version.0 }) refl due.0 (next_grows l k r due) g h
+      put_passed l k (after_record k r) copy.0 (copied_row k.table source.0 copy_version.0) refl due.0 (next_grows l k r due) g h
   passed_after l k (log.Issue chunk number) due plain g h = (
     h.0,
     λ row is. elim (changed_cases (rows_of k) chunk.0 (λ r. record r { issued = number.0 }) (table.get (rows_of k) chunk.0) handle row refl is) [
@@ -78,7 +77,7 @@ module _ (handle version : ℕ) where
   passed_after l k (log.Expired file) due plain g h = owned_passed k (after_record k (log.Expired file)) (expired_owned k file) (omega arith) h
   passed_after l k (log.Grant chunk number primary members) due plain g h = absurd plain
   passed_after l k (log.Counters next_file next_handle epoch) due plain g h = absurd due
-  passed_after l k (log.FileItem path file handles) due plain g h = absurd due
+  passed_after l k (log.FileItem path file shape handles) due plain g h = absurd due
   passed_after l k (log.ChunkItem chunk granted issued primary members) due plain g h = absurd due
   passed_after l k other due plain g h = h
 
@@ -136,7 +135,7 @@ module _ (handle version : ℕ) where
       let high = le-max_right k.next_handle (copy + 1) in (
         omega (arith, high, key),
         λ row is.
-            let issued = ap (λ (r : ChunkRow). r.issued) (same_some (record new_row { issued = number }) row (sym (put_there (rows_of k) copy (record new_row { issued = number }) handle (sym key)) ∙ is)) in
+            let issued = ap (λ (r : ChunkRow). r.issued) (same_some (copied_row k.table source.0 number) row (sym (put_there (rows_of k) copy (copied_row k.table source.0 number) handle (sym key)) ∙ is)) in
             omega (arith, issued, same),
       )
 
@@ -158,11 +157,11 @@ module _ (handle version : ℕ) where
     h.0,
     λ row at.
         let all : Logged = state_of found in
-        let was = mapped_cases (lease_after_restart config moment) (rows_of (replayed found)) handle row at in
+        let was = mapped_cases (row_after_restart config moment) (rows_of (replayed found)) handle row at in
         let bound = h.1 was.0 (removed_cases (rows_of all) (table.keys all.copies) handle was.0 was.1) in
         let issued : (was.0).issued ≡ row.issued = same_issued was.0 ∙ ap (λ (r : ChunkRow). r.issued) was.2 in
         omega (arith, bound, issued),
   )
     where
-      same_issued : (row : ChunkRow) → row.issued ≡ (lease_after_restart config moment row).issued
-      same_issued row = on_cond (λ (r : ChunkRow). row.issued ≡ r.issued) (nat_lt 0 row.granted) (record row { lease_end = moment + config.skew_ms + config.lease_ms }) row (λ _. refl) (λ _. refl)
+      same_issued : (row : ChunkRow) → row.issued ≡ (row_after_restart config moment row).issued
+      same_issued row = refl

@@ -41,7 +41,7 @@ use Rattle.protocol.specs.Master.{held_where, version_held, holders_where, curre
 use Rattle.protocol.specs.MasterSnapshots.{revokes_row, revokes, revokes_all, takes_locks, begins_snapshot, snapshot_handles, snapshot_files, copies_for_files}
 use Rattle.protocol.specs.MasterSnapshots.{reply_of, answers_name, settles_name, refuses_name, changes_names, first_is_true, all_but_first}
 use Rattle.protocol.specs.MasterSnapshots.{lets_go, takes_snapshot, takes_ready, is_ready, waits_for}
-use Rattle.protocol.specs.MasterNames.{master_refusal, reply_by, performs, names_by, is_waiting_call, names_anew, names_kept}
+use Rattle.protocol.specs.MasterNames.{master_refusal, reply_by, performs, names_by, is_waiting_call, names_anew, names_kept, told_shape}
 use Rattle.protocol.specs.MasterVersions.{Asker, VersionTarget, holder_line, group_of, tells_location, tells_holders, tells_none, tells_to_wait}
 use Rattle.protocol.specs.MasterVersions.{version_order, sends_versions, new_attempt, sends_issued, issues_to, targets_by, recorded_holders, placement, placed_targets}
 use Rattle.protocol.specs.MasterVersions.{issues_own, is_attempted, copy_order, sends_copies, copy_targets, sends_copy_started, copies_to, begins_copy, copy_for, is_copied}
@@ -113,7 +113,7 @@ module _ (m : MasterState) (handle : ℕ) where
   copies_based row =
       let test : ℕ → Bool = λ v. nat_le row.granted v in
       on_cond (AllOf (λ (t : VersionTarget). HasBase t.base)) (nat_lt 0 row.granted) (map holder_target (current_holders m handle row)) _
-      (λ _. bases_held test (current_holders m handle row) (all_hold m handle test (servers_of m))) (λ _. no_bases (placement m))
+      (λ _. bases_held test (current_holders m handle row) (all_hold m handle test (servers_of m))) (λ _. no_bases (placement m row))
 
 -- targets of a version: each has one that it may replace
 
@@ -147,10 +147,10 @@ module _ (m : MasterState) (handle : ℕ) (row : ChunkRow) where
   by_holders [] all =
       let test : ℕ → Bool = λ v. nat_le row.granted v in
       let present : List HeldAt = present_current_holders m handle row in
-      on_cond (AllOf (IsTarget row)) (nat_lt 0 row.granted) (map holder_target present) (placed_targets m handle)
+      on_cond (AllOf (IsTarget row)) (nat_lt 0 row.granted) (map holder_target present) (placed_targets m handle row)
       (λ _. held_targets row present
       (current_over present (all_filtered (IsHolder m handle test) (λ x. is_present m x.server) (current_holders m handle row) (all_hold m handle test (servers_of m)))))
-      (λ none. placed_over (placement m) (ltb-false 0 row.granted none))
+      (λ none. placed_over (placement m row) (ltb-false 0 row.granted none))
   by_holders (x ∷ rest) all = held_targets row (x ∷ rest) all
 
   targets_over : AllOf (IsTarget row) (targets_by m handle row (recorded_holders m handle row))
@@ -260,8 +260,8 @@ module _ (l : Logged) (i : NodeInput) (A : MasterDoing → Type 0) (P : StepEffe
   performed : (d : MasterDoing) (client number deadline : ℕ) (c : Call) → Here d → Here (performs d client number deadline c)
   performed d client number deadline (call.Mkdir p) h = changed d client number (call.Mkdir p) (log.Mkdir (client_id client) number p) tt h
   performed d client number deadline (call.Rmdir p) h = changed d client number (call.Rmdir p) (log.Rmdir (client_id client) number p) tt h
-  performed d client number deadline (call.Create p) h =
-      changed d client number (call.Create p) (log.Create (client_id client) number (file_id d.master.logged.next_file) p) tt h
+  performed d client number deadline (call.Create p shape) h =
+      changed d client number (call.Create p shape) (log.Create (client_id client) number (file_id d.master.logged.next_file) (told_shape d.master.config shape) p) tt h
   performed d client number deadline (call.Delete p) h = changed d client number (call.Delete p) (log.Delete (client_id client) number (moment_of d.master.now) p) tt h
   performed d client number deadline (call.Rename p q) h = changed d client number (call.Rename p q) (log.Rename (client_id client) number p q) tt h
   performed d client number deadline (call.Snapshot p q) h = begun d (record { client = client; number = number; deadline = deadline; from = p; to = q }) h

@@ -21,7 +21,7 @@ use Rattle.messages.specs.declared.event.NodeInput.{NodeInput}
 use Rattle.messages.specs.declared.event.NodeInput.TheVariants as input
 use Rattle.log_records.specs.declared.record.Record.{Record}
 use Rattle.log_records.specs.declared.record.Record.TheVariants as log
-use Rattle.chunk_table.specs.ChunkTable.{ChunkRow, new_row, chunk_of, file_of}
+use Rattle.chunk_table.specs.ChunkTable.{ChunkRow, chunk_of, file_of, added_row}
 use Rattle.leases.specs.LeaseEnds.{has_ended}
 use Rattle.protocol.specs.Tables.{element_at}
 use Rattle.protocol.specs.LogSizes.{checkpoint_fits}
@@ -215,7 +215,7 @@ module _ (l : Logged) (now : ℕ) (ready : (handle : ℕ) (c : Copy) → table.g
   added_kept d file handle new h =
       record {
         next = let low = h.next in let high = le-max_left d.master.logged.next_handle (handle + 1) in omega (arith, low, high);
-        rows = λ q row is. elim (put_cases d.master.logged.table.chunks handle (record new_row { references = 1 }) q row is) [
+        rows = λ q row is. elim (put_cases d.master.logged.table.chunks handle (added_row d.master.logged.table file) q row is) [
           | inl same ↦ inr (let key = same.0 in omega (arith, new, key))
           | inr before ↦ h.rows q row before
         ];

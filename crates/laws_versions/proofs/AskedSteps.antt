@@ -19,7 +19,7 @@ use Rattle.messages.specs.declared.message.Wanted.{Wanted}
 use Rattle.messages.specs.declared.message.Wanted.TheVariants as wanted
 use Rattle.log_records.specs.declared.record.Record.{Record}
 use Rattle.log_records.specs.declared.record.Record.TheVariants as log
-use Rattle.chunk_table.specs.ChunkTable.{ChunkRow, new_row, chunk_of, file_of}
+use Rattle.chunk_table.specs.ChunkTable.{ChunkRow, chunk_of, file_of, added_row, copied_row}
 use Rattle.leases.specs.LeaseEnds.{has_ended}
 use Rattle.protocol.specs.Tables.{element_at, first_of_list, removed_all}
 use Rattle.protocol.specs.LogSizes.{checkpoint_fits}
@@ -167,7 +167,7 @@ module _ (l : Logged) (tried : Attempts) (now : ℕ) (asker : Node) (asked file 
       record {
         now_is = h.now_is;
         next = let low = h.next in let high = le-max_left k.next_handle (handle + 1) in omega (arith, low, high);
-        rows = λ q row is. elim (put_cases (rows_of k) handle (record new_row { references = 1 }) q row is) [
+        rows = λ q row is. elim (put_cases (rows_of k) handle (added_row k.table of_file) q row is) [
           | inl same ↦
               let key = same.0 in
               let one = ap (λ (x : ChunkRow). x.references) same.1 in
@@ -216,7 +216,7 @@ module _ (l : Logged) (tried : Attempts) (now : ℕ) (asker : Node) (asked file 
           ])
           | inr before ↦ inl (h.tried_is q a before)
         ];
-        ends = λ q row is. elim (put_cases (rows_of k) copy (record new_row { issued = version }) q row is) [
+        ends = λ q row is. elim (put_cases (rows_of k) copy (copied_row k.table handle version) q row is) [
           | inl same ↦ inr (sym (ap (λ (x : ChunkRow). x.lease_end) same.1))
           | inr before ↦ elim (h.rows q row before) [ inl old ↦ inl (old.0, old.1, old.4) | inr fresh ↦ inr fresh.3 ]
         ];

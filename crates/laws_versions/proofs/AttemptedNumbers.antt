@@ -15,7 +15,7 @@ use Rattle.messages.specs.declared.message.Wanted.TheVariants as wanted
 use Rattle.log_records.specs.declared.record.Record.{Record}
 use Rattle.log_records.specs.declared.record.Record.TheVariants as log
 use Rattle.relaxed_file.specs.Names.{copied_entries}
-use Rattle.chunk_table.specs.ChunkTable.{ChunkRow, new_row, chunk_of, file_of, row_issued, row_granted}
+use Rattle.chunk_table.specs.ChunkTable.{ChunkRow, chunk_of, file_of, row_issued, row_granted, added_row, copied_row}
 use Rattle.leases.specs.LeaseEnds.{has_ended}
 use Rattle.protocol.specs.Tables.{element_at, removed_all, kept_where}
 use Rattle.protocol.specs.LogSizes.{checkpoint_fits}
@@ -74,7 +74,7 @@ named_from l (log.Snapshot client n from to) names = (from_owned (rows_of l) (ro
 named_from l (log.Expired file) names = (from_owned (rows_of l) (rows_of (after_record l (log.Expired file))) (expired_owned l file), refl)
 named_from l (log.Mkdir client n path) names = (same_from (rows_of l), refl)
 named_from l (log.Rmdir client n path) names = (same_from (rows_of l), refl)
-named_from l (log.Create client n file path) names = (same_from (rows_of l), refl)
+named_from l (log.Create client n file shape path) names = (same_from (rows_of l), refl)
 named_from l (log.Delete client n moment path) names = (same_from (rows_of l), refl)
 named_from l (log.Rename client n from to) names = (same_from (rows_of l), refl)
 named_from l (log.Refused client n refusal) names = (same_from (rows_of l), refl)
@@ -186,12 +186,12 @@ added_last d file handle is_next h =
     let grows = le-max_left d.master.logged.next_handle (handle + 1) in
     let past = le-max_right d.master.logged.next_handle (handle + 1) in
     record {
-      used = λ q row at. elim (put_split (rows_of d.master.logged) handle (record new_row { references = 1 }) q row at) [
+      used = λ q row at. elim (put_split (rows_of d.master.logged) handle (added_row d.master.logged.table file) q row at) [
         | inl same ↦ let key = same.0 in omega (arith, key, past)
         | inr other ↦ let low = h.used q row other.1 in omega (arith, low, grows)
       ];
       tried_used = λ q a is. let low = h.tried_used q a is in omega (arith, low, grows);
-      last = λ q a is row at. elim (put_split (rows_of d.master.logged) handle (record new_row { references = 1 }) q row at) [
+      last = λ q a is row at. elim (put_split (rows_of d.master.logged) handle (added_row d.master.logged.table file) q row at) [
         | inl same ↦ absurd (let low = h.tried_used q a is in let key = same.0 in omega (arith, key, low, is_next))
         | inr other ↦ h.last q a is row other.1
       ];
@@ -226,7 +226,7 @@ begun_last l tried file index handle copy version new is_new h =
     let grows = le-max_left l.next_handle (copy + 1) in
     let past = le-max_right l.next_handle (copy + 1) in
     record {
-      used = λ q row at. elim (put_split (rows_of l) copy (record new_row { issued = version }) q row at) [
+      used = λ q row at. elim (put_split (rows_of l) copy (copied_row l.table handle version) q row at) [
         | inl same ↦ let key = same.0 in omega (arith, key, past)
         | inr other ↦ let low = h.used q row other.1 in omega (arith, low, grows)
       ];
@@ -235,11 +235,11 @@ begun_last l tried file index handle copy version new is_new h =
         | inr other ↦ let low = h.tried_used q a other.1 in omega (arith, low, grows)
       ];
       last = λ q a is row at. elim (put_split tried copy new q a is) [
-        | inl same ↦ elim (put_split (rows_of l) copy (record new_row { issued = version }) q row at) [
+        | inl same ↦ elim (put_split (rows_of l) copy (copied_row l.table handle version) q row at) [
           | inl this ↦ sym (ap (λ (x : VersionAttempt). x.version) same.1) ∙ is_new ∙ ap (λ (x : ChunkRow). x.issued) this.1
           | inr other ↦ absurd (other.0 same.0)
         ]
-        | inr kept ↦ elim (put_split (rows_of l) copy (record new_row { issued = version }) q row at) [
+        | inr kept ↦ elim (put_split (rows_of l) copy (copied_row l.table handle version) q row at) [
           | inl this ↦ absurd (kept.0 this.0)
           | inr other ↦ h.last q a kept.1 row other.1
         ]

@@ -68,7 +68,7 @@ module _ (first : ℕ) where
       record { source = h.source; copy = h.copy; seen_is = h.seen_is; new = h.new; used = h.used; nowhere = h.nowhere; from = λ c is. h.from c (removed_cases l.copies handles h.copy c is); on = h.on }
 
   begun_names : (seen : List Seen) (l : Logged) (up : Bool) (r : Record) → IsOfNames r → Begun seen l up → Begun seen (after_record l r) up
-  begun_names seen l up (log.Create client n new path) is h =
+  begun_names seen l up (log.Create client n new shape path) is h =
       record { source = h.source; copy = h.copy; seen_is = h.seen_is; new = h.new; used = h.used; nowhere = at_put h.copy (λ j. ⊥) l.table.files new.0 [] (λ j at. none_some h.copy at) h.nowhere; from = h.from; on = h.on }
   begun_names seen l up (log.Snapshot client n from to) is h =
       record { source = h.source; copy = h.copy; seen_is = h.seen_is; new = h.new; used = h.used; nowhere = at_copied h.copy (λ j. ⊥) l.table l.next_file (copied_entries l.names from to) h.nowhere; from = h.from; on = h.on }

@@ -10,7 +10,7 @@ use Rattle.messages.specs.declared.event.NodeInput.{NodeInput}
 use Rattle.messages.specs.declared.message.Body.{Body}
 use Rattle.messages.specs.declared.message.Body.TheVariants as body
 use Rattle.messages.specs.declared.message.Message.{Message}
-use Rattle.chunk_table.specs.ChunkTable.{ChunkRow, new_row, chunk_of}
+use Rattle.chunk_table.specs.ChunkTable.{ChunkRow, chunk_of, added_row}
 use Rattle.protocol.specs.Choice.{Choice, Ending, Goes, Lost, Stops}
 use Rattle.protocol.specs.Seen.{Taken, no_step}
 use Rattle.protocol.specs.Tables.{Table}
@@ -74,7 +74,7 @@ like_kept m =
       ordered = λ d server b h. h;
       added = λ d file h. (
         h.0,
-        λ handle row is more. elim (put_cases d.master.logged.table.chunks d.master.logged.next_handle (record new_row { references = 1 }) handle row is) [
+        λ handle row is more. elim (put_cases d.master.logged.table.chunks d.master.logged.next_handle (added_row d.master.logged.table file) handle row is) [
           | inl same ↦ let two : nat_lt 1 1 ≡ true = subst (λ (x : ChunkRow). nat_lt 1 x.references ≡ true) (sym same.1) more in true_false (sym two)
           | inr before ↦ h.1 handle row before more
         ],

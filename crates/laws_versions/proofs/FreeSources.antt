@@ -50,7 +50,7 @@ free_record l tried now (log.Expired file) names h =
     free_from l (after_record l (log.Expired file)) tried tried now (λ copy c is. removed_cases l.copies (copies_for_file l file.0) copy c is) (λ q a is. is) (expired_owned l file) h
 free_record l tried now (log.Mkdir client n path) names h = h
 free_record l tried now (log.Rmdir client n path) names h = h
-free_record l tried now (log.Create client n file path) names h = h
+free_record l tried now (log.Create client n file shape path) names h = h
 free_record l tried now (log.Delete client n moment path) names h = h
 free_record l tried now (log.Rename client n from to) names h = h
 free_record l tried now (log.Refused client n refusal) names h = h

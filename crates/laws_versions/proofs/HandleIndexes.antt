@@ -83,7 +83,7 @@ module _ (handle : ℕ) (Q : ℕ → Type 0) where
   MayBeAdded l other = Unit {0}
 
   at_after : (l : Logged) (r : Record) → IsDue (Unit {0}) l r → IsNoGrantRecord r → MayBeAdded l r → AreAt l.table.files → AreAt (after_record l r).table.files
-  at_after l (log.Create client n new path) due plain may h = at_put l.table.files new.0 [] (λ j at. none_some handle at) h
+  at_after l (log.Create client n new shape path) due plain may h = at_put l.table.files new.0 [] (λ j at. none_some handle at) h
   at_after l (log.Snapshot client n from to) due plain may h = at_copied l.table l.next_file (copied_entries l.names from to) h
   at_after l (log.Expired gone) due plain may h = at_gone l.table.files gone.0 h
   at_after l (log.AddChunk file new) due plain may h =
@@ -210,7 +210,7 @@ module _ (handle : ℕ) where
       started : Copy
       started = record { file = file.0; index = at; source = source.0 }
   new_after l (log.Expired gone) due plain h none = inl ((h.0, at_after handle (λ j. ⊥) l (log.Expired gone) due plain tt h.1), stays_gone l.copies (copies_for_file l gone.0) handle none)
-  new_after l (log.Create client n new path) due plain h none = inl ((h.0, at_after handle (λ j. ⊥) l (log.Create client n new path) due plain tt h.1), none)
+  new_after l (log.Create client n new shape path) due plain h none = inl ((h.0, at_after handle (λ j. ⊥) l (log.Create client n new shape path) due plain tt h.1), none)
   new_after l (log.Snapshot client n from to) due plain h none = inl ((h.0, at_after handle (λ j. ⊥) l (log.Snapshot client n from to) due plain tt h.1), none)
   new_after l (log.Issue chunk version) due plain h none = inl (h, none)
   new_after l (log.Mkdir client n path) due plain h none = inl (h, none)

@@ -12,7 +12,7 @@ use Rattle.log_records.specs.declared.record.Record.TheVariants as log
 use Rattle.relaxed_file.specs.Names.{copied_entries}
 use Rattle.protocol.specs.Tables.{removed_all}
 use Rattle.protocol.specs.Sending.{message, the_server, handle_of, version_of, moment_of}
-use Rattle.chunk_table.specs.ChunkTable.{ChunkRow, new_row, chunk_of, row_granted}
+use Rattle.chunk_table.specs.ChunkTable.{ChunkRow, chunk_of, row_granted, added_row, copied_row}
 use Rattle.protocol.specs.Logged.{Logged, Copy, LogDisk, LogChange, AppendRecord, WriteCheckpoint, log_changed, after_record, checkpoint_of, copies_given_up, all_copies_given_up, swapped_in}
 use Rattle.protocol.specs.Master.{VersionAttempt}
 use Rattle.laws_base.specs.Laws.{is_grant, tells_end}
@@ -127,14 +127,14 @@ module _ (before : List Message) (greatest lease : ℕ) (Over : ℕ → ℕ → 
 
   done_after : (c : Core) (attempts : Attempts) (ss : Waits) (r : Record) → IsDue (Unit {0}) c.logged r → IsNoGrantRecord r → IsBeside c.logged attempts ss c.now r → Moving c → AreUsed attempts c.logged.next_handle → AreDone c attempts → AreDone (core_appended c r) attempts
   done_after c attempts ss (log.AddChunk file chunk) due plain beside p used h handle row there =
-      elim (put_cases (rows_of c.logged) chunk.0 (record new_row { references = 1 }) handle row there) [
+      elim (put_cases (rows_of c.logged) chunk.0 (added_row c.logged.table file.0) handle row there) [
         | inl new ↦
             let issued : 0 ≡ row.issued = ap (λ (r : ChunkRow). r.issued) new.1 in
             (λ a at. omega (arith, issued), λ ahead. absurd (omega (arith, issued, ahead)))
         | inr old ↦ h handle row old
       ]
   done_after c attempts ss (log.CopyStart file index source copy copy_version) due plain beside p used h handle row there =
-      elim (put_cases (rows_of c.logged) copy.0 (record new_row { issued = copy_version.0 }) handle row there) [
+      elim (put_cases (rows_of c.logged) copy.0 (copied_row c.logged.table source.0 copy_version.0) handle row there) [
         | inl new ↦
             let key = new.0 in
             let next = due.0 in
@@ -170,7 +170,7 @@ module _ (before : List Message) (greatest lease : ℕ) (Over : ℕ → ℕ → 
       let l : Logged = c.logged in
       kept c attempts h handle row (owned_numbers (rows_of l) (rows_of (after_record l (log.Expired file))) (expired_owned l file) handle row there)
   done_after c attempts ss (log.Grant chunk version primary members) due plain beside p used h handle row there = absurd plain
-  done_after c attempts ss (log.FileItem path file handles) due plain beside p used h handle row there = absurd due
+  done_after c attempts ss (log.FileItem path file shape handles) due plain beside p used h handle row there = absurd due
   done_after c attempts ss (log.ChunkItem chunk granted issued primary members) due plain beside p used h handle row there = absurd due
   done_after c attempts ss other due plain beside p used h handle row there = h handle row there
 
@@ -345,9 +345,9 @@ module _ (before : List Message) (greatest lease : ℕ) (Over : ℕ → ℕ → 
         | inr other ↦ absurd (other.0 refl)
       ]
 
-  copied_last : (c : Core) (copy version : ℕ) → IsRowing start c → copy ≡ c.logged.next_handle → (row : ChunkRow) → table.get (table.insert (rows_of c.logged) copy (record new_row { issued = version })) copy ≡ Some row → row.issued ≤ version
-  copied_last c copy version n next row there =
-      elim (put_cases (rows_of c.logged) copy (record new_row { issued = version }) copy row there) [
+  copied_last : (c : Core) (source copy version : ℕ) → IsRowing start c → copy ≡ c.logged.next_handle → (row : ChunkRow) → table.get (table.insert (rows_of c.logged) copy (copied_row c.logged.table source version)) copy ≡ Some row → row.issued ≤ version
+  copied_last c source copy version n next row there =
+      elim (put_cases (rows_of c.logged) copy (copied_row c.logged.table source version) copy row there) [
         | inl new ↦ let issued : version ≡ row.issued = ap (λ (r : ChunkRow). r.issued) new.1 in omega (arith, issued)
         | inr old ↦ absurd (let low = row_below c.logged (state_of c.disk) n.same n.tied copy row old in omega (arith, low, next))
       ]
@@ -380,7 +380,7 @@ module _ (before : List Message) (greatest lease : ℕ) (Over : ℕ → ℕ → 
             let after : Core = core_appended c (log.CopyStart file index source (handle_of copy) (version_of a.version)) in
             let grown = le-max_right c.logged.next_handle (copy + 1) in
             record {
-              done = done_tried after attempts copy a (copied_last c copy a.version p.0 next) h.done;
+              done = done_tried after attempts copy a (copied_last c source.0 copy a.version p.0 next) h.done;
               used = used_tried attempts copy after.logged.next_handle a (omega (arith, grown)) h.used;
               stops = h.stops;
             };

@@ -1,6 +1,6 @@
 -- In each reached world whose clocks were kept the leases of a chunk are over once a number was issued since the last grant: at a master that is up, and in each log that may be found.
 use Rattle.std.proofs.Common.{◌≡◌, ℕ, suc, ◌+◌, ◌≤◌, ◌<◌, true, false, List, [], take, drop, Some, None, refl, sym, ap, subst, ◌∙◌, inl, inr, arith}
-use Rattle.std.specs.Prelude.{nat_le, nat_lt, ◌&&◌, IsTrue}
+use Rattle.std.specs.Prelude.{nat_le, ◌&&◌, IsTrue}
 use Rattle.std.specs.Ordering.{nat_cmp}
 use Rattle.std.specs.FinMap as table
 use Rattle.std.proofs.lemmas.Bool.{and_parts, cases_lt}
@@ -15,7 +15,7 @@ use Rattle.protocol.specs.Choice.{Choice, Ending, Goes, Lost, Stops}
 use Rattle.protocol.specs.Seen.{Taken, no_step}
 use Rattle.protocol.specs.Logged.{Logged, LogDisk, LogChange, first_logged, log_changed_by_all, replayed}
 use Rattle.protocol.specs.Master.{MasterState, MasterDoing, stopped_master, master_begins, writes_checkpoint}
-use Rattle.protocol.specs.MasterStep.{master_at, master_goes, master_ends, master_bounded, master_step, is_within_limits, may_end, found_log, lease_after_restart, started_master, opening, has_opened, opens_as, new_master, first_log}
+use Rattle.protocol.specs.MasterStep.{master_at, master_goes, master_ends, master_bounded, master_step, is_within_limits, may_end, found_log, row_after_restart, started_master, opening, has_opened, opens_as, new_master, first_log}
 use Rattle.protocol.specs.ServerStep.{server_step, server_restart}
 use Rattle.protocol.specs.World.{WorldState, IsReached, new_world, stamped}
 use Rattle.laws_base.specs.Laws.{grants_of, HoldsLastingLease}
@@ -133,15 +133,14 @@ module _ (x : Scene) (base : IsOfTimes x) where
 
   started_done : (config : Config) (count : ℕ) (found : LogDisk) (moment : ℕ) → IsLogDone (IsOverIn x) found → IsStateDone (IsOverIn x) (started_master config count found moment).logged
   started_done config count found moment h handle row there ahead =
-      let was = mapped_cases (lease_after_restart config moment) (rows_of (replayed found)) handle row there in
+      let was = mapped_cases (row_after_restart config moment) (rows_of (replayed found)) handle row there in
       let numbers = same_numbers was.0 in
       let granted : (was.0).granted ≡ row.granted = numbers.0 ∙ ap (λ (r : ChunkRow). r.granted) was.2 in
       let issued : (was.0).issued ≡ row.issued = numbers.1 ∙ ap (λ (r : ChunkRow). r.issued) was.2 in
       subst (λ (v : ℕ). IsOverIn x handle v) granted (h handle was.0 was.1 (omega (arith, granted, issued, ahead)))
     where
-      same_numbers : (r : ChunkRow) → (r.granted ≡ (lease_after_restart config moment r).granted) × (r.issued ≡ (lease_after_restart config moment r).issued)
-      same_numbers r =
-          on_cond (λ (s : ChunkRow). (r.granted ≡ s.granted) × (r.issued ≡ s.issued)) (nat_lt 0 r.granted) (record r { lease_end = moment + config.skew_ms + config.lease_ms }) r (λ _. (refl, refl)) (λ _. (refl, refl))
+      same_numbers : (r : ChunkRow) → (r.granted ≡ (row_after_restart config moment r).granted) × (r.issued ≡ (row_after_restart config moment r).issued)
+      same_numbers r = (refl, refl)
 
   opening_issued : (config : Config) (count : ℕ) (found : LogDisk) (moment : ℕ) → IsGood IsFoundRows IsRowedLog rows_kept found → IsLogDone (IsOverIn x) found → Issuing found (opening (started_master config count found moment))
   opening_issued config count found moment good h =

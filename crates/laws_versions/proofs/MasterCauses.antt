@@ -14,7 +14,7 @@ use Rattle.messages.specs.declared.message.Message.{Message}
 use Rattle.messages.specs.declared.message.LeaseLine.{LeaseLine}
 use Rattle.messages.specs.declared.event.NodeInput.{NodeInput}
 use Rattle.log_records.specs.declared.record.Record.TheVariants as log
-use Rattle.chunk_table.specs.ChunkTable.{ChunkRow, new_row, chunk_of}
+use Rattle.chunk_table.specs.ChunkTable.{ChunkRow, chunk_of, added_row}
 use Rattle.protocol.specs.Tables.{Table, has_number, removed_all}
 use Rattle.protocol.specs.Sending.{message, file_id, handle_of, version_of, moment_of, the_server}
 use Rattle.protocol.specs.Choice.{Choice}
@@ -98,7 +98,7 @@ added_kept : (l : Logged) (tried : Attempts) (k : Logged) (now : Attempts) (file
 added_kept l tried k now file handle new h =
     record {
       next = let low = h.next in let high = le-max_left k.next_handle (handle + 1) in omega (arith, low, high);
-      rows = λ q row is. elim (put_cases k.table.chunks handle (record new_row { references = 1 }) q row is) [
+      rows = λ q row is. elim (put_cases k.table.chunks handle (added_row k.table file) q row is) [
         | inl same ↦ inr ((let key = same.0 in omega (arith, new, key)), sym (ap (λ (x : ChunkRow). x.issued) same.1))
         | inr before ↦ h.rows q row before
       ];

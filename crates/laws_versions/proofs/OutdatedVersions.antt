@@ -1,6 +1,6 @@
 -- A version that is below the granted one of its chunk stays so, in the state and in the log; and a chunk that is gone stays gone.
 use Rattle.std.proofs.Common.{◌≡◌, ℕ, suc, ◌+◌, ◌≤◌, ◌<◌, true, false, List, [], take, drop, refl, sym, ap, subst, ◌∙◌, arith}
-use Rattle.std.specs.Prelude.{◌&&◌, nat_lt, IsTrue}
+use Rattle.std.specs.Prelude.{◌&&◌, IsTrue}
 use Rattle.std.specs.FinMap as table
 use Rattle.gfs_types.specs.declared.config.Config.{Config}
 use Rattle.messages.specs.declared.event.NodeInput.{NodeInput}
@@ -12,7 +12,7 @@ use Rattle.protocol.specs.Seen.{Taken, no_step}
 use Rattle.chunk_table.specs.ChunkTable.{ChunkRow}
 use Rattle.protocol.specs.Logged.{Logged, LogDisk, LogChange, AppendRecord, WriteCheckpoint, log_changed, log_changed_by_all, after_record, checkpoint_of, copies_given_up, all_copies_given_up, replayed}
 use Rattle.protocol.specs.Master.{MasterState, MasterDoing, stopped_master, master_begins, writes_checkpoint}
-use Rattle.protocol.specs.MasterStep.{master_goes, master_ends, master_bounded, master_step, is_within_limits, may_end, found_log, lease_after_restart, started_master, opening, has_opened, opens_as}
+use Rattle.protocol.specs.MasterStep.{master_goes, master_ends, master_bounded, master_step, is_within_limits, may_end, found_log, row_after_restart, started_master, opening, has_opened, opens_as}
 use Rattle.laws_base.proofs.Steps.{on_cond}
 use Rattle.laws_base.proofs.Entries.{mapped_cases}
 use Rattle.laws_base.proofs.ChunkRows.{Rows, rows_of, From, removed_from, changed_from}
@@ -179,14 +179,14 @@ module _ (handle version : ℕ) where
   started_outdated config count found moment h = (
     h.0,
     λ q row at same.
-        let was = mapped_cases (lease_after_restart config moment) (rows_of (replayed found)) q row at in
+        let was = mapped_cases (row_after_restart config moment) (rows_of (replayed found)) q row at in
         let low : version < (was.0).granted = h.1 q was.0 was.1 same in
         let granted : (was.0).granted ≡ row.granted = same_granted was.0 ∙ ap (λ (r : ChunkRow). r.granted) was.2 in
         omega (arith, low, granted),
   )
     where
-      same_granted : (row : ChunkRow) → row.granted ≡ (lease_after_restart config moment row).granted
-      same_granted row = on_cond (λ (r : ChunkRow). row.granted ≡ r.granted) (nat_lt 0 row.granted) (record row { lease_end = moment + config.skew_ms + config.lease_ms }) row (λ _. refl) (λ _. refl)
+      same_granted : (row : ChunkRow) → row.granted ≡ (row_after_restart config moment row).granted
+      same_granted row = refl
 
   epoch_begun : (start : LogDisk) (c : Core) (epoch : ℕ) → log_changed_by_all start c.changes ≡ c.disk → IsGoing start c → IsGoing start (core_appended c (log.Epoch epoch))
   epoch_begun start c epoch disk h =

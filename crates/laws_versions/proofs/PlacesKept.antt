@@ -107,7 +107,7 @@ module _ (file index handle : ℕ) where
       one (File id) = place_put t.files next (handles_of t id) (λ same. absurd (omega (arith, low, same))) h
 
   pub place_after : (l : Logged) (r : Record) → IsDue (Unit {0}) l r → IsNoGrantRecord r → IsPlaceKept l → IsPlaceKept (after_record l r)
-  place_after l (log.Create client n new path) due plain h =
+  place_after l (log.Create client n new shape path) due plain h =
       let low = h.0 in
       let high = le-max_left l.next_file (new.0 + 1) in
       let next = due in

@@ -1,16 +1,15 @@
 -- Rows of chunks whose granted version and members fit something, after each change.
 use Rattle.std.proofs.Common.{◌≡◌, ℕ, List, [], Some, refl, sym, ap, subst, ◌∙◌, inl, inr}
-use Rattle.std.specs.Prelude.{nat_lt}
 use Rattle.std.specs.FinMap as table
 use Rattle.gfs_types.specs.declared.config.Config.{Config}
 use Rattle.log_records.specs.declared.record.Record.{Record}
 use Rattle.log_records.specs.declared.record.Record.TheVariants as log
-use Rattle.chunk_table.specs.ChunkTable.{ChunkRow, new_row, row_granted, changed_by}
+use Rattle.chunk_table.specs.ChunkTable.{ChunkRow, row_granted, changed_by, added_row, copied_row}
 use Rattle.protocol.specs.Tables.{map_values}
 use Rattle.relaxed_file.specs.Names.{copied_entries}
 use Rattle.protocol.specs.Logged.{Logged, LogDisk, after_record, swapped_in, replayed}
-use Rattle.protocol.specs.MasterStep.{lease_after_restart}
-use Rattle.laws_base.proofs.Steps.{on_cond, put_cases}
+use Rattle.protocol.specs.MasterStep.{row_after_restart}
+use Rattle.laws_base.proofs.Steps.{put_cases}
 use Rattle.laws_base.proofs.Entries.{mapped_cases}
 use Rattle.laws_base.proofs.ChunkRows.{Rows, rows_of, OwnedFrom, removed_owned, all_copied_owned, swapped_owned, expired_owned}
 use Rattle.laws_base.proofs.VersionsAhead.{changed_cases}
@@ -41,13 +40,13 @@ changed_granted rows chunk change same handle row is =
       | inr before ↦ (row, before.1, (refl, refl))
     ]
 
-restart_same : (config : Config) (moment : ℕ) (row : ChunkRow) → HaveSameGrant row (lease_after_restart config moment row)
-restart_same config moment row = on_cond (λ (r : ChunkRow). HaveSameGrant row r) (nat_lt 0 row.granted) _ row (λ _. (refl, refl)) (λ _. (refl, refl))
+restart_same : (config : Config) (moment : ℕ) (row : ChunkRow) → HaveSameGrant row (row_after_restart config moment row)
+restart_same config moment row = (refl, refl)
 
 -- what a restart reads
-pub started_granted : (config : Config) (found : LogDisk) (moment : ℕ) → GrantedFrom (rows_of (state_of found)) (map_values (lease_after_restart config moment) (rows_of (replayed found)))
+pub started_granted : (config : Config) (found : LogDisk) (moment : ℕ) → GrantedFrom (rows_of (state_of found)) (map_values (row_after_restart config moment) (rows_of (replayed found)))
 started_granted config found moment handle row is =
-    let mapped = mapped_cases (lease_after_restart config moment) (rows_of (replayed found)) handle row is in
+    let mapped = mapped_cases (row_after_restart config moment) (rows_of (replayed found)) handle row is in
     let was = removed_owned (rows_of (state_of found)) (table.keys (state_of found).copies) handle mapped.0 mapped.1 in
     let same = restart_same config moment mapped.0 in (
       was.0,
@@ -93,8 +92,8 @@ module _ (F : ℕ → ℕ → List ℕ → Type 0) where
   IsFitRecord other = Unit {0}
 
   pub fit_after : (l k : Logged) (r : Record) → IsDue (Unit {0}) l r → IsFitRecord r → AreFit F (rows_of k) → AreFit F (rows_of (after_record k r))
-  fit_after l k (log.AddChunk file handle) due new h = fit_put (rows_of k) handle.0 (record new_row { references = 1 }) new h
-  fit_after l k (log.CopyStart file index handle copy copy_version) due new h = fit_put (rows_of k) copy.0 (record new_row { issued = copy_version.0 }) new h
+  fit_after l k (log.AddChunk file handle) due new h = fit_put (rows_of k) handle.0 (added_row k.table file.0) new h
+  fit_after l k (log.CopyStart file index handle copy copy_version) due new h = fit_put (rows_of k) copy.0 (copied_row k.table handle.0 copy_version.0) new h
   fit_after l k (log.Issue handle version) due new h = fit_changed (rows_of k) handle.0 (λ row. record row { issued = version.0 }) (λ old is. h handle.0 old is) h
   fit_after l k (log.Grant handle version primary members) due new h =
       let one : Logged = granted_logged k handle.0 version.0 primary.0 members in
@@ -105,6 +104,6 @@ module _ (F : ℕ → ℕ → List ℕ → Type 0) where
       fit_from (rows_of k) (rows_of (after_record k (log.Snapshot client n from to)))
       (owned_granted (rows_of k) (rows_of (after_record k (log.Snapshot client n from to))) (all_copied_owned k.table k.next_file (copied_entries k.names from to))) h
   fit_after l k (log.Expired file) due new h = fit_from (rows_of k) (rows_of (after_record k (log.Expired file))) (owned_granted (rows_of k) (rows_of (after_record k (log.Expired file))) (expired_owned k file)) h
-  fit_after l k (log.FileItem path file handles) due new h = absurd due
+  fit_after l k (log.FileItem path file shape handles) due new h = absurd due
   fit_after l k (log.ChunkItem handle granted issued primary members) due new h = absurd due
   fit_after l k other due new h = h

@@ -1,6 +1,6 @@
 -- In each reached world whose clocks were kept, a chunk with several owners has no version attempt, and the lease of its granted version is over.
 use Rattle.std.proofs.Common.{◌≡◌, ℕ, suc, ◌+◌, ◌≤◌, true, false, List, [], ◌∷◌, ◌++◌, take, drop, Option, Some, None, refl, sym, ap, subst, ◌∙◌, inl, inr, arith}
-use Rattle.std.specs.Prelude.{nat_le, nat_lt, ◌&&◌, IsTrue}
+use Rattle.std.specs.Prelude.{nat_le, ◌&&◌, IsTrue}
 use Rattle.std.specs.Ordering.{nat_cmp}
 use Rattle.std.specs.FinMap as table
 use Rattle.std.proofs.lemmas.Bool.{and_parts}
@@ -19,7 +19,7 @@ use Rattle.protocol.specs.Seen.{Taken, no_step}
 use Rattle.protocol.specs.Sending.{order_number}
 use Rattle.protocol.specs.Logged.{Logged, LogDisk, LogChange, first_logged, log_changed_by_all, replayed}
 use Rattle.protocol.specs.Master.{MasterState, MasterDoing, VersionAttempt, stopped_master, master_begins, writes_checkpoint}
-use Rattle.protocol.specs.MasterStep.{master_at, master_goes, master_ends, master_bounded, master_step, is_within_limits, may_end, found_log, lease_after_restart, started_master, opening, has_opened, opens_as, new_master, first_log}
+use Rattle.protocol.specs.MasterStep.{master_at, master_goes, master_ends, master_bounded, master_step, is_within_limits, may_end, found_log, row_after_restart, started_master, opening, has_opened, opens_as, new_master, first_log}
 use Rattle.protocol.specs.Observer.{new_observer}
 use Rattle.protocol.specs.ServerStep.{server_step, server_restart}
 use Rattle.protocol.specs.World.{WorldState, new_world, stamped}
@@ -221,13 +221,13 @@ module _ (x : Scene) (base : IsOfTimes x) where
 
   -- a master that opens
 
-  pub same_version : (config : Config) (moment : ℕ) (row : ChunkRow) → (lease_after_restart config moment row).granted ≡ row.granted
-  same_version config moment row = on_cond (λ (r : ChunkRow). r.granted ≡ row.granted) (nat_lt 0 row.granted) (record row { lease_end = moment + config.skew_ms + config.lease_ms }) row (λ _. refl) (λ _. refl)
+  pub same_version : (config : Config) (moment : ℕ) (row : ChunkRow) → (row_after_restart config moment row).granted ≡ row.granted
+  same_version config moment row = refl
 
   started_done : (config : Config) (count : ℕ) (found : LogDisk) (moment : ℕ) → IsLogDone (IsOverIn x) found → IsStateDone (IsOverIn x) (started_master config count found moment).logged
   started_done config count found moment h handle row there shared =
       let all : Logged = state_of found in
-      let was = mapped_cases (lease_after_restart config moment) (rows_of (replayed found)) handle row there in
+      let was = mapped_cases (row_after_restart config moment) (rows_of (replayed found)) handle row there in
       let old = h handle was.0 (removed_cases (rows_of all) (table.keys all.copies) handle was.0 was.1) shared in
       subst (λ (v : ℕ). IsOverIn x handle v) (sym (same_version config moment was.0) ∙ ap (λ (r : ChunkRow). r.granted) was.2) old
 

@@ -14,7 +14,7 @@ use Rattle.relaxed_file.specs.Names.{Node, Dir, File, node_at, copied_entries, i
 use Rattle.relaxed_file.proofs.NamesTree.{HasAt, copied_of, entry_is}
 use Rattle.protocol.specs.Tables.{removed_all, with_at}
 use Rattle.protocol.specs.Sending.{message, the_server, handle_of, version_of, moment_of}
-use Rattle.chunk_table.specs.ChunkTable.{ChunkRow, ChunkTable, new_row, chunk_of, handles_of, row_granted}
+use Rattle.chunk_table.specs.ChunkTable.{ChunkRow, ChunkTable, chunk_of, handles_of, row_granted, added_row, copied_row}
 use Rattle.protocol.specs.Logged.{Logged, Copy, LogDisk, LogChange, AppendRecord, WriteCheckpoint, log_changed, after_record, checkpoint_of, copies_given_up, all_copies_given_up, swapped_in, with_copied_node, with_copied_nodes}
 use Rattle.protocol.specs.Master.{VersionAttempt}
 use Rattle.laws_base.proofs.GrantsOnce.{no_order_grants, plain_grants}
@@ -83,13 +83,13 @@ module _ (l : Logged) (below : (q : ℕ) → 1 ≤ times_in l.table.files q → 
       let last = count-cons (λ x. x == q) handle.0 [] in
       elim (same_or_not q handle.0) [
         | inl same ↦ absurd (let one = tally_same handle.0 q same in let zero_times = nowhere q (same ∙ due.0) in omega (arith, put, more, last, one, zero_times, shared))
-        | inr other ↦ elim (put_cases (rows_of l) handle.0 (record new_row { references = 1 }) q row is) [
+        | inr other ↦ elim (put_cases (rows_of l) handle.0 (added_row l.table file.0) q row is) [
           | inl new ↦ absurd (other new.0)
           | inr before ↦ ((row, before, refl, refl), let no_one = tally_other handle.0 q other in omega (arith, put, more, last, no_one, shared))
         ]
       ]
   shared_before (log.CopyStart file index source copy copy_version) due plain none q row is shared =
-      elim (put_cases (rows_of l) copy.0 (record new_row { issued = copy_version.0 }) q row is) [
+      elim (put_cases (rows_of l) copy.0 (copied_row l.table source.0 copy_version.0) q row is) [
         | inl new ↦ absurd (let zero_times = nowhere q (new.0 ∙ due.0) in omega (arith, zero_times, shared))
         | inr before ↦ ((row, before, refl, refl), shared)
       ]
@@ -100,10 +100,10 @@ module _ (l : Logged) (below : (q : ℕ) → 1 ≤ times_in l.table.files q → 
       ]
   shared_before (log.Expired file) due plain none q row is shared =
       (owned_row (rows_of l) (rows_of (after_record l (log.Expired file))) (expired_owned l file) q row is, let gone = times_gone l.table.files file.0 q in omega (arith, gone, shared))
-  shared_before (log.Create client n file path) due plain none q row is shared = ((row, is, refl, refl), let put = times_put l.table.files file.0 [] q in omega (arith, put, shared))
+  shared_before (log.Create client n file shape path) due plain none q row is shared = ((row, is, refl, refl), let put = times_put l.table.files file.0 [] q in omega (arith, put, shared))
   shared_before (log.Grant handle version primary members) due plain none q row is shared = absurd plain
   shared_before (log.Snapshot client n from to) due plain none q row is shared = absurd none
-  shared_before (log.FileItem path file handles) due plain none q row is shared = absurd due
+  shared_before (log.FileItem path file shape handles) due plain none q row is shared = absurd due
   shared_before (log.ChunkItem handle granted issued primary members) due plain none q row is shared = absurd due
   shared_before other due plain none q row is shared = ((row, is, refl, refl), shared)
 
@@ -309,8 +309,8 @@ module _ (before : List Message) (greatest lease : ℕ) (Over : ℕ → ℕ → 
           )
   done_after c attempts ss (log.Mkdir client n path) due plain beside p h handle row there shared = h handle row there shared
   done_after c attempts ss (log.Rmdir client n path) due plain beside p h handle row there shared = h handle row there shared
-  done_after c attempts ss (log.Create client n file path) due plain beside p h handle row there shared =
-      let was = shared_before c.logged (used c p.0) (log.Create client n file path) due plain tt handle row there shared in kept c attempts h handle row was.0 was.1
+  done_after c attempts ss (log.Create client n file shape path) due plain beside p h handle row there shared =
+      let was = shared_before c.logged (used c p.0) (log.Create client n file shape path) due plain tt handle row there shared in kept c attempts h handle row was.0 was.1
   done_after c attempts ss (log.Delete client n moment path) due plain beside p h handle row there shared = h handle row there shared
   done_after c attempts ss (log.Rename client n from to) due plain beside p h handle row there shared = h handle row there shared
   done_after c attempts ss (log.Refused client n refusal) due plain beside p h handle row there shared = h handle row there shared
@@ -326,7 +326,7 @@ module _ (before : List Message) (greatest lease : ℕ) (Over : ℕ → ℕ → 
   done_after c attempts ss (log.Epoch epoch) due plain beside p h handle row there shared = absurd due
   done_after c attempts ss (log.Counters next_file next_handle epoch) due plain beside p h handle row there shared = absurd due
   done_after c attempts ss (log.DirItem path) due plain beside p h handle row there shared = absurd due
-  done_after c attempts ss (log.FileItem path file handles) due plain beside p h handle row there shared = absurd due
+  done_after c attempts ss (log.FileItem path file shape handles) due plain beside p h handle row there shared = absurd due
   done_after c attempts ss (log.ChunkItem chunk granted issued primary members) due plain beside p h handle row there shared = absurd due
   done_after c attempts ss (log.ClientItem client n refusal) due plain beside p h handle row there shared = absurd due
 

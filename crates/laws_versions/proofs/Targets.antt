@@ -143,19 +143,19 @@ module _ (server : ℕ) where
       let less = servers_targets base rest in
       omega (arith, one, two, less)
 
-  placement_once : (m : MasterState) → count_by (λ (k : ℕ). k == server) (placement m) ≤ 1
-  placement_once m =
+  placement_once : (m : MasterState) (row : ChunkRow) → count_by (λ (k : ℕ). k == server) (placement m row) ≤ 1
+  placement_once m row =
       let present : List ℕ = filter (is_present m) (servers_of m) in
       let sorted : List ℕ = ranked (chunks_held m) present in
-      let a = rising_count (λ (k : ℕ). k == server) (take m.config.goal sorted) in
-      let b = take_count (λ (k : ℕ). k == server) m.config.goal sorted in
+      let a = rising_count (λ (k : ℕ). k == server) (take row.shape.goal sorted) in
+      let b = take_count (λ (k : ℕ). k == server) row.shape.goal sorted in
       let c = ranked_count (λ (k : ℕ). k == server) (chunks_held m) present in
       let e = filter_count (λ (k : ℕ). k == server) (is_present m) (servers_of m) in
       let f = once_first m.server_count in
       omega (arith, a, b, c, e, f)
 
-  placed_once : (m : MasterState) (base : ℕ → Option ℕ) → AreOnce (map (λ s. record { server = s; base = base s }) (placement m))
-  placed_once m base = let same = servers_targets base (placement m) in let one = placement_once m in omega (arith, same, one)
+  placed_once : (m : MasterState) (row : ChunkRow) (base : ℕ → Option ℕ) → AreOnce (map (λ s. record { server = s; base = base s }) (placement m row))
+  placed_once m row base = let same = servers_targets base (placement m row) in let one = placement_once m row in omega (arith, same, one)
 
   pub held_once : (m : MasterState) (handle : ℕ) (test : ℕ → Bool) → AreOnce (map holder_target (holders_where m handle test))
   held_once m handle test = let same = holders_targets (holders_where m handle test) in let one = holders_once m handle test in omega (arith, same, one)
@@ -169,7 +169,7 @@ module _ (server : ℕ) where
 
   by_holders_once : (m : MasterState) (handle : ℕ) (row : ChunkRow) (holders : List HeldAt) → AreOnce (map holder_target holders) → AreOnce (targets_by m handle row holders)
   by_holders_once m handle row [] one =
-      on_cond AreOnce (nat_lt 0 row.granted) (map holder_target (present_current_holders m handle row)) (placed_targets m handle) (λ _. present_once m handle row) (λ _. placed_once m (version_held m handle))
+      on_cond AreOnce (nat_lt 0 row.granted) (map holder_target (present_current_holders m handle row)) (placed_targets m handle row) (λ _. present_once m handle row) (λ _. placed_once m row (version_held m handle))
   by_holders_once m handle row (h ∷ rest) one = one
 
   pub own_once : (m : MasterState) (handle : ℕ) (row : ChunkRow) → AreOnce (targets_by m handle row (recorded_holders m handle row))
@@ -179,4 +179,4 @@ module _ (server : ℕ) where
 
   pub copy_once : (m : MasterState) (handle : ℕ) (row : ChunkRow) → AreOnce (copy_targets m handle row)
   copy_once m handle row =
-      on_cond AreOnce (nat_lt 0 row.granted) (map holder_target (current_holders m handle row)) (map (λ s. record { server = s; base = None }) (placement m)) (λ _. held_once m handle (λ v. nat_le row.granted v)) (λ _. placed_once m (λ s. None))
+      on_cond AreOnce (nat_lt 0 row.granted) (map holder_target (current_holders m handle row)) (map (λ s. record { server = s; base = None }) (placement m row)) (λ _. held_once m handle (λ v. nat_le row.granted v)) (λ _. placed_once m row (λ s. None))

@@ -27,7 +27,7 @@ use Rattle.protocol.specs.Sending.{client_id, file_id, server_id, handle_of, ver
 use Rattle.protocol.specs.Logged.{KeptCall, checkpoint_of}
 use Rattle.protocol.specs.Master.{MasterDoing, PendingSnapshot, VersionAttempt, tells, orders, logs, logs_after_checkpoint, appends, fits, writes_checkpoint, is_of_copy, ends_at, with_attempt, without_attempts, gives_up_copies, has_lease}
 use Rattle.protocol.specs.MasterSnapshots.{revokes_row, revokes, revokes_all, takes_locks, begins_snapshot, snapshot_handles, snapshot_files, copies_for_files, reply_of, answers_name, settles_name, refuses_name, changes_names, first_is_true, all_but_first, lets_go, takes_snapshot, takes_ready, is_ready, waits_for}
-use Rattle.protocol.specs.MasterNames.{master_refusal, reply_by, performs, names_by, is_waiting_call, names_anew, names_kept}
+use Rattle.protocol.specs.MasterNames.{master_refusal, reply_by, performs, names_by, is_waiting_call, names_anew, names_kept, told_shape}
 use Rattle.protocol.specs.MasterVersions.{sends_grant, grants_to, is_complete, with_recorded, learns_attempt, learns}
 use Rattle.protocol.specs.MasterReports.{holds_now, revoked_row, is_useless, drops_useless, learns_all, may_extend, extends_row, extends_all, hears, takes_report}
 use Rattle.protocol.specs.MasterClones.{CloneOrder, orders_clone, best_clone}
@@ -48,7 +48,7 @@ is_location other = false
 abbrev pub IsOfNames : Record → Type 0
 IsOfNames (log.Mkdir client n path) = Unit {0}
 IsOfNames (log.Rmdir client n path) = Unit {0}
-IsOfNames (log.Create client n file path) = Unit {0}
+IsOfNames (log.Create client n file shape path) = Unit {0}
 IsOfNames (log.Delete client n moment path) = Unit {0}
 IsOfNames (log.Rename client n from to) = Unit {0}
 IsOfNames (log.Snapshot client n from to) = Unit {0}
@@ -59,7 +59,7 @@ IsOfNames other = ⊥
 pub calls_are_of_names : (r : Record) → IsOfCalls r → IsOfNames r
 calls_are_of_names (log.Mkdir client n path) is = tt
 calls_are_of_names (log.Rmdir client n path) is = tt
-calls_are_of_names (log.Create client n file path) is = tt
+calls_are_of_names (log.Create client n file shape path) is = tt
 calls_are_of_names (log.Delete client n moment path) is = tt
 calls_are_of_names (log.Rename client n from to) is = tt
 calls_are_of_names (log.Snapshot client n from to) is = tt
@@ -131,7 +131,7 @@ module _ (Of : Record → Type 0) (calls : (r : Record) → IsOfCalls r → Of r
   performed : (d : MasterDoing) (client number deadline : ℕ) (c : Call) → P d → P (performs d client number deadline c)
   performed d client number deadline (call.Mkdir p) h = changed d client number (call.Mkdir p) (log.Mkdir (client_id client) number p) (calls (log.Mkdir (client_id client) number p) tt) h
   performed d client number deadline (call.Rmdir p) h = changed d client number (call.Rmdir p) (log.Rmdir (client_id client) number p) (calls (log.Rmdir (client_id client) number p) tt) h
-  performed d client number deadline (call.Create p) h = changed d client number (call.Create p) (log.Create (client_id client) number (file_id d.master.logged.next_file) p) (calls (log.Create (client_id client) number (file_id d.master.logged.next_file) p) tt) h
+  performed d client number deadline (call.Create p shape) h = changed d client number (call.Create p shape) (log.Create (client_id client) number (file_id d.master.logged.next_file) (told_shape d.master.config shape) p) (calls (log.Create (client_id client) number (file_id d.master.logged.next_file) (told_shape d.master.config shape) p) tt) h
   performed d client number deadline (call.Delete p) h = changed d client number (call.Delete p) (log.Delete (client_id client) number (moment_of d.master.now) p) (calls (log.Delete (client_id client) number (moment_of d.master.now) p) tt) h
   performed d client number deadline (call.Rename p q) h = changed d client number (call.Rename p q) (log.Rename (client_id client) number p q) (calls (log.Rename (client_id client) number p q) tt) h
   performed d client number deadline (call.Snapshot p q) h = begun d (record { client = client; number = number; deadline = deadline; from = p; to = q }) h

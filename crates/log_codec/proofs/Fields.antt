@@ -1,11 +1,12 @@
 -- A field that is read is the field that was written, and what was written is read again.
-use Rattle.std.proofs.Common.{◌≡◌, ℕ, suc, ◌+◌, ◌^◌, ◌<◌, ◌≤◌, Bool, true, false, cond, ltb, List, ◌∷◌, ◌++◌, length, get_or, take, drop, Option, Some, None, refl, sym, ap, subst, ◌∙◌, append_assoc, arith, inl, inr}
+use Rattle.std.proofs.Common.{◌≡◌, ℕ, suc, ◌+◌, ◌^◌, ◌<◌, ◌≤◌, Bool, true, false, cond, ltb, List, [], ◌∷◌, ◌++◌, length, get_or, take, drop, Option, Some, None, refl, sym, ap, subst, ◌∙◌, append_assoc, arith, inl, inr}
 use Rattle.std.specs.Int.{Width, w16, w32, w64, byte_len, from_le_bytes, to_le_bytes}
 use Rattle.std.proofs.lemmas.Bool.{cases_lt, ltb-false, le-ltb}
 use Rattle.std.proofs.lemmas.List.{take_at, drop_at, take-append-drop, length-append, length-take, get_or-drop, get_or-take, get_or_past}
 use Rattle.std.proofs.lemmas.Nat.{le_bytes_2, le_bytes_4, le_bytes_8, from_le_bytes-to_le_bytes_2, from_le_bytes-to_le_bytes_4, from_le_bytes-to_le_bytes_8}
-use Rattle.log_codec.specs.Fields.{number, index, server, IsNumber, IsIndex, IsServer}
-use Rattle.log_codec.specs.Reading.{◌>>=◌, Reader, wide_at, number_at, index_at, server_at, both}
+use Rattle.gfs_types.specs.declared.shape.Shape.{Shape}
+use Rattle.log_codec.specs.Fields.{number, index, server, shape, IsNumber, IsIndex, IsServer, IsShape}
+use Rattle.log_codec.specs.Reading.{◌>>=◌, Reader, wide_at, number_at, index_at, server_at, byte_at, shape_at, both}
 
 abbrev pub IsBytes : List ℕ → Type 0
 IsBytes bytes = (i : ℕ) → get_or bytes i 0 < 256
@@ -135,3 +136,39 @@ server_is = record {
   takes = λ bytes x fits e. wide_takes w16 (2 ^ 16) wide16 bytes x.0 x.1 fits e;
   again = λ n rest lt. wide_again w16 (2 ^ 16) wide16 n rest lt;
 }
+
+-- ---- a byte, and a shape
+
+byte_take : (bytes : List ℕ) (x : ℕ × List ℕ) → IsBytes bytes → byte_at bytes ≡ Some x → Takes bytes (x.0 ∷ []) x.1 × (x.0 < 256)
+unfolding byte_at
+byte_take [] x fits e = absurd cc
+byte_take (b ∷ rest) x fits e =
+    let made : ℕ × List ℕ = (b, rest) in
+    subst (λ (y : ℕ × List ℕ). Takes (b ∷ rest) (y.0 ∷ []) y.1 × (y.0 < 256)) (some_is made x e) (record { parts = refl; rest_fits = IsBytes-rest b rest fits }, fits 0)
+
+byte_again : (b : ℕ) (rest : List ℕ) → b < 256 → byte_at (b ∷ [] ++ rest) ≡ Some (b, rest)
+unfolding byte_at
+byte_again b rest lt = refl
+
+abbrev shape_of : ℕ → ℕ → Shape
+shape_of chunk goal = record { chunk = chunk; goal = goal }
+
+shape_take : (bytes : List ℕ) (x : Shape × List ℕ) → IsBytes bytes → shape_at bytes ≡ Some x → Takes bytes (shape x.0) x.1 × IsShape x.0
+unfolding shape shape_at
+shape_take bytes x fits e =
+    let a = bind_some (index_at bytes) (λ a. byte_at a.1 >>= λ b. Some (shape_of a.0 b.0, b.1)) x e in
+    let b = bind_some (byte_at a.0.1) (λ b. Some (shape_of a.0.0 b.0, b.1)) x a.2 in
+    let t = index_is.takes bytes a.0 fits a.1 in
+    let u = byte_take a.0.1 b.0 t.0.rest_fits b.1 in
+    let made : Shape × List ℕ = (shape_of a.0.0 b.0.0, b.0.1) in
+    subst (λ (y : Shape × List ℕ). Takes bytes (index y.0.chunk ++ y.0.goal ∷ []) y.1 × IsShape y.0) (some_is made x b.2)
+    (Takes-then bytes (index a.0.0) a.0.1 (b.0.0 ∷ []) b.0.1 t.0 u.0, (t.1, u.1))
+
+shape_again : (s : Shape) (rest : List ℕ) → IsShape s → shape_at (shape s ++ rest) ≡ Some (s, rest)
+unfolding shape shape_at
+shape_again s rest fits =
+    let regrouped : (index s.chunk ++ s.goal ∷ []) ++ rest ≡ index s.chunk ++ (s.goal ∷ [] ++ rest) = append_assoc (index s.chunk) (s.goal ∷ []) rest in
+    ap shape_at regrouped ∙ rw (index_is.again s.chunk (s.goal ∷ [] ++ rest) fits.0, byte_again s.goal rest fits.1) refl
+
+pub shape_is : IsField shape IsShape shape_at
+shape_is = record { takes = shape_take; again = shape_again }

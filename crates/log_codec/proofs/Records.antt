@@ -8,8 +8,8 @@ use Rattle.log_records.specs.declared.record.Record.TheVariants as log
 use Rattle.log_codec.specs.declared.fault.DecodeFault.{DecodeFault}
 use Rattle.log_codec.specs.Payloads.{payload, IsRecord}
 use Rattle.log_codec.specs.Reading.{Gives, Reader, all_of}
-use Rattle.log_codec.specs.Records.{epoch_in, mkdir_in, rmdir_in, create_in, delete_in, rename_in, snapshot_in, refused_in, expired_in, add_chunk_in, issue_in, grant_in, copy_start_in, counters_in, dir_in, file_in, chunk_in, client_in, record_tagged, record_in}
-use Rattle.log_codec.proofs.Fields.{IsBytes, IsBytes-rest, bind_some, IsField, both_are, number_is, index_is, server_is}
+use Rattle.log_codec.specs.Records.{epoch_in, mkdir_in, rmdir_in, create_in, delete_in, rename_in, snapshot_in, refused_in, expired_in, add_chunk_in, issue_in, grant_in, copy_start_in, counters_in, dir_in, file_in, chunk_in, client_in, shaped_create_in, shaped_file_in, record_tagged, record_in}
+use Rattle.log_codec.proofs.Fields.{IsBytes, IsBytes-rest, bind_some, IsField, both_are, number_is, index_is, server_is, shape_is}
 use Rattle.log_codec.proofs.Lists.{path_is, members_are, handles_are}
 use Rattle.log_codec.proofs.Refusals.{refusal_is, outcome_is}
 
@@ -56,8 +56,15 @@ rmdir_found rest y fits e =
 create_found : (rest : List ℕ) (y : Record) → IsBytes rest → create_in rest ≡ Some y → IsFound 4 rest y
 unfolding create_in
 create_found rest y fits e =
-    let t = whole_takes (both_are (both_are (both_are number_is number_is) number_is) path_is) (λ x. log.Create (record { 0 = x.0.0.0 }) x.0.0.1 (record { 0 = x.0.1 }) x.1) rest y fits e in
+    let t = whole_takes (both_are (both_are (both_are number_is number_is) number_is) path_is) (λ x. log.Create (record { 0 = x.0.0.0 }) x.0.0.1 (record { 0 = x.0.1 }) None x.1) rest y fits e in
     subst (λ z. IsFound 4 rest z) t.1 ((t.3.0.0.0, t.3.0.0.1, t.3.0.1, t.3.1), ap (λ (b : List ℕ). 4 ∷ b) t.2)
+
+shaped_create_found : (rest : List ℕ) (y : Record) → IsBytes rest → shaped_create_in rest ≡ Some y → IsFound 15 rest y
+unfolding shaped_create_in
+shaped_create_found rest y fits e =
+    let fields = both_are (both_are (both_are (both_are number_is number_is) number_is) shape_is) path_is in
+    let t = whole_takes fields (λ x. log.Create (record { 0 = x.0.0.0.0 }) x.0.0.0.1 (record { 0 = x.0.0.1 }) (Some x.0.1) x.1) rest y fits e in
+    subst (λ z. IsFound 15 rest z) t.1 ((t.3.0.0.0.0, t.3.0.0.0.1, t.3.0.0.1, t.3.0.1, t.3.1), ap (λ (b : List ℕ). 15 ∷ b) t.2)
 
 delete_found : (rest : List ℕ) (y : Record) → IsBytes rest → delete_in rest ≡ Some y → IsFound 5 rest y
 unfolding delete_in
@@ -128,8 +135,15 @@ dir_found rest y fits e =
 file_found : (rest : List ℕ) (y : Record) → IsBytes rest → file_in rest ≡ Some y → IsFound 22 rest y
 unfolding file_in
 file_found rest y fits e =
-    let t = whole_takes (both_are (both_are path_is number_is) handles_are) (λ x. log.FileItem x.0.0 (record { 0 = x.0.1 }) x.1) rest y fits e in
+    let t = whole_takes (both_are (both_are path_is number_is) handles_are) (λ x. log.FileItem x.0.0 (record { 0 = x.0.1 }) None x.1) rest y fits e in
     subst (λ z. IsFound 22 rest z) t.1 ((t.3.0.0, t.3.0.1, t.3.1), ap (λ (b : List ℕ). 22 ∷ b) t.2)
+
+shaped_file_found : (rest : List ℕ) (y : Record) → IsBytes rest → shaped_file_in rest ≡ Some y → IsFound 25 rest y
+unfolding shaped_file_in
+shaped_file_found rest y fits e =
+    let fields = both_are (both_are (both_are path_is number_is) shape_is) handles_are in
+    let t = whole_takes fields (λ x. log.FileItem x.0.0.0 (record { 0 = x.0.0.1 }) (Some x.0.1) x.1) rest y fits e in
+    subst (λ z. IsFound 25 rest z) t.1 ((t.3.0.0.0, t.3.0.0.1, t.3.0.1, t.3.1), ap (λ (b : List ℕ). 25 ∷ b) t.2)
 
 chunk_found : (rest : List ℕ) (y : Record) → IsBytes rest → chunk_in rest ≡ Some y → IsFound 23 rest y
 unfolding chunk_in
@@ -166,12 +180,14 @@ tagged_found tag rest y fits e =
     pick tag 11 (issue_in rest) _ rest y (issue_found rest y fits) (λ h11.
     pick tag 12 (grant_in rest) _ rest y (grant_found rest y fits) (λ h12.
     pick tag 13 (copy_start_in rest) _ rest y (copy_start_found rest y fits) (λ h13.
+    pick tag 15 (shaped_create_in rest) _ rest y (shaped_create_found rest y fits) (λ h15.
     pick tag 20 (counters_in rest) _ rest y (counters_found rest y fits) (λ h20.
     pick tag 21 (dir_in rest) _ rest y (dir_found rest y fits) (λ h21.
     pick tag 22 (file_in rest) _ rest y (file_found rest y fits) (λ h22.
     pick tag 23 (chunk_in rest) _ rest y (chunk_found rest y fits) (λ h23.
     pick tag 24 (client_in rest) _ rest y (client_found rest y fits) (λ h24.
-    absurd cc) h23) h22) h21) h20) h13) h12) h11) h10) h9) h8) h7) h6) h5) h4) h3) h2) h1) e
+    pick tag 25 (shaped_file_in rest) _ rest y (shaped_file_found rest y fits) (λ h25.
+    absurd cc) h24) h23) h22) h21) h20) h15) h13) h12) h11) h10) h9) h8) h7) h6) h5) h4) h3) h2) h1) e
 
 record_found : (bytes : List ℕ) (y : Record) → IsBytes bytes → record_in bytes ≡ Some y → IsRecord y × (bytes ≡ payload y)
 unfolding record_in
@@ -179,11 +195,17 @@ record_found [] y fits e = absurd cc
 record_found (tag ∷ rest) y fits e = tagged_found tag rest y (IsBytes-rest tag rest fits) e
 
 pub record_again : (r : Record) → IsRecord r → record_in (payload r) ≡ Some r
-unfolding record_in record_tagged epoch_in mkdir_in rmdir_in create_in delete_in rename_in snapshot_in refused_in expired_in add_chunk_in issue_in grant_in copy_start_in counters_in dir_in file_in chunk_in client_in
+unfolding record_in record_tagged epoch_in mkdir_in rmdir_in create_in delete_in rename_in snapshot_in refused_in expired_in add_chunk_in issue_in grant_in copy_start_in counters_in dir_in file_in chunk_in client_in shaped_create_in shaped_file_in
 record_again (log.Epoch epoch) fits = whole_again number_is (λ x. log.Epoch x) epoch fits
 record_again (log.Mkdir client call p) fits = whole_again (both_are (both_are number_is number_is) path_is) (λ x. log.Mkdir (record { 0 = x.0.0 }) x.0.1 x.1) ((client.0, call), p) ((fits.0, fits.1), fits.2)
 record_again (log.Rmdir client call p) fits = whole_again (both_are (both_are number_is number_is) path_is) (λ x. log.Rmdir (record { 0 = x.0.0 }) x.0.1 x.1) ((client.0, call), p) ((fits.0, fits.1), fits.2)
-record_again (log.Create client call file p) fits = whole_again (both_are (both_are (both_are number_is number_is) number_is) path_is) (λ x. log.Create (record { 0 = x.0.0.0 }) x.0.0.1 (record { 0 = x.0.1 }) x.1) (((client.0, call), file.0), p) (((fits.0, fits.1), fits.2), fits.3)
+record_again (log.Create client call file None p) fits =
+    let fields = both_are (both_are (both_are number_is number_is) number_is) path_is in
+    whole_again fields (λ x. log.Create (record { 0 = x.0.0.0 }) x.0.0.1 (record { 0 = x.0.1 }) None x.1) (((client.0, call), file.0), p) (((fits.0, fits.1), fits.2), fits.3)
+record_again (log.Create client call file (Some s) p) fits =
+    let fields = both_are (both_are (both_are (both_are number_is number_is) number_is) shape_is) path_is in
+    whole_again fields (λ x. log.Create (record { 0 = x.0.0.0.0 }) x.0.0.0.1 (record { 0 = x.0.0.1 }) (Some x.0.1) x.1)
+    ((((client.0, call), file.0), s), p) ((((fits.0, fits.1), fits.2), fits.3), fits.4)
 record_again (log.Delete client call moment p) fits = whole_again (both_are (both_are (both_are number_is number_is) number_is) path_is) (λ x. log.Delete (record { 0 = x.0.0.0 }) x.0.0.1 (record { 0 = x.0.1 }) x.1) (((client.0, call), moment.0), p) (((fits.0, fits.1), fits.2), fits.3)
 record_again (log.Rename client call old new) fits = whole_again (both_are (both_are (both_are number_is number_is) path_is) path_is) (λ x. log.Rename (record { 0 = x.0.0.0 }) x.0.0.1 x.0.1 x.1) (((client.0, call), old), new) (((fits.0, fits.1), fits.2), fits.3)
 record_again (log.Snapshot client call source copy) fits = whole_again (both_are (both_are (both_are number_is number_is) path_is) path_is) (λ x. log.Snapshot (record { 0 = x.0.0.0 }) x.0.0.1 x.0.1 x.1) (((client.0, call), source), copy) (((fits.0, fits.1), fits.2), fits.3)
@@ -195,7 +217,11 @@ record_again (log.Grant handle version primary servers) fits = whole_again (both
 record_again (log.CopyStart file i handle copy version) fits = whole_again (both_are (both_are (both_are (both_are number_is index_is) number_is) number_is) number_is) (λ x. log.CopyStart (record { 0 = x.0.0.0.0 }) x.0.0.0.1 (record { 0 = x.0.0.1 }) (record { 0 = x.0.1 }) (record { 0 = x.1 })) ((((file.0, i), handle.0), copy.0), version.0) ((((fits.0, fits.1), fits.2), fits.3), fits.4)
 record_again (log.Counters file handle epoch) fits = whole_again (both_are (both_are number_is number_is) number_is) (λ x. log.Counters (record { 0 = x.0.0 }) (record { 0 = x.0.1 }) x.1) ((file.0, handle.0), epoch) ((fits.0, fits.1), fits.2)
 record_again (log.DirItem p) fits = whole_again path_is (λ x. log.DirItem x) p fits
-record_again (log.FileItem p file all) fits = whole_again (both_are (both_are path_is number_is) handles_are) (λ x. log.FileItem x.0.0 (record { 0 = x.0.1 }) x.1) ((p, file.0), all) ((fits.0, fits.1), fits.2)
+record_again (log.FileItem p file None all) fits =
+    whole_again (both_are (both_are path_is number_is) handles_are) (λ x. log.FileItem x.0.0 (record { 0 = x.0.1 }) None x.1) ((p, file.0), all) ((fits.0, fits.1), fits.2)
+record_again (log.FileItem p file (Some s) all) fits =
+    let fields = both_are (both_are (both_are path_is number_is) shape_is) handles_are in
+    whole_again fields (λ x. log.FileItem x.0.0.0 (record { 0 = x.0.0.1 }) (Some x.0.1) x.1) (((p, file.0), s), all) (((fits.0, fits.1), fits.2), fits.3)
 record_again (log.ChunkItem handle granted issued primary servers) fits = whole_again (both_are (both_are (both_are (both_are number_is number_is) number_is) server_is) members_are) (λ x. log.ChunkItem (record { 0 = x.0.0.0.0 }) (record { 0 = x.0.0.0.1 }) (record { 0 = x.0.0.1 }) (record { 0 = x.0.1 }) x.1) ((((handle.0, granted.0), issued.0), primary.0), servers) ((((fits.0, fits.1), fits.2), fits.3), fits.4)
 record_again (log.ClientItem client call refusal) fits = whole_again (both_are (both_are number_is number_is) outcome_is) (λ x. log.ClientItem (record { 0 = x.0.0 }) x.0.1 x.1) ((client.0, call), refusal) ((fits.0, fits.1), tt)
 

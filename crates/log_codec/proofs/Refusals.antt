@@ -5,7 +5,7 @@ use Rattle.std.specs.List.{find}
 use Rattle.std.proofs.lemmas.Bool.{eqb-true}
 use Rattle.gfs_types.specs.Refusals.{number_of}
 use Rattle.gfs_types.specs.declared.refusal.Refusal.{Refusal}
-use Rattle.gfs_types.specs.declared.refusal.Refusal.TheVariants.{BadPath, NoParent, Exists, NotFound, NotFile, NotDir, NotEmpty, Reserved, Inside, Busy, TooLong, BadFd, NamesFull, Collected, NoReplica, Failed, Unknown, NoMemory, ClockBroken, JournalFull, Closed, NoChunk, Version, NoLease, NoData, OldSerial, OldRequest, Late, Corrupt, NoRoom, OldOrder, ChunkFull, ServerTooLong}
+use Rattle.gfs_types.specs.declared.refusal.Refusal.TheVariants.{BadPath, NoParent, Exists, NotFound, NotFile, NotDir, NotEmpty, Reserved, Inside, Busy, TooLong, BadFd, NamesFull, Collected, NoReplica, Failed, Unknown, NoMemory, ClockBroken, JournalFull, Closed, BadSize, NoChunk, Version, NoLease, NoData, OldSerial, OldRequest, Late, Corrupt, NoRoom, OldOrder, ChunkFull, ServerTooLong}
 use Rattle.log_codec.specs.Fields.{outcome}
 use Rattle.log_codec.specs.Reading.{all_refusals, refusal_numbered, refusal_at, outcome_at}
 use Rattle.log_codec.proofs.Fields.{IsBytes, IsBytes-rest, bind_some, some_is, Takes, IsField}
@@ -33,6 +33,7 @@ numbered_again NoMemory = refl
 numbered_again ClockBroken = refl
 numbered_again JournalFull = refl
 numbered_again Closed = refl
+numbered_again BadSize = refl
 numbered_again NoChunk = refl
 numbered_again Version = refl
 numbered_again NoLease = refl

@@ -6,6 +6,7 @@ use Rattle.std.specs.Str.{is_utf8}
 use Rattle.gfs_types.specs.Paths.{is_path}
 use Rattle.gfs_types.specs.Refusals.{number_of}
 use Rattle.gfs_types.specs.declared.refusal.Refusal.{Refusal}
+use Rattle.gfs_types.specs.declared.shape.Shape.{Shape}
 
 -- a client, a call's number, a file, a handle, a version, a moment, an epoch: 8 bytes
 unfoldable pub number : ℕ → List ℕ
@@ -31,6 +32,10 @@ members servers = length servers ∷ flat_map server servers
 unfoldable pub handles : List ℕ → List ℕ
 handles all = index (length all) ++ flat_map number all
 
+-- a file's shape: the bytes of its chunks in 4 bytes, and its goal in one
+unfoldable pub shape : Shape → List ℕ
+shape s = index s.chunk ++ s.goal ∷ []
+
 -- a byte: 0 for done, or the refusal's number
 abbrev pub outcome : Option Refusal → List ℕ
 outcome None = 0 ∷ []
@@ -44,6 +49,9 @@ IsIndex n = n < 2 ^ 32
 
 abbrev pub IsServer : ℕ → Type 0
 IsServer n = n < 2 ^ 16
+
+abbrev pub IsShape : Shape → Type 0
+IsShape s = IsIndex s.chunk × (s.goal < 256)
 
 -- a full path, in UTF-8
 abbrev pub IsPath : List ℕ → Type 0

@@ -6,7 +6,8 @@ use Rattle.std.specs.Str.{is_utf8}
 use Rattle.gfs_types.specs.Paths.{is_path}
 use Rattle.gfs_types.specs.Refusals.{number_of}
 use Rattle.gfs_types.specs.declared.refusal.Refusal.{Refusal}
-use Rattle.gfs_types.specs.declared.refusal.Refusal.TheVariants.{BadPath, NoParent, Exists, NotFound, NotFile, NotDir, NotEmpty, Reserved, Inside, Busy, TooLong, BadFd, NamesFull, Collected, NoReplica, Failed, Unknown, NoMemory, ClockBroken, JournalFull, Closed, NoChunk, Version, NoLease, NoData, OldSerial, OldRequest, Late, Corrupt, NoRoom, OldOrder, ChunkFull, ServerTooLong}
+use Rattle.gfs_types.specs.declared.shape.Shape.{Shape}
+use Rattle.gfs_types.specs.declared.refusal.Refusal.TheVariants.{BadPath, NoParent, Exists, NotFound, NotFile, NotDir, NotEmpty, Reserved, Inside, Busy, TooLong, BadFd, NamesFull, Collected, NoReplica, Failed, Unknown, NoMemory, ClockBroken, JournalFull, Closed, BadSize, NoChunk, Version, NoLease, NoData, OldSerial, OldRequest, Late, Corrupt, NoRoom, OldOrder, ChunkFull, ServerTooLong}
 use Rattle.log_records.specs.declared.record.Record.{Record}
 use Rattle.log_codec.specs.declared.fault.DecodeFault.{DecodeFault}
 use Rattle.log_codec.specs.declared.fault.DecodeFault.TheVariants as faults
@@ -68,9 +69,19 @@ handles_at bytes = do
   n ← index_at bytes
   many_at number_at n.0 n.1
 
+unfoldable pub byte_at : Reader ℕ
+byte_at [] = None
+byte_at (b ∷ rest) = Some (b, rest)
+
+unfoldable pub shape_at : Reader Shape
+shape_at bytes = do
+  chunk ← index_at bytes
+  goal ← byte_at chunk.1
+  Some (record { chunk = chunk.0; goal = goal.0 }, goal.1)
+
 abbrev pub all_refusals : List Refusal
 all_refusals = BadPath ∷ NoParent ∷ Exists ∷ NotFound ∷ NotFile ∷ NotDir ∷ NotEmpty ∷ Reserved ∷ Inside ∷ Busy ∷ TooLong ∷ BadFd ∷ NamesFull ∷ Collected
-    ∷ NoReplica ∷ Failed ∷ Unknown ∷ NoMemory ∷ ClockBroken ∷ JournalFull ∷ Closed ∷ NoChunk ∷ Version ∷ NoLease ∷ NoData ∷ OldSerial ∷ OldRequest ∷ Late
+    ∷ NoReplica ∷ Failed ∷ Unknown ∷ NoMemory ∷ ClockBroken ∷ JournalFull ∷ Closed ∷ BadSize ∷ NoChunk ∷ Version ∷ NoLease ∷ NoData ∷ OldSerial ∷ OldRequest ∷ Late
     ∷ Corrupt ∷ NoRoom ∷ OldOrder ∷ ChunkFull ∷ ServerTooLong ∷ []
 
 -- the refusal of this number

@@ -1,8 +1,8 @@
 -- Reading a record or an item: the tag says which fields follow.
-use Rattle.std.specs.Prelude.{ℕ, List, [], ◌∷◌, Option, None, ◌==◌, if◌then◌else◌}
+use Rattle.std.specs.Prelude.{ℕ, List, [], ◌∷◌, Option, None, Some, ◌==◌, if◌then◌else◌}
 use Rattle.log_records.specs.declared.record.Record.{Record}
 use Rattle.log_records.specs.declared.record.Record.TheVariants as log
-use Rattle.log_codec.specs.Reading.{number_at, index_at, server_at, path_at, members_at, handles_at, refusal_at, outcome_at, both, all_of}
+use Rattle.log_codec.specs.Reading.{number_at, index_at, server_at, path_at, members_at, handles_at, shape_at, refusal_at, outcome_at, both, all_of}
 
 unfoldable pub epoch_in : List ℕ → Option Record
 epoch_in = all_of number_at log.Epoch
@@ -15,7 +15,11 @@ rmdir_in = all_of (both (both number_at number_at) path_at) (λ x. log.Rmdir (re
 
 unfoldable pub create_in : List ℕ → Option Record
 create_in = all_of (both (both (both number_at number_at) number_at) path_at)
-    (λ x. log.Create (record { 0 = x.0.0.0 }) x.0.0.1 (record { 0 = x.0.1 }) x.1)
+    (λ x. log.Create (record { 0 = x.0.0.0 }) x.0.0.1 (record { 0 = x.0.1 }) None x.1)
+
+unfoldable pub shaped_create_in : List ℕ → Option Record
+shaped_create_in = all_of (both (both (both (both number_at number_at) number_at) shape_at) path_at)
+    (λ x. log.Create (record { 0 = x.0.0.0.0 }) x.0.0.0.1 (record { 0 = x.0.0.1 }) (Some x.0.1) x.1)
 
 unfoldable pub delete_in : List ℕ → Option Record
 delete_in = all_of (both (both (both number_at number_at) number_at) path_at)
@@ -54,7 +58,10 @@ unfoldable pub dir_in : List ℕ → Option Record
 dir_in = all_of path_at log.DirItem
 
 unfoldable pub file_in : List ℕ → Option Record
-file_in = all_of (both (both path_at number_at) handles_at) (λ x. log.FileItem x.0.0 (record { 0 = x.0.1 }) x.1)
+file_in = all_of (both (both path_at number_at) handles_at) (λ x. log.FileItem x.0.0 (record { 0 = x.0.1 }) None x.1)
+
+unfoldable pub shaped_file_in : List ℕ → Option Record
+shaped_file_in = all_of (both (both (both path_at number_at) shape_at) handles_at) (λ x. log.FileItem x.0.0.0 (record { 0 = x.0.0.1 }) (Some x.0.1) x.1)
 
 unfoldable pub chunk_in : List ℕ → Option Record
 chunk_in = all_of (both (both (both (both number_at number_at) number_at) server_at) members_at)
@@ -78,11 +85,13 @@ record_tagged tag rest =
     if tag == 11 then issue_in rest else
     if tag == 12 then grant_in rest else
     if tag == 13 then copy_start_in rest else
+    if tag == 15 then shaped_create_in rest else
     if tag == 20 then counters_in rest else
     if tag == 21 then dir_in rest else
     if tag == 22 then file_in rest else
     if tag == 23 then chunk_in rest else
-    if tag == 24 then client_in rest else None
+    if tag == 24 then client_in rest else
+    if tag == 25 then shaped_file_in rest else None
 
 unfoldable pub record_in : List ℕ → Option Record
 record_in [] = None

@@ -14,4 +14,4 @@ mod writing;
 pub use fault::DecodeFault;
 pub use reading::decode;
 pub use sizes::encoded_len;
-pub use writing::{encode, is_item, is_writable, put_record};
+pub use writing::{encode, has_shape, is_item, is_writable, put_record};

@@ -2,12 +2,13 @@
 
 ghost use Rattle.std.specs.Prelude.{◌≡◌, ◌<◌, length, IfErr, OnOk};
 ghost use Rattle.log_codec.specs.declared.fault.DecodeFault.TheVariants.{Damaged};
-ghost use Rattle.log_codec.specs.Reading.{Gives, handles_at, index_at, many_at, members_at, number_at, outcome_at, path_at, path_in, refusal_at, refusal_numbered, server_at};
+ghost use Rattle.log_codec.specs.Reading.{Gives, byte_at, handles_at, index_at, many_at, members_at, number_at, outcome_at, path_at, path_in, refusal_at, refusal_numbered, server_at, shape_at};
 
 use crate::fault::DecodeFault;
 use gfs_types::lists::{HandleList, ServerList, Text};
 use gfs_types::path::accepts_path;
 use gfs_types::refusal::Refusal;
+use gfs_types::shape::Shape;
 use std::alloc::Global;
 
 #[tactic(auto, unfolding(crate::specs::Reading::number_at))]
@@ -117,6 +118,25 @@ pub fn handle_list_at(bytes: &[u8], alloc: Global) -> Result<(HandleList, &[u8])
     handles_of(count, rest, alloc)
 }
 
+#[tactic(auto, unfolding(crate::specs::Reading::byte_at))]
+fn u8_at(bytes: &[u8]) -> Result<(u8, &[u8]), DecodeFault>
+    ensures { Gives (λ x. (x.0, x.1.now)) result (byte_at bytes.now) }
+{
+    match bytes {
+        [] => Err(DecodeFault::Damaged),
+        [byte, rest @ ..] => Ok((*byte, rest)),
+    }
+}
+
+#[tactic(auto, unfolding(crate::specs::Reading::shape_at))]
+pub fn shape_at(bytes: &[u8]) -> Result<(Shape, &[u8]), DecodeFault>
+    ensures { Gives (λ x. (x.0, x.1.now)) result (shape_at bytes.now) }
+{
+    let (chunk, rest) = u32_at(bytes)?;
+    let (goal, rest) = u8_at(rest)?;
+    Ok((Shape { chunk, goal }, rest))
+}
+
 #[tactic(auto, unfolding(crate::specs::Reading::refusal_numbered))]
 fn refusal_of(number: u8) -> Result<Refusal, DecodeFault>
     ensures { Gives (λ r. r) result (refusal_numbered number) }
@@ -143,6 +163,7 @@ fn refusal_of(number: u8) -> Result<Refusal, DecodeFault>
         19 => Ok(Refusal::ClockBroken),
         20 => Ok(Refusal::JournalFull),
         21 => Ok(Refusal::Closed),
+        22 => Ok(Refusal::BadSize),
         31 => Ok(Refusal::NoChunk),
         32 => Ok(Refusal::Version),
         33 => Ok(Refusal::NoLease),

@@ -2,11 +2,11 @@
 
 ghost use Rattle.std.specs.Prelude.{◌≡◌};
 ghost use Rattle.log_codec.specs.Reading.{Gives};
-ghost use Rattle.log_codec.specs.Records.{chunk_in, client_in, counters_in, dir_in, file_in};
+ghost use Rattle.log_codec.specs.Records.{chunk_in, client_in, counters_in, dir_in, file_in, shaped_file_in};
 
 use crate::fault::DecodeFault;
 use crate::read_fields::{
-    all_read, handle_list_at, outcome_at, servers_at, text_at, u16_at, u64_at,
+    all_read, handle_list_at, outcome_at, servers_at, shape_at, text_at, u16_at, u64_at,
 };
 use gfs_types::ids::{ClientId, FileId, Handle, ServerId, Version};
 use log_records::record::Record;
@@ -47,6 +47,24 @@ pub fn file(bytes: &[u8], alloc: Global) -> Result<Record, DecodeFault>
     Ok(Record::FileItem {
         path,
         file: FileId(file),
+        shape: None,
+        handles,
+    })
+}
+
+#[tactic(auto, unfolding(crate::specs::Records::shaped_file_in))]
+pub fn shaped_file(bytes: &[u8], alloc: Global) -> Result<Record, DecodeFault>
+    ensures { Gives (λ r. r) result (shaped_file_in bytes.now) }
+{
+    let (path, rest) = text_at(bytes, alloc)?;
+    let (file, rest) = u64_at(rest)?;
+    let (shape, rest) = shape_at(rest)?;
+    let (handles, rest) = handle_list_at(rest, alloc)?;
+    all_read(rest)?;
+    Ok(Record::FileItem {
+        path,
+        file: FileId(file),
+        shape: Some(shape),
         handles,
     })
 }

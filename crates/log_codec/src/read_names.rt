@@ -2,10 +2,10 @@
 
 ghost use Rattle.std.specs.Prelude.{◌≡◌};
 ghost use Rattle.log_codec.specs.Reading.{Gives};
-ghost use Rattle.log_codec.specs.Records.{create_in, delete_in, epoch_in, mkdir_in, refused_in, rename_in, rmdir_in, snapshot_in};
+ghost use Rattle.log_codec.specs.Records.{create_in, delete_in, epoch_in, mkdir_in, refused_in, rename_in, rmdir_in, shaped_create_in, snapshot_in};
 
 use crate::fault::DecodeFault;
-use crate::read_fields::{all_read, refusal_at, text_at, u64_at};
+use crate::read_fields::{all_read, refusal_at, shape_at, text_at, u64_at};
 use gfs_types::ids::{ClientId, FileId, Moment};
 use log_records::record::Record;
 use std::alloc::Global;
@@ -62,6 +62,26 @@ pub fn create(bytes: &[u8], alloc: Global) -> Result<Record, DecodeFault>
         client: ClientId(client),
         call,
         file: FileId(file),
+        shape: None,
+        path,
+    })
+}
+
+#[tactic(auto, unfolding(crate::specs::Records::shaped_create_in))]
+pub fn shaped_create(bytes: &[u8], alloc: Global) -> Result<Record, DecodeFault>
+    ensures { Gives (λ r. r) result (shaped_create_in bytes.now) }
+{
+    let (client, rest) = u64_at(bytes)?;
+    let (call, rest) = u64_at(rest)?;
+    let (file, rest) = u64_at(rest)?;
+    let (shape, rest) = shape_at(rest)?;
+    let (path, rest) = text_at(rest, alloc)?;
+    all_read(rest)?;
+    Ok(Record::Create {
+        client: ClientId(client),
+        call,
+        file: FileId(file),
+        shape: Some(shape),
         path,
     })
 }

@@ -7,8 +7,10 @@ ghost use Rattle.log_codec.specs.Records.{record_in, record_tagged};
 
 use crate::fault::DecodeFault;
 use crate::read_chunks::{add_chunk, copy_start, expired, grant, issue};
-use crate::read_items::{chunk, client, counters, dir, file};
-use crate::read_names::{create, delete, epoch, mkdir, refused, rename, rmdir, snapshot};
+use crate::read_items::{chunk, client, counters, dir, file, shaped_file};
+use crate::read_names::{
+    create, delete, epoch, mkdir, refused, rename, rmdir, shaped_create, snapshot,
+};
 use log_records::record::Record;
 use std::alloc::Global;
 
@@ -30,11 +32,13 @@ fn tagged(tag: u8, rest: &[u8], alloc: Global) -> Result<Record, DecodeFault>
         11 => issue(rest),
         12 => grant(rest, alloc),
         13 => copy_start(rest),
+        15 => shaped_create(rest, alloc),
         20 => counters(rest),
         21 => dir(rest, alloc),
         22 => file(rest, alloc),
         23 => chunk(rest, alloc),
         24 => client(rest),
+        25 => shaped_file(rest, alloc),
         _ => Err(DecodeFault::Damaged),
     }
 }

@@ -3,9 +3,10 @@
 ghost use Rattle.std.specs.Prelude.{◌≡◌, ◌<◌, ◌^◌, length, IsTrue};
 ghost use Rattle.gfs_types.specs.Paths.{is_path};
 ghost use Rattle.log_codec.specs.Payloads.{payload, IsWritable};
-ghost use Rattle.log_codec.specs.Sizes.{payload_size};
+ghost use Rattle.log_codec.specs.Sizes.{payload_size, shape_size};
 
 use gfs_types::lists::Text;
+use gfs_types::shape::Shape;
 use log_records::record::Record;
 
 #[tactic(auto, using(crate::proofs::Lists::path_is_short))]
@@ -17,6 +18,15 @@ fn path_len(text: &Text) -> usize
     text.as_str().len()
 }
 
+fn shape_len(shape: Option<Shape>) -> usize
+    ensures { result ≡ shape_size shape }
+{
+    match shape {
+        None => 0,
+        Some(_) => 5,
+    }
+}
+
 fn payload_size(entry: &Record) -> usize
     requires { IsWritable entry.now }
     ensures { result ≡ payload_size entry.now }
@@ -24,7 +34,8 @@ fn payload_size(entry: &Record) -> usize
     match entry {
         Record::Epoch { .. } | Record::Expired { .. } => 9,
         Record::Mkdir { path, .. } | Record::Rmdir { path, .. } => 19 + path_len(path),
-        Record::Create { path, .. } | Record::Delete { path, .. } => 27 + path_len(path),
+        Record::Create { shape, path, .. } => 27 + shape_len(*shape) + path_len(path),
+        Record::Delete { path, .. } => 27 + path_len(path),
         Record::Rename { from, to, .. } | Record::Snapshot { from, to, .. } => {
             21 + path_len(from) + path_len(to)
         }
@@ -34,7 +45,12 @@ fn payload_size(entry: &Record) -> usize
         Record::CopyStart { .. } => 37,
         Record::Counters { .. } => 25,
         Record::DirItem { path } => 3 + path_len(path),
-        Record::FileItem { path, handles, .. } => 15 + path_len(path) + 8 * handles.len(),
+        Record::FileItem {
+            path,
+            shape,
+            handles,
+            ..
+        } => 15 + shape_len(*shape) + path_len(path) + 8 * handles.len(),
         Record::ChunkItem { members, .. } => 28 + 2 * members.len(),
     }
 }

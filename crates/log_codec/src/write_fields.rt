@@ -2,11 +2,12 @@
 
 ghost use Rattle.std.specs.Prelude.{◌≡◌, ◌++◌, ◌<◌, ◌^◌, length, IsTrue, OnOk};
 ghost use Rattle.gfs_types.specs.Paths.{is_path};
-ghost use Rattle.log_codec.specs.Fields.{handles, index, members, number, outcome, path, server, AreHandles, AreMembers, IsIndex, IsNumber, IsPath, IsServer};
+ghost use Rattle.log_codec.specs.Fields.{handles, index, members, number, outcome, path, server, shape, AreHandles, AreMembers, IsIndex, IsNumber, IsPath, IsServer, IsShape};
 
 use gfs_types::lists::{HandleList, ServerList, Text};
 use gfs_types::no_memory::NoMemory;
 use gfs_types::refusal::Refusal;
+use gfs_types::shape::Shape;
 
 #[tactic(auto, unfolding(crate::specs::Fields::number))]
 pub fn put_u64(out: &mut Vec<u8>, value: u64) -> Result<(), NoMemory>
@@ -80,6 +81,16 @@ pub fn put_handles(out: &mut Vec<u8>, chunks: &HandleList) -> Result<(), NoMemor
     for handle in chunks {
         put_u64(out, *handle)?;
     }
+    Ok(())
+}
+
+#[tactic(auto, unfolding(crate::specs::Fields::shape))]
+pub fn put_shape(out: &mut Vec<u8>, told: Shape) -> Result<(), NoMemory>
+    ensures bytes { OnOk result (out.new.items ≡ out.old.items ++ shape told) }
+    ensures range { IsShape told }
+{
+    put_u32(out, told.chunk)?;
+    out.push(told.goal)?;
     Ok(())
 }
 

@@ -4,14 +4,17 @@ ghost use Rattle.std.specs.Prelude.{◌≡◌, ◌↔◌, ◌∷◌, ◌++◌, I
 ghost use Rattle.gfs_types.specs.Paths.{is_path};
 ghost use Rattle.log_codec.specs.Fields.{number, path, IsNumber, IsPath};
 ghost use Rattle.log_codec.specs.Kinds.{has_two_paths, is_of_master};
-ghost use Rattle.log_codec.specs.Payloads.{is_item, payload, IsRecord, IsWritable};
+ghost use Rattle.log_codec.specs.Payloads.{has_shape, is_item, payload, IsRecord, IsWritable};
+ghost use Rattle.log_records.specs.declared.record.Record.TheVariants.{Create as CreateRecord, FileItem as FileRecord};
 
 use crate::write_fields::{
-    put_handles, put_outcome, put_path, put_servers, put_u16, put_u32, put_u64,
+    put_handles, put_outcome, put_path, put_servers, put_shape, put_u16, put_u32, put_u64,
 };
-use gfs_types::lists::Text;
+use gfs_types::ids::{ClientId, FileId};
+use gfs_types::lists::{HandleList, Text};
 use gfs_types::no_memory::NoMemory;
 use gfs_types::path::accepts_path;
+use gfs_types::shape::Shape;
 use log_records::record::Record;
 use std::alloc::Global;
 
@@ -68,6 +71,16 @@ pub fn is_item(entry: &Record) -> bool
     )
 }
 
+/// Whether it tells a file's shape. A log of format 1 has no such record or item.
+pub fn has_shape(entry: &Record) -> bool
+    ensures { result ≡ has_shape entry.now }
+{
+    matches!(
+        entry,
+        Record::Create { shape: Some(_), .. } | Record::FileItem { shape: Some(_), .. }
+    )
+}
+
 /// Whether each field has room for it: paths are paths, members are fewer than 256, handles and the index fit 4 bytes.
 pub fn is_writable(entry: &Record) -> bool
     ensures { IsTrue result ↔ IsWritable entry.now }
@@ -102,6 +115,34 @@ fn is_of_master(entry: &Record) -> bool
     )
 }
 
+fn put_file(
+    out: &mut Vec<u8>,
+    path: &Text,
+    file: FileId,
+    shape: Option<Shape>,
+    handles: &HandleList,
+) -> Result<(), NoMemory>
+    requires { IsWritable (FileRecord path.now file shape handles.now) }
+    ensures bytes { OnOk result (out.new.items ≡ out.old.items ++ payload (FileRecord path.now file shape handles.now)) }
+    ensures stands { OnOk result (IsRecord (FileRecord path.now file shape handles.now)) }
+{
+    match shape {
+        None => {
+            out.push(22)?;
+            put_path(out, path)?;
+            put_u64(out, file.0)?;
+            put_handles(out, handles)
+        }
+        Some(shape) => {
+            out.push(25)?;
+            put_path(out, path)?;
+            put_u64(out, file.0)?;
+            put_shape(out, shape)?;
+            put_handles(out, handles)
+        }
+    }
+}
+
 fn put_item(out: &mut Vec<u8>, entry: &Record) -> Result<(), NoMemory>
     requires kind { IsTrue (is_item entry.now) }
     requires writable { IsWritable entry.now }
@@ -121,13 +162,9 @@ fn put_item(out: &mut Vec<u8>, entry: &Record) -> Result<(), NoMemory>
         Record::FileItem {
             path,
             file,
+            shape,
             handles,
-        } => {
-            out.push(22)?;
-            put_path(out, path)?;
-            put_u64(out, file.0)?;
-            put_handles(out, handles)
-        }
+        } => put_file(out, path, *file, *shape, handles),
         Record::ChunkItem {
             handle,
             granted,
@@ -220,6 +257,31 @@ fn put_move(out: &mut Vec<u8>, entry: &Record) -> Result<(), NoMemory>
     }
 }
 
+fn put_create(
+    out: &mut Vec<u8>,
+    client: ClientId,
+    call: u64,
+    file: FileId,
+    shape: Option<Shape>,
+    path: &Text,
+) -> Result<(), NoMemory>
+    requires { IsTrue (is_path path.now) }
+    ensures bytes { OnOk result (out.new.items ≡ out.old.items ++ payload (CreateRecord client call file shape path.now)) }
+    ensures stands { OnOk result (IsRecord (CreateRecord client call file shape path.now)) }
+{
+    match shape {
+        None => {
+            put_three(out, 4, client.0, call, file.0)?;
+            put_path(out, path)
+        }
+        Some(shape) => {
+            put_three(out, 15, client.0, call, file.0)?;
+            put_shape(out, shape)?;
+            put_path(out, path)
+        }
+    }
+}
+
 fn put_call(out: &mut Vec<u8>, entry: &Record) -> Result<(), NoMemory>
     requires items { IsFalse (is_item entry.now) }
     requires master { IsFalse (is_of_master entry.now) }
@@ -240,11 +302,9 @@ fn put_call(out: &mut Vec<u8>, entry: &Record) -> Result<(), NoMemory>
             client,
             call,
             file,
+            shape,
             path,
-        } => {
-            put_three(out, 4, client.0, *call, file.0)?;
-            put_path(out, path)
-        }
+        } => put_create(out, *client, *call, *file, *shape, path),
         Record::Delete {
             client,
             call,

@@ -88,7 +88,7 @@ module _ (m n : Machine) (h : AreNamesOf m n) where
           (
             ap is_name_call s.call_is ∙ s.naming,
             step_left (m.clients client) c has.d s step.1,
-            step.2 ∙ ap (λ (x : Names). outcome_of x c.asked.call) h.names ∙ ap (λ (k : Call). outcome_of m.names k) (sym s.call_is),
+            step.2 ∙ ap (λ (x : Config). outcome_of x n.names c.asked.call) h.config ∙ ap (λ (x : Names). outcome_of m.config x c.asked.call) h.names ∙ ap (λ (k : Call). outcome_of m.config m.names k) (sym s.call_is),
             λ accepted. may_take_effect m n h has.d.asked.call moment (ready has.d has.is_open accepted) (subst (λ (k : Call). MayTakeEffect n k moment) (sym s.call_is) (step.3 accepted)),
           ),
         ),
@@ -120,7 +120,7 @@ module _ (m n : Machine) (h : AreNamesOf m n) where
               step_left (m.clients client) may.0 has.d has.same busy.1,
               holds.same.locks ∙ busy.2,
               holds.same.outcomes ∙ busy.3,
-              ap (λ (k : Call). first_refusal (path_tests k)) has.same.call_is ∙ busy.4,
+              ap (λ (k : Call). first_refusal (path_tests m.config k)) has.same.call_is ∙ ap (λ (x : Config). first_refusal (path_tests x (may.0).asked.call)) (sym h.config) ∙ busy.4,
               ap (λ (k : Call). conflict k holds.d.asked.call) has.same.call_is ∙ ap (λ (k : Call). conflict (may.0).asked.call k) holds.same.call_is ∙ busy.5,
             ),
           ),
@@ -138,7 +138,7 @@ module _ (m n : Machine) (h : AreNamesOf m n) where
           (
             ap needs_room has.same.call_is ∙ full.0,
             step_left (m.clients client) may.0 has.d has.same full.1,
-            ap (λ (k : Call). refusal_of m.names k) has.same.call_is ∙ ap (λ (x : Names). refusal_of x (may.0).asked.call) (sym h.names) ∙ full.2,
+            ap (λ (k : Call). refusal_of m.config m.names k) has.same.call_is ∙ ap (λ (x : Names). refusal_of m.config x (may.0).asked.call) (sym h.names) ∙ ap (λ (x : Config). refusal_of x n.names (may.0).asked.call) (sym h.config) ∙ full.2,
           ),
         ),
         both_come_to m n client (Replies (answer.Refused NamesFull)) h,
@@ -157,7 +157,7 @@ module _ (m n : Machine) (h : AreNamesOf m n) where
           (
             ap is_snapshot has.same.call_is ∙ lock.0,
             has.same.outcomes ∙ lock.1,
-            ap (λ (k : Call). refusal_of m.names k) has.same.call_is ∙ ap (λ (x : Names). refusal_of x (may.0).asked.call) (sym h.names) ∙ lock.2,
+            ap (λ (k : Call). refusal_of m.config m.names k) has.same.call_is ∙ ap (λ (x : Names). refusal_of m.config x (may.0).asked.call) (sym h.names) ∙ ap (λ (x : Config). refusal_of x n.names (may.0).asked.call) (sym h.config) ∙ lock.2,
           ),
         ),
         both_step m n client (λ current. record current { has_locks = true }) (λ c. refl) locks_too h,

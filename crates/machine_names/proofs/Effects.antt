@@ -1,5 +1,5 @@
 -- What a name call may do, and does, is the same at both machines.
-use Rattle.std.proofs.Common.{◌≡◌, ℕ, suc, ◌-◌, ◌≤◌, Bool, true, false, cond, List, [], ◌∷◌, None, refl, sym, ap, subst, ◌∙◌, inl, inr}
+use Rattle.std.proofs.Common.{◌≡◌, ℕ, suc, ◌-◌, ◌≤◌, Bool, true, false, cond, List, [], ◌∷◌, None, refl, sym, ap, subst, ◌∙◌, inl, inr, Option}
 use Rattle.std.specs.Prelude.{◌==◌, Contains, IsTrue}
 use Rattle.std.specs.FinMap as map
 use Rattle.std.proofs.lemmas.Bool.{true≢false}
@@ -13,11 +13,12 @@ use Rattle.gfs_types.specs.declared.refusal.Refusal.TheVariants.{BadFd, TooLong,
 use Rattle.gfs_types.specs.declared.config.Config.{Config}
 use Rattle.gfs_types.specs.Paths.{Path}
 use Rattle.relaxed_file.specs.Names.{Names, Node, Dir, File, node_at, copied_entries, with_copies, id_after, id_after_all}
-use Rattle.relaxed_file.specs.Machine.{Machine, Client, FileState, OpenCall, Outcome, Replies, new_file, put}
-use Rattle.relaxed_file.specs.NameStep.{is_name_call, with_node, hidden, with_copied_file, with_copied_files, performed, MayTakeEffect}
+use Rattle.relaxed_file.specs.Machine.{Machine, Client, FileState, OpenCall, Outcome, Replies, put}
+use Rattle.relaxed_file.specs.NameStep.{is_name_call, with_node, hidden, with_copied_file, with_copied_files, performed, MayTakeEffect, made_file}
 use Rattle.relaxed_file.specs.Answers.{IsDone, IsCause, MayReturn, may_give_up}
 use Rattle.relaxed_file.specs.Run.{file_of}
 use Rattle.machine_names.specs.NameProjections.{IsSameCall, AreNamesOf, AreSourcesClosed}
+use Rattle.gfs_types.specs.declared.shape.Shape.{Shape}
 
 -- effects
 
@@ -41,13 +42,13 @@ module _ (m n : Machine) (h : AreNamesOf m n) where
   renamed : (f : Names → Names) → AreNamesOf (record m { names = f m.names }) (record n { names = f n.names })
   renamed f = record { config = h.config; clock = h.clock; names = ap f h.names; count = h.count; collected = h.collected; calls = h.calls; fds = h.fds }
 
-  created : (p : Path) (moment : ℕ) → AreNamesOf (performed m (call.Create p) moment) (performed n (call.Create p) moment)
-  created p moment = record {
+  created : (p : Path) (shape : Option Shape) (moment : ℕ) → AreNamesOf (performed m (call.Create p shape) moment) (performed n (call.Create p shape) moment)
+  created p shape moment = record {
     config = h.config;
     clock = h.clock;
     names = ap (λ (x : Names). map.insert x p (File (suc n.file_count))) h.names ∙ ap (λ (k : ℕ). map.insert m.names p (File (suc k))) h.count;
     count = ap (λ (k : ℕ). suc k) h.count;
-    collected = λ file. ap (λ (k : ℕ). (put (suc k) new_file n.files file).is_collected) h.count ∙ put_collected m.files n.files (suc m.file_count) new_file new_file h.collected refl file;
+    collected = λ file. ap (λ (k : ℕ). (put (suc k) (made_file n shape) n.files file).is_collected) h.count ∙ put_collected m.files n.files (suc m.file_count) (made_file m shape) (made_file n shape) h.collected refl file;
     calls = h.calls;
     fds = h.fds;
   }
@@ -69,7 +70,7 @@ module _ (m n : Machine) (h : AreNamesOf m n) where
   pub performed_both : (k : Call) (moment : ℕ) → AreNamesOf (performed m k moment) (performed n k moment)
   performed_both (call.Mkdir p) moment = renamed (λ x. map.insert x p Dir)
   performed_both (call.Rmdir p) moment = renamed (λ x. map.remove x p)
-  performed_both (call.Create p) moment = created p moment
+  performed_both (call.Create p shape) moment = created p shape moment
   performed_both (call.Delete p) moment = renamed (λ x. hidden x p moment (node_at x p))
   performed_both (call.Rename p q) moment = renamed (λ x. with_node (map.remove x p) q (node_at x p))
   performed_both (call.Snapshot p q) moment = copied p q moment

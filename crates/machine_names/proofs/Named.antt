@@ -11,7 +11,7 @@ use Rattle.gfs_types.specs.declared.call.Call.TheVariants as call
 use Rattle.gfs_types.specs.Paths.{Path, root, trash, is_below, is_at_or_below, is_child, hidden_name}
 use Rattle.relaxed_file.specs.Names.{Names, Node, Dir, File, node_at, first_names, copied_entries, with_copies, id_after, id_after_all, copy_of_node}
 use Rattle.relaxed_file.specs.Machine.{Machine, FileState, OpenCall, Outcome, new_machine, new_file, put}
-use Rattle.relaxed_file.specs.NameStep.{path_tests, name_tests, refusal_of, is_refused, is_in_trash, performed, stepped, with_outcome, with_node, hidden, with_copied_file, with_copied_files}
+use Rattle.relaxed_file.specs.NameStep.{path_tests, name_tests, refusal_of, is_refused, is_in_trash, performed, stepped, with_outcome, with_node, hidden, with_copied_file, with_copied_files, made_file}
 use Rattle.relaxed_file.specs.Answers.{returned}
 use Rattle.relaxed_file.specs.Run.{Action, Invoke, Return, ReturnFd, Step, FindBusy, FindFull, Lock, Expire, Pass, Allows, IsLawful, after, after_all}
 use Rattle.relaxed_file.proofs.Tables.{at_some, from_some, put_is, put_other}
@@ -20,6 +20,7 @@ use Rattle.machine_names.proofs.PathsApart.{open_path, not_in_trash}
 use Rattle.machine_names.proofs.Unrefused.{IsAllowed, allowed_from, copied_below}
 use Rattle.machine_names.specs.NameRuns.{is_name_action, LeadsByNames}
 use Rattle.machine_names.specs.NamedFiles.{NamedFilesAreThere, FilesHaveOneName, HiddenFilesTellAMoment}
+use Rattle.gfs_types.specs.Shapes.{usual_shape}
 
 abbrev IsAt : Names → Path → ℕ → Type 0
 IsAt names path id = node_at names path ≡ Some (File id)
@@ -202,29 +203,29 @@ copied_here m p q may h =
     untouched x false e below = e
     untouched x true e below = absurd (not_in_trash q x may.path_to may.open_to e below)
 
-snapshot_named : (m : Machine) (p q : Path) → refusal_of m.names (call.Snapshot p q) ≡ None → Good m → Good (performed m (call.Snapshot p q) 0)
+snapshot_named : (m : Machine) (p q : Path) → refusal_of m.config m.names (call.Snapshot p q) ≡ None → Good m → Good (performed m (call.Snapshot p q) 0)
 snapshot_named m p q free h =
     let next : ℕ = suc m.file_count in
     let es : List (Path × Node) = copied_entries m.names p q in
     let more = grows es next in
     let count : id_after_all next es ≡ suc (id_after_all next es - 1) = omega (arith, more) in
     subst (λ (k : ℕ). AreNamed (with_copies m.names next es) (with_copied_files m.files next es) k) count
-    (copies_named es m.names m.files next (omega arith) (copied_here m p q (allowed_from m.names p q free) h) h)
+    (copies_named es m.names m.files next (omega arith) (copied_here m p q (allowed_from m.config m.names p q free) h) h)
 
-performed_named : (m : Machine) (c : Call) (moment : ℕ) → refusal_of m.names c ≡ None → Good m → Good (performed m c moment)
+performed_named : (m : Machine) (c : Call) (moment : ℕ) → refusal_of m.config m.names c ≡ None → Good m → Good (performed m c moment)
 performed_named m (call.Mkdir p) moment free h = dir_named m.names m.files (suc m.file_count) p h
 performed_named m (call.Rmdir p) moment free h = less_named m.names m.files (suc m.file_count) p h
-performed_named m (call.Create p) moment free h =
-    let all = tests_passed (path_tests (call.Create p) ++ name_tests m.names (call.Create p)) free in
-    new_named m.names m.files (suc m.file_count) p new_file (omega arith) refl all.1.0 h
+performed_named m (call.Create p shape) moment free h =
+    let all = tests_passed (path_tests m.config (call.Create p shape) ++ name_tests m.names (call.Create p shape)) free in
+    new_named m.names m.files (suc m.file_count) p (made_file m shape) (omega arith) refl all.1.1.0 h
 performed_named m (call.Delete p) moment free h = deleted_named m p moment (node_at m.names p) refl h
 performed_named m (call.Rename p q) moment free h =
-    let all = tests_passed (path_tests (call.Rename p q) ++ name_tests m.names (call.Rename p q)) free in
+    let all = tests_passed (path_tests m.config (call.Rename p q) ++ name_tests m.names (call.Rename p q)) free in
     renamed_named m p q (node_at m.names p) refl all.1.1.0 h
 performed_named m (call.Snapshot p q) moment free h = snapshot_named m p q free h
 performed_named m other moment free h = h
 
-stepped_named : (m : Machine) (client moment : ℕ) (outcome : Outcome) (current : OpenCall) → (is_refused outcome ≡ false → refusal_of m.names current.asked.call ≡ None) → Good m → Good (stepped m client moment outcome current)
+stepped_named : (m : Machine) (client moment : ℕ) (outcome : Outcome) (current : OpenCall) → (is_refused outcome ≡ false → refusal_of m.config m.names current.asked.call ≡ None) → Good m → Good (stepped m client moment outcome current)
 stepped_named m client moment outcome current free h = by_test (is_refused outcome) refl
   where
     by_test : (b : Bool) → is_refused outcome ≡ b → Good (with_outcome (cond b m (performed m current.asked.call moment)) client outcome)
@@ -237,7 +238,7 @@ action_named m (Return client reply) is a h = at_some (λ (k : Machine). Good k)
 action_named m (ReturnFd client fd file) is a h = h
 action_named m (Step client moment outcome) is a h =
     at_some (λ (k : Machine). Good k) (λ current. stepped m client moment outcome current) m (m.clients client).open_call a.0 a.1
-    (stepped_named m client moment outcome a.0 (λ plain. unrefused m.names (a.0).asked.call outcome (a.2).2 plain) h)
+    (stepped_named m client moment outcome a.0 (λ plain. unrefused m.config m.names (a.0).asked.call outcome (a.2).2 plain) h)
 action_named m (FindBusy client holder) is a h = h
 action_named m (FindFull client) is a h = h
 action_named m (Lock client) is a h = h
@@ -259,8 +260,8 @@ none_at_first path id at = by_look (bytes_eq path root) (bytes_eq path trash) (s
     by_look false true e = no_dir id (from_some e)
     by_look false false e = none-some (File id) e
 
-first_good : AreNamed first_names (λ file. new_file) 1
-first_good =
+first_good : (config : Config) → AreNamed first_names (λ file. new_file (usual_shape config)) 1
+first_good config =
     record {
       there = λ path id at. absurd (none_at_first path id at);
       one = λ path other id at too. absurd (none_at_first path id at);
@@ -268,7 +269,7 @@ first_good =
     }
 
 good_here : (config : Config) (m : Machine) → LeadsByNames (new_machine config) m → Good m
-good_here config m run = subst (λ (k : Machine). Good k) run.3 (actions_named (new_machine config) run.0 run.2 run.1 first_good)
+good_here config m run = subst (λ (k : Machine). Good k) run.3 (actions_named (new_machine config) run.0 run.2 run.1 (first_good config))
 
 pub named_files_are_there : NamedFilesAreThere
 named_files_are_there config m run path file at =

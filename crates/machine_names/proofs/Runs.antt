@@ -8,8 +8,8 @@ use Rattle.gfs_types.specs.declared.call.Call.{Call}
 use Rattle.gfs_types.specs.declared.call.Call.TheVariants as call
 use Rattle.gfs_types.specs.Paths.{Path}
 use Rattle.relaxed_file.specs.Names.{Node, Dir, File, copied_entries, id_after}
-use Rattle.relaxed_file.specs.Machine.{Machine, FileState, OpenCall, put, new_file, new_machine}
-use Rattle.relaxed_file.specs.NameStep.{AllRoundsClosed, AreRoundsClosed, is_refused, performed, stepped, with_copied_file, with_copied_files}
+use Rattle.relaxed_file.specs.Machine.{Machine, FileState, OpenCall, put, new_machine}
+use Rattle.relaxed_file.specs.NameStep.{AllRoundsClosed, AreRoundsClosed, is_refused, performed, stepped, with_copied_file, with_copied_files, made_file}
 use Rattle.relaxed_file.specs.Answers.{returned}
 use Rattle.relaxed_file.specs.Run.{Action, Invoke, Return, ReturnFd, Step, FindBusy, FindFull, Lock, Expire, Pass, IsLawful, shown, after, after_all}
 use Rattle.relaxed_file.proofs.Reached.{lawful_after, after_all-append}
@@ -35,7 +35,7 @@ copied_none (e ∷ es) files next h = copied_none es (with_copied_file files nex
     by_node (File id) = put_none files next (files id) (h id) h
 
 performed_none : (m : Machine) (c : Call) (moment : ℕ) → HaveNone m.files → HaveNone (performed m c moment).files
-performed_none m (call.Create p) moment h = put_none m.files (suc m.file_count) new_file refl h
+performed_none m (call.Create p shape) moment h = put_none m.files (suc m.file_count) (made_file m shape) refl h
 performed_none m (call.Snapshot p q) moment h = copied_none (copied_entries m.names p q) m.files (suc m.file_count) h
 performed_none m other moment h = h
 

@@ -18,6 +18,7 @@ use Rattle.relaxed_file.proofs.PathParts.{child_of_parent, at_or_below_from, at_
 use Rattle.relaxed_file.proofs.NamesTree.{inserted_there, inserted_other, removed_there, removed_other, same_or_other, dir_kept, taken_there, taken_before, hidden_in_trash, true_from, not_taken_no_dir, HasAt, found_at, entry_is, copied_of, copies_taken, copies_dir, tests_passed}
 use Rattle.machine_names.specs.SnapshotLocks.{CallsLeaveSnapshotsUnrefused, CollectionsLeaveSnapshotsUnrefused}
 use Rattle.machine_names.proofs.PathsApart.{IsApart, nothing_in_both, apart_differ, at_itself, passes_lock, open_path, not_in_trash, parent_at, parent_in_trash}
+use Rattle.gfs_types.specs.declared.config.Config.{Config}
 
 -- whether the copy of this name would be too long
 abbrev is_long : Path → Path → Path → Bool
@@ -64,9 +65,9 @@ all_short from to (e ∷ es) f = by_test (is_at_or_below from e.0) refl (all_sho
     by_test true is more = ap (λ (b : Bool). b || list_any is_long_name (copies_of from to es)) (f e.0 e.1 (inl (refl, refl)) is) ∙ more
     by_test false is more = more
 
-pub allowed_from : (names : Names) (from to : Path) → refusal_of names (call.Snapshot from to) ≡ None → IsAllowed names from to
-allowed_from names from to h =
-    let all = tests_passed (path_tests (call.Snapshot from to) ++ name_tests names (call.Snapshot from to)) h in
+pub allowed_from : (config : Config) (names : Names) (from to : Path) → refusal_of config names (call.Snapshot from to) ≡ None → IsAllowed names from to
+allowed_from config names from to h =
+    let all = tests_passed (path_tests config (call.Snapshot from to) ++ name_tests names (call.Snapshot from to)) h in
     record {
       path_from = true_from (is_path from) all.0;
       path_to = true_from (is_path to) all.1.0;
@@ -85,10 +86,10 @@ none_refused : (tests : List (Bool × Refusal)) → AllByRecursion (λ t. t.0 �
 none_refused [] all = refl
 none_refused (t ∷ rest) all = ap (λ (b : Bool). cond b (Some t.1) (first_refusal rest)) all.0 ∙ none_refused rest all.1
 
-pub unrefused_from : (names : Names) (from to : Path) → IsAllowed names from to → refusal_of names (call.Snapshot from to) ≡ None
-unrefused_from names from to h =
+pub unrefused_from : (config : Config) (names : Names) (from to : Path) → IsAllowed names from to → refusal_of config names (call.Snapshot from to) ≡ None
+unrefused_from config names from to h =
     let short : list_any is_long_name (copied_entries names from to) ≡ false = all_short from to (table.entries names) (λ k v there at. h.short k (ap is_some (entry_is names k v there)) at) in
-    none_refused (path_tests (call.Snapshot from to) ++ name_tests names (call.Snapshot from to))
+    none_refused (path_tests config (call.Snapshot from to) ++ name_tests names (call.Snapshot from to))
     (ap not h.path_from, (ap not h.path_to, (h.open_from, (h.open_to, (h.outside, (ap not h.there, (ap not h.above, (h.free, (short, tt)))))))))
 
 -- names that change
@@ -188,10 +189,10 @@ copied_below names p q x v p_other q_other there =
     dropped [] b = refl
     dropped (c ∷ a) b = dropped a b
 
-pub copies_stay : (names : Names) (p q : Path) (next : ℕ) (from to : Path) → refusal_of names (call.Snapshot p q) ≡ None → PassesLocks q from to → IsAllowed names from to
+pub copies_stay : (config : Config) (names : Names) (p q : Path) (next : ℕ) (from to : Path) → refusal_of config names (call.Snapshot p q) ≡ None → PassesLocks q from to → IsAllowed names from to
     → IsAllowed (with_copies names next (copied_entries names p q)) from to
-copies_stay names p q next from to may apart h =
-    let mine : IsAllowed names p q = allowed_from names p q may in
+copies_stay config names p q next from to may apart h =
+    let mine : IsAllowed names p q = allowed_from config names p q may in
     let p_other = (open_path p mine.open_from).0 in
     let q_other = (open_path q mine.open_to).0 in
     let from_other = (open_path from h.open_from).0 in
@@ -215,7 +216,7 @@ copies_stay names p q next from to may apart h =
     untaken true e none = absurd (none e)
 
     no_parent : (q ≡ root → ⊥) → is_at_or_below q (parent to) ≡ true → ⊥
-    no_parent q_other at = true≢false (sym (parent_at q to (allowed_from names p q may).path_to q_other at) ∙ apart.target.below)
+    no_parent q_other at = true≢false (sym (parent_at q to (allowed_from config names p q may).path_to q_other at) ∙ apart.target.below)
 
 -- no lock conflicts
 
@@ -240,46 +241,46 @@ rmdir_stays names p from to plain apart h =
 abbrev pub names_done : Names → Call → ℕ → ℕ → Names
 names_done names (call.Mkdir p) moment next = table.insert names p Dir
 names_done names (call.Rmdir p) moment next = table.remove names p
-names_done names (call.Create p) moment next = table.insert names p (File next)
+names_done names (call.Create p shape) moment next = table.insert names p (File next)
 names_done names (call.Delete p) moment next = hidden names p moment (node_at names p)
 names_done names (call.Rename p q) moment next = with_node (table.remove names p) q (node_at names p)
 names_done names (call.Snapshot p q) moment next = with_copies names next (copied_entries names p q)
 names_done names other moment next = names
 
 -- a call without conflict
-pub call_leaves : (names : Names) (c : Call) (moment next : ℕ) (from to : Path) → refusal_of names c ≡ None → conflict c (call.Snapshot from to) ≡ false → IsAllowed names from to
+pub call_leaves : (config : Config) (names : Names) (c : Call) (moment next : ℕ) (from to : Path) → refusal_of config names c ≡ None → conflict c (call.Snapshot from to) ≡ false → IsAllowed names from to
     → IsAllowed (names_done names c moment next) from to
-call_leaves names (call.Mkdir p) moment next from to may quiet h =
+call_leaves config names (call.Mkdir p) moment next from to may quiet h =
     put_passes names p Dir from to (locks_passed p from to false quiet).0 (λ same. refl) h
-call_leaves names (call.Rmdir p) moment next from to may quiet h =
-    let all = tests_passed (path_tests (call.Rmdir p) ++ name_tests names (call.Rmdir p)) may in
+call_leaves config names (call.Rmdir p) moment next from to may quiet h =
+    let all = tests_passed (path_tests config (call.Rmdir p) ++ name_tests names (call.Rmdir p)) may in
     rmdir_stays names p from to all.1.0 (locks_passed p from to false quiet).0 h
-call_leaves names (call.Create p) moment next from to may quiet h =
-    let all = tests_passed (path_tests (call.Create p) ++ name_tests names (call.Create p)) may in
-    put_passes names p (File next) from to (locks_passed p from to false quiet).0 (λ same. absurd (no_dir_above names p from to (not_taken_no_dir (node_at names p) all.1.1.1.0) h same)) h
-call_leaves names (call.Delete p) moment next from to may quiet h =
+call_leaves config names (call.Create p shape) moment next from to may quiet h =
+    let all = tests_passed (path_tests config (call.Create p shape) ++ name_tests names (call.Create p shape)) may in
+    put_passes names p (File next) from to (locks_passed p from to false quiet).0 (λ same. absurd (no_dir_above names p from to (not_taken_no_dir (node_at names p) all.1.1.1.1.0) h same)) h
+call_leaves config names (call.Delete p) moment next from to may quiet h =
     deleted_stays names p moment from to (node_at names p) refl (apart_differ p from (locks_passed p from to false quiet).0.source) h
-call_leaves names (call.Rename p q) moment next from to may quiet h =
-    let all = tests_passed (path_tests (call.Rename p q) ++ name_tests names (call.Rename p q)) may in
+call_leaves config names (call.Rename p q) moment next from to may quiet h =
+    let all = tests_passed (path_tests config (call.Rename p q) ++ name_tests names (call.Rename p q)) may in
     let one = locks_passed p from to _ quiet in
     let two = locks_passed q from to false one.1 in
     renamed_stays names p q from to (node_at names p) all.1.1.1.1.0 all.1.1.1.1.1.1.0 one.0 two.0 h
-call_leaves names (call.Snapshot p q) moment next from to may quiet h =
+call_leaves config names (call.Snapshot p q) moment next from to may quiet h =
     let one = locks_passed p from to _ quiet in
     let two = locks_passed q from to false one.1 in
-    copies_stay names p q next from to may two.0 h
-call_leaves names (call.Open p) moment next from to may quiet h = h
-call_leaves names (call.List p) moment next from to may quiet h = h
-call_leaves names (call.Close fd) moment next from to may quiet h = h
-call_leaves names (call.Length fd) moment next from to may quiet h = h
-call_leaves names (call.Write fd offset bytes) moment next from to may quiet h = h
-call_leaves names (call.Append fd bytes) moment next from to may quiet h = h
-call_leaves names (call.Read fd offset count) moment next from to may quiet h = h
+    copies_stay config names p q next from to may two.0 h
+call_leaves config names (call.Open p) moment next from to may quiet h = h
+call_leaves config names (call.List p) moment next from to may quiet h = h
+call_leaves config names (call.Close fd) moment next from to may quiet h = h
+call_leaves config names (call.Length fd) moment next from to may quiet h = h
+call_leaves config names (call.Write fd offset bytes) moment next from to may quiet h = h
+call_leaves config names (call.Append fd bytes) moment next from to may quiet h = h
+call_leaves config names (call.Read fd offset count) moment next from to may quiet h = h
 
 performed_names : (m : Machine) (c : Call) (moment : ℕ) → (performed m c moment).names ≡ names_done m.names c moment (suc m.file_count)
 performed_names m (call.Mkdir p) moment = refl
 performed_names m (call.Rmdir p) moment = refl
-performed_names m (call.Create p) moment = refl
+performed_names m (call.Create p shape) moment = refl
 performed_names m (call.Delete p) moment = refl
 performed_names m (call.Rename p q) moment = refl
 performed_names m (call.Snapshot p q) moment = refl
@@ -287,10 +288,10 @@ performed_names m other moment = refl
 
 pub calls_leave_snapshots_unrefused : CallsLeaveSnapshotsUnrefused
 calls_leave_snapshots_unrefused m c moment from to may quiet h =
-    unrefused_from (performed m c moment).names from to
-    (subst (λ (ns : Names). IsAllowed ns from to) (sym (performed_names m c moment)) (call_leaves m.names c moment (suc m.file_count) from to may quiet (allowed_from m.names from to h)))
+    unrefused_from m.config (performed m c moment).names from to
+    (subst (λ (ns : Names). IsAllowed ns from to) (sym (performed_names m c moment)) (call_leaves m.config m.names c moment (suc m.file_count) from to may quiet (allowed_from m.config m.names from to h)))
 
 pub collections_leave_snapshots_unrefused : CollectionsLeaveSnapshotsUnrefused
 collections_leave_snapshots_unrefused m file moment from to allowed h =
-    unrefused_from (after m (Expire file moment)).names from to
-    (collected_stays m.names (hidden_name moment file) file from to allowed.0 (hidden_in_trash moment file) (allowed_from m.names from to h))
+    unrefused_from m.config (after m (Expire file moment)).names from to
+    (collected_stays m.names (hidden_name moment file) file from to allowed.0 (hidden_in_trash moment file) (allowed_from m.config m.names from to h))

@@ -64,7 +64,7 @@ step_left m client change number asked =
 performed_left : (m : Machine) (c : Call) (moment : ℕ) → AreLeft m (performed m c moment)
 performed_left m (call.Mkdir p) moment = record { clock = refl; settings = refl; clients = λ q. left_same (m.clients q) }
 performed_left m (call.Rmdir p) moment = record { clock = refl; settings = refl; clients = λ q. left_same (m.clients q) }
-performed_left m (call.Create p) moment = record { clock = refl; settings = refl; clients = λ q. left_same (m.clients q) }
+performed_left m (call.Create p shape) moment = record { clock = refl; settings = refl; clients = λ q. left_same (m.clients q) }
 performed_left m (call.Delete p) moment = record { clock = refl; settings = refl; clients = λ q. left_same (m.clients q) }
 performed_left m (call.Rename p q) moment = record { clock = refl; settings = refl; clients = λ q. left_same (m.clients q) }
 performed_left m (call.Snapshot p q) moment = record { clock = refl; settings = refl; clients = λ q. left_same (m.clients q) }

@@ -11,11 +11,11 @@ use Rattle.relaxed_file.specs.Run.{Expire, Allows, after}
 -- A call that meets no refusal, and no lock of the snapshot.
 abbrev pub CallsLeaveSnapshotsUnrefused : Type 0
 CallsLeaveSnapshotsUnrefused =
-    (m : Machine) (c : Call) (moment : ℕ) (from to : Path) → refusal_of m.names c ≡ None → IsFalse (conflict c (call.Snapshot from to)) → refusal_of m.names (call.Snapshot from to) ≡ None
-    → refusal_of (performed m c moment).names (call.Snapshot from to) ≡ None
+    (m : Machine) (c : Call) (moment : ℕ) (from to : Path) → refusal_of m.config m.names c ≡ None → IsFalse (conflict c (call.Snapshot from to)) → refusal_of m.config m.names (call.Snapshot from to) ≡ None
+    → refusal_of m.config (performed m c moment).names (call.Snapshot from to) ≡ None
 
 -- A hidden file that is collected.
 abbrev pub CollectionsLeaveSnapshotsUnrefused : Type 0
 CollectionsLeaveSnapshotsUnrefused =
-    (m : Machine) (file moment : ℕ) (from to : Path) → Allows m (Expire file moment) → refusal_of m.names (call.Snapshot from to) ≡ None
-    → refusal_of (after m (Expire file moment)).names (call.Snapshot from to) ≡ None
+    (m : Machine) (file moment : ℕ) (from to : Path) → Allows m (Expire file moment) → refusal_of m.config m.names (call.Snapshot from to) ≡ None
+    → refusal_of m.config (after m (Expire file moment)).names (call.Snapshot from to) ≡ None

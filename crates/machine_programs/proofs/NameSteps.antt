@@ -20,13 +20,19 @@ all_ids [] t = refl
 all_ids ((path, Dir) ∷ rest) t = all_ids rest (with_copy t path Dir)
 all_ids ((path, File id) ∷ rest) t = all_ids rest (with_copy t path (File id))
 
+all_settings : (es : List (Path × Node)) (t : NameTable) → t.config ≡ (with_all_copies t es).config
+all_settings [] t = refl
+all_settings ((path, Dir) ∷ rest) t = all_settings rest (with_copy t path Dir)
+all_settings ((path, File id) ∷ rest) t = all_settings rest (with_copy t path (File id))
+
 pub snapshot_performs : (old new : NameTable) (p q : Path) (moment : ℕ) → new ≡ with_all_copies old (copied_entries old.names p q) → Performs old (call.Snapshot p q) moment new
 snapshot_performs old new p q moment is m has = (
-  ap (λ names. with_copies names (suc m.file_count) (copied_entries names p q)) has.0
-      ∙ ap (λ n. with_copies old.names (suc n) (copied_entries old.names p q)) has.1
+  has.0 ∙ all_settings (copied_entries old.names p q) old ∙ ap (λ (t : NameTable). t.config) (sym is),
+  ap (λ names. with_copies names (suc m.file_count) (copied_entries names p q)) has.1.0
+      ∙ ap (λ n. with_copies old.names (suc n) (copied_entries old.names p q)) has.1.1
       ∙ all_names (copied_entries old.names p q) old ∙ ap (λ (t : NameTable). t.names) (sym is),
-  ap (λ names. id_after_all (suc m.file_count) (copied_entries names p q) - 1) has.0
-      ∙ ap (λ n. id_after_all (suc n) (copied_entries old.names p q) - 1) has.1
+  ap (λ names. id_after_all (suc m.file_count) (copied_entries names p q) - 1) has.1.0
+      ∙ ap (λ n. id_after_all (suc n) (copied_entries old.names p q) - 1) has.1.1
       ∙ (let ids : id_after_all (suc old.file_count) (copied_entries old.names p q) ≡ suc (with_all_copies old (copied_entries old.names p q)).file_count = all_ids (copied_entries old.names p q) old in
       let last : id_after_all (suc old.file_count) (copied_entries old.names p q) - 1 ≡ (with_all_copies old (copied_entries old.names p q)).file_count = omega (arith, ids) in last)
       ∙ ap (λ (t : NameTable). t.file_count) (sym is),
@@ -43,10 +49,10 @@ performed_or_not old new (call.Open p) moment h m has = either m m new (is_refus
 performed_or_not old new (call.List p) moment h m has = h m has
 performed_or_not old new other moment h m has = h m has
 
-pub done_step : (old new : NameTable) (c : Call) (moment : ℕ) (o : Outcome) → refusal_of old.names c ≡ None → o ≡ done_outcome old.names c → Performs old c moment new → IsNameStep old c moment o new
+pub done_step : (old new : NameTable) (c : Call) (moment : ℕ) (o : Outcome) → refusal_of old.config old.names c ≡ None → o ≡ done_outcome old.names c → Performs old c moment new → IsNameStep old c moment o new
 done_step old new c moment o none is h =
     subst (λ r. (o ≡ outcome_by old.names c r) × ((m : Machine) → HasTable m old → HasTable (cond (is_refused o) m (performed m c moment)) new)) (sym none)
     (is, λ m has. subst (λ x. HasTable (cond (is_refused x) m (performed m c moment)) new) (sym is) (performed_or_not old new c moment h m has))
 
-pub refused_step : (t : NameTable) (c : Call) (moment : ℕ) (refusal : Refusal) → refusal_of t.names c ≡ Some refusal → IsNameStep t c moment (Replies (answer.Refused refusal)) t
+pub refused_step : (t : NameTable) (c : Call) (moment : ℕ) (refusal : Refusal) → refusal_of t.config t.names c ≡ Some refusal → IsNameStep t c moment (Replies (answer.Refused refusal)) t
 refused_step t c moment refusal is = (ap (outcome_by t.names c) (sym is), λ m has. has)

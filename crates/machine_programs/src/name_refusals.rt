@@ -1,17 +1,21 @@
 //! The refusals of name calls: the tests of each call in order (section 4.1 of the Google File System paper).
 
-ghost use Rattle.std.specs.Prelude.{◌≡◌, nat_lt, length, IfOk};
+ghost use Rattle.std.specs.Prelude.{◌≡◌, nat_lt, length, None, IfOk};
 ghost use Rattle.std.specs.List.{list_any};
 ghost use Rattle.gfs_types.specs.declared.call.Call.TheVariants as call;
+ghost use Rattle.gfs_types.specs.declared.config.Config.{Config};
+ghost use Rattle.gfs_types.specs.Shapes.{may_have};
 ghost use Rattle.relaxed_file.specs.Names.{is_taken, is_dir, has_children, copied_entries};
 ghost use Rattle.relaxed_file.specs.NameStep.{is_in_trash, is_reserved, refusal_of};
 
 use crate::copies::{copies_of, is_some_too_long};
 use crate::name_kind::PlainNameKind;
 use crate::name_list::PlainNames;
+use gfs_types::config::Config;
 use gfs_types::no_memory::NoMemory;
 use gfs_types::path::accepts_path;
 use gfs_types::refusal::Refusal;
+use gfs_types::shape::Shape;
 use path_trie::parts::{is_at_or_below, is_child, parent};
 use std::alloc::Global;
 
@@ -27,6 +31,16 @@ fn is_reserved(path: &str) -> bool
     ensures { result ≡ is_reserved path.now }
 {
     path == "/" || is_in_trash(path)
+}
+
+/// Whether a file may be asked for so.
+fn may_have(config: &Config, shape: Option<Shape>) -> bool
+    ensures { result ≡ may_have config.now shape }
+{
+    match shape {
+        Some(shape) => shape.fits(config),
+        None => true,
+    }
 }
 
 impl PlainNames {
@@ -57,10 +71,10 @@ impl PlainNames {
             .any(|name| is_child(directory, name.path()))
     }
 
-    /// The refusal of a new name, of a directory or of a file.
+    /// The refusal of a new name, of a directory or of a file that is to have the settings' shape.
     pub fn refusal_of_new(&self, path: &str) -> Option<Refusal>
-        ensures directory { result ≡ refusal_of self.now (call.Mkdir path.now) }
-        ensures file { result ≡ refusal_of self.now (call.Create path.now) }
+        ensures directory { (config : Config) → result ≡ refusal_of config self.now (call.Mkdir path.now) }
+        ensures file { (config : Config) → result ≡ refusal_of config self.now (call.Create path.now None) }
     {
         if !accepts_path(path.as_bytes()) {
             return Some(Refusal::BadPath);
@@ -77,8 +91,25 @@ impl PlainNames {
         None
     }
 
+    pub fn refusal_of_create(
+        &self,
+        config: &Config,
+        path: &str,
+        shape: Option<Shape>,
+    ) -> Option<Refusal>
+        ensures { result ≡ refusal_of config.now self.now (call.Create path.now shape) }
+    {
+        if !accepts_path(path.as_bytes()) {
+            return Some(Refusal::BadPath);
+        }
+        if !may_have(config, shape) {
+            return Some(Refusal::BadSize);
+        }
+        self.refusal_of_new(path)
+    }
+
     pub fn refusal_of_rmdir(&self, path: &str) -> Option<Refusal>
-        ensures { result ≡ refusal_of self.now (call.Rmdir path.now) }
+        ensures { (config : Config) → result ≡ refusal_of config self.now (call.Rmdir path.now) }
     {
         if !accepts_path(path.as_bytes()) {
             return Some(Refusal::BadPath);
@@ -99,7 +130,7 @@ impl PlainNames {
     }
 
     pub fn refusal_of_open(&self, path: &str) -> Option<Refusal>
-        ensures { result ≡ refusal_of self.now (call.Open path.now) }
+        ensures { (config : Config) → result ≡ refusal_of config self.now (call.Open path.now) }
     {
         if !accepts_path(path.as_bytes()) {
             return Some(Refusal::BadPath);
@@ -114,7 +145,7 @@ impl PlainNames {
     }
 
     pub fn refusal_of_list(&self, path: &str) -> Option<Refusal>
-        ensures { result ≡ refusal_of self.now (call.List path.now) }
+        ensures { (config : Config) → result ≡ refusal_of config self.now (call.List path.now) }
     {
         if !accepts_path(path.as_bytes()) {
             return Some(Refusal::BadPath);
@@ -129,7 +160,7 @@ impl PlainNames {
     }
 
     pub fn refusal_of_delete(&self, path: &str) -> Option<Refusal>
-        ensures { result ≡ refusal_of self.now (call.Delete path.now) }
+        ensures { (config : Config) → result ≡ refusal_of config self.now (call.Delete path.now) }
     {
         if !accepts_path(path.as_bytes()) {
             return Some(Refusal::BadPath);
@@ -147,7 +178,7 @@ impl PlainNames {
     }
 
     pub fn refusal_of_rename(&self, path: &str, to: &str) -> Option<Refusal>
-        ensures { result ≡ refusal_of self.now (call.Rename path.now to.now) }
+        ensures { (config : Config) → result ≡ refusal_of config self.now (call.Rename path.now to.now) }
     {
         if !accepts_path(path.as_bytes()) || !accepts_path(to.as_bytes()) {
             return Some(Refusal::BadPath);
@@ -177,7 +208,7 @@ impl PlainNames {
         path: &str,
         to: &str,
     ) -> Result<Option<Refusal>, NoMemory>
-        ensures { IfOk result (λ r. r ≡ refusal_of self.now (call.Snapshot path.now to.now)) }
+        ensures { IfOk result (λ r. (config : Config) → r ≡ refusal_of config self.now (call.Snapshot path.now to.now)) }
     {
         if !accepts_path(path.as_bytes()) || !accepts_path(to.as_bytes()) {
             return Ok(Some(Refusal::BadPath));

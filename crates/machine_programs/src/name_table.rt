@@ -1,9 +1,10 @@
 //! The name step: what a name call comes to, and the names after it (section 4.1 of the Google File System paper).
 
-ghost use Rattle.std.specs.Prelude.{◌≡◌, ◌<◌, ◌≤◌, [], ◌∷◌, ◌++◌, IfOk, OnOk, string_bytes};
+ghost use Rattle.std.specs.Prelude.{Option, ◌≡◌, ◌<◌, ◌≤◌, [], ◌∷◌, ◌++◌, IfOk, OnOk, string_bytes};
 ghost use Rattle.gfs_types.specs.declared.call.Call.TheVariants as call;
 ghost use Rattle.gfs_types.specs.Paths.{hidden_name, last_digits, digit};
 ghost use Rattle.gfs_types.specs.declared.answer.Answer.TheVariants as answer;
+ghost use Rattle.gfs_types.specs.declared.shape.Shape.{Shape};
 ghost use Rattle.relaxed_file.specs.Names.{node_at};
 ghost use Rattle.relaxed_file.specs.Machine.{Replies};
 ghost use Rattle.relaxed_file.specs.NameStep.{refusal_of, done_outcome, opened};
@@ -17,6 +18,7 @@ use crate::name_list::PlainNames;
 use crate::outcome::NameOutcome;
 use gfs_types::answer::Answer;
 use gfs_types::call::Call;
+use gfs_types::config::Config;
 use gfs_types::ids::FileId;
 use gfs_types::lists::Text;
 use gfs_types::no_memory::NoMemory;
@@ -27,6 +29,7 @@ use std::marker::Model;
 /// The names of a cell, and how many files were made so far. Files are numbered from 1.
 #[derive(Drop)]
 pub struct NameTable {
+    config: Config,
     names: PlainNames,
     file_count: u64,
     alloc: Global,
@@ -41,18 +44,19 @@ impl Model for NameTable {
 
     ghost coded = { Prim.hlevel (codes, map.code, coded_list, coded_ℕ) };
 
-    ghost view = { λ t. record { names = t.names; file_count = t.file_count } };
+    ghost view = { λ t. record { config = t.config; names = t.names; file_count = t.file_count } };
 }
 
 impl NameTable {
-    /// The names of a new cell.
-    pub fn new(alloc: Global) -> Result<NameTable, NoMemory>
-        ensures { IfOk result (λ t. t ≡ first_table) }
+    /// The names of a new cell with these settings.
+    pub fn new(alloc: Global, config: Config) -> Result<NameTable, NoMemory>
+        ensures { IfOk result (λ t. t ≡ first_table config) }
     {
         let mut names = PlainNames::empty(alloc);
         names.insert(Text::from_str("/.gone", alloc)?, PlainNameKind::Dir)?;
         names.insert(Text::from_str("/", alloc)?, PlainNameKind::Dir)?;
         Ok(NameTable {
+            config,
             names,
             file_count: 0,
             alloc,
@@ -73,9 +77,9 @@ impl NameTable {
         self.names.remove(path);
     }
 
-    /// A new file, under the next id. NoMemory also where there is no further id.
+    /// A new file, under the next id, of whatever shape. NoMemory also where there is no further id.
     fn create(&mut self, path: Text, moment: u64) -> Result<(), NoMemory>
-        ensures { OnOk result (Performs self.old (call.Create path) moment self.new) }
+        ensures { OnOk result ((shape : Option Shape) → Performs self.old (call.Create path shape) moment self.new) }
     {
         let id = self.file_count.checked_add(1).ok_or(NoMemory)?;
         self.names.insert(path, PlainNameKind::File(FileId(id)))?;
@@ -138,11 +142,14 @@ impl NameTable {
 
     /// The first refusal of a call, if it has one. NoMemory: there was no room to list a snapshot's copies.
     pub fn refusal_of(&self, call: &Call) -> Result<Option<Refusal>, NoMemory>
-        ensures { IfOk result (λ r. r ≡ refusal_of self.now.names call.now) }
+        ensures { IfOk result (λ r. r ≡ refusal_of self.now.config self.now.names call.now) }
     {
         let names = &self.names;
         Ok(match call {
-            Call::Mkdir(path) | Call::Create(path) => names.refusal_of_new(path.as_str()),
+            Call::Mkdir(path) => names.refusal_of_new(path.as_str()),
+            Call::Create(path, shape) => {
+                names.refusal_of_create(&self.config, path.as_str(), *shape)
+            }
             Call::Rmdir(path) => names.refusal_of_rmdir(path.as_str()),
             Call::Open(path) => names.refusal_of_open(path.as_str()),
             Call::List(path) => names.refusal_of_list(path.as_str()),
@@ -167,7 +174,7 @@ impl NameTable {
                 self.names.as_slice(),
                 path.as_str(),
             )?))),
-            Call::Mkdir(_) | Call::Rmdir(_) | Call::Create(_) | Call::Delete(_) => Ok(done()),
+            Call::Mkdir(_) | Call::Rmdir(_) | Call::Create(_, _) | Call::Delete(_) => Ok(done()),
             Call::Rename(_, _) | Call::Snapshot(_, _) | Call::Close(_) => Ok(done()),
             Call::Length(_) | Call::Write(_, _, _) | Call::Append(_, _) => Ok(done()),
             Call::Read(_, _, _) => Ok(done()),
@@ -191,7 +198,7 @@ impl NameTable {
         let alloc = self.alloc;
         match call {
             Call::Mkdir(path) => self.mkdir(path.copy(alloc)?, moment),
-            Call::Create(path) => self.create(path.copy(alloc)?, moment),
+            Call::Create(path, _) => self.create(path.copy(alloc)?, moment),
             Call::Rmdir(path) => {
                 self.rmdir(path.as_str(), moment);
                 Ok(())

@@ -30,12 +30,13 @@ use Rattle.relaxed_file.proofs.OwnReads.{performed_clients}
 use Rattle.relaxed_file.proofs.CallSteps.{fresh_call}
 use Rattle.relaxed_file.proofs.Moments.{Shows, leads, nothing, First, first_seen, is_waiting, who_of, said_of, called_not, passed_not}
 use Rattle.relaxed_file.proofs.InCall.{InCall, silently, made_by_call}
+use Rattle.gfs_types.specs.declared.config.Config.{Config}
 
 -- the calls that change no name
 abbrev pub IsQuiet : Call → Type 0
 IsQuiet (call.Mkdir p) = ⊥
 IsQuiet (call.Rmdir p) = ⊥
-IsQuiet (call.Create p) = ⊥
+IsQuiet (call.Create p shape) = ⊥
 IsQuiet (call.Delete p) = ⊥
 IsQuiet (call.Rename p q) = ⊥
 IsQuiet (call.Snapshot p q) = ⊥
@@ -44,7 +45,7 @@ IsQuiet other = Unit {0}
 quiet_names : (m : Machine) (c : Call) (moment : ℕ) → IsQuiet c → (performed m c moment).names ≡ m.names
 quiet_names m (call.Mkdir p) moment q = absurd q
 quiet_names m (call.Rmdir p) moment q = absurd q
-quiet_names m (call.Create p) moment q = absurd q
+quiet_names m (call.Create p shape) moment q = absurd q
 quiet_names m (call.Delete p) moment q = absurd q
 quiet_names m (call.Rename p r) moment q = absurd q
 quiet_names m (call.Snapshot p r) moment q = absurd q
@@ -103,8 +104,8 @@ module _ (path : Path) (node : Option Node) where
   by_refusal names stays None = by_node names stays (node_at names path) refl
   by_refusal names stays (Some refusal) = tt
 
-  opening : (names : Names) (c : Call) → NameStays names → c ≡ call.Open path → IsOfNode (outcome_of names c)
-  opening names c stays is = subst (λ d. IsOfNode (outcome_of names d)) (sym is) (by_refusal names stays (refusal_of names (call.Open path)))
+  opening : (config : Config) (names : Names) (c : Call) → NameStays names → c ≡ call.Open path → IsOfNode (outcome_of config names c)
+  opening config names c stays is = subst (λ d. IsOfNode (outcome_of config names d)) (sym is) (by_refusal names stays (refusal_of config names (call.Open path)))
 
   step_calm : (change : OpenCall → OpenCall) (o : Option OpenCall) → ((c : OpenCall) → o ≡ Some c → IsCalmCall (Some c) → IsCalmCall (Some (change c)))
       → IsCalmCall o → IsCalmCall (option_map (λ current. record (change current) { has_begun = true }) o)
@@ -124,10 +125,10 @@ module _ (path : Path) (node : Option Node) where
   begun_calm number (Some c) h = cond_keeps (λ d. IsCalmCall (Some d)) (c.number == number) (record c { has_begun = true }) c h h
 
   -- the call that is open now is the one that takes the step
-  fits_open : (m : Machine) (who : ℕ) (current : OpenCall) (outcome : Outcome) → NameStays m.names → IsOpen m who current → outcome ≡ outcome_of m.names current.asked.call
+  fits_open : (m : Machine) (who : ℕ) (current : OpenCall) (outcome : Outcome) → NameStays m.names → IsOpen m who current → outcome ≡ outcome_of m.config m.names current.asked.call
       → (c : OpenCall) → IsOpen m who c → c.asked.call ≡ call.Open path → IsOfNode outcome
   fits_open m who current outcome stays now is c there opens =
-      subst IsOfNode (sym is) (opening m.names current.asked.call stays (ap (λ (d : OpenCall). d.asked.call) (from_some (sym now ∙ there)) ∙ opens))
+      subst IsOfNode (sym is) (opening m.config m.names current.asked.call stays (ap (λ (d : OpenCall). d.asked.call) (from_some (sym now ∙ there)) ∙ opens))
 
   calls_step : (m : Machine) (action : Action) → Allows m action → IsQuietSeen (shown action) → Calm m → AreCalmCalls (after m action)
   calls_step m (Invoke who asked) a q h = put_keeps (λ (s : Client). IsCalmCall s.open_call) who _ m.clients (q, λ opens. tt) h.calls

@@ -120,7 +120,7 @@ copied (e ∷ rest) next names past one = copied rest (id_after next e.1) (map.i
 performed_one : (m : Machine) (c : Call) (moment : ℕ) → Known m → HaveOneName m.names → HaveOneName (performed m c moment).names
 performed_one m (call.Mkdir p) moment known one = one_within _ m.names (dir_within m.names p) one
 performed_one m (call.Rmdir p) moment known one = one_within _ m.names (removed_within m.names p) one
-performed_one m (call.Create p) moment known one = file_added m.names p (suc m.file_count) (nowhere_past (suc m.file_count) (suc m.file_count) m.names known.names (omega arith)) one
+performed_one m (call.Create p shape) moment known one = file_added m.names p (suc m.file_count) (nowhere_past (suc m.file_count) (suc m.file_count) m.names known.names (omega arith)) one
 performed_one m (call.Delete p) moment known one = hides m.names p moment (node_at m.names p) one refl
 performed_one m (call.Rename p q) moment known one = moved m.names p q (node_at m.names p) one refl
 performed_one m (call.Snapshot p q) moment known one = copied (copied_entries m.names p q) (suc m.file_count) m.names (λ id l. nowhere_past (suc m.file_count) id m.names known.names l) one

@@ -37,9 +37,9 @@ removed_cases t (n ∷ ns) q x h = kept_cases t n q x (removed_cases (table.remo
 
 -- a record that a step logs, where this is the id that the next file takes
 abbrev pub IsOfStep : ℕ → Record → Type 0
-IsOfStep next (log.Create client n file path) = next ≤ file.0
+IsOfStep next (log.Create client n file shape path) = next ≤ file.0
 IsOfStep next (log.Counters next_file next_handle epoch) = ⊥
-IsOfStep next (log.FileItem path file handles) = ⊥
+IsOfStep next (log.FileItem path file shape handles) = ⊥
 IsOfStep next other = ⊤
 
 -- A file's list is the one that was there before, and the copies under way for it are among those that were.
@@ -84,7 +84,7 @@ module _ (before : Logged) (copied : Table ℕ) (q : ℕ) where
   recorded older l (log.Epoch epoch) step apart a = a
   recorded older l (log.Mkdir client n path) step apart a = a
   recorded older l (log.Rmdir client n path) step apart a = a
-  recorded older l (log.Create client n file path) step apart a =
+  recorded older l (log.Create client n file shape path) step apart a =
       let low : before.next_file ≤ l.next_file = a.1 in
       let next : before.next_file ≤ max l.next_file (file.0 + 1) = omega (arith, low) in
       (put_other l.table.files file.0 [] q (λ same. absurd (omega (arith, same, step, older, low))) ∙ a.0, next, a.2)
@@ -112,6 +112,6 @@ module _ (before : Logged) (copied : Table ℕ) (q : ℕ) where
   )
   recorded older l (log.Counters next_file next_handle epoch) step apart a = absurd step
   recorded older l (log.DirItem path) step apart a = a
-  recorded older l (log.FileItem path file handles) step apart a = absurd step
+  recorded older l (log.FileItem path file shape handles) step apart a = absurd step
   recorded older l (log.ChunkItem handle granted issued primary members) step apart a = a
   recorded older l (log.ClientItem client n refusal) step apart a = a

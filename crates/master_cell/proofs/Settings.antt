@@ -21,7 +21,7 @@ use Rattle.protocol.specs.LogSizes.{checkpoint_fits}
 use Rattle.protocol.specs.Logged.{KeptCall, checkpoint_of}
 use Rattle.protocol.specs.Master.{MasterState, MasterDoing, PendingSnapshot, master_begins, appends, fits, writes_checkpoint, logs, without_attempts, gives_up_copies, has_lease}
 use Rattle.protocol.specs.MasterSnapshots.{answers_name, revokes_row, revokes, revokes_all, takes_locks, snapshot_handles, snapshot_files, copies_for_files, begins_snapshot, settles_name, first_is_true, all_but_first, changes_names, is_ready, lets_go, takes_snapshot, takes_ready}
-use Rattle.protocol.specs.MasterNames.{master_refusal, performs, names_by, is_waiting_call, names_anew, names_kept}
+use Rattle.protocol.specs.MasterNames.{master_refusal, performs, names_by, is_waiting_call, names_anew, names_kept, told_shape}
 use Rattle.protocol.specs.MasterStep.{master_takes, master_does, master_at, master_goes}
 use Rattle.master_cell.proofs.Steady.{settings_of, asks_keep, recorded_keep, revoked_keep, report_keep, ticks_keep}
 
@@ -70,7 +70,7 @@ begins_stay d s =
 performs_stay : (d : MasterDoing) (client number deadline : ℕ) (c : Call) → Stays (settings_of d) (performs d client number deadline c)
 performs_stay d client number deadline (call.Mkdir p) = changes_stay d client number (call.Mkdir p) (log.Mkdir (client_id client) number p)
 performs_stay d client number deadline (call.Rmdir p) = changes_stay d client number (call.Rmdir p) (log.Rmdir (client_id client) number p)
-performs_stay d client number deadline (call.Create p) = changes_stay d client number (call.Create p) (log.Create (client_id client) number (file_id d.master.logged.next_file) p)
+performs_stay d client number deadline (call.Create p shape) = changes_stay d client number (call.Create p shape) (log.Create (client_id client) number (file_id d.master.logged.next_file) (told_shape d.master.config shape) p)
 performs_stay d client number deadline (call.Delete p) = changes_stay d client number (call.Delete p) (log.Delete (client_id client) number (moment_of d.master.now) p)
 performs_stay d client number deadline (call.Rename p q) = changes_stay d client number (call.Rename p q) (log.Rename (client_id client) number p q)
 performs_stay d client number deadline (call.Snapshot p q) = begins_stay d (record { client = client; number = number; deadline = deadline; from = p; to = q })

@@ -37,7 +37,7 @@ use Rattle.messages.specs.declared.event.NodeInput.TheVariants as input
 use Rattle.gfs_types.specs.declared.refusal.Refusal.TheVariants.{NamesFull}
 use Rattle.relaxed_file.specs.NameStep.{needs_room}
 use Rattle.std.specs.Prelude.{◌==◌, nat_lt, nat_le}
-use Rattle.protocol.specs.MasterNames.{master_refusal, performs, names_by, is_waiting_call, names_anew, names_kept}
+use Rattle.protocol.specs.MasterNames.{master_refusal, performs, names_by, is_waiting_call, names_anew, names_kept, told_shape}
 use Rattle.protocol.specs.Logged.{LogChange, AppendRecord, WriteCheckpoint}
 use Rattle.master_cell.specs.ChangedFiles.{file_changed_by, files_changed}
 use Rattle.master_cell.proofs.FileRecords.{IsOfStep, Agrees, given_up, recorded}
@@ -301,7 +301,7 @@ module _ (before : Logged) (copied : Table ℕ) (q : ℕ) (older : q < before.ne
   performs_stay : (d : MasterDoing) (client number deadline : ℕ) (c : Call) → Leaves (seen_of d) (performs d client number deadline c)
   performs_stay d client number deadline (call.Mkdir p) = changes_stay d client number (call.Mkdir p) (log.Mkdir (client_id client) number p) tt
   performs_stay d client number deadline (call.Rmdir p) = changes_stay d client number (call.Rmdir p) (log.Rmdir (client_id client) number p) tt
-  performs_stay d client number deadline (call.Create p) = changes_stay d client number (call.Create p) (log.Create (client_id client) number (file_id d.master.logged.next_file) p) (omega arith)
+  performs_stay d client number deadline (call.Create p shape) = changes_stay d client number (call.Create p shape) (log.Create (client_id client) number (file_id d.master.logged.next_file) (told_shape d.master.config shape) p) (omega arith)
   performs_stay d client number deadline (call.Delete p) = changes_stay d client number (call.Delete p) (log.Delete (client_id client) number (moment_of d.master.now) p) tt
   performs_stay d client number deadline (call.Rename p q) = changes_stay d client number (call.Rename p q) (log.Rename (client_id client) number p q) tt
   performs_stay d client number deadline (call.Snapshot p q) = begins_stay d (record { client = client; number = number; deadline = deadline; from = p; to = q })

@@ -8,6 +8,7 @@ ghost use Rattle.master_plan.specs.Plans.{started, doing};
 
 use gfs_types::config::Config;
 use gfs_types::ids::{MAX_COUNTER, Moment};
+use gfs_types::shape::Shape;
 use log_records::record::Record;
 use master_plan::fault::PlanFault;
 use master_plan::logging::logs;
@@ -61,7 +62,8 @@ pub(crate) fn opens<L: OperationLog, A: Allocator + Clone>(
     let Ok(mut state) = replayed(log, alloc, names) else {
         return Err(PlanFault::Damaged);
     };
-    state.set_old_leases(Moment(now.0 + config.skew_ms + config.lease_ms));
+    let until = Moment(now.0 + config.skew_ms + config.lease_ms);
+    state.restart(until, Shape::usual(&config));
     let epoch = state.epoch();
     if epoch >= MAX_COUNTER {
         return Err(PlanFault::Limit);

@@ -5,3 +5,4 @@ pub mod Ranks
 pub mod Issues
 pub mod Copies
 pub mod Handles
+pub mod Owned

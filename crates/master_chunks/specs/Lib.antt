@@ -3,3 +3,4 @@ pub mod Askers
 pub mod VersionPlaces
 pub mod Tests
 pub mod Copying
+pub mod Own

@@ -1,12 +1,14 @@
 //! Copies of shared chunks, each ordered after its record.
 
-ghost use Rattle.std.specs.Prelude.{◌≡◌, map, IfOk, OnOk};
+ghost use Rattle.std.specs.Prelude.{◌≡◌, suc, nat_lt, map, IfOk, OnOk, IsTrue};
 ghost use Rattle.protocol.specs.Logged.{LogDisk};
 ghost use Rattle.protocol.specs.Master.{orders};
 ghost use Rattle.protocol.specs.MasterVersions.{placement, copy_order, sends_copies, copy_targets, sends_copy_started, copies_to, begins_copy};
 ghost use Rattle.master_plan.specs.Plans.{doing, known};
 ghost use Rattle.master_chunks.specs.Askers.{asker_of};
 ghost use Rattle.master_chunks.specs.Copying.{new_target};
+ghost use Rattle.master_chunks.specs.Own.{IsOwn};
+ghost use Rattle.snapshot.specs.CopyPlans.{handle_id, version_id};
 
 use crate::asker::Asker;
 use crate::held::current_holders;
@@ -23,6 +25,7 @@ use messages::message::Body;
 use messages::message_lists::HolderList;
 use operation_log::log::OperationLog;
 use protocol::seen::Seen;
+use snapshot::copy_plan::{CopyPlan, copy_plan};
 use std::alloc::Allocator;
 
 // The order by which a server copies its replica, or makes a new one.
@@ -89,16 +92,19 @@ fn copy_targets<A: Allocator + Clone>(
     ensures { IfOk result (λ targets. targets ≡ copy_targets (known plan.now) handle.0 row.now) }
 {
     if row.granted().0 == 0 {
-        return new_targets(plan);
+        return new_targets(plan, row);
     }
     let current = current_holders(plan, handle, row)?;
     holder_targets(current.as_slice(), plan.alloc())
 }
 
-fn new_targets<A: Allocator + Clone>(plan: &Plan<A>) -> Result<TargetList, PlanFault>
-    ensures { IfOk result (λ targets. targets ≡ map new_target (placement (known plan.now))) }
+fn new_targets<A: Allocator + Clone>(
+    plan: &Plan<A>,
+    row: &ChunkState,
+) -> Result<TargetList, PlanFault>
+    ensures { IfOk result (λ targets. targets ≡ map new_target (placement (known plan.now) row.now)) }
 {
-    let servers = placement(plan)?;
+    let servers = placement(plan, row)?;
     let mut targets = TargetList::empty(plan.alloc());
     for server in &servers {
         targets.push(VersionTarget::new(ServerId(*server), None))?;
@@ -124,6 +130,25 @@ fn sends_copy_started<A: Allocator + Clone>(
     tells_to_wait(plan, asker)
 }
 
+// The numbers of the copy. Limit: no version number is left.
+#[tactic(auto, using(crate::proofs::Owned::planned))]
+fn planned_copy<A: Allocator + Clone>(
+    plan: &Plan<A>,
+    asker: Asker,
+    handle: Handle,
+    row: &ChunkState,
+) -> Result<CopyPlan, PlanFault>
+    requires own { IsOwn plan.now asker.file.0 asker.index handle.0 row.now }
+    requires shared { IsTrue (nat_lt 1 row.now.references) }
+    ensures { IfOk result (λ copy. copy ≡ record { file = asker.file; index = asker.index; source = handle; copy = handle_id plan.now.logged.next_handle; version = version_id (suc row.now.issued) }) }
+{
+    row.next_version()?;
+    match copy_plan(plan.state().table(), asker.file, asker.index) {
+        Some(copy) => Ok(copy),
+        None => unreachable!(),
+    }
+}
+
 #[tactic(auto, using(crate::proofs::Copies::to_none, crate::proofs::Copies::to_some))]
 // The copy is logged, then ordered; while there are no holders, none is begun.
 fn copies_to<L: OperationLog, A: Allocator + Clone>(
@@ -134,23 +159,24 @@ fn copies_to<L: OperationLog, A: Allocator + Clone>(
     row: &ChunkState,
     targets: &[VersionTarget],
 ) -> Result<(), PlanFault>
+    requires own { IsOwn plan.old asker.file.0 asker.index handle.0 row.now }
+    requires shared { IsTrue (nat_lt 1 row.now.references) }
     ensures { OnOk result (copies_to (doing (L.disk log.now) plan.old) (asker_of asker) handle.0 row.now targets.now ≡ doing (L.disk log.now) plan.new) }
 {
     if targets.is_empty() {
         let none = HolderList::empty(plan.alloc());
         return tells_location(plan, asker, handle, row, none);
     }
-    let copy = plan.state().table().next_handle();
-    let version = row.next_version()?;
+    let copy = planned_copy(plan, asker, handle, row)?;
     let entry = Record::CopyStart {
-        file: asker.file,
-        index: asker.index,
-        handle,
-        copy,
-        copy_version: version,
+        file: copy.file,
+        index: copy.index,
+        handle: copy.source,
+        copy: copy.copy,
+        copy_version: copy.version,
     };
     if logs(log, plan, entry)? {
-        sends_copy_started(plan, asker, handle, copy, version, targets)?;
+        sends_copy_started(plan, asker, handle, copy.copy, copy.version, targets)?;
     }
     Ok(())
 }
@@ -163,6 +189,8 @@ pub fn begins_copy<L: OperationLog, A: Allocator + Clone>(
     handle: Handle,
     row: &ChunkState,
 ) -> Result<(), PlanFault>
+    requires own { IsOwn plan.old asker.file.0 asker.index handle.0 row.now }
+    requires shared { IsTrue (nat_lt 1 row.now.references) }
     ensures { OnOk result (begins_copy (doing (L.disk log.now) plan.old) (asker_of asker) handle.0 row.now ≡ doing (L.disk log.now) plan.new) }
 {
     let targets = copy_targets(plan, handle, row)?;

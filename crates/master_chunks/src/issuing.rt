@@ -138,7 +138,7 @@ fn targets_by<A: Allocator + Clone>(
         return holder_targets(holders, plan.alloc());
     }
     if row.granted().0 == 0 {
-        return placed_targets(plan, handle);
+        return placed_targets(plan, handle, row);
     }
     let present = present_current_holders(plan, handle, row)?;
     holder_targets(present.as_slice(), plan.alloc())

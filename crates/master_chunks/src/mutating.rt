@@ -1,12 +1,13 @@
 //! Where a write or an append is to go.
 
-ghost use Rattle.std.specs.Prelude.{◌≡◌, length, if◌then◌else◌, option_map, OnOk};
-ghost use Rattle.chunk_table.specs.ChunkTable.{handles_of};
+ghost use Rattle.std.specs.Prelude.{◌≡◌, length, if◌then◌else◌, option_map, IfSome, OnOk};
+ghost use Rattle.chunk_table.specs.ChunkTable.{chunk_of, handles_of};
 ghost use Rattle.protocol.specs.Logged.{LogDisk};
 ghost use Rattle.protocol.specs.MasterSnapshots.{revokes};
 ghost use Rattle.protocol.specs.MasterAsks.{mutates_row, mutates_at, adds_chunk, asks_to_write, asks_to_append};
 ghost use Rattle.master_plan.specs.Plans.{doing};
 ghost use Rattle.master_chunks.specs.Askers.{asker_of};
+ghost use Rattle.master_chunks.specs.Own.{IsListed};
 
 use crate::asker::Asker;
 use crate::chunks::{chunk_count, handle_at, refuses};
@@ -46,6 +47,8 @@ fn mutates_row<L: OperationLog, A: Allocator + Clone>(
     handle: Handle,
     row: Option<ChunkState>,
 ) -> Result<(), PlanFault>
+    requires listed { IsListed plan.old asker.file.0 asker.index handle.0 }
+    requires stands { row ≡ chunk_of plan.old.logged.table handle.0 }
     ensures { OnOk result (mutates_row (doing (L.disk log.now) plan.old) (asker_of asker) lost handle.0 row ≡ doing (L.disk log.now) plan.new) }
 {
     let Some(row) = row else {
@@ -65,6 +68,7 @@ fn mutates_at<L: OperationLog, A: Allocator + Clone>(
     lost: bool,
     handle: Option<Handle>,
 ) -> Result<(), PlanFault>
+    requires listed { IfSome handle (λ h. IsListed plan.old asker.file.0 asker.index h.0) }
     ensures { OnOk result (mutates_at (doing (L.disk log.now) plan.old) (asker_of asker) lost (option_map (λ h. h.0) handle) ≡ doing (L.disk log.now) plan.new) }
 {
     match handle {
@@ -84,6 +88,7 @@ fn adds_chunk<L: OperationLog, A: Allocator + Clone>(
     asker: Asker,
     lost: bool,
 ) -> Result<(), PlanFault>
+    requires next { asker.index ≡ length (handles_of plan.old.logged.table asker.file.0) }
     ensures { OnOk result (adds_chunk (doing (L.disk log.now) plan.old) (asker_of asker) lost ≡ doing (L.disk log.now) plan.new) }
 {
     let handle = plan.state().table().next_handle();

@@ -10,6 +10,7 @@ use chunk_table::chunk::Chunk;
 use gfs_types::ids::{Handle, MAX_COUNTER, Moment, ServerId, Version};
 use gfs_types::lists::ServerList;
 use gfs_types::no_memory::NoMemory;
+use gfs_types::shape::Shape;
 use master_plan::fault::PlanFault;
 use master_plan::plan::Plan;
 use messages::message::Group;
@@ -19,6 +20,7 @@ use std::marker::Model;
 /// What the master keeps of a chunk, as it stood when it was looked up.
 #[derive(Drop)]
 pub struct ChunkState {
+    shape: Shape,
     granted: u64,
     issued: u64,
     references: u64,
@@ -32,7 +34,7 @@ impl Model for ChunkState {
 
     ghost Value = { ChunkRow };
 
-    ghost view = { λ r. record { granted = r.granted; issued = r.issued; references = r.references; primary = r.primary; members = r.members; lease_end = r.lease_end } };
+    ghost view = { λ r. record { shape = r.shape; granted = r.granted; issued = r.issued; references = r.references; primary = r.primary; members = r.members; lease_end = r.lease_end } };
 }
 
 /// What is kept of a chunk.
@@ -52,6 +54,7 @@ fn row_of(chunk: &Chunk, alloc: Global) -> Result<ChunkState, NoMemory>
     ensures { IfOk result (λ row. row ≡ chunk.now) }
 {
     Ok(ChunkState {
+        shape: chunk.shape(),
         granted: chunk.granted().0,
         issued: chunk.issued().0,
         references: chunk.references(),
@@ -62,6 +65,13 @@ fn row_of(chunk: &Chunk, alloc: Global) -> Result<ChunkState, NoMemory>
 }
 
 impl ChunkState {
+    /// How many replicas its file is to have of each chunk.
+    pub fn goal(&self) -> u8
+        ensures { result ≡ self.now.shape.goal }
+    {
+        self.shape.goal
+    }
+
     /// The version of the last lease, 0 where there was none.
     pub fn granted(&self) -> Version
         ensures { result.0 ≡ self.now.granted }

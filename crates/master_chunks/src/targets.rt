@@ -7,6 +7,7 @@ ghost use Rattle.master_plan.specs.Plans.{known};
 
 use crate::held::HeldAt;
 use crate::placing::placement;
+use crate::row::ChunkState;
 use gfs_types::ids::{Handle, ServerId, Version};
 use gfs_types::lists::{Sequence, ServerList};
 use gfs_types::no_memory::NoMemory;
@@ -76,10 +77,11 @@ pub fn holder_targets(holders: &[HeldAt], alloc: Global) -> Result<TargetList, P
 pub fn placed_targets<A: Allocator + Clone>(
     plan: &Plan<A>,
     handle: Handle,
+    row: &ChunkState,
 ) -> Result<TargetList, PlanFault>
-    ensures { IfOk result (λ targets. targets ≡ placed_targets (known plan.now) handle.0) }
+    ensures { IfOk result (λ targets. targets ≡ placed_targets (known plan.now) handle.0 row.now) }
 {
-    let servers = placement(plan)?;
+    let servers = placement(plan, row)?;
     let mut targets = TargetList::empty(plan.alloc());
     for server in &servers {
         let base = base_at(plan, handle, ServerId(*server));

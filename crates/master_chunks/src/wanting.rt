@@ -1,9 +1,10 @@
 //! A write or append needs a primary, and the last lease has ended.
 
-ghost use Rattle.std.specs.Prelude.{◌≡◌, option_map, OnOk};
+ghost use Rattle.std.specs.Prelude.{◌≡◌, nat_lt, not, option_map, IfSome, OnOk};
 ghost use Rattle.protocol.specs.MasterVersions.{wants_own, wants_own_of, issues_copy, wants_copy, wants_by, wants_primary};
 ghost use Rattle.master_plan.specs.Plans.{doing};
 ghost use Rattle.master_chunks.specs.Askers.{asker_of};
+ghost use Rattle.master_chunks.specs.Own.{IsOwn};
 
 use crate::asker::Asker;
 use crate::copying::begins_copy;
@@ -13,10 +14,30 @@ use crate::row::{ChunkState, chunk_of};
 use crate::targets::holder_targets;
 use crate::telling::tells_to_wait;
 use gfs_types::ids::Handle;
+use leases::master::may_issue;
 use master_plan::fault::PlanFault;
 use master_plan::plan::Plan;
 use operation_log::log::OperationLog;
 use std::alloc::Allocator;
+
+// Whether a number may be issued, as far as lease and owners say: the chunk isn't shared.
+#[tactic(auto, using(crate::proofs::Owned::issuable))]
+fn is_issuable<A: Allocator + Clone>(
+    plan: &Plan<A>,
+    asker: Asker,
+    handle: Handle,
+    row: &ChunkState,
+) -> bool
+    requires own { IsOwn plan.now asker.file.0 asker.index handle.0 row.now }
+    ensures { result ≡ not (nat_lt 1 row.now.references) }
+{
+    let table = plan.state().table();
+    table.is_sound();
+    match table.chunk(handle) {
+        Some(chunk) => may_issue(chunk, plan.now()),
+        None => false,
+    }
+}
 
 // No copy is under way for this owner.
 fn wants_own<L: OperationLog, A: Allocator + Clone>(
@@ -26,9 +47,10 @@ fn wants_own<L: OperationLog, A: Allocator + Clone>(
     handle: Handle,
     row: &ChunkState,
 ) -> Result<(), PlanFault>
+    requires own { IsOwn plan.old asker.file.0 asker.index handle.0 row.now }
     ensures { OnOk result (wants_own (doing (L.disk log.now) plan.old) (asker_of asker) handle.0 row.now ≡ doing (L.disk log.now) plan.new) }
 {
-    if row.references() > 1 {
+    if !is_issuable(plan, asker, handle, row) {
         return begins_copy(log, plan, asker, handle, row);
     }
     if plan.state().is_copied(handle) {
@@ -45,6 +67,7 @@ fn wants_own_of<L: OperationLog, A: Allocator + Clone>(
     handle: Handle,
     row: Option<ChunkState>,
 ) -> Result<(), PlanFault>
+    requires own { IfSome row (IsOwn plan.old asker.file.0 asker.index handle.0) }
     ensures { OnOk result (wants_own_of (doing (L.disk log.now) plan.old) (asker_of asker) handle.0 row ≡ doing (L.disk log.now) plan.new) }
 {
     match row {
@@ -65,6 +88,7 @@ fn issues_copy<L: OperationLog, A: Allocator + Clone>(
     copy_row: &ChunkState,
     holders: &[HeldAt],
 ) -> Result<(), PlanFault>
+    requires own { IsOwn plan.old asker.file.0 asker.index handle.0 row.now }
     ensures { OnOk result (issues_copy (doing (L.disk log.now) plan.old) (asker_of asker) handle.0 row.now copy.0 copy_row.now holders.now ≡ doing (L.disk log.now) plan.new) }
 {
     if holders.is_empty() {
@@ -94,6 +118,7 @@ fn wants_copy<L: OperationLog, A: Allocator + Clone>(
     copy: Handle,
     copy_row: Option<ChunkState>,
 ) -> Result<(), PlanFault>
+    requires own { IsOwn plan.old asker.file.0 asker.index handle.0 row.now }
     ensures { OnOk result (wants_copy (doing (L.disk log.now) plan.old) (asker_of asker) handle.0 row.now copy.0 copy_row ≡ doing (L.disk log.now) plan.new) }
 {
     let Some(copy_row) = copy_row else {
@@ -123,6 +148,7 @@ fn wants_by<L: OperationLog, A: Allocator + Clone>(
     row: &ChunkState,
     copy: Option<Handle>,
 ) -> Result<(), PlanFault>
+    requires own { IsOwn plan.old asker.file.0 asker.index handle.0 row.now }
     ensures { OnOk result (wants_by (doing (L.disk log.now) plan.old) (asker_of asker) handle.0 row.now (option_map (λ h. h.0) copy) ≡ doing (L.disk log.now) plan.new) }
 {
     let Some(copy) = copy else {
@@ -140,6 +166,7 @@ pub fn wants_primary<L: OperationLog, A: Allocator + Clone>(
     handle: Handle,
     row: &ChunkState,
 ) -> Result<(), PlanFault>
+    requires own { IsOwn plan.old asker.file.0 asker.index handle.0 row.now }
     ensures { OnOk result (wants_primary (doing (L.disk log.now) plan.old) (asker_of asker) handle.0 row.now ≡ doing (L.disk log.now) plan.new) }
 {
     if plan.waits_for(handle)? {

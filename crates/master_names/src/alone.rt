@@ -9,7 +9,7 @@ ghost use Rattle.master_plan.specs.Plans.{known};
 use gfs_types::ids::FileId;
 use master_plan::plan::Plan;
 use master_plan::waiting::Pending;
-use master_state::name_kind::NameKind;
+use namespace::name_kind::NameKind;
 use std::alloc::Allocator;
 
 /// The file at a snapshot's source, where one stands there and nothing lies below its name: its chunks are those that the snapshot

@@ -5,7 +5,7 @@ ghost use Rattle.protocol.specs.Logged.{LogDisk};
 ghost use Rattle.protocol.specs.MasterSnapshots.{begins_snapshot, lets_go};
 ghost use Rattle.master_plan.specs.Plans.{doing};
 
-use crate::concerned::{snapshot_files, snapshot_handles};
+use crate::concerned::snapshot_plan;
 use crate::revokes::revokes_all;
 use master_plan::fault::PlanFault;
 use master_plan::plan::Plan;
@@ -20,13 +20,12 @@ pub fn begins_snapshot<A: Allocator + Clone>(
 ) -> Result<(), PlanFault>
     ensures { OnOk result ((disk : LogDisk) → begins_snapshot (doing disk plan.old) snapshot ≡ doing disk plan.new) }
 {
-    let handles = snapshot_handles(plan, &snapshot)?;
-    let files = snapshot_files(plan, &snapshot)?;
-    let copies = plan.state().copies_for_files(&files)?;
+    let found = snapshot_plan(plan, &snapshot)?;
+    let copies = plan.state().copies_for_files(found.files())?;
     plan.put_snapshot(snapshot)?;
-    plan.remove_attempts(&handles);
+    plan.remove_attempts(found.chunks());
     plan.give_up_copies(&copies)?;
-    revokes_all(plan, &handles)
+    revokes_all(plan, found.chunks())
 }
 
 /// The locks go back. Takes no memory.

@@ -1,10 +1,11 @@
 //! The calls that change the names, as they take effect.
 
-ghost use Rattle.std.specs.Prelude.{◌≡◌, List, Bool, None, OnOk};
+ghost use Rattle.std.specs.Prelude.{◌≡◌, List, Bool, Some, None, OnOk};
 ghost use Rattle.gfs_types.specs.declared.call.Call.TheVariants as call;
 ghost use Rattle.log_records.specs.declared.record.Record.TheVariants as entries;
 ghost use Rattle.protocol.specs.Logged.{LogDisk};
 ghost use Rattle.protocol.specs.Sending.{client_id, file_id, moment_of};
+ghost use Rattle.protocol.specs.MasterNames.{told_shape};
 ghost use Rattle.protocol.specs.MasterSnapshots.{settles_name, changes_names, begins_snapshot};
 ghost use Rattle.master_plan.specs.Plans.{doing};
 ghost use Rattle.master_names.specs.Doing.{answered, IsPlanned};
@@ -13,6 +14,7 @@ use crate::answers::{changes_names, settles_name};
 use crate::begins::begins_snapshot;
 use gfs_types::ids::{ClientId, MAX_COUNTER, Moment};
 use gfs_types::lists::Text;
+use gfs_types::shape::Shape;
 use log_records::record::Record;
 use master_plan::fault::PlanFault;
 use master_plan::plan::Plan;
@@ -63,8 +65,9 @@ pub(crate) fn creates<L: OperationLog, A: Allocator + Clone>(
     client: ClientId,
     number: u64,
     path: &Text,
+    shape: Option<Shape>,
 ) -> Result<(), PlanFault>
-    ensures { OnOk result (IsPlanned (λ d. changes_names d client.0 number (call.Create path.now) (entries.Create (client_id client.0) number (file_id d.master.logged.next_file) path.now)) (L.disk log.now) plan.old plan.new) }
+    ensures { OnOk result (IsPlanned (λ d. changes_names d client.0 number (call.Create path.now shape) (entries.Create (client_id client.0) number (file_id d.master.logged.next_file) (told_shape d.master.config shape) path.now)) (L.disk log.now) plan.old plan.new) }
 {
     let file = plan.state().table().next_file();
     if file.0 >= MAX_COUNTER {
@@ -75,6 +78,7 @@ pub(crate) fn creates<L: OperationLog, A: Allocator + Clone>(
         client,
         call: number,
         file,
+        shape: Some(Shape::usual(plan.config()).or(shape)),
         path: path.copy(plan.alloc())?,
     };
     changes_names(log, plan, client, number, has_room, entry)

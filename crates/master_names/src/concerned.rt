@@ -7,27 +7,18 @@ ghost use Rattle.master_plan.specs.Plans.{known};
 use master_plan::fault::PlanFault;
 use master_plan::plan::Plan;
 use master_plan::waiting::Pending;
-use master_replay::snapshot_looks;
+use snapshot::plan::SnapshotPlan;
 use std::alloc::Allocator;
 
-/// The chunks that a snapshot concerns, also those that were added meanwhile, in rising number.
-pub fn snapshot_handles<A: Allocator + Clone>(
+/// What a snapshot is about now: its chunks are those that it concerns, also those that were added meanwhile, and its files those that
+/// it copies.
+pub fn snapshot_plan<A: Allocator + Clone>(
     plan: &Plan<A>,
     snapshot: &Pending,
-) -> Result<Vec<u64>, PlanFault>
-    ensures { IfOk result (λ v. v.items ≡ snapshot_handles (known plan.now) snapshot.now) }
+) -> Result<SnapshotPlan, PlanFault>
+    ensures chunks { IfOk result (λ p. p.chunks ≡ snapshot_handles (known plan.now) snapshot.now) }
+    ensures files { IfOk result (λ p. p.files ≡ snapshot_files (known plan.now) snapshot.now) }
 {
-    let handles = snapshot_looks::snapshot_handles(plan.state(), snapshot.from(), snapshot.to())?;
-    Ok(handles)
-}
-
-/// The files that it copies, in the order of their paths.
-pub fn snapshot_files<A: Allocator + Clone>(
-    plan: &Plan<A>,
-    snapshot: &Pending,
-) -> Result<Vec<u64>, PlanFault>
-    ensures { IfOk result (λ v. v.items ≡ snapshot_files (known plan.now) snapshot.now) }
-{
-    let files = snapshot_looks::snapshot_files(plan.state(), snapshot.from(), snapshot.to())?;
-    Ok(files)
+    let found = plan.state().plan_snapshot(snapshot.from(), snapshot.to())?;
+    Ok(found)
 }

@@ -37,12 +37,19 @@ pub fn takes_look<A: Allocator + Clone>(
     )
 }
 
+#[tactic(auto, using(crate::proofs::Refused::refusal_alike))]
 fn reply_to<A: Allocator + Clone>(plan: &Plan<A>, call: &Call) -> Result<NameReply, NoMemory>
     ensures { IfOk result (λ r. r ≡ reply_by (outcome_by plan.now.logged.names call.now (master_refusal (known plan.now) call.now))) }
 {
     match call {
-        Call::Open(path) => plan.state().open(path, is_busy(plan, call)),
-        Call::List(path) => list(plan.state(), path, is_busy(plan, call)),
+        Call::Open(path) => {
+            let is_busy = is_busy(plan, call)?;
+            plan.state().open(path, is_busy)
+        }
+        Call::List(path) => {
+            let is_busy = is_busy(plan, call)?;
+            list(plan.state(), path, is_busy)
+        }
         _ => {
             let refusal = master_refusal(plan, call)?;
             Ok(NameReply::Answered(answer_of(refusal)))

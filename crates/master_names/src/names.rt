@@ -76,7 +76,7 @@ fn performs<L: OperationLog, A: Allocator + Clone>(
     match call {
         Call::Mkdir(path) => makes_directory(log, plan, client, number, path),
         Call::Rmdir(path) => removes_directory(log, plan, client, number, path),
-        Call::Create(path) => creates(log, plan, client, number, path),
+        Call::Create(path, shape) => creates(log, plan, client, number, path, *shape),
         Call::Delete(path) => deletes(log, plan, client, number, path),
         Call::Rename(from, to) => renames(log, plan, client, number, from, to),
         Call::Snapshot(from, to) => waits(plan, client, number, deadline, from, to),

@@ -14,18 +14,19 @@ use master_replay::refusals::{rmdir_refusal, snapshot_refusal};
 use std::alloc::Allocator;
 
 // Why a call is refused now: its paths first, then locks, then the names.
+#[tactic(auto, using(crate::proofs::Refused::refusal_alike))]
 pub(crate) fn master_refusal<A: Allocator + Clone>(
     plan: &Plan<A>,
     call: &Call,
 ) -> Result<Option<Refusal>, NoMemory>
     ensures { IfOk result (λ r. r ≡ master_refusal (known plan.now) call.now) }
 {
-    let is_busy = is_busy(plan, call);
+    let is_busy = is_busy(plan, call)?;
     let state = plan.state();
     match call {
         Call::Mkdir(path) => state.mkdir_refusal(path, is_busy),
         Call::Rmdir(path) => rmdir_refusal(state, path, is_busy),
-        Call::Create(path) => state.create_refusal(path, is_busy),
+        Call::Create(path, shape) => state.create_refusal(plan.config(), path, *shape, is_busy),
         Call::Delete(path) => state.delete_refusal(path, is_busy),
         Call::Rename(from, to) => state.rename_refusal(from, to, is_busy),
         Call::Snapshot(from, to) => snapshot_refusal(state, from, to, is_busy),

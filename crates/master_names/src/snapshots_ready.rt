@@ -7,7 +7,7 @@ ghost use Rattle.protocol.specs.MasterSnapshots.{is_ready, row_has_ended};
 ghost use Rattle.master_plan.specs.Plans.{known};
 
 use crate::alone::{file_alone, handles_of};
-use crate::concerned::snapshot_handles;
+use crate::concerned::snapshot_plan;
 use gfs_types::ids::Handle;
 use leases::master::ended;
 use master_plan::fault::PlanFault;
@@ -23,8 +23,8 @@ pub fn is_ready<A: Allocator + Clone>(plan: &Plan<A>, snapshot: &Pending) -> Res
     if let Some(file) = file_alone(plan, snapshot) {
         return Ok(have_ended(plan, handles_of(plan, file)));
     }
-    let handles = snapshot_handles(plan, snapshot)?;
-    Ok(have_ended(plan, &handles))
+    let found = snapshot_plan(plan, snapshot)?;
+    Ok(have_ended(plan, found.chunks()))
 }
 
 fn have_ended<A: Allocator + Clone>(plan: &Plan<A>, handles: &[u64]) -> bool

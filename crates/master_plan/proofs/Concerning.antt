@@ -17,7 +17,7 @@ use Rattle.protocol.specs.Tables.{has_number, with_number, rising}
 use Rattle.protocol.specs.Logged.{Logged}
 use Rattle.protocol.specs.Master.{PendingSnapshot}
 use Rattle.protocol.specs.MasterSnapshots.{node_handles, node_files}
-use Rattle.master_replay.specs.Copied.{handles_copied, files_copied}
+use Rattle.master_state.specs.Copied.{handles_copied, files_copied}
 use Rattle.master_plan.specs.Concerned.{NumberSet, is_in, with_all, copies_file, shares_chunk, files_of_all, chunks_of_all, AreConcerned, IfKnown, is_source}
 
 -- tests

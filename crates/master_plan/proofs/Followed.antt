@@ -190,9 +190,9 @@ module _ (ss : List PendingSnapshot) (files chunks : NumberSet) where
       all_stay l (after_record l (log.Mkdir client n path)) ss files chunks (λ x c. inserted_other l.names path Dir x (apart path x e c)) (λ id c. refl) h
   kept l (log.Rmdir client n path) e h =
       all_stay l (after_record l (log.Rmdir client n path)) ss files chunks (λ x c. removed_other l.names path x (apart path x e c)) (λ id c. refl) h
-  kept l (log.Create client n file path) e h =
+  kept l (log.Create client n file shape path) e h =
       let parts = or_parts (is_in files file.0) (is_source ss path) e in
-      all_stay l (after_record l (log.Create client n file path)) ss files chunks (λ x c. inserted_other l.names path (File file.0) x (apart path x parts.1 c))
+      all_stay l (after_record l (log.Create client n file shape path)) ss files chunks (λ x c. inserted_other l.names path (File file.0) x (apart path x parts.1 c))
       (λ id c. ap (λ (o : Option (List ℕ)). unwrap_or o []) (other_key l.table.files file.0 [] id (file_apart file.0 id parts.0 c))) h
   kept l (log.Delete client n moment path) e h =
       let parts = or_parts (is_source ss path) (list_any (λ s. is_by_trash s.from) ss) e in
@@ -213,7 +213,7 @@ module _ (ss : List PendingSnapshot) (files chunks : NumberSet) where
   kept l (log.CopyStart file index handle copy copy_version) e h = nothing l (after_record l (log.CopyStart file index handle copy copy_version)) refl refl h
   kept l (log.Counters next_file next_handle epoch) e h = nothing l (after_record l (log.Counters next_file next_handle epoch)) refl refl h
   kept l (log.DirItem path) e h = absurd (true≢false e)
-  kept l (log.FileItem path file handles) e h = absurd (true≢false e)
+  kept l (log.FileItem path file shape handles) e h = absurd (true≢false e)
   kept l (log.ChunkItem handle granted issued primary members) e h = nothing l (after_record l (log.ChunkItem handle granted issued primary members)) refl refl h
   kept l (log.ClientItem client n refusal) e h = nothing l (after_record l (log.ClientItem client n refusal)) refl refl h
 

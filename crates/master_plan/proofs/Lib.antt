@@ -8,3 +8,6 @@ pub mod FirstReports
 pub mod StillWhole
 pub mod Granted
 pub mod Watching
+pub mod Locked
+pub mod Due
+pub mod CallLocks

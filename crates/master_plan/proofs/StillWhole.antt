@@ -6,31 +6,45 @@ use Rattle.std.specs.Cmp.{nat_cmp_total}
 use Rattle.std.specs.FinMap.{FinMap, get, insert, entries, from_entries, get-insert, get-entries, get-from_entries, same_map, nat_cmp-IsAntisymmetric}
 use Rattle.std.proofs.lemmas.Bool.Decides.{nat_tests}
 use Rattle.gfs_types.specs.declared.config.Config.{Config}
+use Rattle.gfs_types.specs.declared.shape.Shape.{Shape}
 use Rattle.log_records.specs.declared.record.Record.{Record}
 use Rattle.chunk_table.specs.ChunkTable.{ChunkRow, new_row, set_end}
 use Rattle.chunk_table.proofs.Lookups.{at_key}
 use Rattle.chunk_table.proofs.Sums.{put_same}
 use Rattle.protocol.specs.Tables.{Table}
 use Rattle.protocol.specs.Logged.{Logged, after_record, copies_given_up}
-use Rattle.protocol.specs.Master.{MasterState, is_present}
-use Rattle.rereplicate.specs.Whole.{lacks, lacks_of}
-use Rattle.rereplicate.proofs.Wholeness.{more_present, same_versions, whole_before, undoubted}
+use Rattle.protocol.specs.Master.{MasterState, is_present, version_held, chunks_held}
+use Rattle.rereplicate.specs.Whole as whole
+use Rattle.rereplicate.proofs.Wholeness.{more_present, same_versions, undoubted}
 use Rattle.master_plan.specs.Plans.{known, started}
-use Rattle.master_plan.specs.Watched.{IsWholeAt, AllStay}
-use Rattle.rereplicate.specs.Doubts.{granted_chunk, with_granted, held_in}
-use Rattle.master_plan.proofs.Granted.{granted_of, kept, ended, all_removed}
+use Rattle.master_plan.specs.Watched.{servers_in, IsWhole, IsWholeAt, AllStay}
+use Rattle.rereplicate.specs.Doubts.{held_in}
+use Rattle.master_plan.specs.Granted.{granted_chunk, with_granted}
+use Rattle.master_plan.proofs.Granted.{IsOfRow, kept, ended, all_removed}
 
--- whether a chunk of which this version is granted lacks replicas
-abbrev lacks_under : MasterState → ℕ → ℕ → Bool
-lacks_under m k granted = lacks m k (record new_row { granted = granted })
+-- whether a chunk lacks replicas
+abbrev lacks_of : MasterState → ℕ → Option ChunkRow → Bool
+lacks_of m k o = whole.lacks_of (servers_in m) k o
 
-by_version : (m : MasterState) (k : ℕ) (o : Option ChunkRow) → lacks_of m k o ≡ lacks_under m k (granted_of o)
-by_version m k None = refl
-by_version m k (Some row) = refl
+-- whether one of this shape, of which this version is granted, does
+abbrev lacks_under : MasterState → ℕ → Shape → ℕ → Bool
+lacks_under m k shape granted = whole.lacks (servers_in m) k (record new_row { shape = shape; granted = granted })
 
--- a chunk that lacks no replicas lacks none either under another row of the same granted version, or of none
-other_row : (m : MasterState) (k : ℕ) (o p : Option ChunkRow) → (((P : ℕ → Type 0) → P 0 → P (granted_of o) → P (granted_of p))) → lacks_of m k o ≡ false → lacks_of m k p ≡ false
-other_row m k o p by h = by_version m k p ∙ by (λ g. lacks_under m k g ≡ false) refl (sym (by_version m k o) ∙ h)
+abbrev IsWholeUnder : MasterState → ℕ → Shape → ℕ → Type 0
+IsWholeUnder m k shape granted = lacks_under m k shape granted ≡ false
+
+to_version : (m : MasterState) (k : ℕ) (o : Option ChunkRow) → lacks_of m k o ≡ false → IsOfRow (IsWholeUnder m k) o
+to_version m k None h = refl
+to_version m k (Some row) h = h
+
+of_version : (m : MasterState) (k : ℕ) (o : Option ChunkRow) → IsOfRow (IsWholeUnder m k) o → lacks_of m k o ≡ false
+of_version m k None h = refl
+of_version m k (Some row) h = h
+
+-- a chunk that lacks no replicas lacks none either under another row of the same shape and granted version, or of none
+other_row : (m : MasterState) (k : ℕ) (o p : Option ChunkRow) → ((P : Shape → ℕ → Type 0) → ((shape : Shape) → P shape 0) → IsOfRow P o → IsOfRow P p)
+    → lacks_of m k o ≡ false → lacks_of m k p ≡ false
+other_row m k o p by h = of_version m k p (by (IsWholeUnder m k) (λ shape. refl) (to_version m k o h))
 
 ungranted : (doubted : Table Unit) (o : Option ℕ) (k : ℕ) → get (with_granted doubted o) k ≡ None → (get doubted k ≡ None) × (o ≡ Some k → ⊥)
 ungranted doubted None k none = (none, λ e. cc)
@@ -67,6 +81,15 @@ module _ (config : Config) (server_count : ℕ) (holders : Table (Table ℕ)) (r
       under_log logged after k (get after.table.chunks k)
       (other_row (with_log logged) k (get logged.table.chunks k) (get after.table.chunks k) (λ P zero_is was. ended P zero_is k logged.table.chunks handle moment was) (h k none))
 
+nearer : (now until last lease : ℕ) → now ≤ until → ltb (until - last) lease ≡ true → ltb (now - last) lease ≡ true
+nearer now until last lease le e = grind (arith, nat_tests)
+
+-- and so at each earlier moment
+whole_before : (m : MasterState) (doubted : Table Unit) (now : ℕ) → now ≤ m.now → IsWhole m doubted → IsWhole (record m { now = now }) doubted
+whole_before m doubted now le h k none =
+    more_present (servers_in m) (λ s. is_present (record m { now = now }) s) (λ s _ e. nearer now m.now _ m.config.lease_ms le e)
+    k (get m.logged.table.chunks k) (h k none)
+
 module _ (config : Config) (server_count : ℕ) (logged : Logged) (holders : Table (Table ℕ)) (reported : Table ℕ) (doubted : Table Unit) where
   abbrev at : ℕ → MasterState
   at moment = known (record (started config server_count logged moment) { holders = holders; reported = reported })
@@ -76,7 +99,8 @@ module _ (config : Config) (server_count : ℕ) (logged : Logged) (holders : Tab
 
   -- it is found now, and the servers that are present stay so
   pub whole_found : (now until : ℕ) → AllStay (at now) until → IsWholeAt config server_count logged holders reported doubted now → IsWholeAt config server_count logged holders reported doubted until
-  whole_found now until stay h k none = more_present (at now) until reported stay k (get logged.table.chunks k) (h k none)
+  whole_found now until stay h k none =
+      more_present (servers_in (at now)) (λ s. is_present (at until) s) stay k (get logged.table.chunks k) (h k none)
 
   reaches : (until last now lease : ℕ) → last ≤ now → ltb (until - last) lease ≡ true → ltb (until - now) lease ≡ true
   reaches until last now lease le e = grind (arith, nat_tests)
@@ -85,7 +109,7 @@ module _ (config : Config) (server_count : ℕ) (logged : Logged) (holders : Tab
   pub whole_reported : (until server now : ℕ) → ltb now (unwrap_or (get reported server) 0) ≡ false
       → IsWholeAt config server_count logged holders reported doubted until → IsWholeAt config server_count logged holders (insert reported server now) doubted until
   whole_reported until server now e h k none =
-      more_present (at until) until (insert reported server now) (λ s _ there.
+      more_present (servers_in (at until)) (λ s. is_present (record (at until) { reported = insert reported server now }) s) (λ s _ there.
       subst (λ o. ltb (until - unwrap_or o 0) config.lease_ms ≡ true) (sym (get-insert nat_cmp_total reported server now (s + 1)))
       (at_key (λ q o. is_present (at until) q ≡ true → ltb (until - unwrap_or o 0) config.lease_ms ≡ true) (s + 1) server (Some now) (get reported (s + 1))
       (λ was. reaches until (unwrap_or (get reported server) 0) now config.lease_ms (grind (arith, nat_tests)) was) (λ _ was. was) there)) k (get logged.table.chunks k) (h k none)
@@ -96,7 +120,8 @@ module _ (config : Config) (server_count : ℕ) (logged : Logged) (holders : Tab
       → IsWholeAt config server_count logged holders reported doubted until → IsWholeAt config server_count logged (insert holders server held) reported more until
   whole_held until server held more same h k none =
       let both = same k none in
-      same_versions (at until) (insert holders server held) k (get logged.table.chunks k) (λ s.
+      let after : MasterState = record (at until) { holders = insert holders server held } in
+      same_versions (servers_in (at until)) (λ handle s. version_held after handle s) (λ s. chunks_held after s) k (get logged.table.chunks k) (λ s.
       subst (λ o. get (held_in o) k ≡ get (held_in (get holders s)) k) (sym (get-insert nat_cmp_total holders server held s))
       (at_key (λ q o. get (held_in o) k ≡ get (held_in (get holders q)) k) s server (Some held) (get holders s) both.1 (λ _. refl))) (h k both.0)
 

@@ -7,7 +7,8 @@ use Rattle.chunk_table.specs.ChunkTable.{set_end}
 use Rattle.protocol.specs.Tables.{Table}
 use Rattle.protocol.specs.Logged.{Logged, after_record, copies_given_up}
 use Rattle.master_plan.specs.Watched.{IsWholeAt}
-use Rattle.rereplicate.specs.Doubts.{granted_chunk, with_granted, held_in, AreDoubtedAsChanged}
+use Rattle.rereplicate.specs.Doubts.{held_in, AreDoubtedAsChanged}
+use Rattle.master_plan.specs.Granted.{granted_chunk, with_granted}
 use Rattle.master_plan.proofs.StillWhole.{whole_appended, whole_given_up, whole_ended, whole_held, as_noted}
 use Rattle.rereplicate.proofs.Doubting.{after_change, mapped_if}
 

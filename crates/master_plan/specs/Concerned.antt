@@ -9,7 +9,7 @@ use Rattle.log_records.specs.declared.record.Record.TheVariants as log
 use Rattle.protocol.specs.Tables.{Table, has_number}
 use Rattle.protocol.specs.Logged.{Logged, Copy}
 use Rattle.protocol.specs.Master.{PendingSnapshot}
-use Rattle.master_replay.specs.Copied.{handles_copied, files_copied}
+use Rattle.master_state.specs.Copied.{handles_copied, files_copied}
 
 abbrev pub NumberSet : Type 0
 NumberSet = Table Unit
@@ -65,7 +65,7 @@ abbrev pub touches : Logged → List PendingSnapshot → NumberSet → Record �
 touches l snapshots files (log.Epoch epoch) = false
 touches l snapshots files (log.Mkdir client n path) = is_source snapshots path
 touches l snapshots files (log.Rmdir client n path) = is_source snapshots path
-touches l snapshots files (log.Create client n file path) = is_in files file.0 || is_source snapshots path
+touches l snapshots files (log.Create client n file shape path) = is_in files file.0 || is_source snapshots path
 touches l snapshots files (log.Delete client n moment path) = is_source snapshots path || list_any (λ s. is_by_trash s.from) snapshots
 touches l snapshots files (log.Rename client n from to) = is_source snapshots from || is_source snapshots to
 touches l snapshots files (log.Snapshot client n from to) = true
@@ -77,7 +77,7 @@ touches l snapshots files (log.Grant handle version primary members) = is_for_on
 touches l snapshots files (log.CopyStart file index handle copy copy_version) = false
 touches l snapshots files (log.Counters next_file next_handle epoch) = false
 touches l snapshots files (log.DirItem path) = true
-touches l snapshots files (log.FileItem path file handles) = true
+touches l snapshots files (log.FileItem path file shape handles) = true
 touches l snapshots files (log.ChunkItem handle granted issued primary members) = false
 touches l snapshots files (log.ClientItem client n refusal) = false
 

@@ -4,6 +4,8 @@ pub mod Faults
 pub mod Changes
 pub mod Plans
 pub mod Watched
+pub mod Granted
+pub mod CallLocks
 pub mod Sizes
 pub mod Logging
 pub mod Reports

@@ -9,6 +9,8 @@ use Rattle.messages.specs.declared.message.Body.{Body}
 use Rattle.messages.specs.declared.message.Message.{Message}
 use Rattle.log_records.specs.declared.record.Record.{Record}
 use Rattle.chunk_table.specs.ChunkTable.{set_end}
+use Rattle.leases.specs.LeaseEnds.{extended}
+use Rattle.master_state.specs.Follows.{table_of}
 use Rattle.protocol.specs.Tables.{Table, removed_all}
 use Rattle.protocol.specs.Sending.{message}
 use Rattle.protocol.specs.Logged.{Logged, LogDisk, LogChange, AppendRecord, WriteCheckpoint, new_log, log_changed_by_all, after_record, copies_given_up}
@@ -81,6 +83,10 @@ with_checkpoint p items = without_copies (record p { changes = p.changes ++ Writ
 
 abbrev pub with_end : PlanState → ℕ → ℕ → PlanState
 with_end p handle moment = record p { logged = record p.logged { table = set_end p.logged.table handle moment } }
+
+-- a lease that has not ended gets a later end, a lease's time from now
+abbrev pub with_lease_extended : PlanState → ℕ → PlanState
+with_lease_extended p handle = record p { logged = record p.logged { table = (extended (table_of p.logged) handle p.now p.config.lease_ms).table } }
 
 -- a step begins at a moment
 abbrev pub begun : PlanState → ℕ → PlanState

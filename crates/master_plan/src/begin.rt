@@ -11,7 +11,7 @@ ghost use Rattle.master_plan.specs.Plans.{begun, started};
 use crate::change::PlannedChangeList;
 use crate::fault::PlanFault;
 use crate::plan::Plan;
-use crate::waiting::Pending;
+use crate::waiting_list::WaitingSnapshots;
 use gfs_types::config::Config;
 use gfs_types::ids::Moment;
 use gfs_types::lists::Sequence;
@@ -45,7 +45,7 @@ impl<A: Allocator + Clone> Plan<A> {
             state,
             order_count: 0,
             attempts: OrderedMap::new(alloc),
-            snapshots: Vec::new(alloc),
+            snapshots: WaitingSnapshots::new(alloc),
             holders: NumberMap::new(alloc),
             reported: first_reports(alloc, server_count, now)?,
             whole_until: None,
@@ -76,7 +76,7 @@ impl<A: Allocator + Clone> Plan<A> {
         ensures { self.new ≡ record self.old { snapshots = live_snapshots self.old.now self.old.snapshots } }
     {
         let count = self.snapshots.as_slice().len();
-        keep_live(&mut self.snapshots, self.clock);
+        self.snapshots.keep_live(self.clock);
         let left = self.snapshots.as_slice().len();
         self.knows_concerned = are_still_known(self.knows_concerned, count, left);
     }
@@ -111,12 +111,6 @@ fn are_still_known(known: bool, count: usize, left: usize) -> bool
     ensures { result ≡ (known && (left == count)) }
 {
     known && left == count
-}
-
-fn keep_live(snapshots: &mut Vec<Pending>, now: u64)
-    ensures { snapshots.new.items ≡ live_snapshots now snapshots.old.items }
-{
-    snapshots.retain(|snapshot| now < snapshot.deadline().0);
 }
 
 #[tactic(auto, using(crate::proofs::FirstReports::one_more))]

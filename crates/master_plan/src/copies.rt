@@ -5,7 +5,7 @@ ghost use Rattle.std.specs.FinMap as map;
 ghost use Rattle.protocol.specs.Tables.{removed_all};
 ghost use Rattle.protocol.specs.Logged.{copies_given_up};
 ghost use Rattle.chunk_table.specs.ChunkTable.{set_end};
-ghost use Rattle.master_plan.specs.Plans.{without_copies, without_attempts, with_end};
+ghost use Rattle.master_plan.specs.Plans.{without_copies, without_attempts, with_end, with_lease_extended};
 
 use crate::fault::PlanFault;
 use crate::plan::Plan;
@@ -35,6 +35,15 @@ impl<A: Allocator + Clone> Plan<A> {
         ensures { self.new ≡ without_attempts self.old handles.now }
     {
         remove_all(&mut self.attempts, handles);
+    }
+
+    /// The end of a chunk's lease that has not ended moves to a lease's time from now, where that is later; else nothing changes. Takes
+    /// no memory.
+    pub fn extend_lease(&mut self, handle: Handle)
+        ensures { self.new ≡ with_lease_extended self.old handle.0 }
+    {
+        let now = Moment(self.clock);
+        self.state.extend_lease(handle, now, self.config.lease_ms);
     }
 
     /// The moment at which a chunk's lease ends; 0 ends it. Takes no memory.

@@ -2,10 +2,12 @@
 #![tactic(auto)]
 
 pub mod begin;
+pub mod call_locks;
 pub mod change;
 pub mod concerned;
 pub mod copies;
 pub mod fault;
+pub mod granted;
 pub mod holders;
 pub mod logging;
 pub mod orders;
@@ -16,5 +18,6 @@ pub mod sizes;
 pub mod snapshots;
 pub mod waiting;
 pub mod waiting_concerned;
+pub mod waiting_list;
 pub mod waiting_snapshots;
 pub mod whole;

@@ -9,15 +9,16 @@ ghost use Rattle.master_plan.specs.Logging.{was_logged, tried};
 
 use crate::change::{PlannedChange, RecordList};
 use crate::fault::PlanFault;
+use crate::granted::doubt_granted;
 use crate::plan::Plan;
 use crate::sizes::{bytes_used, checkpoint_bytes};
 use crate::waiting_concerned::{follow, stays_known, touches};
+use gfs_types::ids::Moment;
 use log_records::record::Record;
 use master_replay::checkpoint::checkpoint_items;
-use master_replay::replay::replay;
+use master_replay::replay::replay_at;
 use operation_log::log::OperationLog;
 use operation_log::sizes::used_with;
-use rereplicate::doubts::doubt_granted;
 use std::alloc::Allocator;
 
 /// Logs a record, after a checkpoint where there is no room for it, and the state follows. False: there is no room even so, or the
@@ -81,7 +82,7 @@ impl<A: Allocator + Clone> Plan<A> {
         );
         let stays = stays_known(self.knows_concerned, touched);
         self.knows_concerned = false;
-        replay(&mut self.state, &entry)?;
+        replay_at(&mut self.state, &entry, Moment(self.clock))?;
         let known = follow(
             &mut self.concerned_chunks,
             &self.concerned_files,

@@ -10,6 +10,7 @@ ghost use Rattle.master_plan.specs.Plans.{known, told};
 use crate::change::PlannedChangeList;
 use crate::fault::PlanFault;
 use crate::waiting::{Pending, VersionAttempt};
+use crate::waiting_list::WaitingSnapshots;
 use chunk_table::chunk::Chunk;
 use gfs_types::config::Config;
 use gfs_types::ids::{Handle, Moment, Node, Version};
@@ -33,7 +34,7 @@ pub struct Plan<A: Allocator> {
     pub(crate) state: State<A>,
     pub(crate) order_count: u64,
     pub(crate) attempts: OrderedMap<VersionAttempt>,
-    pub(crate) snapshots: Vec<Pending>,
+    pub(crate) snapshots: WaitingSnapshots,
     pub(crate) holders: NumberMap<OrderedMap<u64>>,
     pub(crate) reported: NumberMap<u64>,
     // a moment up to which no chunk lacks replicas but some of the doubted ones, as far as is known
@@ -95,7 +96,7 @@ impl<A: Allocator> Model for Plan<A> {
       logged = p.state;
       order_count = p.order_count;
       attempts = p.attempts;
-      snapshots = p.snapshots.items;
+      snapshots = p.snapshots;
       holders = p.holders;
       reported = p.reported;
       sent = p.sent;
@@ -104,7 +105,7 @@ impl<A: Allocator> Model for Plan<A> {
     } };
 
     ghost invariant = { λ p. (((p.clock ≤ moment_limit) × (p.config.lease_ms ≤ 3600000))
-        × IfKnown p.knows_concerned (AreConcerned p.state p.snapshots.items p.concerned_files p.concerned_chunks))
+        × IfKnown p.knows_concerned (AreConcerned p.state p.snapshots p.concerned_files p.concerned_chunks))
         × IfSome p.whole_until (IsWholeAt p.config p.server_count p.state p.holders p.reported p.doubted) };
 }
 

@@ -1,46 +1,59 @@
 //! The snapshots that wait, as they come and go (section 3.4).
 
-ghost use Rattle.std.specs.Prelude.{◌≡◌, ◌==◌, ◌&&◌, ◌++◌, ◌∷◌, [], not, filter, IfOk, OnOk};
+ghost use Rattle.std.specs.Prelude.{◌≡◌, ◌==◌, ◌&&◌, ◌++◌, ◌∷◌, [], true, not, filter, IfOk, OnOk};
+ghost use Rattle.std.specs.List.{list_all, list_any};
+ghost use Rattle.name_locks.specs.Locks.{sets_clash};
+ghost use Rattle.master_plan.specs.CallLocks.{has_paths, locks_of_snapshot};
 
+use crate::fault::PlanFault;
 use crate::plan::Plan;
 use crate::waiting::{Awaited, Pending};
-use crate::waiting_snapshots::{copies_of, note_at_call, remove_call};
 use gfs_types::ids::ClientId;
 use gfs_types::no_memory::NoMemory;
+use gfs_types::path::Path;
+use name_locks::lock_set::Mode;
 use ordered_map::OrderedMap;
 use std::alloc::Allocator;
 
 impl<A: Allocator + Clone> Plan<A> {
-    /// A snapshot waits from now on, behind the others.
-    pub fn put_snapshot(&mut self, snapshot: Pending) -> Result<(), NoMemory>
+    /// A snapshot waits from now on, behind the others, under its locks. Damaged: another one has a lock that conflicts, which is refused
+    /// before.
+    pub fn put_snapshot(&mut self, snapshot: Pending) -> Result<(), PlanFault>
         ensures { OnOk result (self.new ≡ record self.old { snapshots = self.old.snapshots ++ snapshot ∷ [] }) }
     {
         self.knows_concerned = false;
-        self.snapshots.push(snapshot)?;
-        Ok(())
+        self.snapshots.push(snapshot)
     }
 
-    /// The snapshot of a client's call of this number waits no more. Takes no memory.
+    /// The snapshot of a client's call of this number waits no more, and its locks go back. Takes no memory.
     pub fn remove_snapshot(&mut self, client: ClientId, number: u64)
         ensures { self.new ≡ record self.old { snapshots = filter (λ other. not ((client.0 == other.client) && (number == other.number))) self.old.snapshots } }
     {
         self.knows_concerned = false;
         self.concerned_files = OrderedMap::new(self.alloc);
         self.concerned_chunks = OrderedMap::new(self.alloc);
-        remove_call(&mut self.snapshots, client, number);
+        self.snapshots.remove_call(client, number);
     }
 
     /// Where a chunk was found that this snapshot waits for. Takes no memory.
     pub fn note_awaited(&mut self, client: ClientId, number: u64, awaited: Awaited)
         ensures { self.new ≡ self.old }
     {
-        note_at_call(&mut self.snapshots, client, number, awaited);
+        self.snapshots.note(client, number, awaited);
+    }
+
+    /// Whether a snapshot that waits holds a lock that conflicts with one of these. Takes no memory.
+    pub fn conflicts(&self, locks: &[(Path, Mode)]) -> bool
+        ensures answer { result ≡ list_any (λ s. sets_clash (locks_of_snapshot s) locks.now) self.now.snapshots }
+        ensures paths { list_all has_paths self.now.snapshots ≡ true }
+    {
+        self.snapshots.conflicts(locks)
     }
 
     /// A copy of the list of them.
     pub fn copied_snapshots(&self) -> Result<Vec<Pending>, NoMemory>
         ensures { IfOk result (λ v. v.items ≡ self.now.snapshots) }
     {
-        copies_of(self.alloc, &self.snapshots)
+        self.snapshots.copies(self.alloc)
     }
 }

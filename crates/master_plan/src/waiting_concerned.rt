@@ -10,7 +10,7 @@ use gfs_types::ids::Handle;
 use gfs_types::no_memory::NoMemory;
 use gfs_types::path::Path;
 use log_records::record::Record;
-use master_replay::snapshot_looks::{snapshot_files, snapshot_handles};
+use master_state::fault::ReplayFault;
 use master_state::state::State;
 use ordered_map::OrderedMap;
 use path_trie::parts::is_at_or_below;
@@ -36,13 +36,13 @@ fn put_all(set: &mut OrderedMap<()>, numbers: &[u64]) -> Result<(), NoMemory>
 pub fn files_of_all<A: Allocator + Clone>(
     state: &State<A>,
     snapshots: &[Pending],
-) -> Result<OrderedMap<()>, NoMemory>
+) -> Result<OrderedMap<()>, ReplayFault>
     ensures { IfOk result (λ set. set ≡ files_of_all state.now snapshots.now map.empty) }
 {
     let mut set = OrderedMap::new(state.alloc());
     for snapshot in snapshots {
-        let files = snapshot_files(state, snapshot.from(), snapshot.to())?;
-        put_all(&mut set, &files)?;
+        let plan = state.plan_snapshot(snapshot.from(), snapshot.to())?;
+        put_all(&mut set, plan.files())?;
     }
     Ok(set)
 }
@@ -51,13 +51,13 @@ pub fn files_of_all<A: Allocator + Clone>(
 pub fn chunks_of_all<A: Allocator + Clone>(
     state: &State<A>,
     snapshots: &[Pending],
-) -> Result<OrderedMap<()>, NoMemory>
+) -> Result<OrderedMap<()>, ReplayFault>
     ensures { IfOk result (λ set. set ≡ chunks_of_all state.now snapshots.now map.empty) }
 {
     let mut set = OrderedMap::new(state.alloc());
     for snapshot in snapshots {
-        let handles = snapshot_handles(state, snapshot.from(), snapshot.to())?;
-        put_all(&mut set, &handles)?;
+        let plan = state.plan_snapshot(snapshot.from(), snapshot.to())?;
+        put_all(&mut set, plan.chunks())?;
     }
     Ok(set)
 }

@@ -1,18 +1,11 @@
 //! Lists of snapshots that wait (section 3.4).
 
-ghost use Rattle.std.specs.Prelude.{◌≡◌, ◌==◌, ◌&&◌, not, filter, IfOk};
+ghost use Rattle.std.specs.Prelude.{◌≡◌, IfOk};
 
 use crate::waiting::{Awaited, Pending};
 use gfs_types::ids::ClientId;
 use gfs_types::no_memory::NoMemory;
 use std::alloc::Global;
-
-/// Leaves out that of a client's call of this number.
-pub fn remove_call(snapshots: &mut Vec<Pending>, client: ClientId, number: u64)
-    ensures { snapshots.new.items ≡ filter (λ other. not ((client.0 == other.client) && (number == other.number))) snapshots.old.items }
-{
-    snapshots.retain(|other| !(client.0 == other.client().0 && number == other.number()));
-}
 
 /// Where a chunk was found that the snapshot of a client's call of this number waits for.
 pub fn note_at_call(snapshots: &mut Vec<Pending>, client: ClientId, number: u64, awaited: Awaited)

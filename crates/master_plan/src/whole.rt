@@ -3,9 +3,8 @@
 ghost use Rattle.std.specs.Prelude.{◌≡◌, true, IfSome};
 ghost use Rattle.std.specs.Option.{option_copied};
 ghost use Rattle.protocol.specs.Master.{is_present};
-ghost use Rattle.rereplicate.specs.Whole.{AreWholeBut};
 ghost use Rattle.master_plan.specs.Plans.{known};
-ghost use Rattle.master_plan.specs.Watched.{AllStay};
+ghost use Rattle.master_plan.specs.Watched.{AllStay, IsWhole};
 
 use crate::plan::Plan;
 use gfs_types::ids::ServerId;
@@ -15,7 +14,7 @@ use std::alloc::Allocator;
 impl<A: Allocator + Clone> Plan<A> {
     /// The chunks that may lack replicas, where that is known: no other does.
     pub fn doubted(&self) -> Option<&Doubted>
-        ensures { IfSome (option_copied result) (AreWholeBut (known self.now)) }
+        ensures { IfSome (option_copied result) (IsWhole (known self.now)) }
     {
         match self.whole_until {
             Some(until) if self.clock <= until => Some(&self.doubted),
@@ -25,7 +24,7 @@ impl<A: Allocator + Clone> Plan<A> {
 
     /// It was found that no chunk lacks replicas but some of these. That is known for as long as the servers that are present stay so.
     pub fn note_doubted(&mut self, doubted: Doubted)
-        requires { AreWholeBut (known self.old) doubted }
+        requires { IsWhole (known self.old) doubted }
         ensures { self.new ≡ self.old }
     {
         let until = self.last_all_present();

@@ -1,5 +1,5 @@
 pub mod Listed
-pub mod Sets
 pub mod Handles
 pub mod Trial
 pub mod Replays
+pub mod Taken

@@ -7,7 +7,7 @@ use Rattle.log_records.specs.declared.record.Record.TheVariants as log
 abbrev pub is_item : Record → Bool
 is_item (log.Counters next_file next_handle epoch) = true
 is_item (log.DirItem path) = true
-is_item (log.FileItem path file handles) = true
+is_item (log.FileItem path file shape handles) = true
 is_item (log.ChunkItem handle granted issued primary members) = true
 is_item (log.ClientItem client n refusal) = true
 is_item other = false

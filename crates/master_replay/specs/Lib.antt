@@ -1,4 +1,3 @@
-pub mod Copied
 pub mod Listing
 pub mod Checkpoints
 pub mod Room
@@ -6,3 +5,4 @@ pub mod Faults
 pub mod Items
 pub mod Changes
 pub mod Restarts
+pub mod Sharing

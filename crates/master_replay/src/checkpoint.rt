@@ -14,9 +14,9 @@ use gfs_types::lists::HandleList;
 use gfs_types::no_memory::NoMemory;
 use log_records::record::Record;
 use master_state::kept::KeptCall;
-use master_state::name_kind::NameKind;
-use master_state::node::NameNode;
 use master_state::state::State;
+use namespace::name_kind::NameKind;
+use namespace::node::NameNode;
 use ordered_map::OrderedMap;
 use path_trie::child::Child;
 use std::alloc::{Allocator, Global};
@@ -72,6 +72,7 @@ fn name_item(alloc: Global, name: Child<'_, NameNode>, table: &Table) -> Result<
         NameKind::File(file) => Ok(Record::FileItem {
             path,
             file,
+            shape: Some(table.shape(file)),
             handles: handles_of(alloc, table, file)?,
         }),
     }

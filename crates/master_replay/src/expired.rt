@@ -12,10 +12,10 @@ use gfs_types::ids::FileId;
 use gfs_types::lists::Text;
 use gfs_types::no_memory::NoMemory;
 use master_state::fault::ReplayFault;
-use master_state::name_kind::NameKind;
 use master_state::names::path_of;
-use master_state::node::NameNode;
 use master_state::state::State;
+use namespace::name_kind::NameKind;
+use namespace::node::NameNode;
 use path_trie::child::Child;
 use std::alloc::{Allocator, Global};
 

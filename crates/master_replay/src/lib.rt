@@ -4,14 +4,11 @@
 
 pub mod change;
 pub mod checkpoint;
-pub mod copied;
 pub mod expired;
 pub mod fault;
 pub mod lists;
 pub mod refusals;
 pub mod replay;
 pub mod restart;
-mod rising;
 pub mod room;
-pub mod snapshot_looks;
 pub mod snapshots;

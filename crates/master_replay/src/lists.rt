@@ -2,6 +2,7 @@
 
 ghost use Rattle.std.specs.Prelude.{◌≡◌, map, IfOk};
 ghost use Rattle.gfs_types.specs.declared.call.Call.TheVariants as call;
+ghost use Rattle.gfs_types.specs.declared.config.Config.{Config};
 ghost use Rattle.gfs_types.specs.declared.answer.Answer.TheVariants as answer;
 ghost use Rattle.messages.specs.declared.message.NameReply.TheVariants.{Answered};
 ghost use Rattle.relaxed_file.specs.Names.{listing};
@@ -15,10 +16,10 @@ use gfs_types::lists::{NameList, Text};
 use gfs_types::no_memory::NoMemory;
 use gfs_types::path::Path;
 use gfs_types::refusal::Refusal;
-use master_state::node::NameNode;
 use master_state::refusals::{is_directory, parsed};
 use master_state::state::State;
 use messages::message::NameReply;
+use namespace::node::NameNode;
 use path_trie::child::Child;
 use std::alloc::{Allocator, Global};
 
@@ -29,7 +30,7 @@ pub fn list<A: Allocator + Clone>(
     path: &Text,
     is_busy: bool,
 ) -> Result<NameReply, NoMemory>
-    ensures { IfOk result (λ r. r ≡ reply_by (outcome_by state.now.names (call.List path.now) (refusal_by state.now.names is_busy (call.List path.now)))) }
+    ensures { IfOk result (λ r. (config : Config) → r ≡ reply_by (outcome_by state.now.names (call.List path.now) (refusal_by config state.now.names is_busy (call.List path.now)))) }
 {
     let path = match parsed(state.alloc(), path)? {
         Some(path) => path,

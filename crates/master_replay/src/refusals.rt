@@ -3,19 +3,20 @@
 ghost use Rattle.std.specs.Prelude.{◌≡◌, ◌||◌, nat_lt, length, IfOk};
 ghost use Rattle.std.specs.List.{list_any};
 ghost use Rattle.gfs_types.specs.declared.call.Call.TheVariants as call;
+ghost use Rattle.gfs_types.specs.declared.config.Config.{Config};
 ghost use Rattle.relaxed_file.specs.Names.{has_children, copied_entries};
 ghost use Rattle.relaxed_file.specs.NameStep.{is_reserved};
 ghost use Rattle.master_state.specs.Refusals.{refusal_by};
 
-use crate::copied::copied_names;
 use gfs_types::lists::Text;
 use gfs_types::no_memory::NoMemory;
 use gfs_types::path::{MAX_PATH_LEN, Path};
 use gfs_types::refusal::Refusal;
-use master_state::node::NameNode;
 use master_state::refusals::{is_in_trash, parsed};
 use master_state::state::State;
+use namespace::node::NameNode;
 use path_trie::parts::is_at_or_below;
+use snapshot::copied::copied_names;
 use std::alloc::Allocator;
 
 /// Of a Rmdir: BadPath; Reserved; Busy; NotFound; NotDir; NotEmpty.
@@ -24,7 +25,7 @@ pub fn rmdir_refusal<A: Allocator + Clone>(
     path: &Text,
     is_busy: bool,
 ) -> Result<Option<Refusal>, NoMemory>
-    ensures { IfOk result (λ r. r ≡ refusal_by state.now.names is_busy (call.Rmdir path.now)) }
+    ensures { IfOk result (λ r. (config : Config) → r ≡ refusal_by config state.now.names is_busy (call.Rmdir path.now)) }
 {
     let path = match parsed(state.alloc(), path)? {
         Some(path) => path,
@@ -55,7 +56,7 @@ pub fn snapshot_refusal<A: Allocator + Clone>(
     to: &Text,
     is_busy: bool,
 ) -> Result<Option<Refusal>, NoMemory>
-    ensures { IfOk result (λ r. r ≡ refusal_by state.now.names is_busy (call.Snapshot from.now to.now)) }
+    ensures { IfOk result (λ r. (config : Config) → r ≡ refusal_by config state.now.names is_busy (call.Snapshot from.now to.now)) }
 {
     let from = match parsed(state.alloc(), from)? {
         Some(path) => path,
@@ -109,7 +110,7 @@ fn is_too_long<A: Allocator + Clone>(
 ) -> Result<bool, NoMemory>
     ensures { IfOk result (λ b. b ≡ list_any (λ e. nat_lt 4096 (length e.0)) (copied_entries state.now.names from.now to.now)) }
 {
-    let names = copied_names(state, from, to)?;
+    let names = copied_names(state.alloc(), state.names(), from, to)?;
     Ok(has_long(&names))
 }
 

@@ -5,9 +5,11 @@ ghost use Rattle.protocol.specs.Logged.{after_record};
 ghost use Rattle.master_state.specs.Follows.{follows};
 ghost use Rattle.master_state.specs.declared.fault.ReplayFault.TheVariants.{Damaged};
 ghost use Rattle.master_replay.specs.Items.{is_item};
+ghost use Rattle.master_replay.specs.Sharing.{SharesClosed};
 
 use crate::expired::expire;
-use crate::snapshots::take_snapshot;
+use crate::snapshots::{replay_snapshot, take_snapshot};
+use gfs_types::ids::Moment;
 use log_records::record::Record;
 use master_state::fault::ReplayFault;
 use master_state::state::State;
@@ -30,8 +32,9 @@ pub fn replay<A: Allocator + Clone>(state: &mut State<A>, entry: &Record) -> Res
             client,
             call,
             file,
+            shape,
             path,
-        } => state.create(*client, *call, *file, path),
+        } => state.create(*client, *call, *file, *shape, path),
         Record::Delete {
             client,
             call,
@@ -49,7 +52,7 @@ pub fn replay<A: Allocator + Clone>(state: &mut State<A>, entry: &Record) -> Res
             call,
             from,
             to,
-        } => take_snapshot(state, *client, *call, from, to),
+        } => replay_snapshot(state, *client, *call, from, to),
         Record::Expired { file } => expire(state, *file),
         Record::Refused {
             client,
@@ -75,6 +78,27 @@ pub fn replay<A: Allocator + Clone>(state: &mut State<A>, entry: &Record) -> Res
     }
 }
 
+/// The state after a record that is made at a moment: a Snapshot shares only chunks whose leases have ended by then. Damaged: one has
+/// not, or no master writes the record here.
+pub fn replay_at<A: Allocator + Clone>(
+    state: &mut State<A>,
+    entry: &Record,
+    now: Moment,
+) -> Result<(), ReplayFault>
+    ensures ok { OnOk result (state.new ≡ after_record state.old entry.now) }
+    ensures closed { OnOk result (SharesClosed state.old entry.now now.0) }
+{
+    match entry {
+        Record::Snapshot {
+            client,
+            call,
+            from,
+            to,
+        } => take_snapshot(state, *client, *call, from, to, now),
+        other => replay(state, other),
+    }
+}
+
 // The state after an item.
 fn replay_item<A: Allocator + Clone>(state: &mut State<A>, item: &Record) -> Result<(), ReplayFault>
     requires { is_item item.now ≡ true }
@@ -92,8 +116,9 @@ fn replay_item<A: Allocator + Clone>(state: &mut State<A>, item: &Record) -> Res
         Record::FileItem {
             path,
             file,
+            shape,
             handles,
-        } => state.put_file_item(path, *file, handles),
+        } => state.put_file_item(path, *file, *shape, handles),
         Record::ChunkItem {
             handle,
             granted,

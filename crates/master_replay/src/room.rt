@@ -4,14 +4,11 @@ ghost use Rattle.std.specs.Prelude.{◌≡◌, None};
 ghost use Rattle.relaxed_file.specs.Names.{node_at};
 ghost use Rattle.master_replay.specs.Room.{taken_back};
 
-use crate::copied::copied_names;
-use gfs_types::lists::Text;
 use gfs_types::no_memory::NoMemory;
 use gfs_types::path::Path;
 use master_state::fault::ReplayFault;
-use master_state::names::path_of;
-use master_state::node::NameNode;
 use master_state::state::State;
+use namespace::node::NameNode;
 use std::alloc::{AllocFailed, Allocator};
 
 /// Whether all names of a copy find room: they are put there and taken out again. Changes nothing. Damaged: one of them would be
@@ -23,18 +20,18 @@ pub fn has_room_to_copy<A: Allocator + Clone>(
 ) -> Result<bool, ReplayFault>
     ensures { state.new ≡ state.old }
 {
-    let names = copied_names(state, from, to)?;
-    has_room_for_all(state, names)
+    let plan = state.plan_snapshot(from, to)?;
+    Ok(has_room_for_all(state, plan.copies())?)
 }
 
 fn has_room_for_all<A: Allocator + Clone>(
     state: &mut State<A>,
-    names: Vec<(Text, NameNode)>,
-) -> Result<bool, ReplayFault>
+    copies: &[(Path, NameNode)],
+) -> Result<bool, NoMemory>
     ensures { state.new ≡ state.old }
 {
     let mut added = Vec::new(state.alloc());
-    let found = adds_all(state, names, &mut added);
+    let found = adds_all(state, copies, &mut added);
     takes_back(state, added);
     found
 }
@@ -42,13 +39,13 @@ fn has_room_for_all<A: Allocator + Clone>(
 // Adds the names one after another, but for those that are there. False: one found no room.
 fn adds_all<A: Allocator + Clone>(
     state: &mut State<A>,
-    names: Vec<(Text, NameNode)>,
+    copies: &[(Path, NameNode)],
     added: &mut Vec<Path>,
-) -> Result<bool, ReplayFault>
+) -> Result<bool, NoMemory>
     ensures { record state.new { names = taken_back state.new.names added.new.items } ≡ record state.old { names = taken_back state.old.names added.old.items } }
 {
-    for name in names {
-        let path = path_of(state.alloc(), &name.0)?;
+    for copy in copies {
+        let path = copy.0.copy(state.alloc())?;
         if !adds(state, path, added)? {
             return Ok(false);
         }

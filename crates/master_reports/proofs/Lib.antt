@@ -3,3 +3,6 @@ mod Learning
 pub mod Kept
 pub mod Held
 pub mod Files
+pub mod DropOrders
+pub mod HiddenNames
+pub mod Cloned

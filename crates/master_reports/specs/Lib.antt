@@ -1,1 +1,3 @@
 pub mod Late
+pub mod Drops
+pub mod Cloned

@@ -1,11 +1,12 @@
 //! The next clone (section 4.3).
 
 ghost use Rattle.std.specs.Prelude.{◌≡◌, option_map, IfOk, OnOk};
-ghost use Rattle.std.specs.FinMap as finite;
 ghost use Rattle.protocol.specs.Logged.{LogDisk};
-ghost use Rattle.protocol.specs.MasterClones.{best_clone, orders_clone, clones_next};
-ghost use Rattle.rereplicate.specs.Whole.{AreWholeBut};
+ghost use Rattle.protocol.specs.MasterClones.{clones_next};
+ghost use Rattle.rereplicate.specs.Clones.{next_clone};
 ghost use Rattle.master_plan.specs.Plans.{doing, known};
+ghost use Rattle.master_plan.specs.Watched.{IsWhole, servers_in};
+ghost use Rattle.master_reports.specs.Cloned.{orders_this};
 
 use gfs_types::ids::{Handle, Node, ServerId, Version};
 use master_plan::fault::PlanFault;
@@ -37,26 +38,24 @@ fn looks<A: Allocator + Clone>(plan: &mut Plan<A>)
 
 // The chunks that lack replicas. No other does.
 fn found_lacking<A: Allocator + Clone>(plan: &Plan<A>) -> Result<Doubted, AllocError>
-    ensures { IfOk result (AreWholeBut (known plan.now)) }
+    ensures { IfOk result (IsWhole (known plan.now)) }
 {
     let known = PlanHolders { plan };
     let table = plan.state().table();
-    let goal = plan.config().goal;
     match plan.doubted() {
-        Some(doubted) => still_lacking(plan.alloc(), table, &known, goal, doubted),
-        None => lacking(plan.alloc(), table, &known, goal),
+        Some(doubted) => still_lacking(plan.alloc(), table, &known, doubted),
+        None => lacking(plan.alloc(), table, &known),
     }
 }
 
 fn next_clone<A: Allocator + Clone>(plan: &Plan<A>) -> Option<CloneOrder>
-    ensures { result ≡ best_clone (known plan.now) (finite.entries plan.now.logged.table.chunks) }
+    ensures { result ≡ next_clone (servers_in (known plan.now)) plan.now.now plan.now.logged.table.chunks }
 {
     let known = PlanHolders { plan };
     let table = plan.state().table();
-    let goal = plan.config().goal;
     match plan.doubted() {
-        Some(doubted) => next_of(table, &known, goal, plan.now(), doubted),
-        None => next(table, &known, goal, plan.now()),
+        Some(doubted) => next_of(table, &known, plan.now(), doubted),
+        None => next(table, &known, plan.now()),
     }
 }
 
@@ -64,19 +63,19 @@ fn orders_clone<A: Allocator + Clone>(
     plan: &mut Plan<A>,
     clone: Option<CloneOrder>,
 ) -> Result<(), PlanFault>
-    ensures { OnOk result ((disk : LogDisk) → orders_clone (doing disk plan.old) clone ≡ doing disk plan.new) }
+    ensures { OnOk result ((disk : LogDisk) → orders_this (doing disk plan.old) clone ≡ doing disk plan.new) }
 {
     let Some(clone) = clone else {
         return Ok(());
     };
     let order = plan.next_order()?;
     plan.tell(
-        Node::Server(clone.target()),
+        Node::Server(clone.target),
         Body::Clone {
             order,
-            handle: clone.handle(),
-            version: clone.version(),
-            source: clone.source(),
+            handle: clone.handle,
+            version: clone.version,
+            source: clone.source,
         },
     )
 }
@@ -88,7 +87,7 @@ struct PlanHolders<'a, A: Allocator> {
 }
 
 impl<'a, A: Allocator + Clone> Holders for PlanHolders<'a, A> {
-    ghost state = { λ k. known k.plan.now };
+    ghost servers = { λ k. servers_in (known k.plan.now) };
 
     fn server_count(&self) -> u16 {
         self.plan.server_count()

@@ -5,7 +5,7 @@ ghost use Rattle.protocol.specs.Logged.{LogDisk};
 ghost use Rattle.messages.specs.declared.message.Body.TheVariants as body;
 ghost use Rattle.protocol.specs.Master.{orders};
 ghost use Rattle.protocol.specs.MasterReports.{drops_useless};
-ghost use Rattle.stale_collect.specs.Drops.{orders_drops};
+ghost use Rattle.master_reports.specs.Drops.{orders_drops};
 ghost use Rattle.master_plan.specs.Plans.{doing};
 
 use gfs_types::ids::{Node, ServerId};

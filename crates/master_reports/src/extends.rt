@@ -30,7 +30,7 @@ fn asks_for_more<A: Allocator + Clone>(
 }
 
 // A lease gets a later end, where its primary asks for it and may have it.
-#[tactic(auto, using(crate::proofs::Extended::not_asked, crate::proofs::Extended::not_later, crate::proofs::Extended::awaited, crate::proofs::Extended::extended))]
+#[tactic(auto, using(crate::proofs::Extended::not_asked, crate::proofs::Extended::not_later, crate::proofs::Extended::awaited, crate::proofs::Extended::extended, crate::proofs::Extended::later_end))]
 fn extends_row<A: Allocator + Clone>(
     plan: &mut Plan<A>,
     server: ServerId,
@@ -51,7 +51,7 @@ fn extends_row<A: Allocator + Clone>(
     if plan.waits_for(line.handle)? {
         return Ok(());
     }
-    plan.end_lease_at(line.handle, Moment(until));
+    plan.extend_lease(line.handle);
     plan.tell(
         Node::Server(server),
         Body::Extend {

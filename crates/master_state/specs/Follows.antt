@@ -69,7 +69,7 @@ copies_follow l (e ∷ rest) = is_path e.0 && node_follows (table_of l) e.1 && c
 abbrev pub follows : Logged → Record → Bool
 follows l (log.Mkdir client call path) = is_path path
 follows l (log.Rmdir client call path) = is_path path
-follows l (log.Create client call file path) = is_path path && (file.0 == l.next_file) && nat_lt l.next_file counter_limit
+follows l (log.Create client call file shape path) = is_path path && (file.0 == l.next_file) && nat_lt l.next_file counter_limit
 follows l (log.Delete client call moment path) = is_path path
 follows l (log.Rename client call from to) = is_path from && is_path to
 follows l (log.Snapshot client call from to) = is_path from && is_path to && copies_follow l (copied_entries l.names from to)
@@ -83,6 +83,6 @@ follows l (log.CopyStart file index handle copy copy_version) =
     (copy.0 == l.next_handle) && is_none (start_copy_refusal (table_of l) handle.0) && (copy_version.0 == version_after (chunk_of l.table handle.0))
 follows l (log.Counters next_file next_handle epoch) = is_none (counters_refusal (table_of l) next_file.0 next_handle.0)
 follows l (log.DirItem path) = is_path path
-follows l (log.FileItem path file handles) = is_path path && is_none (put_file_refusal (table_of l) file.0 handles)
+follows l (log.FileItem path file shape handles) = is_path path && is_none (put_file_refusal (table_of l) file.0 handles)
 follows l (log.ChunkItem handle granted issued primary members) = item_follows granted.0 issued.0 (chunk_of l.table handle.0)
 follows l other = true

@@ -1,6 +1,5 @@
-pub mod NameKinds
 pub mod Faults
 pub mod Coding
 pub mod Follows
 pub mod Refusals
-pub mod OldLeases
+pub mod Copied

@@ -12,11 +12,13 @@ ghost use Rattle.master_state.specs.declared.fault.ReplayFault.TheVariants.{Dama
 use crate::fault::ReplayFault;
 use crate::kept::CopyRow;
 use crate::names::path_of;
-use crate::node::NameNode;
 use crate::state::State;
+use chunk_table::chunk::NO_SHAPE;
 use chunk_table::fault::TableFault;
 use gfs_types::ids::{ClientId, FileId, Handle, ServerId, Version};
 use gfs_types::lists::{ServerList, Text};
+use gfs_types::shape::Shape;
+use namespace::node::NameNode;
 use std::alloc::Allocator;
 
 impl<A: Allocator + Clone> State<A> {
@@ -60,17 +62,18 @@ impl<A: Allocator + Clone> State<A> {
         client: ClientId,
         call: u64,
         file: FileId,
+        shape: Option<Shape>,
         path: &Text,
     ) -> Result<(), ReplayFault>
-        ensures ok { OnOk result (self.new ≡ after_record self.old (log.Create client call file path.now)) }
-        ensures follows { OnOk result (IsTrue (follows self.old (log.Create client call file path.now))) }
-        ensures damaged { IsErrOf result Damaged → IsFalse (follows self.old (log.Create client call file path.now)) }
+        ensures ok { OnOk result (self.new ≡ after_record self.old (log.Create client call file shape path.now)) }
+        ensures follows { OnOk result (IsTrue (follows self.old (log.Create client call file shape path.now))) }
+        ensures damaged { IsErrOf result Damaged → IsFalse (follows self.old (log.Create client call file shape path.now)) }
     {
         let path = path_of(self.alloc, path)?;
         if file != self.table.next_file() {
             return Err(ReplayFault::Damaged);
         }
-        match self.table.add_file() {
+        match self.table.add_file(NO_SHAPE.or(shape)) {
             Ok(_) => {}
             Err(TableFault::NoMemory) => return Err(ReplayFault::NoMemory),
             Err(_) => return Err(ReplayFault::Damaged),

@@ -11,12 +11,14 @@ ghost use Rattle.master_state.specs.declared.fault.ReplayFault.TheVariants.{Dama
 
 use crate::fault::ReplayFault;
 use crate::names::path_of;
-use crate::node::NameNode;
 use crate::state::State;
+use chunk_table::chunk::NO_SHAPE;
 use chunk_table::fault::TableFault;
 use chunk_table::table::Table;
 use gfs_types::ids::{FileId, Handle};
 use gfs_types::lists::{HandleList, Text};
+use gfs_types::shape::Shape;
+use namespace::node::NameNode;
 use std::alloc::Allocator;
 use std::mem;
 
@@ -45,26 +47,32 @@ impl<A: Allocator + Clone> State<A> {
         &mut self,
         path: &Text,
         file: FileId,
+        shape: Option<Shape>,
         handles: &HandleList,
     ) -> Result<(), ReplayFault>
-        ensures ok { OnOk result (self.new ≡ after_record self.old (log.FileItem path.now file handles.now)) }
-        ensures follows { OnOk result (IsTrue (follows self.old (log.FileItem path.now file handles.now))) }
-        ensures damaged { IsErrOf result Damaged → IsFalse (follows self.old (log.FileItem path.now file handles.now)) }
+        ensures ok { OnOk result (self.new ≡ after_record self.old (log.FileItem path.now file shape handles.now)) }
+        ensures follows { OnOk result (IsTrue (follows self.old (log.FileItem path.now file shape handles.now))) }
+        ensures damaged { IsErrOf result Damaged → IsFalse (follows self.old (log.FileItem path.now file shape handles.now)) }
     {
         let path = path_of(self.alloc, path)?;
         let handles = handles.copy(self.alloc)?;
-        self.put_file(file, handles)?;
+        self.put_file(file, NO_SHAPE.or(shape), handles)?;
         self.put_name(&path, NameNode::file(file))?;
         Ok(())
     }
 
-    fn put_file(&mut self, file: FileId, handles: HandleList) -> Result<(), ReplayFault>
-        ensures ok { OnOk result (self.new ≡ record self.old { table = put_file self.old.table file.0 handles }) }
+    fn put_file(
+        &mut self,
+        file: FileId,
+        shape: Shape,
+        handles: HandleList,
+    ) -> Result<(), ReplayFault>
+        ensures ok { OnOk result (self.new ≡ record self.old { table = put_file self.old.table file.0 shape handles }) }
         ensures follows { OnOk result (IsTrue (is_none (put_file_refusal (table_of self.old) file.0 handles))) }
         ensures damaged { IsErrOf result Damaged → IsFalse (is_none (put_file_refusal (table_of self.old) file.0 handles)) }
     {
         let table = mem::replace(&mut self.table, Table::new(self.alloc));
-        match table.put_file(file, handles) {
+        match table.put_file(file, shape, handles) {
             Ok(table) => {
                 self.table = table;
                 Ok(())

@@ -2,13 +2,13 @@
 
 ghost use Rattle.std.specs.Prelude.{◌≡◌, IfOk};
 ghost use Rattle.gfs_types.specs.declared.call.Call.TheVariants as call;
+ghost use Rattle.gfs_types.specs.declared.config.Config.{Config};
 ghost use Rattle.gfs_types.specs.declared.answer.Answer.TheVariants as answer;
 ghost use Rattle.messages.specs.declared.message.NameReply.TheVariants.{Answered};
 ghost use Rattle.relaxed_file.specs.NameStep.{outcome_by};
 ghost use Rattle.protocol.specs.MasterNames.{reply_by};
 ghost use Rattle.master_state.specs.Refusals.{refusal_by};
 
-use crate::name_kind::NameKind;
 use crate::refusals::parsed;
 use crate::state::State;
 use gfs_types::answer::Answer;
@@ -16,12 +16,13 @@ use gfs_types::lists::Text;
 use gfs_types::no_memory::NoMemory;
 use gfs_types::refusal::Refusal;
 use messages::message::NameReply;
+use namespace::name_kind::NameKind;
 use std::alloc::Allocator;
 
 impl<A: Allocator + Clone> State<A> {
     /// The reply to an Open: the file, or the refusal. It is told whether a pending snapshot holds a lock that conflicts.
     pub fn open(&self, path: &Text, is_busy: bool) -> Result<NameReply, NoMemory>
-        ensures { IfOk result (λ r. r ≡ reply_by (outcome_by self.now.names (call.Open path.now) (refusal_by self.now.names is_busy (call.Open path.now)))) }
+        ensures { IfOk result (λ r. (config : Config) → r ≡ reply_by (outcome_by self.now.names (call.Open path.now) (refusal_by config self.now.names is_busy (call.Open path.now)))) }
     {
         let path = match parsed(self.alloc, path)? {
             Some(path) => path,

@@ -7,19 +7,19 @@ ghost use Rattle.log_records.specs.declared.record.Record.TheVariants as log;
 ghost use Rattle.relaxed_file.specs.Names.{Dir, File, node_at};
 ghost use Rattle.relaxed_file.specs.NameStep.{with_node, hidden};
 ghost use Rattle.protocol.specs.Logged.{after_record};
-ghost use Rattle.master_state.specs.NameKinds.{node_of};
+ghost use Rattle.namespace.specs.NameKinds.{node_of};
 ghost use Rattle.master_state.specs.Follows.{follows};
 ghost use Rattle.master_state.specs.declared.fault.ReplayFault.TheVariants.{Damaged};
 
 use crate::fault::ReplayFault;
 use crate::hidden::hidden_name;
-use crate::name_kind::NameKind;
-use crate::node::NameNode;
 use crate::state::State;
 use gfs_types::ids::{ClientId, Moment};
 use gfs_types::lists::Text;
 use gfs_types::no_memory::NoMemory;
 use gfs_types::path::{Path, PathFault};
+use namespace::name_kind::NameKind;
+use namespace::node::NameNode;
 use std::alloc::{Allocator, Global};
 
 impl<A: Allocator + Clone> State<A> {

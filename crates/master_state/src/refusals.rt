@@ -1,56 +1,80 @@
 //! Why a name call is refused: the first cause in order (section 4.1).
 
-ghost use Rattle.std.specs.Prelude.{◌≡◌, Some, IfOk, IfSome, is_some};
+ghost use Rattle.std.specs.Prelude.{◌≡◌, ◌∷◌, Some, IfOk, IfSome, is_some};
 ghost use Rattle.gfs_types.specs.Paths.{is_path, parent};
+ghost use Rattle.gfs_types.specs.Shapes.{may_have};
+ghost use Rattle.gfs_types.specs.declared.config.Config.{Config};
+ghost use Rattle.gfs_types.specs.declared.refusal.Refusal.TheVariants.{Reserved, Busy};
 ghost use Rattle.gfs_types.specs.declared.call.Call.TheVariants as call;
 ghost use Rattle.relaxed_file.specs.Names.{is_dir, is_dir_node, is_taken};
-ghost use Rattle.relaxed_file.specs.NameStep.{is_in_trash};
+ghost use Rattle.relaxed_file.specs.NameStep.{is_in_trash, first_refusal, name_tests};
 ghost use Rattle.master_state.specs.Refusals.{refusal_by};
 
-use crate::name_kind::NameKind;
-use crate::node::NameNode;
 use crate::state::State;
+use gfs_types::config::Config;
 use gfs_types::lists::Text;
 use gfs_types::no_memory::NoMemory;
 use gfs_types::path::{Path, PathFault};
 use gfs_types::refusal::Refusal;
+use gfs_types::shape::Shape;
+use namespace::name_kind::NameKind;
+use namespace::node::NameNode;
 use path_trie::parts;
 use std::alloc::{Allocator, Global};
 
 impl<A: Allocator + Clone> State<A> {
     /// Of a Mkdir: BadPath; Reserved; Busy; NoParent; Exists.
     pub fn mkdir_refusal(&self, path: &Text, is_busy: bool) -> Result<Option<Refusal>, NoMemory>
-        ensures { IfOk result (λ r. r ≡ refusal_by self.now.names is_busy (call.Mkdir path.now)) }
+        ensures { IfOk result (λ r. (config : Config) → r ≡ refusal_by config self.now.names is_busy (call.Mkdir path.now)) }
+    {
+        match parsed(self.alloc, path)? {
+            Some(path) => self.new_name_refusal(&path, is_busy),
+            None => Ok(Some(Refusal::BadPath)),
+        }
+    }
+
+    /// Of a Create: BadPath; BadSize; then as of a Mkdir.
+    pub fn create_refusal(
+        &self,
+        config: &Config,
+        path: &Text,
+        shape: Option<Shape>,
+        is_busy: bool,
+    ) -> Result<Option<Refusal>, NoMemory>
+        ensures { IfOk result (λ r. r ≡ refusal_by config.now self.now.names is_busy (call.Create path.now shape)) }
     {
         let path = match parsed(self.alloc, path)? {
             Some(path) => path,
             None => return Ok(Some(Refusal::BadPath)),
         };
+        if !may_have(config, shape) {
+            return Ok(Some(Refusal::BadSize));
+        }
+        self.new_name_refusal(&path, is_busy)
+    }
+
+    // Of a path that is to be a new name: Reserved; Busy; NoParent; Exists.
+    fn new_name_refusal(&self, path: &Path, is_busy: bool) -> Result<Option<Refusal>, NoMemory>
+        ensures { IfOk result (λ r. r ≡ first_refusal ((is_in_trash path.now, Reserved) ∷ (is_busy, Busy) ∷ name_tests self.now.names (call.Mkdir path.now))) }
+    {
         if is_in_trash(path.as_str()) {
             return Ok(Some(Refusal::Reserved));
         }
         if is_busy {
             return Ok(Some(Refusal::Busy));
         }
-        if !self.has_parent(&path)? {
+        if !self.has_parent(path)? {
             return Ok(Some(Refusal::NoParent));
         }
-        if self.is_taken(&path) {
+        if self.is_taken(path) {
             return Ok(Some(Refusal::Exists));
         }
         Ok(None)
     }
 
-    /// Of a Create: as of a Mkdir.
-    pub fn create_refusal(&self, path: &Text, is_busy: bool) -> Result<Option<Refusal>, NoMemory>
-        ensures { IfOk result (λ r. r ≡ refusal_by self.now.names is_busy (call.Create path.now)) }
-    {
-        self.mkdir_refusal(path, is_busy)
-    }
-
     /// Of a Delete: BadPath; Reserved; Busy; NotFound; NotFile.
     pub fn delete_refusal(&self, path: &Text, is_busy: bool) -> Result<Option<Refusal>, NoMemory>
-        ensures { IfOk result (λ r. r ≡ refusal_by self.now.names is_busy (call.Delete path.now)) }
+        ensures { IfOk result (λ r. (config : Config) → r ≡ refusal_by config self.now.names is_busy (call.Delete path.now)) }
     {
         let path = match parsed(self.alloc, path)? {
             Some(path) => path,
@@ -78,7 +102,7 @@ impl<A: Allocator + Clone> State<A> {
         to: &Text,
         is_busy: bool,
     ) -> Result<Option<Refusal>, NoMemory>
-        ensures { IfOk result (λ r. r ≡ refusal_by self.now.names is_busy (call.Rename from.now to.now)) }
+        ensures { IfOk result (λ r. (config : Config) → r ≡ refusal_by config self.now.names is_busy (call.Rename from.now to.now)) }
     {
         let from = match parsed(self.alloc, from)? {
             Some(path) => path,
@@ -111,7 +135,7 @@ impl<A: Allocator + Clone> State<A> {
 
     /// Of an Open: BadPath; Busy; NotFound; NotFile.
     pub fn open_refusal(&self, path: &Text, is_busy: bool) -> Result<Option<Refusal>, NoMemory>
-        ensures { IfOk result (λ r. r ≡ refusal_by self.now.names is_busy (call.Open path.now)) }
+        ensures { IfOk result (λ r. (config : Config) → r ≡ refusal_by config self.now.names is_busy (call.Open path.now)) }
     {
         let path = match parsed(self.alloc, path)? {
             Some(path) => path,
@@ -131,7 +155,7 @@ impl<A: Allocator + Clone> State<A> {
 
     /// Of a List: BadPath; Busy; NotFound; NotDir.
     pub fn list_refusal(&self, path: &Text, is_busy: bool) -> Result<Option<Refusal>, NoMemory>
-        ensures { IfOk result (λ r. r ≡ refusal_by self.now.names is_busy (call.List path.now)) }
+        ensures { IfOk result (λ r. (config : Config) → r ≡ refusal_by config self.now.names is_busy (call.List path.now)) }
     {
         let path = match parsed(self.alloc, path)? {
             Some(path) => path,
@@ -196,6 +220,16 @@ pub fn parsed(alloc: Global, text: &Text) -> Result<Option<Path>, NoMemory>
         Ok(path) => Ok(Some(path)),
         Err(PathFault::BadPath) => Ok(None),
         Err(PathFault::NoMemory) => Err(NoMemory),
+    }
+}
+
+// Whether a file may be asked for so.
+fn may_have(config: &Config, shape: Option<Shape>) -> bool
+    ensures { result ≡ may_have config.now shape }
+{
+    match shape {
+        Some(shape) => shape.fits(config),
+        None => true,
     }
 }
 

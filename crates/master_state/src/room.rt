@@ -3,14 +3,14 @@
 ghost use Rattle.std.specs.Prelude.{◌≡◌};
 
 use crate::hidden::hidden_name;
-use crate::name_kind::NameKind;
-use crate::node::NameNode;
 use crate::refusals::parsed;
 use crate::state::State;
 use gfs_types::ids::Moment;
 use gfs_types::lists::Text;
 use gfs_types::no_memory::NoMemory;
 use gfs_types::path::{Path, PathFault};
+use namespace::name_kind::NameKind;
+use namespace::node::NameNode;
 use std::alloc::Allocator;
 
 impl<A: Allocator + Clone> State<A> {

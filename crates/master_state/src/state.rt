@@ -9,12 +9,12 @@ ghost use Rattle.relaxed_file.specs.Names.{Dir, node_at};
 ghost use Rattle.master_state.specs.Follows.{table_of};
 
 use crate::kept::{CopyRow, KeptCall};
-use crate::node::{NameNode, Namespace};
 use chunk_table::table::Table;
 use gfs_types::ids::{ClientId, Handle};
 use gfs_types::no_memory::NoMemory;
 use gfs_types::path::Path;
 use gfs_types::refusal::Refusal;
+use namespace::node::{NameNode, Namespace};
 use ordered_map::OrderedMap;
 use path_trie::trie::Trie;
 use std::alloc::{Allocator, Global};

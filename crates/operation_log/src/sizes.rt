@@ -1,9 +1,10 @@
 //! How much room records take. What would pass 64 bits counts as the greatest number there is, and fits nowhere.
 
-ghost use Rattle.std.specs.Prelude.{◌≡◌, ◌+◌, ◌*◌, ◌-◌, ◌^◌, ◌<◌, min, length, nat_le, is_some, IfSome};
-ghost use Rattle.protocol.specs.LogSizes.{payload_size, area_size};
+ghost use Rattle.std.specs.Prelude.{◌≡◌, ◌+◌, ◌*◌, ◌-◌, ◌^◌, ◌<◌, ◌≤◌, min, length, nat_le, is_some, IfSome};
+ghost use Rattle.protocol.specs.LogSizes.{payload_size, shape_size, area_size};
 
 use gfs_types::lists::{HandleList, ServerList, Text};
+use gfs_types::shape::Shape;
 use log_records::record::Record;
 
 // A tag and fields of so many bytes, and a text.
@@ -33,6 +34,17 @@ fn with_handles(fixed: u64, text: &Text, handles: &HandleList) -> u64
     with_text(fixed, text).saturating_add((handles.len() as u64).saturating_mul(8))
 }
 
+// A shape's fields, where there is one.
+fn shape_size(shape: Option<Shape>) -> u64
+    ensures size { result ≡ shape_size shape }
+    ensures small { result ≤ 5 }
+{
+    match shape {
+        None => 0,
+        Some(_) => 5,
+    }
+}
+
 /// The bytes of a record's payload.
 pub fn payload_size(entry: &Record) -> u64
     ensures { result ≡ min (payload_size entry.now) (2 ^ 64 - 1) }
@@ -40,7 +52,8 @@ pub fn payload_size(entry: &Record) -> u64
     match entry {
         Record::Epoch { .. } | Record::Expired { .. } => 9,
         Record::Mkdir { path, .. } | Record::Rmdir { path, .. } => with_text(19, path),
-        Record::Create { path, .. } | Record::Delete { path, .. } => with_text(27, path),
+        Record::Create { shape, path, .. } => with_text(27 + shape_size(*shape), path),
+        Record::Delete { path, .. } => with_text(27, path),
         Record::Rename { from, to, .. } | Record::Snapshot { from, to, .. } => {
             with_texts(21, from, to)
         }
@@ -50,7 +63,12 @@ pub fn payload_size(entry: &Record) -> u64
         Record::CopyStart { .. } => 37,
         Record::Counters { .. } => 25,
         Record::DirItem { path } => with_text(3, path),
-        Record::FileItem { path, handles, .. } => with_handles(15, path, handles),
+        Record::FileItem {
+            path,
+            shape,
+            handles,
+            ..
+        } => with_handles(15 + shape_size(*shape), path, handles),
         Record::ChunkItem { members, .. } => with_members(28, members),
     }
 }

@@ -103,7 +103,7 @@ module _ (size : ℕ) (d : List ℕ) (large : 4096 ≤ size) (sized : length d �
     }
 
     either : (get_or c 15 0 ≡ 1) ⊎ (get_or c 15 0 ≢ 1) → IsLogOf [] [] c
-    either (inl opened) = inr (has_log size 0 (area_with 1 []) c (formatted opened))
+    either (inl opened) = inr (inl (has_log size 0 (area_with 1 []) c (formatted opened)))
     either (inr shut) = new_log c (ne_eqb (get_or c 15 0) 1 shut)
 
   pub while_formatting : (c : List ℕ) → IsCommitting d 0 head 15 c → IsLogOf [] [] c

@@ -19,6 +19,7 @@ pub mod Formatting
 pub mod NewestArea
 pub mod Refused
 pub mod Starting
+pub mod SecondGate
 pub mod Whole
 pub mod OpenLogs
 pub mod AllEntries

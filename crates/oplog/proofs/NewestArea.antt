@@ -46,6 +46,9 @@ below_two : (first second : Option ℕ) (which : ℕ) → IsNewest first second 
 below_two first second which (inl is) = omega (arith, is.0)
 below_two first second which (inr is) = omega (arith, is.0)
 
+pub newest_two : (first second : Option ℕ) (which : ℕ) → newest first second ≡ Some which → which < 2
+newest_two first second which is = below_two first second which (newest_is first second which is)
+
 module _ (size : ℕ) (d : List ℕ) (large : 4096 ≤ size) (sized : length d ≡ size) where
   abbrev pub number_at : ℕ → Option ℕ
   number_at which = open_number (front_of size which d)

@@ -1,8 +1,8 @@
 -- What stands on a disk, and what a stop within an opening leaves.
-use Rattle.std.proofs.Common.{◌≡◌, ℕ, ◌≤◌, Bool, true, false, ◌==◌, List, [], ◌++◌, length, take, Option, None, refl, sym, ap, subst, ◌∙◌, arith, inl, inr}
+use Rattle.std.proofs.Common.{◌≡◌, ◌⊎◌, ⊎_elim, ℕ, ◌≤◌, Bool, true, false, ◌==◌, List, [], ◌++◌, length, take, Option, None, refl, sym, ap, subst, ◌∙◌, arith, inl, inr}
 use Rattle.std.specs.Prelude.{Err, IfOk, Ok, OnOk, Result}
 use Rattle.std.proofs.lemmas.List.{get_or-take}
-use Rattle.disk.specs.Device.{Only}
+use Rattle.disk.specs.Device.{ChangesOnly, Only}
 use Rattle.disk_redo.specs.GateMoments.{LeavesOnly, OnlyReads}
 use Rattle.disk_redo.proofs.Moments.{joined, weaker}
 use Rattle.log_records.specs.declared.record.Record.{Record}
@@ -12,10 +12,12 @@ use Rattle.oplog.specs.Layout.{area_at, area_size}
 use Rattle.disk.specs.Bytes.{range_at}
 use Rattle.oplog.specs.Disks.{area_of, is_formatted, DiskSays, HasLog}
 use Rattle.oplog.proofs.Disks.{has_log}
+use Rattle.oplog.proofs.SecondGate.{while_upgrading}
 use Rattle.oplog.specs.Logs.{IsOpen}
 use Rattle.oplog.specs.declared.volume.LogVolume.{LogVolume}
 use Rattle.oplog.specs.declared.fault.LogFault.{LogFault}
 use Rattle.oplog.specs.Writing.{area_with}
+use Rattle.oplog.specs.Formats.{HasLogOfFormat1, IsUpgrading}
 use Rattle.oplog.specs.NewLogs.{IsLogOf}
 use Rattle.oplog.specs.declared.walk.Walk.{Walk}
 use Rattle.oplog.specs.Opening.{area_found, IsFound, IsOpening, WalksThrough}
@@ -45,21 +47,21 @@ pub on_ok : {T E P : Type 0} (r : Result T E) → P → OnOk r P
 on_ok (Ok x) p = p
 on_ok (Err e) p = tt
 
--- a log behind an open head
-pub opened_log : (items records : List Record) (d : List ℕ) → is_formatted d ≡ true → IsLogOf items records d → HasLog items records d
-opened_log items records d opened (inl new) = let both : true ≡ false = sym opened ∙ new.closed in absurd cc
-opened_log items records d opened (inr log) = log
-
-pub headed : (b : Bool) → b ≡ true → b ≡ false → ⊥
-headed b opened shut = let both : true ≡ false = sym opened ∙ shut in absurd cc
-
 -- what was found is the disk's log
 pub found_log : (found : FoundArea) (d : List ℕ) → IsFound found d → IsLogOf found.items found.records d
-found_log found d is = inr (has_log (length d) found.which (area_found found) d is.says)
+found_log found d is = inr (inl (has_log (length d) found.which (area_found found) d is.says))
 
 pub found_logs : (r : Result FoundArea LogFault) (d : List ℕ) → IfOk r (λ x. IsFound x d) → IfOk r (λ x. IsLogOf x.items x.records d)
 found_logs (Ok x) d is = found_log x d is
 found_logs (Err e) d is = tt
+
+pub old_logs : (r : Result FoundArea LogFault) (d : List ℕ) → IfOk r (λ x. HasLogOfFormat1 x.items x.records d) → IfOk r (λ x. IsLogOf x.items x.records d)
+old_logs (Ok x) d was = inr (inr was)
+old_logs (Err e) d was = tt
+
+-- one test or the other
+pub headed : (b : Bool) → b ≡ true → b ≡ false → ⊥
+headed b opened shut = let both : true ≡ false = sym opened ∙ shut in absurd cc
 
 abbrev pub state_of : ℕ → List Record → List Record → AreaState
 state_of number items records = record { number = number; items = items; records = records }
@@ -99,7 +101,20 @@ module _ {D : Type 0} (seen : D → List ℕ) (may_leave : D → List ℕ → Ty
   -- a new log is formatted after reads
   pub format_opened : (old mid new : D) → OnlyReads seen may_leave moment left_since old mid → is_formatted (seen old) ≡ false → LeavesOnly moment left_since mid new (IsLogOf [] []) → LeavesOnly moment left_since old new (Opening old)
   format_opened old mid new first shut second =
-      joined moment left_since old mid new (may_leave old) (IsLogOf [] []) (Opening old) first.any_moment second (λ c left. inl left) (λ c log. inr (shut, log))
+      joined moment left_since old mid new (may_leave old) (IsLogOf [] []) (Opening old) first.any_moment second (λ c left. inl left) (λ c log. inr (inl (shut, log)))
+
+  -- an opening goes on after reads
+  pub then_opened : (old mid new : D) → OnlyReads seen may_leave moment left_since old mid → LeavesOnly moment left_since mid new (Opening mid) → LeavesOnly moment left_since old new (Opening old)
+  then_opened old mid new first second =
+      joined moment left_since old mid new (may_leave old) (Opening mid) (Opening old) first.any_moment second (λ c left. inl left) (λ c stop.
+      ⊎_elim (λ left. inl (first.crash c left)) (λ other. inr (subst (λ (l : List ℕ). ((is_formatted l ≡ false) × IsLogOf [] [] c) ⊎ IsUpgrading l c) first.seen_same other)) stop)
+
+  -- the second gate is opened after reads
+  pub upgrade_opened : (old mid new : D) (items records : List Record) → 4096 ≤ length (seen old) → OnlyReads seen may_leave moment left_since old mid → HasLogOfFormat1 items records (seen old)
+      → LeavesOnly moment left_since mid new (ChangesOnly 5 1 (seen mid)) → LeavesOnly moment left_since old new (Opening old)
+  upgrade_opened old mid new items records large first was second =
+      joined moment left_since old mid new (may_leave old) (ChangesOnly 5 1 (seen mid)) (Opening old) first.any_moment second (λ c left. inl left) (λ c is.
+      inr (inr (while_upgrading items records (seen old) c (omega (arith, large)) was (subst (λ (l : List ℕ). ChangesOnly 5 1 l c) first.seen_same is))))
 
   -- what is durable stays so
   pub still_only : (mid new : D) → Only (seen mid) (may_leave mid) → OnlyReads seen may_leave moment left_since mid new → Only (seen new) (may_leave new)

@@ -6,9 +6,9 @@ use Rattle.log_records.specs.declared.record.Record.{Record}
 use Rattle.oplog.specs.Areas.{AreaState, AreaSays}
 use Rattle.oplog.specs.Layout.{area_at, area_size}
 
--- `GFSL`, the format, and zeros
+-- `GFSL`, 1, the open gate of format 2, and zeros
 abbrev pub head : List ℕ
-head = 71 ∷ 70 ∷ 83 ∷ 76 ∷ 1 ∷ replicate 10 0
+head = 71 ∷ 70 ∷ 83 ∷ 76 ∷ 1 ∷ 1 ∷ replicate 9 0
 
 -- the gate of the head, after it
 abbrev pub head_gate : ℕ
@@ -53,7 +53,7 @@ newest (Some n) second = if is_below second n then Some 0 else second_or_none (S
 abbrev pub is_formatted : List ℕ → Bool
 is_formatted disk = get_or disk head_gate 0 == 1
 
--- The head's gate is open, and this area is current and says this.
+-- The head's gate is open, the format is 2, and this area is current and says this.
 pub record DiskSays (size which : ℕ) (area : AreaState) (disk : List ℕ) : Type 0 where
   pub sized : length disk ≡ size
   pub one_of_two : which < 2
@@ -61,7 +61,7 @@ pub record DiskSays (size which : ℕ) (area : AreaState) (disk : List ℕ) : Ty
   pub says : AreaSays area (area_of size which disk)
   pub older : IsOlder area.number (front_of size (other which) disk)
 
--- The disk has these items and records.
+-- The disk has these items and records, in format 2.
 pub record HasLog (items records : List Record) (disk : List ℕ) : Type 0 where
   pub which : ℕ
   pub number : ℕ

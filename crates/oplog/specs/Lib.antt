@@ -4,6 +4,7 @@ pub mod Areas
 pub mod Layout
 pub mod Walks
 pub mod Disks
+pub mod Formats
 pub mod Changes
 pub mod Faults
 pub mod Logs

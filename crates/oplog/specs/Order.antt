@@ -10,14 +10,14 @@ use Rattle.log_codec.specs.Payloads.{is_item}
 abbrev pub rank : Record → ℕ
 rank (log.Counters next_file next_handle epoch) = 0
 rank (log.DirItem path) = 1
-rank (log.FileItem path file handles) = 1
+rank (log.FileItem path file shape handles) = 1
 rank (log.ChunkItem handle granted issued primary members) = 2
 rank entry = 3
 
 -- a name's path
 abbrev pub path_of : Record → List ℕ
 path_of (log.DirItem path) = path
-path_of (log.FileItem path file handles) = path
+path_of (log.FileItem path file shape handles) = path
 path_of entry = []
 
 -- a chunk's handle, or the client

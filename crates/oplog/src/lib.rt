@@ -21,6 +21,7 @@ mod order;
 mod reading;
 mod reading_items;
 mod restarting;
+mod upgrading;
 mod volume;
 mod walk;
 

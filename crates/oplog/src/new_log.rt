@@ -17,8 +17,8 @@ use disk::{Disk, DiskFault};
 use disk_redo::gate::commit;
 use std::alloc::Global;
 
-// The head but for its gate: `GFSL`, the format, and zeros.
-const HEAD: [u8; 15] = [71, 70, 83, 76, 1, 0, 0, 0, 0, 0, 0, 0, 0, 0, 0];
+// The head but for its gate: `GFSL`, 1, the open gate of format 2, and zeros.
+const HEAD: [u8; 15] = [71, 70, 83, 76, 1, 1, 0, 0, 0, 0, 0, 0, 0, 0, 0];
 
 // Closes both areas. The head stays closed.
 fn close_areas<D: Disk>(disk: &mut D) -> Result<(), DiskFault>

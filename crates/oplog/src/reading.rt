@@ -9,7 +9,7 @@ ghost use Rattle.oplog.specs.Walks.{IsWalk, passed};
 ghost use Rattle.log_codec.specs.declared.fault.DecodeFault.TheVariants as damaged;
 ghost use Rattle.oplog.specs.Logs.{IsOpen, MayFail};
 ghost use Rattle.oplog.specs.declared.fault.LogFault.TheVariants as faults;
-ghost use Rattle.oplog.specs.NewLogs.{IsLogOf};
+ghost use Rattle.oplog.specs.Formats.{upgraded};
 ghost use Rattle.oplog.specs.Opening.{area_found, IsFound, WalksThrough};
 
 use crate::area::read_area;
@@ -114,13 +114,12 @@ fn read_current<D: Disk>(disk: &mut D, alloc: Global, which: usize) -> Result<Fo
     }
 }
 
-/// What a disk with an open head says.
+/// What a disk with an open head says, or of format 1 would say in format 2.
 pub fn read_log<D: Disk>(disk: &mut D, alloc: Global) -> Result<FoundArea, LogFault>
     requires large { 4096 ≤ length (D.seen disk.old) }
-    requires headed { take 16 (D.seen disk.old) ≡ head ++ 1 ∷ [] }
-    ensures found { IfOk result (λ x. IsFound x (D.seen disk.old)) }
-    ensures same { IfOk result (λ x. IsLogOf x.items x.records (D.seen disk.old)) }
-    ensures undamaged { (which : ℕ) (area : AreaState) → DiskSays (length (D.seen disk.old)) which area (D.seen disk.old) → IsErrOf result faults.Damaged → ⊥ }
+    requires headed { take 16 (upgraded (D.seen disk.old)) ≡ head ++ 1 ∷ [] }
+    ensures found { IfOk result (λ x. IsFound x (upgraded (D.seen disk.old))) }
+    ensures undamaged { (which : ℕ) (area : AreaState) → DiskSays (length (D.seen disk.old)) which area (upgraded (D.seen disk.old)) → IsErrOf result faults.Damaged → ⊥ }
     ensures not_full { IsErrOf result faults.Full → ⊥ }
     ensures reads { OnlyReads D.seen D.may_leave D.moment D.left_since disk.old disk.new }
     ensures cause { MayFail (D.failed disk.old) (D.failed disk.new) result }

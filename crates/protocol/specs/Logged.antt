@@ -2,13 +2,14 @@
 use Rattle.std.specs.Prelude.{ℕ, ◌+◌, Bool, false, ◌==◌, nat_lt, List, [], ◌∷◌, ◌++◌, map, filter, find, max, Option, Some, None}
 use Rattle.std.specs.FinMap as table
 use Rattle.gfs_types.specs.declared.refusal.Refusal.{Refusal}
+use Rattle.gfs_types.specs.Shapes.{shape_or}
 use Rattle.log_records.specs.declared.record.Record.{Record}
 use Rattle.log_records.specs.declared.record.Record.TheVariants as log
 use Rattle.gfs_types.specs.Paths.{Path}
 use Rattle.relaxed_file.specs.Names.{Names, Node, Dir, File, first_names, node_at, copied_entries, with_copies, id_after, id_after_all}
 use Rattle.relaxed_file.specs.NameStep.{with_node, hidden}
 use Rattle.protocol.specs.Tables.{Table, removed_all}
-use Rattle.chunk_table.specs.ChunkTable.{ChunkRow, ChunkTable, new_row, new_chunk_table, handles_of, add_file, add_chunk, copy_file, drop_file, change_row, with_row, issue, grant, put_file, swap}
+use Rattle.chunk_table.specs.ChunkTable.{ChunkRow, ChunkTable, no_shape, new_chunk_table, handles_of, shape_of, add_file, add_chunk, add_copy, copy_file, drop_file, change_row, issue, grant, put_file, swap}
 use Rattle.protocol.specs.Sending.{client_id, file_id, handle_of, version_of, server_id}
 
 -- A client's last changing name call, and its answer: Done where there is no refusal.
@@ -91,8 +92,8 @@ abbrev pub after_record : Logged → Record → Logged
 after_record l (log.Epoch epoch) = record l { epoch = epoch }
 after_record l (log.Mkdir client n path) = with_answer (record l { names = table.insert l.names path Dir }) client.0 n None
 after_record l (log.Rmdir client n path) = with_answer (record l { names = table.remove l.names path }) client.0 n None
-after_record l (log.Create client n file path) =
-    with_answer (record l { names = table.insert l.names path (File file.0); table = add_file l.table file.0; next_file = max l.next_file (file.0 + 1) }) client.0 n None
+after_record l (log.Create client n file shape path) =
+    with_answer (record l { names = table.insert l.names path (File file.0); table = add_file l.table file.0 (shape_or no_shape shape); next_file = max l.next_file (file.0 + 1) }) client.0 n None
 after_record l (log.Delete client n moment path) = with_answer (record l { names = hidden l.names path moment.0 (node_at l.names path) }) client.0 n None
 after_record l (log.Rename client n from to) = with_answer (record l { names = with_node (table.remove l.names from) to (node_at l.names from) }) client.0 n None
 after_record l (log.Snapshot client n from to) = with_answer (snapshot_logged l (copied_entries l.names from to)) client.0 n None
@@ -106,14 +107,14 @@ after_record l (log.Grant handle version primary members) =
     swapped_in (record l { table = grant l.table handle.0 version.0 primary.0 members }) handle.0 (table.get l.copies handle.0)
 after_record l (log.CopyStart file index handle copy copy_version) =
     record l {
-      table = with_row l.table copy.0 (record new_row { issued = copy_version.0 });
+      table = add_copy l.table handle.0 copy.0 copy_version.0;
       next_handle = max l.next_handle (copy.0 + 1);
       copies = table.insert l.copies copy.0 (record { file = file.0; index = index; source = handle.0 });
     }
 after_record l (log.Counters next_file next_handle epoch) = record l { next_file = next_file.0; next_handle = next_handle.0; epoch = epoch }
 after_record l (log.DirItem path) = record l { names = table.insert l.names path Dir }
-after_record l (log.FileItem path file handles) =
-    record l { names = table.insert l.names path (File file.0); table = put_file l.table file.0 handles }
+after_record l (log.FileItem path file shape handles) =
+    record l { names = table.insert l.names path (File file.0); table = put_file l.table file.0 (shape_or no_shape shape) handles }
 after_record l (log.ChunkItem handle granted issued primary members) =
     record l { table = change_row l.table handle.0 (λ row. record row { granted = granted.0; issued = issued.0; primary = primary.0; members = members }) }
 after_record l (log.ClientItem client n refusal) = with_answer l client.0 n refusal
@@ -149,7 +150,7 @@ log_changed_by_all d (change ∷ rest) = log_changed_by_all (log_changed d chang
 
 abbrev pub node_item : ChunkTable → Path → Node → Record
 node_item t path Dir = log.DirItem path
-node_item t path (File id) = log.FileItem path (file_id id) (handles_of t id)
+node_item t path (File id) = log.FileItem path (file_id id) (Some (shape_of t id)) (handles_of t id)
 
 -- the item of a name
 abbrev pub name_item : ChunkTable → Path × Node → Record

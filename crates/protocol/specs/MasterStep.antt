@@ -4,6 +4,7 @@ use Rattle.std.specs.List.{list_all}
 use Rattle.std.specs.Str.{byte}
 use Rattle.std.specs.FinMap as table
 use Rattle.gfs_types.specs.declared.config.Config.{Config}
+use Rattle.gfs_types.specs.Shapes.{usual_shape}
 use Rattle.messages.specs.declared.message.Body.{Body}
 use Rattle.messages.specs.declared.message.Body.TheVariants as body
 use Rattle.messages.specs.declared.message.Message.{Message}
@@ -16,7 +17,7 @@ use Rattle.gfs_types.specs.Counters.{counter_limit}
 use Rattle.protocol.specs.Tables.{Table, first_numbers, first_of_list, kept_where, map_values}
 use Rattle.protocol.specs.Choice.{Choice, Ending, Goes, Lost, Stops, in_order, decided_changes, made_changes, change_under_way}
 use Rattle.protocol.specs.Sending.{client_number, server_number, file_id}
-use Rattle.chunk_table.specs.ChunkTable.{ChunkRow, chunk_of}
+use Rattle.chunk_table.specs.ChunkTable.{ChunkRow, chunk_of, known_shape, row_restarted}
 use Rattle.protocol.specs.Logged.{Logged, LogDisk, first_logged, log_changed_by_all, replayed}
 use Rattle.protocol.specs.Seen.{Taken, no_output, down_output, no_step}
 use Rattle.protocol.specs.Master.{MasterState, MasterDoing, VersionAttempt, stopped_master, master_begins, logs, gives_up_copies, holders_where}
@@ -148,12 +149,15 @@ master_step m moment i choice = if m.up then master_bounded m (master_goes m mom
 abbrev pub found_log : MasterState → Choice → LogDisk
 found_log m choice = log_changed_by_all m.disk (decided_changes choice.decided m.under_way)
 
--- After a restart each granted lease is taken to end one clock bound and one lease from now.
-abbrev pub lease_after_restart : Config → ℕ → ChunkRow → ChunkRow
-lease_after_restart config now row = if nat_lt 0 row.granted then record row { lease_end = now + config.skew_ms + config.lease_ms } else row
+-- After a restart each granted lease is taken to end one clock bound and one lease from now, and a shape that the log didn't tell is the settings'.
+abbrev pub row_after_restart : Config → ℕ → ChunkRow → ChunkRow
+row_after_restart config now row = row_restarted (now + config.skew_ms + config.lease_ms) (usual_shape config) row
 
-abbrev pub with_old_leases : Config → ℕ → Logged → Logged
-with_old_leases config now l = record l { table = record l.table { chunks = map_values (lease_after_restart config now) l.table.chunks } }
+abbrev pub as_restarted : Config → ℕ → Logged → Logged
+as_restarted config now l =
+    record l {
+      table = record l.table { shapes = map_values (known_shape (usual_shape config)) l.table.shapes; chunks = map_values (row_after_restart config now) l.table.chunks };
+    }
 
 -- the master's opening counts as a report of each server
 abbrev pub first_reports : ℕ → ℕ → Table ℕ
@@ -169,7 +173,7 @@ started_master config server_count disk now =
       now = now;
       disk = disk;
       under_way = [];
-      logged = with_old_leases config now (replayed disk);
+      logged = as_restarted config now (replayed disk);
       order_count = 0;
       attempts = table.empty;
       snapshots = [];

@@ -56,13 +56,13 @@ holder_target h = record { server = h.server; base = Some h.version }
 abbrev pub target_servers : List VersionTarget → List ℕ
 target_servers targets = map (λ t. t.server) targets
 
--- the present servers with the fewest chunks, then the lowest numbers, up to the goal
-abbrev pub placement : MasterState → List ℕ
-placement m = rising (take m.config.goal (ranked (chunks_held m) (filter (is_present m) (servers_of m))))
+-- the present servers with the fewest chunks, then the lowest numbers, up to the chunk's goal
+abbrev pub placement : MasterState → ChunkRow → List ℕ
+placement m row = rising (take row.shape.goal (ranked (chunks_held m) (filter (is_present m) (servers_of m))))
 
 -- a chunk that was never granted is placed anew
-abbrev pub placed_targets : MasterState → ℕ → List VersionTarget
-placed_targets m handle = map (λ s. record { server = s; base = version_held m handle s }) (placement m)
+abbrev pub placed_targets : MasterState → ℕ → ChunkRow → List VersionTarget
+placed_targets m handle row = map (λ s. record { server = s; base = version_held m handle s }) (placement m row)
 
 -- the order that gives a server its number
 abbrev pub version_order : ℕ → ℕ → Option ℕ → OrderNo → Body
@@ -92,7 +92,7 @@ recorded_holders m handle row = if nat_lt row.granted row.issued then holders_wh
 
 -- where none did: the present current holders of a chunk that was granted, else a new placement
 abbrev pub targets_by : MasterState → ℕ → ChunkRow → List HeldAt → List VersionTarget
-targets_by m handle row [] = if nat_lt 0 row.granted then map holder_target (present_current_holders m handle row) else placed_targets m handle
+targets_by m handle row [] = if nat_lt 0 row.granted then map holder_target (present_current_holders m handle row) else placed_targets m handle row
 targets_by m handle row holders = map holder_target holders
 
 abbrev pub issues_own : MasterDoing → Asker → ℕ → ChunkRow → Bool → MasterDoing
@@ -114,7 +114,7 @@ sends_copies d handle copy version (t ∷ rest) = sends_copies (orders d t.serve
 abbrev pub copy_targets : MasterState → ℕ → ChunkRow → List VersionTarget
 copy_targets m handle row =
     if nat_lt 0 row.granted then map holder_target (current_holders m handle row)
-    else map (λ s. record { server = s; base = None }) (placement m)
+    else map (λ s. record { server = s; base = None }) (placement m row)
 
 -- a copy that is on the disk is ordered, and the client waits
 abbrev pub sends_copy_started : MasterDoing → Asker → ℕ → ℕ → ℕ → List VersionTarget → MasterDoing

@@ -40,8 +40,8 @@ what_is_computed_is_allowed m (Return client reply) h = on_call m client (λ cur
 what_is_computed_is_allowed m (ReturnFd client fd file) h = on_call m client (λ current. MayReturnFd m client current fd file) (λ current. MayReturnFd m client current fd file) (λ current g. g) h
 what_is_computed_is_allowed m (Step client moment outcome) h = on_call m client (IsStep m moment outcome) (MayStep m moment outcome) (λ current g. may_step m moment outcome current g) h
 what_is_computed_is_allowed m (FindBusy client holder) h =
-    on_call m client (λ current. OnOpenCall m holder (λ snapshot. MayBeBusy client current holder snapshot)) (λ current. OnOpen m holder (λ snapshot. MayBeBusy client current holder snapshot))
-    (λ current g. on_call m holder (λ snapshot. MayBeBusy client current holder snapshot) (λ snapshot. MayBeBusy client current holder snapshot) (λ snapshot k. k) g) h
+    on_call m client (λ current. OnOpenCall m holder (λ snapshot. MayBeBusy m.config client current holder snapshot)) (λ current. OnOpen m holder (λ snapshot. MayBeBusy m.config client current holder snapshot))
+    (λ current g. on_call m holder (λ snapshot. MayBeBusy m.config client current holder snapshot) (λ snapshot. MayBeBusy m.config client current holder snapshot) (λ snapshot k. k) g) h
 what_is_computed_is_allowed m (FindFull client) h = on_call m client (MayBeFull m) (MayBeFull m) (λ current g. g) h
 what_is_computed_is_allowed m (Lock client) h = on_call m client (MayLock m) (MayLock m) (λ current g. g) h
 what_is_computed_is_allowed m (Expire file moment) h = h

@@ -35,8 +35,8 @@ module _ (config : Config) (m : Machine) (way : IsReached config m) where
   computed (ReturnFd client fd file) h = on_call m client (λ current. MayReturnFd m client current fd file) (λ current. MayReturnFd m client current fd file) (λ current g. g) h
   computed (Step client moment outcome) h = on_call m client (MayStep m moment outcome) (IsStep m moment outcome) (λ current g. is_step m moment outcome current g) h
   computed (FindBusy client holder) h =
-      on_call m client (λ current. OnOpen m holder (λ snapshot. MayBeBusy client current holder snapshot)) (λ current. OnOpenCall m holder (λ snapshot. MayBeBusy client current holder snapshot))
-      (λ current g. on_call m holder (λ snapshot. MayBeBusy client current holder snapshot) (λ snapshot. MayBeBusy client current holder snapshot) (λ snapshot k. k) g) h
+      on_call m client (λ current. OnOpen m holder (λ snapshot. MayBeBusy m.config client current holder snapshot)) (λ current. OnOpenCall m holder (λ snapshot. MayBeBusy m.config client current holder snapshot))
+      (λ current g. on_call m holder (λ snapshot. MayBeBusy m.config client current holder snapshot) (λ snapshot. MayBeBusy m.config client current holder snapshot) (λ snapshot k. k) g) h
   computed (FindFull client) h = on_call m client (MayBeFull m) (MayBeFull m) (λ current g. g) h
   computed (Lock client) h = on_call m client (MayLock m) (MayLock m) (λ current g. g) h
   computed (Expire file moment) h = h

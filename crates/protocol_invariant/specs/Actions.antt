@@ -59,7 +59,7 @@ open_call m client = (m.clients client).open_call
 
 -- a step of a client's name call: what it comes to at these names
 abbrev pub name_step : Machine → ℕ → ℕ → List Action
-name_step m client moment = option_to_list (option_map (λ current. Step client moment (outcome_of m.names current.asked.call)) (open_call m client))
+name_step m client moment = option_to_list (option_map (λ current. Step client moment (outcome_of m.config m.names current.asked.call)) (open_call m client))
 
 -- a snapshot that waits, of another client, under a lock that conflicts
 abbrev pub holder_of : MasterState → Call → Option PendingSnapshot
@@ -109,7 +109,7 @@ opening m version s = (if (chunk_at m s.file s.index).is_open then CloseRound s.
 abbrev pub at_record : Machine → MasterState → Option CallId → Logged → Logged → Record → List Action
 at_record m s asker l then_ (log.Mkdir client n path) = name_step m client.0 0
 at_record m s asker l then_ (log.Rmdir client n path) = name_step m client.0 0
-at_record m s asker l then_ (log.Create client n file path) = name_step m client.0 0
+at_record m s asker l then_ (log.Create client n file shape path) = name_step m client.0 0
 at_record m s asker l then_ (log.Delete client n moment path) = name_step m client.0 moment.0
 at_record m s asker l then_ (log.Rename client n from to) = name_step m client.0 0
 at_record m s asker l then_ (log.Snapshot client n from to) = closings m l from to ++ name_step m client.0 0

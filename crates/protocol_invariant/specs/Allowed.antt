@@ -86,7 +86,7 @@ TakesEffect m other moment = Unit {0}
 
 abbrev pub IsStep : Machine → ℕ → Outcome → OpenCall → Type 0
 IsStep m moment outcome current =
-    IsTrue (is_name_call current.asked.call) × HasNameStepLeft current × (outcome ≡ outcome_of m.names current.asked.call)
+    IsTrue (is_name_call current.asked.call) × HasNameStepLeft current × (outcome ≡ outcome_of m.config m.names current.asked.call)
     × (IsFalse (is_refused outcome) → TakesEffect m current.asked.call moment)
 
 -- a success of the call in a chunk that the client has a note of
@@ -156,7 +156,7 @@ IsAllowed m (Invoke client asked) = (m.clients client).open_call ≡ None
 IsAllowed m (Return client reply) = OnOpenCall m client (λ current. IsReturn m client current reply)
 IsAllowed m (ReturnFd client fd file) = OnOpenCall m client (λ current. MayReturnFd m client current fd file)
 IsAllowed m (Step client moment outcome) = OnOpenCall m client (λ current. IsStep m moment outcome current)
-IsAllowed m (FindBusy client holder) = OnOpenCall m client (λ current. OnOpenCall m holder (λ snapshot. MayBeBusy client current holder snapshot))
+IsAllowed m (FindBusy client holder) = OnOpenCall m client (λ current. OnOpenCall m holder (λ snapshot. MayBeBusy m.config client current holder snapshot))
 IsAllowed m (FindFull client) = OnOpenCall m client (λ current. MayBeFull m current)
 IsAllowed m (Lock client) = OnOpenCall m client (λ current. MayLock m current)
 IsAllowed m (Expire file moment) = MayExpire m file moment

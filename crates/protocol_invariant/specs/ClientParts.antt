@@ -120,7 +120,7 @@ pub record IsCall (w : WorldState) (m : Machine) (g : Ghost) (client : ℕ) (c :
 pub record IsPending (w : WorldState) (m : Machine) (g : Ghost) (s : PendingSnapshot) : Type 0 where
   pub in_time : w.master.now < s.deadline
   pub still_open : w.observer.greatest < s.deadline + w.config.skew_ms → IsSomeAnd (m.clients s.client).open_call (λ o.
-      (o.asked.call ≡ snapshot_call s) × IsTrue o.has_locks × (o.outcomes ≡ []) × (refusal_of m.names o.asked.call ≡ None))
+      (o.asked.call ≡ snapshot_call s) × IsTrue o.has_locks × (o.outcomes ≡ []) × (refusal_of m.config m.names o.asked.call ≡ None))
 
 -- A kept answer is an outcome of its call, where that is still open.
 abbrev pub IsKeptAnswer : Machine → Ghost → ℕ → KeptCall → Type 0

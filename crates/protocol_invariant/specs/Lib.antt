@@ -9,5 +9,6 @@ pub mod Advance
 pub mod Allowed
 pub mod Actions
 pub mod MachineParts
+pub mod ShapeParts
 pub mod ClientParts
 pub mod Simulates

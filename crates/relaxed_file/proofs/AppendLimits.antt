@@ -11,8 +11,8 @@ use Rattle.gfs_types.specs.Mutations.{is_pad}
 use Rattle.gfs_types.specs.Paths.{Path}
 use Rattle.relaxed_file.specs.Names.{Node, Dir, File, copied_entries, id_after}
 use Rattle.relaxed_file.specs.Order.{CallId, same_call, Entry}
-use Rattle.relaxed_file.specs.Machine.{Machine, FileState, Chunk, new_chunk, new_file, new_machine, Asked, OpenCall, IsOpen, chunk_at, chunk_count, put, with_chunk}
-use Rattle.relaxed_file.specs.NameStep.{performed, is_refused, stepped, with_outcome, with_copied_file, with_copied_files}
+use Rattle.relaxed_file.specs.Machine.{Machine, FileState, Chunk, new_chunk, new_machine, Asked, OpenCall, IsOpen, chunk_at, chunk_count, put, with_chunk}
+use Rattle.relaxed_file.specs.NameStep.{performed, is_refused, stepped, with_outcome, with_copied_file, with_copied_files, made_file}
 use Rattle.relaxed_file.specs.Chunks.{AsksFor, MayPlace, tries_in, tries_below, chunk_added, placed, with_entry}
 use Rattle.relaxed_file.specs.Answers.{returned}
 use Rattle.relaxed_file.specs.Reads.{looked}
@@ -91,7 +91,7 @@ module _ (limit : ℕ) (m : Machine) (known : Known m) (limit_is : m.config.atte
   copies_keep (e ∷ rest) files next h = copies_keep rest (with_copied_file files next e.1) (id_after next e.1) (copy_keeps files next e.1 h)
 
   performed_keeps : (c : Call) (moment : ℕ) → Holds m → Holds (performed m c moment)
-  performed_keeps (call.Create p) moment h = put_keeps (IsLimited limit m) (suc m.file_count) new_file m.files (λ id. inr (omega arith)) h
+  performed_keeps (call.Create p shape) moment h = put_keeps (IsLimited limit m) (suc m.file_count) (made_file m shape) m.files (λ id. inr (omega arith)) h
   performed_keeps (call.Snapshot p q) moment h = copies_keep (copied_entries m.names p q) m.files (suc m.file_count) h
   performed_keeps other moment h = h
 

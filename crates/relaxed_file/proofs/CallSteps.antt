@@ -68,7 +68,7 @@ conflicts_by_name other b h = refl
 
 room_by_name : (c : Call) → IsTrue (needs_room c) → IsTrue (is_name_call c)
 room_by_name (call.Mkdir p) h = refl
-room_by_name (call.Create p) h = refl
+room_by_name (call.Create p shape) h = refl
 room_by_name (call.Delete p) h = refl
 room_by_name (call.Rename p q) h = refl
 room_by_name (call.Snapshot p q) h = refl
@@ -192,7 +192,7 @@ module _ (m : Machine) (client : ℕ) where
         | false ↦ outcome_taken (performed m (a.0).asked.call moment) who outcome a.0 (performed_clients m (a.0).asked.call moment) a.1 (a.2).0 (a.2).1 (by_names (a.2).2)
       ])
   call_step (FindBusy who holder) a =
-      let busy : MayBeBusy who a.0 holder (a.2).0 = (a.2).2 in
+      let busy : MayBeBusy m.config who a.0 holder (a.2).0 = (a.2).2 in
       outcome_taken m who _ a.0 refl a.1 (conflicts_by_name (a.0).asked.call ((a.2).0).asked.call busy.5) busy.1 (by_lock holder (a.2).0 busy.0 (a.2).1 busy.2 busy.3 busy.5 refl)
   call_step (FindFull who) a = outcome_taken m who _ a.0 refl a.1 (room_by_name (a.0).asked.call (a.2).0) (a.2).1 (by_room (a.2).0 (a.2).2 refl)
   call_step (Lock who) a = step_taken m who (λ current. record current { has_locks = true }) refl (λ c there mine.

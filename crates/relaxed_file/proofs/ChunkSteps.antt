@@ -7,8 +7,8 @@ use Rattle.gfs_types.specs.declared.mutation.Mutation.{Mutation}
 use Rattle.gfs_types.specs.declared.config.Config.{Config}
 use Rattle.gfs_types.specs.Paths.{Path}
 use Rattle.relaxed_file.specs.Names.{Node, Dir, File, copied_entries, id_after}
-use Rattle.relaxed_file.specs.Machine.{Machine, FileState, Chunk, new_chunk, new_file, OpenCall, IsOpen, new_machine, chunk_at, chunk_count, with_chunk}
-use Rattle.relaxed_file.specs.NameStep.{performed, is_refused, stepped, with_outcome, with_copied_file, with_copied_files}
+use Rattle.relaxed_file.specs.Machine.{Machine, FileState, Chunk, new_chunk, OpenCall, IsOpen, new_machine, chunk_at, chunk_count, with_chunk}
+use Rattle.relaxed_file.specs.NameStep.{performed, is_refused, stepped, with_outcome, with_copied_file, with_copied_files, made_file}
 use Rattle.relaxed_file.specs.Chunks.{MayPlace, settled_at, chunk_added, placed, with_entry}
 use Rattle.relaxed_file.specs.Answers.{returned}
 use Rattle.relaxed_file.specs.Reads.{looked}
@@ -43,7 +43,7 @@ module _ (m : Machine) (P : ℕ → Chunk → Type 0)
   copies_keep (e ∷ rest) files next h = copies_keep rest (with_copied_file files next e.1) (id_after next e.1) (copy_keeps files next e.1 h)
 
   performed_keeps : (c : Call) (moment : ℕ) → Holds m → Holds (performed m c moment)
-  performed_keeps (call.Create p) moment h = put_keeps HoldsOfFile (suc m.file_count) new_file m.files new_has h
+  performed_keeps (call.Create p shape) moment h = put_keeps HoldsOfFile (suc m.file_count) (made_file m shape) m.files new_has h
   performed_keeps (call.Snapshot p q) moment h = copies_keep (copied_entries m.names p q) m.files (suc m.file_count) h
   performed_keeps other moment h = h
 

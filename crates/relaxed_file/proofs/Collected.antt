@@ -5,8 +5,8 @@ use Rattle.std.proofs.lemmas.Bool.{true≢false, false≢true, cases_lt}
 use Rattle.gfs_types.specs.declared.call.Call.{Call}
 use Rattle.gfs_types.specs.declared.call.Call.TheVariants as call
 use Rattle.relaxed_file.specs.Names.{copied_entries}
-use Rattle.relaxed_file.specs.Machine.{Machine, FileState, new_file, chunk_count, put}
-use Rattle.relaxed_file.specs.NameStep.{performed, is_refused, stepped, with_outcome}
+use Rattle.relaxed_file.specs.Machine.{Machine, FileState, chunk_count, put}
+use Rattle.relaxed_file.specs.NameStep.{performed, is_refused, stepped, with_outcome, made_file}
 use Rattle.relaxed_file.specs.Chunks.{chunk_added, placed}
 use Rattle.relaxed_file.specs.Answers.{returned}
 use Rattle.relaxed_file.specs.Reads.{looked}
@@ -33,7 +33,7 @@ module _ (m : Machine) (file : ℕ) (made : file ≤ m.file_count) (collected : 
   as_many f state same = put_look (λ (s : FileState). s.chunk_count ≡ chunk_count m file) f state m.files file (λ this. same ∙ ap (λ g. chunk_count m g) (sym this)) refl
 
   performed_as_many : (c : Call) (moment : ℕ) → HasAsMany (performed m c moment)
-  performed_as_many (call.Create p) moment = ap (λ (f : FileState). f.chunk_count) (put_other (suc m.file_count) new_file m.files file (λ same. absurd (omega arith)))
+  performed_as_many (call.Create p shape) moment = ap (λ (f : FileState). f.chunk_count) (put_other (suc m.file_count) (made_file m shape) m.files file (λ same. absurd (omega arith)))
   performed_as_many (call.Snapshot p q) moment = ap (λ (f : FileState). f.chunk_count) (copies_other (copied_entries m.names p q) m.files (suc m.file_count) file (omega arith))
   performed_as_many other moment = refl
 

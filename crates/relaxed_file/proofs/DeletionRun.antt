@@ -58,16 +58,16 @@ names_deleted = hidden with_f (codes "/f") 5000 (node_at with_f (codes "/f"))
 gone : names_deleted ≡ names_after
 gone = ap (hidden with_f (codes "/f") 5000) f_is_there ∙ ap (λ names. map.insert names hidden_f (File 1)) come_and_gone
 
-delete_f : Replies answer.Done ≡ outcome_of with_f (call.Delete (codes "/f"))
+delete_f : Replies answer.Done ≡ outcome_of small_chunks with_f (call.Delete (codes "/f"))
 delete_f = simp (map.gets) refl
 
 abbrev listed : Outcome
 listed = Replies (answer.Names (codes "00000000000000005000-0000000000000001" ∷ []))
 
-list_after : listed ≡ outcome_of names_after (call.List (codes "/.gone"))
+list_after : listed ≡ outcome_of small_chunks names_after (call.List (codes "/.gone"))
 list_after = simp (map.gets, map.entries-insert {X = Node} nat_list_cmp_total, empty_entries) refl
 
-open_after : Opens 1 ≡ outcome_of names_after (call.Open hidden_f)
+open_after : Opens 1 ≡ outcome_of small_chunks names_after (call.Open hidden_f)
 open_after = simp (map.gets) refl
 
 there_after : node_at names_after (hidden_name 5000 1) ≡ Some (File 1)
@@ -83,10 +83,10 @@ names_g = map.insert (map.remove names_after hidden_f) (codes "/g") (File 1)
 back : renamed names_deleted ≡ names_g
 back = ap renamed gone ∙ ap (with_node (map.remove names_after hidden_f) (codes "/g")) there_after
 
-rename_g : Replies answer.Done ≡ outcome_of names_after (call.Rename hidden_f (codes "/g"))
+rename_g : Replies answer.Done ≡ outcome_of small_chunks names_after (call.Rename hidden_f (codes "/g"))
 rename_g = simp (map.gets) refl
 
-delete_g : Replies answer.Done ≡ outcome_of names_g (call.Delete (codes "/g"))
+delete_g : Replies answer.Done ≡ outcome_of small_chunks names_g (call.Delete (codes "/g"))
 delete_g = simp (map.gets) refl
 
 g_is_there : node_at names_g (codes "/g") ≡ Some (File 1)
@@ -107,13 +107,13 @@ there_again = simp (map.gets) refl
 abbrev not_found : Outcome
 not_found = Replies (answer.Refused NotFound)
 
-open_gone : not_found ≡ outcome_of (map.remove names_again hidden_f) (call.Open hidden_f)
+open_gone : not_found ≡ outcome_of small_chunks (map.remove names_again hidden_f) (call.Open hidden_f)
 open_gone = simp (map.gets) refl
 
 abbrev actions : List Action
 actions =
     Pass 5000
-    ∷ Invoke 1 (call.Create (codes "/f")) ∷ Step 1 0 (Replies answer.Done) ∷ Return 1 answer.Done
+    ∷ Invoke 1 (call.Create (codes "/f") None) ∷ Step 1 0 (Replies answer.Done) ∷ Return 1 answer.Done
     ∷ Invoke 1 (call.Delete (codes "/f")) ∷ Step 1 5000 (Replies answer.Done) ∷ Return 1 answer.Done
     ∷ Invoke 1 (call.List (codes "/.gone")) ∷ Step 1 0 listed ∷ Return 1 (answer.Names (codes "00000000000000005000-0000000000000001" ∷ []))
     ∷ Invoke 1 (call.Open hidden_f) ∷ Step 1 0 (Opens 1) ∷ ReturnFd 1 1 1
@@ -134,21 +134,21 @@ deletion_run =
     ▸ (_, refl, (refl, inr refl, delete_f, λ h. (omega arith, omega arith)))
     ▸ (_, refl, (0, omega arith, refl))
     ▸ refl
-    ▸ (_, refl, (refl, inl refl, subst (λ names. listed ≡ outcome_of names (call.List (codes "/.gone"))) (sym gone) list_after, λ h. tt))
+    ▸ (_, refl, (refl, inl refl, subst (λ names. listed ≡ outcome_of small_chunks names (call.List (codes "/.gone"))) (sym gone) list_after, λ h. tt))
     ▸ (_, refl, (0, omega arith, refl))
     ▸ refl
-    ▸ (_, refl, (refl, inl refl, subst (λ names. Opens 1 ≡ outcome_of names (call.Open hidden_f)) (sym gone) open_after, λ h. tt))
+    ▸ (_, refl, (refl, inl refl, subst (λ names. Opens 1 ≡ outcome_of small_chunks names (call.Open hidden_f)) (sym gone) open_after, λ h. tt))
     ▸ (_, refl, ((0, omega arith, refl), refl))
     ▸ refl
-    ▸ (_, refl, (refl, inr refl, subst (λ names. Replies answer.Done ≡ outcome_of names (call.Rename hidden_f (codes "/g"))) (sym gone) rename_g, λ h. tt))
+    ▸ (_, refl, (refl, inr refl, subst (λ names. Replies answer.Done ≡ outcome_of small_chunks names (call.Rename hidden_f (codes "/g"))) (sym gone) rename_g, λ h. tt))
     ▸ (_, refl, (0, omega arith, refl))
     ▸ refl
-    ▸ (_, refl, (refl, inr refl, subst (λ names. Replies answer.Done ≡ outcome_of names (call.Delete (codes "/g"))) (sym back) delete_g, λ h. (omega arith, omega arith)))
+    ▸ (_, refl, (refl, inr refl, subst (λ names. Replies answer.Done ≡ outcome_of small_chunks names (call.Delete (codes "/g"))) (sym back) delete_g, λ h. (omega arith, omega arith)))
     ▸ (_, refl, (0, omega arith, refl))
     ▸ omega arith
     ▸ (subst (λ names. node_at names (hidden_name 5000 1) ≡ Some (File 1)) (sym again) there_again, omega arith)
     ▸ refl
-    ▸ (_, refl, (refl, inl refl, subst (λ names. not_found ≡ outcome_of (map.remove names hidden_f) (call.Open hidden_f)) (sym again) open_gone, λ h. tt))
+    ▸ (_, refl, (refl, inl refl, subst (λ names. not_found ≡ outcome_of small_chunks (map.remove names hidden_f) (call.Open hidden_f)) (sym again) open_gone, λ h. tt))
     ▸ (_, refl, inl (0, omega arith, refl))
     ▸ refl
     ▸ (_, refl, inr (inr (1, refl, refl, refl)))

@@ -4,8 +4,8 @@ use Rattle.gfs_types.specs.declared.call.Call.{Call}
 use Rattle.gfs_types.specs.declared.call.Call.TheVariants as call
 use Rattle.gfs_types.specs.Paths.{Path}
 use Rattle.relaxed_file.specs.Names.{Node, Dir, File, copied_entries, id_after}
-use Rattle.relaxed_file.specs.Machine.{Machine, FileState, new_file, chunk_at, put}
-use Rattle.relaxed_file.specs.NameStep.{performed, is_refused, stepped, with_outcome, with_copied_file, with_copied_files}
+use Rattle.relaxed_file.specs.Machine.{Machine, FileState, chunk_at, put}
+use Rattle.relaxed_file.specs.NameStep.{performed, is_refused, stepped, with_outcome, with_copied_file, with_copied_files, made_file}
 use Rattle.relaxed_file.specs.Chunks.{chunk_added, placed}
 use Rattle.relaxed_file.specs.Answers.{returned}
 use Rattle.relaxed_file.specs.Reads.{looked}
@@ -33,7 +33,7 @@ module _ (m : Machine) (file : ℕ) (made : file ≤ m.file_count) where
   Same n = (index : ℕ) → chunk_at n file index ≡ chunk_at m file index
 
   performed_same : (c : Call) (moment : ℕ) → Same (performed m c moment)
-  performed_same (call.Create p) moment = λ index. ap (λ (f : FileState). f.chunks index) (put_other (suc m.file_count) new_file m.files file (λ same. absurd (omega arith)))
+  performed_same (call.Create p shape) moment = λ index. ap (λ (f : FileState). f.chunks index) (put_other (suc m.file_count) (made_file m shape) m.files file (λ same. absurd (omega arith)))
   performed_same (call.Snapshot p q) moment = λ index. ap (λ (f : FileState). f.chunks index) (copies_other (copied_entries m.names p q) m.files (suc m.file_count) file (omega arith))
   performed_same other moment = λ index. refl
 

@@ -1,5 +1,5 @@
 -- The worked traces are runs, by their actions.
-use Rattle.std.proofs.Common.{◌≡◌, ℕ, Bool, true, List, [], ◌∷◌, Some, refl, inl, inr, arith, replicate, codes}
+use Rattle.std.proofs.Common.{◌≡◌, ℕ, Bool, true, List, [], ◌∷◌, Some, None, refl, inl, inr, arith, replicate, codes}
 use Rattle.gfs_types.specs.declared.call.Call.TheVariants as call
 use Rattle.gfs_types.specs.declared.answer.Answer.TheVariants as answer
 use Rattle.gfs_types.specs.declared.refusal.Refusal.TheVariants.{TooLong}
@@ -19,7 +19,7 @@ a ▸ b = (a, b)
 
 abbrev pub open_actions : List Action → List Action
 open_actions rest =
-    Invoke 1 (call.Create (codes "/f")) ∷ Step 1 0 (Replies answer.Done) ∷ Return 1 answer.Done
+    Invoke 1 (call.Create (codes "/f") None) ∷ Step 1 0 (Replies answer.Done) ∷ Return 1 answer.Done
     ∷ Invoke 1 (call.Open (codes "/f")) ∷ Step 1 0 (Opens 1) ∷ ReturnFd 1 1 1 ∷ rest
 
 abbrev pub long_record_actions : List Action

@@ -13,7 +13,7 @@ use Rattle.gfs_types.specs.Image.{image_length}
 use Rattle.relaxed_file.specs.Names.{Node, Dir, File, copied_entries, id_after}
 use Rattle.relaxed_file.specs.Order.{CallId, Entry, mutations_of}
 use Rattle.relaxed_file.specs.Machine.{Machine, FileState, Chunk, new_chunk, new_file, new_machine, Client, Asked, OpenCall, Outcome, chunk_at, chunk_count, chunk_size, put, with_file, with_chunk, with_client, with_step}
-use Rattle.relaxed_file.specs.NameStep.{performed, is_refused, stepped, with_outcome, with_copied_file, with_copied_files}
+use Rattle.relaxed_file.specs.NameStep.{performed, is_refused, stepped, with_outcome, with_copied_file, with_copied_files, made_file}
 use Rattle.relaxed_file.specs.Chunks.{chunk_added, placed, settled_at, begun, begun_call, with_entry}
 use Rattle.relaxed_file.specs.Reads.{looked, offer_of, read_slice}
 use Rattle.relaxed_file.specs.Answers.{returned, descriptors_after}
@@ -21,6 +21,7 @@ use Rattle.relaxed_file.specs.Run.{Action, Invoke, Return, ReturnFd, Step, FindB
 use Rattle.relaxed_file.proofs.Reached.{kept_to}
 use Rattle.relaxed_file.proofs.Tables.{cond_keeps, put_other, put_at, at_some}
 use Rattle.relaxed_file.proofs.Known.{Known, known_step, first_below, asked_is, copied_file_fresh, files_rise}
+use Rattle.gfs_types.specs.declared.shape.Shape.{Shape}
 
 -- the same entry, perhaps settled since
 abbrev pub EntryGrows : Entry → Entry → Type 0
@@ -159,7 +160,7 @@ machine_on a b c h g = record {
 }
 
 -- all that a new file can become
-new_file_grows : (old new : FileState) → old ≡ new_file → FileGrows old new
+new_file_grows : {shape : Shape} (old new : FileState) → old ≡ new_file shape → FileGrows old new
 new_file_grows old new is = subst (λ f. FileGrows f new) (sym is) (record {
   count = omega arith;
   chunks = λ index. record { order = tt; round = omega arith };
@@ -201,22 +202,22 @@ step_taken m client change keeps = client_changed m client _ (record {
   open_call = open_step (m.clients client).call_count change (m.clients client).open_call keeps;
 })
 
-copied_file_grows : (files : ℕ → FileState) (next : ℕ) (node : Node) → ((k : ℕ) → next ≤ k → files k ≡ new_file) → (k : ℕ) → FileGrows (files k) (with_copied_file files next node k)
+copied_file_grows : {shape : Shape} (files : ℕ → FileState) (next : ℕ) (node : Node) → ((k : ℕ) → next ≤ k → files k ≡ new_file shape) → (k : ℕ) → FileGrows (files k) (with_copied_file files next node k)
 copied_file_grows files next Dir fresh k = same_file (files k)
 copied_file_grows files next (File id) fresh k = put_at (λ j f. FileGrows (files j) f) next (files id) files (new_file_grows (files next) (files id) (fresh next (omega arith))) (λ j. same_file (files j)) k
 
-copied_files_grow : (entries : List (Path × Node)) (files : ℕ → FileState) (next : ℕ) → ((k : ℕ) → next ≤ k → files k ≡ new_file) → (k : ℕ) → FileGrows (files k) (with_copied_files files next entries k)
+copied_files_grow : {shape : Shape} (entries : List (Path × Node)) (files : ℕ → FileState) (next : ℕ) → ((k : ℕ) → next ≤ k → files k ≡ new_file shape) → (k : ℕ) → FileGrows (files k) (with_copied_files files next entries k)
 copied_files_grow [] files next fresh k = same_file (files k)
 copied_files_grow (e ∷ rest) files next fresh k =
     file_on (files k) (with_copied_file files next e.1 k) _ (copied_file_grows files next e.1 fresh k)
     (copied_files_grow rest (with_copied_file files next e.1) (id_after next e.1) (copied_file_fresh files next e.1 fresh) k)
 
 performed_grows : (m : Machine) (c : Call) (moment : ℕ) → Known m → Grows m (performed m c moment)
-performed_grows m (call.Create p) moment h = record {
+performed_grows m (call.Create p shape) moment h = record {
   config = refl;
   clock = omega arith;
   file_count = omega arith;
-  files = put_at (λ k f. FileGrows (m.files k) f) (suc m.file_count) new_file m.files (new_file_grows _ new_file (h.fresh (suc m.file_count) (omega arith))) (λ k. same_file (m.files k));
+  files = put_at (λ k f. FileGrows (m.files k) f) (suc m.file_count) (made_file m shape) m.files (new_file_grows _ (made_file m shape) (h.fresh (suc m.file_count) (omega arith))) (λ k. same_file (m.files k));
   clients = λ client. same_client (m.clients client);
 }
 performed_grows m (call.Snapshot p q) moment h = record {

@@ -51,20 +51,20 @@ module _ (m : Machine) (told file : ℕ) (free : node_at m.names (hidden_name to
   by_rename p q None outside = still_free (map.remove m.names p) (taken_away p)
   by_rename p q (Some node) outside = still_free (map.insert (map.remove m.names p) q node) (inserted_other (map.remove m.names p) q node (hidden_name told file) (not_hidden q outside told file) ∙ taken_away p)
 
-  performed_told : (k : Call) (moment : ℕ) → Tree m.names → refusal_of m.names k ≡ None → MayTakeEffect m k moment → IsToldRight (performed m k moment).names
+  performed_told : (k : Call) (moment : ℕ) → Tree m.names → refusal_of m.config m.names k ≡ None → MayTakeEffect m k moment → IsToldRight (performed m k moment).names
   performed_told (call.Mkdir p) moment tree h may =
-      let all = tests_passed (path_tests (call.Mkdir p) ++ name_tests m.names (call.Mkdir p)) h in
+      let all = tests_passed (path_tests m.config (call.Mkdir p) ++ name_tests m.names (call.Mkdir p)) h in
       still_free _ (inserted_other m.names p Dir (hidden_name told file) (not_hidden p all.1.0 told file) ∙ free)
   performed_told (call.Rmdir p) moment tree h may = still_free _ (taken_away p)
-  performed_told (call.Create p) moment tree h may =
-      let all = tests_passed (path_tests (call.Create p) ++ name_tests m.names (call.Create p)) h in
-      still_free _ (inserted_other m.names p (File (suc m.file_count)) (hidden_name told file) (not_hidden p all.1.0 told file) ∙ free)
+  performed_told (call.Create p shape) moment tree h may =
+      let all = tests_passed (path_tests m.config (call.Create p shape) ++ name_tests m.names (call.Create p shape)) h in
+      still_free _ (inserted_other m.names p (File (suc m.file_count)) (hidden_name told file) (not_hidden p all.1.1.0 told file) ∙ free)
   performed_told (call.Delete p) moment tree h may = by_deletion p moment (node_at m.names p) may.0 may.1
   performed_told (call.Rename p q) moment tree h may =
-      let all = tests_passed (path_tests (call.Rename p q) ++ name_tests m.names (call.Rename p q)) h in
+      let all = tests_passed (path_tests m.config (call.Rename p q) ++ name_tests m.names (call.Rename p q)) h in
       by_rename p q (node_at m.names p) all.1.1.0
   performed_told (call.Snapshot p q) moment tree h may =
-      let all = tests_passed (path_tests (call.Snapshot p q) ++ name_tests m.names (call.Snapshot p q)) h in
+      let all = tests_passed (path_tests m.config (call.Snapshot p q) ++ name_tests m.names (call.Snapshot p q)) h in
       still_free _ (copies_other (copied_entries m.names p q) m.names (suc m.file_count) (hidden_name told file)
       (λ v there. (copies_are_new m.names p q tree (true_from (is_path p) all.0) (true_from (is_path q) all.1.0) all.1.1.0 all.1.1.1.0
       (true_from (is_dir m.names (parent q)) all.1.1.1.1.1.1.0) all.1.1.1.1.1.1.1.0 (hidden_name told file) v there).2 told file refl) ∙ free)
@@ -75,7 +75,7 @@ module _ (m : Machine) (told file : ℕ) (free : node_at m.names (hidden_name to
   told_step (Step client moment outcome) a tree = at_some (λ k. IsToldRight k.names) (λ current. stepped m client moment outcome current) m _ a.0 a.1
       (elim (is_refused outcome) as (λ b. is_refused outcome ≡ b → IsToldRight (with_outcome (cond b m (performed m (a.0).asked.call moment)) client outcome).names) [
         | true ↦ λ e. still_free m.names free
-        | false ↦ λ e. performed_told (a.0).asked.call moment tree (unrefused m.names (a.0).asked.call outcome (a.2).2 e) ((a.2).3 e)
+        | false ↦ λ e. performed_told (a.0).asked.call moment tree (unrefused m.config m.names (a.0).asked.call outcome (a.2).2 e) ((a.2).3 e)
       ] refl)
   told_step (Expire f moment) a tree = still_free _ (taken_away (hidden_name moment f))
   told_step (Add id) a tree = at_some (λ k. IsToldRight k.names) (chunk_added m id) m (asked_file m id) a.1 (asked_is m id a.0 a.1 a.2.0 a.2.1) (still_free m.names free)

@@ -6,8 +6,8 @@ use Rattle.gfs_types.specs.declared.call.Call.{Call}
 use Rattle.gfs_types.specs.declared.call.Call.TheVariants as call
 use Rattle.gfs_types.specs.Paths.{hidden_name}
 use Rattle.relaxed_file.specs.Names.{File, node_at, copied_entries}
-use Rattle.relaxed_file.specs.Machine.{Machine, FileState, new_file, put}
-use Rattle.relaxed_file.specs.NameStep.{performed, is_refused, stepped, with_outcome}
+use Rattle.relaxed_file.specs.Machine.{Machine, FileState, put}
+use Rattle.relaxed_file.specs.NameStep.{performed, is_refused, stepped, with_outcome, made_file}
 use Rattle.relaxed_file.specs.Chunks.{chunk_added, placed}
 use Rattle.relaxed_file.specs.Answers.{returned}
 use Rattle.relaxed_file.specs.Reads.{looked}
@@ -30,7 +30,7 @@ module _ (m : Machine) (file : ℕ) (made : file ≤ m.file_count) (before : IsF
       (λ this. same ∙ ap (λ g. (m.files g).is_collected) (sym this)) refl
 
   performed_flag : (c : Call) (moment : ℕ) → ((performed m c moment).files file).is_collected ≡ (m.files file).is_collected
-  performed_flag (call.Create p) moment = ap (λ (f : FileState). f.is_collected) (put_other (suc m.file_count) new_file m.files file (λ same. absurd (omega arith)))
+  performed_flag (call.Create p shape) moment = ap (λ (f : FileState). f.is_collected) (put_other (suc m.file_count) (made_file m shape) m.files file (λ same. absurd (omega arith)))
   performed_flag (call.Snapshot p q) moment = ap (λ (f : FileState). f.is_collected) (copies_other (copied_entries m.names p q) m.files (suc m.file_count) file (omega arith))
   performed_flag other moment = refl
 

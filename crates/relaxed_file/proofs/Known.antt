@@ -16,12 +16,14 @@ use Rattle.relaxed_file.specs.Names.{Node, Dir, File, Names, first_names, node_a
 use Rattle.gfs_types.specs.Image.{image_length}
 use Rattle.relaxed_file.specs.Order.{CallId, mutations_of}
 use Rattle.relaxed_file.specs.Machine.{Machine, FileState, Chunk, new_chunk, new_file, Client, Asked, OpenCall, Outcome, Replies, Opens, chunk_at, chunk_count, chunk_size, put, with_file, with_chunk, with_client, with_step, IsOpen}
-use Rattle.relaxed_file.specs.NameStep.{performed, is_refused, stepped, with_outcome, with_node, hidden, opened, done_outcome, outcome_by, outcome_of, refusal_of, with_copied_file, with_copied_files}
+use Rattle.relaxed_file.specs.NameStep.{performed, is_refused, stepped, with_outcome, with_node, hidden, opened, done_outcome, outcome_by, outcome_of, refusal_of, with_copied_file, with_copied_files, made_file}
 use Rattle.relaxed_file.specs.Chunks.{chunk_added, placed, begun, begun_call}
 use Rattle.relaxed_file.specs.Reads.{looked, offer_of, read_slice}
 use Rattle.relaxed_file.specs.Answers.{returned, descriptors_after}
 use Rattle.relaxed_file.specs.Run.{Action, Invoke, Return, ReturnFd, Step, FindBusy, FindFull, Lock, Expire, Add, OpenRound, CloseRound, Place, Settle, Tell, Note, Look, LookPast, Measure, MeasureNone, Pass, file_of, Allows, after, asked_file}
 use Rattle.relaxed_file.proofs.Tables.{cond_keeps, put_keeps, put_same, put_other, at_some, contained, all_more}
+use Rattle.gfs_types.specs.declared.shape.Shape.{Shape}
+use Rattle.gfs_types.specs.Shapes.{usual_shape}
 
 -- the file is one of those before this number
 abbrev pub NodeBelow : ℕ → Option Node → Type 0
@@ -146,7 +148,7 @@ FileKnown file = (index : ℕ) → file.chunk_count ≤ index → file.chunks in
 pub record Known (m : Machine) : Type 0 where
   pub names : AreNamesBelow (suc m.file_count) m.names
   pub clients : (client : ℕ) → ClientKnown (suc m.file_count) (m.clients client)
-  pub fresh : (file : ℕ) → m.file_count < file → m.files file ≡ new_file
+  pub fresh : (file : ℕ) → m.file_count < file → m.files file ≡ new_file (usual_shape m.config)
   pub files : (file : ℕ) → FileKnown (m.files file)
 
 -- a client's state changes
@@ -219,11 +221,11 @@ outcome_known m client outcome h below = step_taken m client (λ current. record
 names_changed : (m : Machine) (names : Names) → Known m → AreNamesBelow (suc m.file_count) names → Known (record m { names = names })
 names_changed m names h new = record { names = new; clients = h.clients; fresh = h.fresh; files = h.files }
 
-pub copied_file_fresh : (files : ℕ → FileState) (next : ℕ) (node : Node) → ((k : ℕ) → next ≤ k → files k ≡ new_file) → (k : ℕ) → id_after next node ≤ k → with_copied_file files next node k ≡ new_file
+pub copied_file_fresh : {new : FileState} (files : ℕ → FileState) (next : ℕ) (node : Node) → ((k : ℕ) → next ≤ k → files k ≡ new) → (k : ℕ) → id_after next node ≤ k → with_copied_file files next node k ≡ new
 copied_file_fresh files next Dir h k l = h k l
 copied_file_fresh files next (File id) h k l = put_other next (files id) files k (λ same. absurd (omega arith)) ∙ h k (omega arith)
 
-copied_files_fresh : (entries : List (Path × Node)) (files : ℕ → FileState) (next : ℕ) → ((k : ℕ) → next ≤ k → files k ≡ new_file) → (k : ℕ) → id_after_all next entries ≤ k → with_copied_files files next entries k ≡ new_file
+copied_files_fresh : {new : FileState} (entries : List (Path × Node)) (files : ℕ → FileState) (next : ℕ) → ((k : ℕ) → next ≤ k → files k ≡ new) → (k : ℕ) → id_after_all next entries ≤ k → with_copied_files files next entries k ≡ new
 copied_files_fresh [] files next h k l = h k l
 copied_files_fresh (e ∷ rest) files next h k l = copied_files_fresh rest (with_copied_file files next e.1) (id_after next e.1) (copied_file_fresh files next e.1 h) k l
 
@@ -246,18 +248,18 @@ snapshot_known m entries h =
       files = copied_files_known entries m.files (suc m.file_count) h.files;
     }
 
-created : (m : Machine) (p : Path) (moment : ℕ) → Known m → Known (performed m (call.Create p) moment)
-created m p moment h = record {
+created : (m : Machine) (p : Path) (shape : Option Shape) (moment : ℕ) → Known m → Known (performed m (call.Create p shape) moment)
+created m p shape moment h = record {
   names = inserted (suc (suc m.file_count)) m.names p (File (suc m.file_count)) (omega arith) (λ q. node_more (suc m.file_count) (suc (suc m.file_count)) (node_at m.names q) (omega arith) (h.names q));
   clients = λ client. client_more (suc m.file_count) (suc (suc m.file_count)) (m.clients client) (omega arith) (h.clients client);
-  fresh = λ file late. put_other (suc m.file_count) new_file m.files file (λ same. absurd (omega arith)) ∙ h.fresh file (omega arith);
-  files = put_keeps FileKnown (suc m.file_count) new_file m.files (λ index l. refl) h.files;
+  fresh = λ file late. put_other (suc m.file_count) (made_file m shape) m.files file (λ same. absurd (omega arith)) ∙ h.fresh file (omega arith);
+  files = put_keeps FileKnown (suc m.file_count) (made_file m shape) m.files (λ index l. refl) h.files;
 }
 
 performed_known : (m : Machine) (c : Call) (moment : ℕ) → Known m → Known (performed m c moment)
 performed_known m (call.Mkdir p) moment h = names_changed m _ h (inserted _ m.names p Dir tt h.names)
 performed_known m (call.Rmdir p) moment h = names_changed m _ h (removed _ m.names p h.names)
-performed_known m (call.Create p) moment h = created m p moment h
+performed_known m (call.Create p shape) moment h = created m p shape moment h
 performed_known m (call.Delete p) moment h = names_changed m _ h (hidden_below _ m.names p moment (node_at m.names p) (h.names p) h.names)
 performed_known m (call.Rename p q) moment h = names_changed m _ h (with_node_below _ (map.remove m.names p) q (node_at m.names p) (h.names p) (removed _ m.names p h.names))
 performed_known m (call.Snapshot p q) moment h = snapshot_known m (copied_entries m.names p q) h
@@ -265,7 +267,7 @@ performed_known m other moment h = h
 
 -- no fewer files
 pub files_rise : (m : Machine) (c : Call) (moment : ℕ) → m.file_count ≤ (performed m c moment).file_count
-files_rise m (call.Create p) moment = omega arith
+files_rise m (call.Create p shape) moment = omega arith
 files_rise m (call.Snapshot p q) moment =
     let rises : suc m.file_count ≤ id_after_all (suc m.file_count) (copied_entries m.names p q) = ids_rise (suc m.file_count) (copied_entries m.names p q) in omega arith
 files_rise m other moment = omega arith
@@ -359,7 +361,7 @@ known_step m (ReturnFd client fd file) a h = client_changed m client _ h (record
   current = tt;
 })
 known_step m (Step client moment outcome) a h = at_some Known (λ current. stepped m client moment outcome current) m _ a.0 a.1
-    (stepped_known m client moment outcome a.0 h (subst (OutcomeBelow (suc m.file_count)) (sym a.2.2) (by_below _ m.names (a.0).asked.call (refusal_of m.names (a.0).asked.call) h.names)))
+    (stepped_known m client moment outcome a.0 h (subst (OutcomeBelow (suc m.file_count)) (sym a.2.2) (by_below _ m.names (a.0).asked.call (refusal_of m.config m.names (a.0).asked.call) h.names)))
 known_step m (FindBusy client holder) a h = outcome_known m client _ h tt
 known_step m (FindFull client) a h = outcome_known m client _ h tt
 known_step m (Lock client) a h = step_taken m client (λ current. record current { has_locks = true }) h (λ c. (refl, refl, λ all. all))

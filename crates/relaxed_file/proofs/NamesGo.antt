@@ -56,7 +56,7 @@ module _ (m : Machine) (path : Path) (node : Node) (there : node_at m.names path
   gone_by : (c : Call) (moment : ℕ) → node_at (performed m c moment).names path ≡ None → TakesAway path c
   gone_by (call.Mkdir p) moment none = absurd (clash (none_before m.names p Dir path none))
   gone_by (call.Rmdir p) moment none = taken_out p none
-  gone_by (call.Create p) moment none = absurd (clash (none_before m.names p (File (suc m.file_count)) path none))
+  gone_by (call.Create p shape) moment none = absurd (clash (none_before m.names p (File (suc m.file_count)) path none))
   gone_by (call.Delete p) moment none = by_deletion p moment (node_at m.names p) none
   gone_by (call.Rename p q) moment none = by_rename p q (node_at m.names p) none
   gone_by (call.Snapshot p q) moment none = absurd (clash (none_before_copies (copied_entries m.names p q) m.names (suc m.file_count) path none))
@@ -136,16 +136,16 @@ abbrev CopiesChunks : Machine → ℕ → Path → ℕ → Machine → Type 0
 CopiesChunks m base path file n = (copy : ℕ) × (node_at n.names path ≡ Some (File copy)) × (base < copy) × HasChunksOf n copy m file × HasChunksOf n file m file
 
 same_chunks : (m n : Machine) (copy file : ℕ) → n.files copy ≡ m.files file → HasChunksOf n copy m file
-same_chunks m n copy file same = (ap (λ (f : FileState). f.chunk_count) same, λ index. ap (λ (f : FileState). f.chunks index) same)
+same_chunks m n copy file same = (ap (λ (f : FileState). f.chunk_count) same, λ index. ap (λ (f : FileState). f.chunks index) same, ap (λ (f : FileState). f.shape) same)
 
-by_snapshot : (m : Machine) (p q path : Path) (file moment : ℕ) → Known m → refusal_of m.names (call.Snapshot p q) ≡ None
+by_snapshot : (m : Machine) (p q path : Path) (file moment : ℕ) → Known m → refusal_of m.config m.names (call.Snapshot p q) ≡ None
     → Contains (copied_entries m.names p q) (path, File file) → CopiesChunks m m.file_count path file (performed m (call.Snapshot p q) moment)
 by_snapshot m [] q path file moment known unrefused contains =
-    let all = tests_passed (path_tests (call.Snapshot [] q) ++ name_tests m.names (call.Snapshot [] q)) unrefused in absurd (true≢false all.0)
+    let all = tests_passed (path_tests m.config (call.Snapshot [] q) ++ name_tests m.names (call.Snapshot [] q)) unrefused in absurd (true≢false all.0)
 by_snapshot m (c ∷ p') q path file moment known unrefused contains =
     let p : Path = c ∷ p' in
     let es : List (Path × Node) = copied_entries m.names p q in
-    let all = tests_passed (path_tests (call.Snapshot p q) ++ name_tests m.names (call.Snapshot p q)) unrefused in
+    let all = tests_passed (path_tests m.config (call.Snapshot p q) ++ name_tests m.names (call.Snapshot p q)) unrefused in
     let no_root : p ≡ root → ⊥ = λ same. true≢false (sym (same_paths p root same) ∙ (or_parts _ _ all.1.1.0).0) in
     let here : HasAt es path (File file) = contained (λ (e : Path × Node). HasAt es e.0 e.1) es (path, File file) (has_all es) contains in
     let from : (k : Path) × HasAt (map.entries m.names) k (File file) × (is_at_or_below p k ≡ true) × (path ≡ q ++ drop (length p) k) = copied_of p q (map.entries m.names) path (File file) here in
@@ -159,4 +159,4 @@ snapshots_copy_chunks config m client moment outcome p q path file reached a unr
     (subst (λ b. CopiesChunks m m.file_count path file (with_outcome (cond b m (performed m (a.0).asked.call moment)) client outcome)) (sym unrefused_outcome)
     (let same_call : (a.0).asked.call ≡ call.Snapshot p q = ap (λ (k : OpenCall). k.asked.call) (from_some (sym a.1 ∙ on_open.1)) ∙ on_open.2 in
     subst (λ k. CopiesChunks m m.file_count path file (with_outcome (performed m k moment) client outcome)) (sym same_call)
-    (by_snapshot m p q path file moment (known_when_reached config m reached) (subst (λ k. refusal_of m.names k ≡ None) same_call (unrefused m.names (a.0).asked.call outcome (a.2).2 unrefused_outcome)) contains)))
+    (by_snapshot m p q path file moment (known_when_reached config m reached) (subst (λ k. refusal_of m.config m.names k ≡ None) same_call (unrefused m.config m.names (a.0).asked.call outcome (a.2).2 unrefused_outcome)) contains)))

@@ -53,20 +53,20 @@ module _ (m : Machine) (path : Path) (old : Node) (there : node_at m.names path 
   by_rename p q None free = taken_away p
   by_rename p q (Some node) free = one_more (map.remove m.names p) q node (not_free q free) (taken_away p)
 
-  performed_kept : (k : Call) (moment : ℕ) → Tree m.names → refusal_of m.names k ≡ None → IsKept (performed m k moment).names
+  performed_kept : (k : Call) (moment : ℕ) → Tree m.names → refusal_of m.config m.names k ≡ None → IsKept (performed m k moment).names
   performed_kept (call.Mkdir p) moment tree h =
-      let all = tests_passed (path_tests (call.Mkdir p) ++ name_tests m.names (call.Mkdir p)) h in
+      let all = tests_passed (path_tests m.config (call.Mkdir p) ++ name_tests m.names (call.Mkdir p)) h in
       one_more m.names p Dir (not_free p all.1.1.1.0) (still m.names there)
   performed_kept (call.Rmdir p) moment tree h = taken_away p
-  performed_kept (call.Create p) moment tree h =
-      let all = tests_passed (path_tests (call.Create p) ++ name_tests m.names (call.Create p)) h in
-      one_more m.names p (File (suc m.file_count)) (not_free p all.1.1.1.0) (still m.names there)
+  performed_kept (call.Create p shape) moment tree h =
+      let all = tests_passed (path_tests m.config (call.Create p shape) ++ name_tests m.names (call.Create p shape)) h in
+      one_more m.names p (File (suc m.file_count)) (not_free p all.1.1.1.1.0) (still m.names there)
   performed_kept (call.Delete p) moment tree h = by_deletion p moment (node_at m.names p)
   performed_kept (call.Rename p q) moment tree h =
-      let all = tests_passed (path_tests (call.Rename p q) ++ name_tests m.names (call.Rename p q)) h in
+      let all = tests_passed (path_tests m.config (call.Rename p q) ++ name_tests m.names (call.Rename p q)) h in
       by_rename p q (node_at m.names p) all.1.1.1.1.1.1.0
   performed_kept (call.Snapshot p q) moment tree h =
-      let all = tests_passed (path_tests (call.Snapshot p q) ++ name_tests m.names (call.Snapshot p q)) h in
+      let all = tests_passed (path_tests m.config (call.Snapshot p q) ++ name_tests m.names (call.Snapshot p q)) h in
       still _ (copies_other (copied_entries m.names p q) m.names (suc m.file_count) path
       (λ v copied. (copies_are_new m.names p q tree (true_from (is_path p) all.0) (true_from (is_path q) all.1.0) all.1.1.0 all.1.1.1.0
       (true_from (is_dir m.names (parent q)) all.1.1.1.1.1.1.0) all.1.1.1.1.1.1.1.0 path v copied).1 (ap is_some there)) ∙ there)
@@ -77,7 +77,7 @@ module _ (m : Machine) (path : Path) (old : Node) (there : node_at m.names path 
   kept_step (Step client moment outcome) a tree = at_some (λ k. IsKept k.names) (λ current. stepped m client moment outcome current) m _ a.0 a.1
       (elim (is_refused outcome) as (λ b. is_refused outcome ≡ b → IsKept (with_outcome (cond b m (performed m (a.0).asked.call moment)) client outcome).names) [
         | true ↦ λ e. still m.names there
-        | false ↦ λ e. performed_kept (a.0).asked.call moment tree (unrefused m.names (a.0).asked.call outcome (a.2).2 e)
+        | false ↦ λ e. performed_kept (a.0).asked.call moment tree (unrefused m.config m.names (a.0).asked.call outcome (a.2).2 e)
       ] refl)
   kept_step (Expire f moment) a tree = taken_away (hidden_name moment f)
   kept_step (Add id) a tree = at_some (λ k. IsKept k.names) (chunk_added m id) m (asked_file m id) a.1 (asked_is m id a.0 a.1 a.2.0 a.2.1) (still m.names there)

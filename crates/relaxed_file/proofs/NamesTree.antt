@@ -29,6 +29,7 @@ use Rattle.relaxed_file.proofs.Known.{asked_is}
 use Rattle.relaxed_file.proofs.Reached.{kept_to}
 use Rattle.relaxed_file.proofs.AskedFor.{all_pushed}
 use Rattle.relaxed_file.proofs.PathParts.{HasNoSlash, equal_paths, same_paths, other_paths, Parted, at_slash, whole, parted, parent_of, child_of_parent, IsTail, at_or_below_from, at_or_below_is}
+use Rattle.gfs_types.specs.declared.config.Config.{Config}
 
 -- look-ups after a change, by the bytes of the paths
 pub get_inserted : (names : Names) (p : Path) (v : Node) (q : Path) → node_at (map.insert names p v) q ≡ cond (bytes_eq q p) (Some v) (node_at names q)
@@ -170,8 +171,8 @@ by_refusal : (names : Names) (c : Call) (o : Option Refusal) → is_refused (out
 by_refusal names c None h = refl
 by_refusal names c (Some r) h = absurd (true≢false h)
 
-pub unrefused : (names : Names) (c : Call) (outcome : Outcome) → outcome ≡ outcome_of names c → is_refused outcome ≡ false → refusal_of names c ≡ None
-unrefused names c outcome is h = by_refusal names c (refusal_of names c) (ap is_refused (sym is) ∙ h)
+pub unrefused : (config : Config) (names : Names) (c : Call) (outcome : Outcome) → outcome ≡ outcome_of config names c → is_refused outcome ≡ false → refusal_of config names c ≡ None
+unrefused config names c outcome is h = by_refusal names c (refusal_of config names c) (ap is_refused (sym is) ∙ h)
 
 pub not_taken_no_dir : (o : Option Node) → is_some o ≡ false → is_dir_node o ≡ false
 not_taken_no_dir None h = refl
@@ -471,22 +472,22 @@ pub tests_passed : (tests : List (Bool × Refusal)) → first_refusal tests ≡ 
 tests_passed [] h = tt
 tests_passed (t ∷ rest) h = let one : (t.0 ≡ false) × (first_refusal rest ≡ None) = passed t.0 t.1 (first_refusal rest) h in (one.0, tests_passed rest one.1)
 
-performed_tree : (m : Machine) (k : Call) (moment : ℕ) → Tree m.names → refusal_of m.names k ≡ None → Tree (performed m k moment).names
+performed_tree : (m : Machine) (k : Call) (moment : ℕ) → Tree m.names → refusal_of m.config m.names k ≡ None → Tree (performed m k moment).names
 performed_tree m (call.Mkdir p) moment tree h =
-    let all = tests_passed (path_tests (call.Mkdir p) ++ name_tests m.names (call.Mkdir p)) h in
+    let all = tests_passed (path_tests m.config (call.Mkdir p) ++ name_tests m.names (call.Mkdir p)) h in
     added m.names p Dir tree (true_from (is_dir m.names (parent p)) all.1.1.0) (λ q dir same. refl) (λ moment id same. absurd (not_hidden p all.1.0 moment id same))
 performed_tree m (call.Rmdir p) moment tree h =
-    let all = tests_passed (path_tests (call.Rmdir p) ++ name_tests m.names (call.Rmdir p)) h in
+    let all = tests_passed (path_tests m.config (call.Rmdir p) ++ name_tests m.names (call.Rmdir p)) h in
     rmdir_tree m.names p tree all.1.0 all.1.1.1.1.0
-performed_tree m (call.Create p) moment tree h =
-    let all = tests_passed (path_tests (call.Create p) ++ name_tests m.names (call.Create p)) h in
-    file_added m.names p (suc m.file_count) tree (true_from (is_dir m.names (parent p)) all.1.1.0) (not_taken_no_dir (node_at m.names p) all.1.1.1.0)
+performed_tree m (call.Create p shape) moment tree h =
+    let all = tests_passed (path_tests m.config (call.Create p shape) ++ name_tests m.names (call.Create p shape)) h in
+    file_added m.names p (suc m.file_count) tree (true_from (is_dir m.names (parent p)) all.1.1.1.0) (not_taken_no_dir (node_at m.names p) all.1.1.1.1.0)
 performed_tree m (call.Delete p) moment tree h = delete_tree m.names p moment (node_at m.names p) refl tree
 performed_tree m (call.Rename p q) moment tree h =
-    let all = tests_passed (path_tests (call.Rename p q) ++ name_tests m.names (call.Rename p q)) h in
+    let all = tests_passed (path_tests m.config (call.Rename p q) ++ name_tests m.names (call.Rename p q)) h in
     rename_tree m.names p q (node_at m.names p) refl tree all.1.1.1.1.0 (true_from (is_dir m.names (parent q)) all.1.1.1.1.1.0) all.1.1.1.1.1.1.0
 performed_tree m (call.Snapshot p q) moment tree h =
-    let all = tests_passed (path_tests (call.Snapshot p q) ++ name_tests m.names (call.Snapshot p q)) h in
+    let all = tests_passed (path_tests m.config (call.Snapshot p q) ++ name_tests m.names (call.Snapshot p q)) h in
     snapshot_names m.names p q (suc m.file_count) tree (true_from (is_path p) all.0) (true_from (is_path q) all.1.0) all.1.1.0 all.1.1.1.0
     (true_from (is_dir m.names (parent q)) all.1.1.1.1.1.1.0) all.1.1.1.1.1.1.1.0
 performed_tree m other moment tree h = tree
@@ -496,7 +497,7 @@ tree_step m (Return client reply) a tree = at_some (λ k. Tree k.names) (λ curr
 tree_step m (Step client moment outcome) a tree = at_some (λ k. Tree k.names) (λ current. stepped m client moment outcome current) m _ a.0 a.1
     (elim (is_refused outcome) as (λ b. is_refused outcome ≡ b → Tree (with_outcome (cond b m (performed m (a.0).asked.call moment)) client outcome).names) [
       | true ↦ λ e. tree
-      | false ↦ λ e. performed_tree m (a.0).asked.call moment tree (unrefused m.names (a.0).asked.call outcome (a.2).2 e)
+      | false ↦ λ e. performed_tree m (a.0).asked.call moment tree (unrefused m.config m.names (a.0).asked.call outcome (a.2).2 e)
     ] refl)
 tree_step m (Expire file moment) a tree = file_removed m.names (hidden_name moment file) tree (tree.hidden_are_files moment file)
 tree_step m (Add id) a tree = at_some (λ k. Tree k.names) (chunk_added m id) m (asked_file m id) a.1 (asked_is m id a.0 a.1 a.2.0 a.2.1) tree

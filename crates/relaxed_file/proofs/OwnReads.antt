@@ -47,7 +47,7 @@ record Reaches (client file index r : ℕ) (m : Machine) : Type 0 where
   state : StateReaches file index r (m.clients client)
 
 pub performed_clients : (m : Machine) (c : Call) (moment : ℕ) → (performed m c moment).clients ≡ m.clients
-performed_clients m (call.Create p) moment = refl
+performed_clients m (call.Create p shape) moment = refl
 performed_clients m (call.Snapshot p q) moment = refl
 performed_clients m other moment = refl
 

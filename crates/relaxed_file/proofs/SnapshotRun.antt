@@ -35,19 +35,19 @@ copies = (codes "/e", Dir) ∷ (codes "/e/f", File 1) ∷ []
 copied : copied_entries with_df (codes "/d") (codes "/e") ≡ copies
 copied = simp (map.entries-insert {X = Node} nat_list_cmp_total, empty_entries) refl
 
-make_d : Replies answer.Done ≡ outcome_of first_names (call.Mkdir (codes "/d"))
+make_d : Replies answer.Done ≡ outcome_of small_chunks first_names (call.Mkdir (codes "/d"))
 make_d = simp (map.gets) refl
 
-make_df : Replies answer.Done ≡ outcome_of with_d (call.Create (codes "/d/f"))
+make_df : Replies answer.Done ≡ outcome_of small_chunks with_d (call.Create (codes "/d/f") None)
 make_df = simp (map.gets) refl
 
-open_df : Opens 1 ≡ outcome_of with_df (call.Open (codes "/d/f"))
+open_df : Opens 1 ≡ outcome_of small_chunks with_df (call.Open (codes "/d/f"))
 open_df = simp (map.gets) refl
 
-unrefused : refusal_of with_df (call.Snapshot (codes "/d") (codes "/e")) ≡ None
+unrefused : refusal_of small_chunks with_df (call.Snapshot (codes "/d") (codes "/e")) ≡ None
 unrefused = simp (map.gets, copied) refl
 
-open_ef : Opens 2 ≡ outcome_of (with_copies with_df 2 copies) (call.Open (codes "/e/f"))
+open_ef : Opens 2 ≡ outcome_of small_chunks (with_copies with_df 2 copies) (call.Open (codes "/e/f"))
 open_ef = simp (map.gets) refl
 
 abbrev first : Entry
@@ -63,12 +63,12 @@ piece = record { index = 0; bytes = record_a; round = Some 1 }
 abbrev before : List Action
 before =
     Invoke 1 (call.Mkdir (codes "/d")) ∷ Step 1 0 (Replies answer.Done) ∷ Return 1 answer.Done
-    ∷ Invoke 1 (call.Create (codes "/d/f")) ∷ Step 1 0 (Replies answer.Done) ∷ Return 1 answer.Done
+    ∷ Invoke 1 (call.Create (codes "/d/f") None) ∷ Step 1 0 (Replies answer.Done) ∷ Return 1 answer.Done
     ∷ Invoke 1 (call.Open (codes "/d/f")) ∷ Step 1 0 (Opens 1) ∷ ReturnFd 1 1 1
     ∷ Invoke 1 (call.Append (fd 1) record_a) ∷ Add (record { client = 1; number = 4 }) ∷ OpenRound 1 0 1 ∷ Tell 1 1 0 ∷ Note 1 1 0 1 1
     ∷ Place 1 1 0 (Append 0 record_a) ∷ Settle 1 0 0 ∷ Return 1 (answer.At 0)
     ∷ Invoke 1 (call.Snapshot (codes "/d") (codes "/e")) ∷ Lock 1
-    ∷ Invoke 2 (call.Create (codes "/d/x")) ∷ FindBusy 2 1 ∷ Return 2 (answer.Refused Busy)
+    ∷ Invoke 2 (call.Create (codes "/d/x") None) ∷ FindBusy 2 1 ∷ Return 2 (answer.Refused Busy)
     ∷ CloseRound 1 0 ∷ []
 
 abbrev later : List Action

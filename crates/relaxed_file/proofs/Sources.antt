@@ -11,8 +11,8 @@ use Rattle.gfs_types.specs.Mutations.{covers, byte_of}
 use Rattle.gfs_types.specs.Image.{newer, last_that, byte_at}
 use Rattle.relaxed_file.specs.Names.{Node, Dir, File, copied_entries, id_after}
 use Rattle.relaxed_file.specs.Order.{Entry, IsSelection, empty, takes, leaves, last_cover, mutations_of}
-use Rattle.relaxed_file.specs.Machine.{Machine, new_machine, FileState, Chunk, new_chunk, new_file, OpenCall, Outcome, chunk_at, chunk_count, with_chunk}
-use Rattle.relaxed_file.specs.NameStep.{performed, is_refused, stepped, with_outcome, with_copied_file, with_copied_files}
+use Rattle.relaxed_file.specs.Machine.{Machine, new_machine, FileState, Chunk, new_chunk, OpenCall, Outcome, chunk_at, chunk_count, with_chunk}
+use Rattle.relaxed_file.specs.NameStep.{performed, is_refused, stepped, with_outcome, with_copied_file, with_copied_files, made_file}
 use Rattle.relaxed_file.specs.Chunks.{settled_at, chunk_added, placed}
 use Rattle.relaxed_file.specs.Answers.{returned}
 use Rattle.relaxed_file.specs.Reads.{looked}
@@ -71,7 +71,7 @@ module _ (m : Machine) where
   copies_put (e ∷ rest) sources files next h = copies_put rest (with_source sources next e.1) (with_copied_file files next e.1) (id_after next e.1) (copy_put sources files next e.1 h)
 
   performed_put : (c : Call) (moment : ℕ) (sources : ℕ → List ℕ) → ArePut sources m.files → ArePut (sources_by_call m c sources) (performed m c moment).files
-  performed_put (call.Create p) moment sources h = put_at (λ file s. PutIn (sources file) s) (suc m.file_count) new_file m.files (λ index. tt) h
+  performed_put (call.Create p shape) moment sources h = put_at (λ file s. PutIn (sources file) s) (suc m.file_count) (made_file m shape) m.files (λ index. tt) h
   performed_put (call.Snapshot p q) moment sources h = copies_put (copied_entries m.names p q) sources m.files (suc m.file_count) h
   performed_put other moment sources h = h
 

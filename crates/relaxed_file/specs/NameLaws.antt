@@ -28,11 +28,12 @@ NamesGoByCalls =
     (m : Machine) (action : Action) (path : Path) (node : Node)
     → Allows m action → node_at m.names path ≡ Some node → node_at (after m action).names path ≡ None → IsEndOfName m path action
 
--- the file has the chunks, the orders and the rounds that another one has in another state
+-- the file has the shape, the chunks, the orders and the rounds that another one has in another state
 abbrev pub HasChunksOf : Machine → ℕ → Machine → ℕ → Type 0
-HasChunksOf n copy m file = (chunk_count n copy ≡ chunk_count m file) × ((index : ℕ) → chunk_at n copy index ≡ chunk_at m file index)
+HasChunksOf n copy m file =
+    (chunk_count n copy ≡ chunk_count m file) × ((index : ℕ) → chunk_at n copy index ≡ chunk_at m file index) × ((n.files copy).shape ≡ (m.files file).shape)
 
--- Each file that a snapshot copies comes to stand under its new name as a new file with the chunks of its source, which keeps its own.
+-- Each file that a snapshot copies comes to stand under its new name as a new file with the shape and the chunks of its source, which keeps its own.
 abbrev pub SnapshotsCopyChunks : Type 0
 SnapshotsCopyChunks =
     (config : Config) (m : Machine) (client moment : ℕ) (outcome : Outcome) (p q path : Path) (file : ℕ)

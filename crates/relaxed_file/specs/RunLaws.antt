@@ -11,6 +11,8 @@ use Rattle.gfs_types.specs.declared.ids.Fd.{Fd}
 use Rattle.gfs_types.specs.declared.mutation.Mutation.{Mutation}
 use Rattle.gfs_types.specs.declared.mutation.Mutation.TheVariants.{Write, Append, Pad}
 use Rattle.gfs_types.specs.declared.config.Config.{Config}
+use Rattle.gfs_types.specs.declared.shape.Shape.{Shape}
+use Rattle.gfs_types.specs.Shapes.{usual_shape, fits}
 use Rattle.gfs_types.specs.Mutations.{start_of, end_of, is_placed_by_system, byte_of}
 use Rattle.gfs_types.specs.Image.{byte_at, image_length, image_slice}
 use Rattle.gfs_types.specs.Paths.{Path, hidden_name}
@@ -200,6 +202,19 @@ ClosedRoundsAreOver =
     → index < chunk_count m file → IsFalse (chunk_at m file index).is_open → (chunk_at n file index).round ≡ (chunk_at m file index).round
     → (chunk_at n file index).order ≡ (chunk_at m file index).order
 
+-- A file that was made keeps its shape (section 2.3).
+abbrev pub ShapesStay : Type 0
+ShapesStay =
+    (config : Config) (m n : Machine) (file : ℕ) → IsReached config m → LeadsTo m n → file ≤ m.file_count → (n.files file).shape ≡ (m.files file).shape
+
+-- the usual shape, or one that fits
+abbrev pub HasShapeFor : Config → Shape → Type 0
+HasShapeFor config shape = (shape ≡ usual_shape config) ⊎ IsTrue (fits config shape)
+
+-- In every run each file has the settings' shape, or one that fits them.
+abbrev pub ShapesFit : Type 0
+ShapesFit = (config : Config) (m : Machine) → IsReached config m → (file : ℕ) → HasShapeFor config (m.files file).shape
+
 -- A file becomes collected only while it stands under a hidden name whose moment lies as far back as deleted files are kept (section 4.4).
 abbrev pub CollectedFilesWereKept : Type 0
 CollectedFilesWereKept =
@@ -311,10 +326,10 @@ RoundsComeOneByOne =
 
 -- What a name call comes to at a moment: what the names say of it, Busy by another client's snapshot that holds a lock which conflicts, or NamesFull where it needs room and no other refusal holds (section 4.1).
 pub data ComesTo (m : Machine) (client : ℕ) (asked : Call) (outcome : Outcome) : Type 0 where
-  by_names : outcome ≡ outcome_of m.names asked → ComesTo m client asked outcome
+  by_names : outcome ≡ outcome_of m.config m.names asked → ComesTo m client asked outcome
   by_lock : (holder : ℕ) (snapshot : OpenCall) → holder ≢ client → IsOpen m holder snapshot → IsTrue snapshot.has_locks → snapshot.outcomes ≡ []
       → IsTrue (conflict asked snapshot.asked.call) → outcome ≡ Replies (answer.Refused Busy) → ComesTo m client asked outcome
-  by_room : IsTrue (needs_room asked) → refusal_of m.names asked ≡ None → outcome ≡ Replies (answer.Refused NamesFull) → ComesTo m client asked outcome
+  by_room : IsTrue (needs_room asked) → refusal_of m.config m.names asked ≡ None → outcome ≡ Replies (answer.Refused NamesFull) → ComesTo m client asked outcome
 
 -- the call came to it in a state of the run in which the client's open call was the same
 abbrev pub CameTo : Config → Machine → ℕ → Call → Outcome → Type 0

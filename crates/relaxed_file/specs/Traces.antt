@@ -1,5 +1,5 @@
 -- Worked traces, as checks of the definitions.
-use Rattle.std.specs.Prelude.{◌≡◌, ℕ, Bool, List, [], ◌∷◌, ◌++◌, replicate, codes}
+use Rattle.std.specs.Prelude.{◌≡◌, ℕ, Bool, List, [], ◌∷◌, ◌++◌, replicate, codes, None}
 use Rattle.gfs_types.specs.declared.call.Call.TheVariants as call
 use Rattle.gfs_types.specs.declared.answer.Answer.TheVariants as answer
 use Rattle.gfs_types.specs.declared.refusal.Refusal.TheVariants.{NotFound, TooLong, Busy, Collected}
@@ -35,7 +35,7 @@ fd n = record { 0 = n }
 -- client 1 makes a file and opens it, and then this
 abbrev pub after_open : List Visible → List Visible
 after_open rest =
-    Called 1 (call.Create (codes "/f")) ∷ Answered 1 answer.Done
+    Called 1 (call.Create (codes "/f") None) ∷ Answered 1 answer.Done
     ∷ Called 1 (call.Open (codes "/f")) ∷ Answered 1 (answer.Fd (fd 1)) ∷ rest
 
 -- what is written is read
@@ -75,11 +75,11 @@ two_rounds_trace = after_open (
 abbrev pub snapshot_trace : List Visible
 snapshot_trace =
     Called 1 (call.Mkdir (codes "/d")) ∷ Answered 1 answer.Done
-    ∷ Called 1 (call.Create (codes "/d/f")) ∷ Answered 1 answer.Done
+    ∷ Called 1 (call.Create (codes "/d/f") None) ∷ Answered 1 answer.Done
     ∷ Called 1 (call.Open (codes "/d/f")) ∷ Answered 1 (answer.Fd (fd 1))
     ∷ Called 1 (call.Append (fd 1) record_a) ∷ Answered 1 (answer.At 0)
     ∷ Called 1 (call.Snapshot (codes "/d") (codes "/e"))
-    ∷ Called 2 (call.Create (codes "/d/x")) ∷ Answered 2 (answer.Refused Busy)
+    ∷ Called 2 (call.Create (codes "/d/x") None) ∷ Answered 2 (answer.Refused Busy)
     ∷ Answered 1 answer.Done
     ∷ Called 1 (call.Append (fd 1) record_b) ∷ Answered 1 (answer.At 13)
     ∷ Called 1 (call.Open (codes "/e/f")) ∷ Answered 1 (answer.Fd (fd 2))
@@ -89,7 +89,7 @@ snapshot_trace =
 abbrev pub deletion_trace : List Visible
 deletion_trace =
     Passed 5000
-    ∷ Called 1 (call.Create (codes "/f")) ∷ Answered 1 answer.Done
+    ∷ Called 1 (call.Create (codes "/f") None) ∷ Answered 1 answer.Done
     ∷ Called 1 (call.Delete (codes "/f")) ∷ Answered 1 answer.Done
     ∷ Called 1 (call.List (codes "/.gone")) ∷ Answered 1 (answer.Names (codes "00000000000000005000-0000000000000001" ∷ []))
     ∷ Called 1 (call.Open (codes "/.gone/00000000000000005000-0000000000000001")) ∷ Answered 1 (answer.Fd (fd 1))

@@ -4,35 +4,35 @@ use Rattle.std.specs.Ordering.{nat_cmp}
 use Rattle.std.specs.FinMap.{get, insert, entries, get-entries}
 use Rattle.std.specs.FinMap.Entries.{find}
 use Rattle.chunk_table.proofs.Lookups.{at_key}
-use Rattle.protocol.specs.Tables.{Table}
+use Rattle.chunk_table.specs.ChunkTable.{NumberTable}
 use Rattle.rereplicate.proofs.Wholeness.{undoubted}
 use Rattle.rereplicate.specs.Doubts.{StandsIn, IsDoubtedUnless, AreDoubted, AreDoubtedAsChanged}
 
 -- as far as these entries are left
-abbrev pub AreDoubtedBut : Table Unit → Table Unit → Table ℕ → Table ℕ → List (ℕ × ℕ) → Type 0
+abbrev pub AreDoubtedBut : NumberTable Unit → NumberTable Unit → NumberTable ℕ → NumberTable ℕ → List (ℕ × ℕ) → Type 0
 AreDoubtedBut old new here there rest =
     (k : ℕ) → get new k ≡ None → (get old k ≡ None) × (StandsIn there k (find nat_cmp k rest) → StandsIn there k (get here k))
 
-pub none_yet : (old : Table Unit) (here there : Table ℕ) (rest : List (ℕ × ℕ)) → rest ≡ entries here → AreDoubtedBut old old here there rest
+pub none_yet : (old : NumberTable Unit) (here there : NumberTable ℕ) (rest : List (ℕ × ℕ)) → rest ≡ entries here → AreDoubtedBut old old here there rest
 none_yet old here there rest is k none = (none, λ h. subst (StandsIn there k) (ap (find nat_cmp k) is ∙ sym (get-entries here k)) h)
 
 -- after the next entry
-pub one_less : (old new more : Table Unit) (here there : Table ℕ) (k v : ℕ) (rest : List (ℕ × ℕ)) → IsDoubtedUnless new more there k v
+pub one_less : (old new more : NumberTable Unit) (here there : NumberTable ℕ) (k v : ℕ) (rest : List (ℕ × ℕ)) → IsDoubtedUnless new more there k v
     → AreDoubtedBut old new here there ((k, v) ∷ rest) → AreDoubtedBut old more here there rest
 one_less old new more here there k v rest u h q none =
     let both = u q none in
     let before = h q both.0 in
     (before.0, λ s. before.1 (at_key (λ x o. x ≡ q → StandsIn there q o) q k (Some v) (find nat_cmp q rest) (λ is. subst (λ x. get there x ≡ Some v) is (both.1 (sym is))) (λ _ _. s) refl))
 
-pub unless_doubted : (old new : Table Unit) (there : Table ℕ) (k v : ℕ) → new ≡ insert old k tt → IsDoubtedUnless old new there k v
+pub unless_doubted : (old new : NumberTable Unit) (there : NumberTable ℕ) (k v : ℕ) → new ≡ insert old k tt → IsDoubtedUnless old new there k v
 unless_doubted old new there k v is q none =
     let both = undoubted old k q (subst (λ t. get t q ≡ None) is none) in
     (both.0, λ same. absurd (both.1 same))
 
-pub unless_stands : (old : Table Unit) (there : Table ℕ) (k v : ℕ) → get there k ≡ Some v → IsDoubtedUnless old old there k v
+pub unless_stands : (old : NumberTable Unit) (there : NumberTable ℕ) (k v : ℕ) → get there k ≡ Some v → IsDoubtedUnless old old there k v
 unless_stands old there k v held q none = (none, λ _. held)
 
-pub none_more : (old new : Table Unit) (here there : Table ℕ) (rest : List (ℕ × ℕ)) → rest ≡ [] → AreDoubtedBut old new here there rest → AreDoubted old new here there
+pub none_more : (old new : NumberTable Unit) (here there : NumberTable ℕ) (rest : List (ℕ × ℕ)) → rest ≡ [] → AreDoubtedBut old new here there rest → AreDoubted old new here there
 none_more old new here there rest is h k none =
     let both = h k none in
     (both.0, both.1 (subst (λ xs. StandsIn there k (find nat_cmp k xs)) (sym is) tt))
@@ -43,7 +43,7 @@ same_if None (Some y) f g = g
 same_if (Some x) b f g = sym f
 
 -- both ways
-pub both_ways : (old between new : Table Unit) (here there : Table ℕ) → AreDoubted old between here there → AreDoubted between new there here → AreDoubtedAsChanged old new here there
+pub both_ways : (old between new : NumberTable Unit) (here there : NumberTable ℕ) → AreDoubted old between here there → AreDoubted between new there here → AreDoubtedAsChanged old new here there
 both_ways old between new here there f g k none =
     let later = g k none in
     let first = f k later.0 in

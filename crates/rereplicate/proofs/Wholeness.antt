@@ -1,5 +1,5 @@
 -- A chunk that lacks no replicas isn't cloned, and lacks none either where more servers are present and hold it.
-use Rattle.std.proofs.Common.{◌≡◌, ℕ, zero, suc, ◌+◌, ◌-◌, ◌<◌, ◌≤◌, Bool, true, false, cond, ltb, leb, eqb, ◌&&◌, List, [], ◌∷◌, length, length-append, refl, sym, ap, ◌∙◌, subst, Some, None, Option, is_some, arith}
+use Rattle.std.proofs.Common.{◌≡◌, ℕ, zero, suc, ◌+◌, ◌-◌, ◌<◌, ◌≤◌, Bool, true, false, cond, ltb, eqb, ◌&&◌, List, [], ◌∷◌, length, length-append, refl, sym, ap, ◌∙◌, subst, Some, None, Option, is_some, arith}
 use Rattle.std.specs.List.{filter_map, cons_option}
 use Rattle.std.specs.Ordering.{nat_cmp}
 use Rattle.std.specs.Cmp.{nat_cmp_total}
@@ -9,23 +9,20 @@ use Rattle.std.proofs.lemmas.Bool.Decides.{nat_tests}
 use Rattle.std.proofs.lemmas.List.Elements.{filter_map-append}
 use Rattle.chunk_table.specs.ChunkTable.{NumberTable, ChunkRow}
 use Rattle.chunk_table.proofs.Lookups.{at_key}
-use Rattle.protocol.specs.Tables.{Table, first_numbers}
-use Rattle.protocol.specs.Master.{MasterState, HeldAt, is_present, version_held, held_where, present_current_holders}
-use Rattle.protocol.specs.MasterClones.{CloneOrder, missing_replicas}
-use Rattle.rereplicate.specs.Holding.{current_at}
-use Rattle.rereplicate.specs.Whole.{lacks, lacks_of, lacks_at, AreWholeBut, offer}
+use Rattle.rereplicate.specs.Servers.{Servers, HeldAt, first_numbers, held_from, current_at, current_holders}
+use Rattle.rereplicate.specs.Clones.{Offer, missing_replicas, offer_in}
+use Rattle.rereplicate.specs.Whole.{lacks, lacks_of, lacks_at}
 use Rattle.rereplicate.proofs.Handles.{differ}
-use Rattle.rereplicate.proofs.Choosing.{all_among}
 
-no_clone : (a e b : Bool) (c : Option CloneOrder) → a && b ≡ false → cond (a && e && b) c None ≡ None
+no_clone : (a e b : Bool) (c : Option Offer) → a && b ≡ false → cond (a && e && b) c None ≡ None
 no_clone false e b c h = refl
 no_clone true false b c h = refl
 no_clone true true false c h = refl
 no_clone true true true c h = cc
 
-pub none_of : (m : MasterState) (k : ℕ) (o : Option ChunkRow) → lacks_of m k o ≡ false → offer m k o ≡ None
-none_of m k None h = refl
-none_of m k (Some row) h = no_clone (ltb 0 row.granted) _ (ltb 0 (missing_replicas m k row)) _ h
+pub none_of : (known : Servers) (now k : ℕ) (o : Option ChunkRow) → lacks_of known k o ≡ false → offer_in known now k o ≡ None
+none_of known now k None h = refl
+none_of known now k (Some row) h = no_clone (ltb 0 row.granted) _ (ltb 0 (missing_replicas known k row)) _ h
 
 -- what is true of the numbers below one and of that number
 pub one_more : (P : ℕ → Type 0) (n : ℕ) → ((q : ℕ) → q < n → P q) → P n → (q : ℕ) → q < n + 1 → P q
@@ -59,51 +56,37 @@ more_held f g (suc n) h =
     subst (λ x. x ≤ length (filter_map g (first_numbers (suc n)))) (sym a)
     (subst (λ x. length (filter_map f (first_numbers n)) + length (cons_option (f (suc n)) []) ≤ x) (sym b) (omega (arith, rest, last)))
 
--- the same master at another moment, with other reports of its servers
-abbrev pub seen_as : MasterState → ℕ → Table ℕ → Table (Table ℕ) → MasterState
-seen_as m now reported holders = record m { now = now; reported = reported; holders = holders }
-
--- where each server that is present and current still is, a chunk doesn't come to lack replicas
-pub still_held : (m : MasterState) (now : ℕ) (reported : Table ℕ) (holders : Table (Table ℕ)) (k : ℕ) (row : ChunkRow)
-    → ((s : ℕ) → s < m.server_count → is_some (current_at m k row (s + 1)) ≡ true → is_some (current_at (seen_as m now reported holders) k row (s + 1)) ≡ true)
-    → lacks m k row ≡ false → lacks (seen_as m now reported holders) k row ≡ false
-still_held m now reported holders k row more h =
-    let n : MasterState = seen_as m now reported holders in
-    let le : length (present_current_holders m k row) ≤ length (present_current_holders n k row) =
-    subst (λ x. x ≤ length (present_current_holders n k row)) (sym (ap length (all_among m k row)))
-    (subst (λ x. length (filter_map (current_at m k row) (first_numbers m.server_count)) ≤ x) (sym (ap length (all_among n k row)))
-    (more_held (current_at m k row) (current_at n k row) m.server_count more)) in
-    fewer m.config.goal (length (present_current_holders m k row)) (length (present_current_holders n k row)) (ltb 0 row.granted) le h
+-- Where each server that is present and current for these still is for those, a chunk doesn't come to lack replicas.
+pub still_held : (known later : Servers) (k : ℕ) (row : ChunkRow) → later.count ≡ known.count
+    → ((s : ℕ) → s < known.count → is_some (current_at known k row (s + 1)) ≡ true → is_some (current_at later k row (s + 1)) ≡ true)
+    → lacks known k row ≡ false → lacks later k row ≡ false
+still_held known later k row as_many more h =
+    let le : length (current_holders known k row) ≤ length (current_holders later k row) =
+    subst (λ n. length (current_holders known k row) ≤ length (filter_map (current_at later k row) (first_numbers n))) (sym as_many)
+    (more_held (current_at known k row) (current_at later k row) known.count more) in
+    fewer row.shape.goal (length (current_holders known k row)) (length (current_holders later k row)) (ltb 0 row.granted) le h
 
 by_present : (a b : Bool) (o : Option HeldAt) → (a ≡ true → b ≡ true) → is_some (cond a o None) ≡ true → is_some (cond b o None) ≡ true
 by_present true b o h there = let e : b ≡ true = h refl in subst (λ x. is_some (cond x o None) ≡ true) (sym e) there
 by_present false b o h there = cc
 
 -- where each server that was present still is
-pub more_present : (m : MasterState) (now : ℕ) (reported : Table ℕ)
-    → ((s : ℕ) → s < m.server_count → is_present m (s + 1) ≡ true → is_present (seen_as m now reported m.holders) (s + 1) ≡ true)
-    → (k : ℕ) (o : Option ChunkRow) → lacks_of m k o ≡ false → lacks_of (seen_as m now reported m.holders) k o ≡ false
-more_present m now reported more k None h = refl
-more_present m now reported more k (Some row) h =
-    still_held m now reported m.holders k row (λ s lt.
-    by_present (is_present m (s + 1)) (is_present (seen_as m now reported m.holders) (s + 1)) _ (more s lt)) h
+pub more_present : (known : Servers) (present : ℕ → Bool)
+    → ((s : ℕ) → s < known.count → known.is_present (s + 1) ≡ true → present (s + 1) ≡ true)
+    → (k : ℕ) (o : Option ChunkRow) → lacks_of known k o ≡ false → lacks_of (record known { is_present = present }) k o ≡ false
+more_present known present more k None h = refl
+more_present known present more k (Some row) h =
+    still_held known (record known { is_present = present }) k row refl (λ s lt.
+    by_present (known.is_present (s + 1)) (present (s + 1)) _ (more s lt)) h
 
 -- where each server holds the version of the chunk that it held
-pub same_versions : (m : MasterState) (holders : Table (Table ℕ)) (k : ℕ) (o : Option ChunkRow)
-    → ((s : ℕ) → version_held (seen_as m m.now m.reported holders) k s ≡ version_held m k s)
-    → lacks_of m k o ≡ false → lacks_of (seen_as m m.now m.reported holders) k o ≡ false
-same_versions m holders k None same h = refl
-same_versions m holders k (Some row) same h =
-    still_held m m.now m.reported holders k row (λ s lt.
-    subst (λ v. is_some (cond (is_present m (s + 1)) (held_where (λ v. leb row.granted v) (s + 1) v) None) ≡ true) (sym (same (s + 1)))) h
-
-nearer : (now until last lease : ℕ) → now ≤ until → ltb (until - last) lease ≡ true → ltb (now - last) lease ≡ true
-nearer now until last lease le e = grind (arith, nat_tests)
-
--- and so at each earlier moment
-pub whole_before : (m : MasterState) (doubted : NumberTable Unit) (now : ℕ) → now ≤ m.now → AreWholeBut m doubted → AreWholeBut (record m { now = now }) doubted
-whole_before m doubted now le h k none =
-    more_present m now m.reported (λ s _ e. nearer now m.now _ m.config.lease_ms le e) k (get m.logged.table.chunks k) (h k none)
+pub same_versions : (known : Servers) (held : ℕ → ℕ → Option ℕ) (chunks : ℕ → ℕ) (k : ℕ) (o : Option ChunkRow)
+    → ((s : ℕ) → held k s ≡ known.version_held k s)
+    → lacks_of known k o ≡ false → lacks_of (record known { version_held = held; chunks_held = chunks }) k o ≡ false
+same_versions known held chunks k None same h = refl
+same_versions known held chunks k (Some row) same h =
+    still_held known (record known { version_held = held; chunks_held = chunks }) k row refl (λ s lt.
+    subst (λ v. is_some (cond (known.is_present (s + 1)) (held_from row.granted (s + 1) v) None) ≡ true) (sym (same (s + 1)))) h
 
 not_some : {X : Type 0} (o : Option X) (x : X) → o ≡ Some x → o ≡ None → ⊥
 not_some o x a b = let both : Some x ≡ None = sym a ∙ b in cc
@@ -121,16 +104,16 @@ not_last q n lt apart =
       | false ↦ λ e. grind (arith, nat_tests)
     ] refl
 
-module _ (m : MasterState) (found after : NumberTable Unit) (n : ℕ) where
+module _ (known : Servers) (chunks : NumberTable ChunkRow) (found after : NumberTable Unit) (n : ℕ) where
   -- the next chunk is doubted
-  pub found_one : after ≡ insert found n tt → ((q : ℕ) → q < n → get found q ≡ None → lacks_at m q ≡ false) → (q : ℕ) → q < n + 1 → get after q ≡ None → lacks_at m q ≡ false
+  pub found_one : after ≡ insert found n tt → ((q : ℕ) → q < n → get found q ≡ None → lacks_at known chunks q ≡ false) → (q : ℕ) → q < n + 1 → get after q ≡ None → lacks_at known chunks q ≡ false
   found_one is h q lt none =
       let both = undoubted found n q (subst (λ (t : NumberTable Unit). get t q ≡ None) is none) in
       h q (not_last q n lt both.1) both.0
 
   -- or lacks no replicas
-  pub found_none : after ≡ found → lacks_at m n ≡ false → ((q : ℕ) → q < n → get found q ≡ None → lacks_at m q ≡ false) → (q : ℕ) → q < n + 1 → get after q ≡ None → lacks_at m q ≡ false
-  found_none is e h q lt none = one_more (λ x. get found x ≡ None → lacks_at m x ≡ false) n h (λ _. e) q lt (subst (λ (t : NumberTable Unit). get t q ≡ None) is none)
+  pub found_none : after ≡ found → lacks_at known chunks n ≡ false → ((q : ℕ) → q < n → get found q ≡ None → lacks_at known chunks q ≡ false) → (q : ℕ) → q < n + 1 → get after q ≡ None → lacks_at known chunks q ≡ false
+  found_none is e h q lt none = one_more (λ x. get found x ≡ None → lacks_at known chunks x ≡ false) n h (λ _. e) q lt (subst (λ (t : NumberTable Unit). get t q ≡ None) is none)
 
 -- what isn't the first entry's key, nor that of one behind it
 pub not_in : (q k : ℕ) (u : Unit {0}) (rest all : List (ℕ × Unit {0})) → all ≡ (k, u) ∷ rest → (q ≡ k → ⊥) → find nat_cmp q rest ≡ None → find nat_cmp q all ≡ None

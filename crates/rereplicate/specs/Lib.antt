@@ -1,3 +1,4 @@
-pub mod Holding
+pub mod Servers
+pub mod Clones
 pub mod Whole
 pub mod Doubts

@@ -1,75 +1,52 @@
 //! The order of a clone.
 
 ghost use Rattle.std.specs.Prelude.{◌≡◌};
-ghost use Rattle.protocol.specs.MasterClones.{better_clone};
+ghost use Rattle.rereplicate.specs.Clones.{better, order_of};
 
 use gfs_types::ids::{Handle, ServerId, Version};
 use std::marker::Model;
 
-/// A clone that could be ordered: the target gets a replica of this version from the source.
-#[derive(Debug, Drop)]
+/// The target gets a replica of this version of a chunk from the source.
+#[derive(Clone, Copy, Debug, PartialEq, Eq)]
 pub struct CloneOrder {
-    pub(crate) handle: Handle,
-    pub(crate) version: Version,
-    pub(crate) source: ServerId,
-    pub(crate) target: ServerId,
+    pub handle: Handle,
+    pub version: Version,
+    pub source: ServerId,
+    pub target: ServerId,
+}
+
+// A clone that could be ordered, and how many replicas its chunk lacks.
+#[derive(Drop)]
+pub(crate) struct Offer {
+    pub(crate) order: CloneOrder,
     pub(crate) missing: u64,
 }
 
-impl Model for CloneOrder {
-    ghost use Rattle.protocol.specs.MasterClones.{CloneOrder};
+impl Model for Offer {
+    ghost use Rattle.rereplicate.specs.Clones.{Offer as OfferValue};
 
-    ghost Value = { CloneOrder };
+    ghost Value = { OfferValue };
 
-    ghost view = { λ c. record {
-      handle = c.handle.0;
-      version = c.version.0;
-      source = c.source.0;
-      target = c.target.0;
-      missing = c.missing;
+    ghost view = { λ o. record {
+      handle = o.order.handle.0;
+      version = o.order.version.0;
+      source = o.order.source.0;
+      target = o.order.target.0;
+      missing = o.missing;
     } };
 }
 
-impl CloneOrder {
-    /// The chunk.
-    pub fn handle(&self) -> Handle
-        ensures { result.0 ≡ self.now.handle }
+impl Offer {
+    pub(crate) fn into_order(self) -> CloneOrder
+        ensures { result ≡ order_of self }
     {
-        self.handle
-    }
-
-    /// The version of the source's replica.
-    pub fn version(&self) -> Version
-        ensures { result.0 ≡ self.now.version }
-    {
-        self.version
-    }
-
-    /// The server whose replica is copied.
-    pub fn source(&self) -> ServerId
-        ensures { result.0 ≡ self.now.source }
-    {
-        self.source
-    }
-
-    /// The server that gets a replica.
-    pub fn target(&self) -> ServerId
-        ensures { result.0 ≡ self.now.target }
-    {
-        self.target
-    }
-
-    /// How many replicas the chunk lacks.
-    pub fn missing(&self) -> u64
-        ensures { result ≡ self.now.missing }
-    {
-        self.missing
+        self.order
     }
 }
 
-// The clone of the chunk that lacks more replicas; the first where both lack as many.
-pub(crate) fn better(first: Option<CloneOrder>, other: Option<CloneOrder>) -> Option<CloneOrder>
-    ensures { result ≡ better_clone first other }
+// That of the chunk that lacks more replicas; the first where both lack as many.
+pub(crate) fn better(first: Option<Offer>, other: Option<Offer>) -> Option<Offer>
+    ensures { result ≡ better first other }
 {
     let Some(one) = first else {
         return other;

@@ -4,10 +4,9 @@
 ghost use Rattle.std.specs.Prelude.{◌≡◌, true, Some, IfSome};
 ghost use Rattle.std.specs.Option.{option_copied};
 ghost use Rattle.std.specs.FinMap as map;
-ghost use Rattle.rereplicate.specs.Doubts.{granted_chunk, with_granted, held_in, IsDoubtedUnless, AreDoubted, AreDoubtedAsChanged};
+ghost use Rattle.rereplicate.specs.Doubts.{held_in, IsDoubtedUnless, AreDoubted, AreDoubtedAsChanged};
 
 use crate::whole::Doubted;
-use log_records::record::Record;
 use ordered_map::OrderedMap;
 use std::alloc::Global;
 
@@ -23,27 +22,6 @@ pub fn doubt(until: Option<u64>, doubted: &mut Doubted, handle: u64) -> Option<u
         return None;
     };
     Some(moment)
-}
-
-/// The chunk whose granted version a record sets, if it does.
-pub fn doubt_granted(until: Option<u64>, doubted: &mut Doubted, entry: &Record) -> Option<u64>
-    ensures kept { IfSome result (λ moment. until ≡ Some moment) }
-    ensures doubted { IfSome result (λ _. doubted.new ≡ with_granted doubted.old (granted_chunk entry.now)) }
-{
-    match granted_chunk(entry) {
-        Some(handle) => doubt(until, doubted, handle),
-        None => until,
-    }
-}
-
-// No other record sets a granted version.
-fn granted_chunk(entry: &Record) -> Option<u64>
-    ensures { result ≡ granted_chunk entry.now }
-{
-    match entry {
-        Record::Grant { handle, .. } | Record::ChunkItem { handle, .. } => Some(handle.0),
-        _ => None,
-    }
 }
 
 /// Each chunk of which a server holds another version than it did.

@@ -2,10 +2,10 @@
 
 ghost use Rattle.std.specs.Prelude.{◌≡◌};
 ghost use Rattle.std.specs.FinMap as finite;
-ghost use Rattle.protocol.specs.MasterClones.{clone_of, best_clone};
-ghost use Rattle.rereplicate.specs.Whole.{AreWholeBut, clone_at};
+ghost use Rattle.rereplicate.specs.Clones.{next_clone, offer_of, offer_at, best_offer};
+ghost use Rattle.rereplicate.specs.Whole.{AreWholeBut};
 
-use crate::clone_order::{CloneOrder, better};
+use crate::clone_order::{CloneOrder, Offer, better};
 use crate::holders::Holders;
 use crate::servers::{count_current, source, target};
 use crate::whole::Doubted;
@@ -18,78 +18,76 @@ use leases::master::ended;
 /// the one furthest below its goal in present current holders, then the lowest handle. The source is the lowest of these holders
 /// whose version is closed; the target is the present server without a replica that has the fewest chunks, then the lowest number.
 /// Takes no memory, and goes over all handles that were given out.
-pub fn next<H: Holders>(table: &Table, holders: &H, goal: u32, now: Moment) -> Option<CloneOrder>
-    requires table { table.now.table ≡ (H.state holders.now).logged.table }
-    requires goal { goal ≡ (H.state holders.now).config.goal }
-    requires now { now.0 ≡ (H.state holders.now).now }
-    ensures { result ≡ best_clone (H.state holders.now) (finite.entries table.now.table.chunks) }
+pub fn next<H: Holders>(table: &Table, holders: &H, now: Moment) -> Option<CloneOrder>
+    ensures { result ≡ next_clone (H.servers holders.now) now.0 table.now.table.chunks }
 {
-    table.is_sound();
-    let mut best = None;
-    for number in 0..table.next_handle().0 {
-        let handle = Handle(number);
-        best = better(best, clone_at(table, holders, handle, goal, now));
+    match best(table, holders, now) {
+        Some(offer) => Some(offer.into_order()),
+        None => None,
     }
-    best
 }
 
 /// The same where no chunk lacks replicas but some of the doubted ones. Goes over these alone.
 pub fn next_of<H: Holders>(
     table: &Table,
     holders: &H,
-    goal: u32,
     now: Moment,
     doubted: &Doubted,
 ) -> Option<CloneOrder>
-    requires table { table.now.table ≡ (H.state holders.now).logged.table }
-    requires goal { goal ≡ (H.state holders.now).config.goal }
-    requires now { now.0 ≡ (H.state holders.now).now }
-    requires whole { AreWholeBut (H.state holders.now) doubted.now }
-    ensures { result ≡ best_clone (H.state holders.now) (finite.entries table.now.table.chunks) }
+    requires whole { AreWholeBut (H.servers holders.now) table.now.table.chunks doubted.now }
+    ensures { result ≡ next_clone (H.servers holders.now) now.0 table.now.table.chunks }
+{
+    match best_of(table, holders, now, doubted) {
+        Some(offer) => Some(offer.into_order()),
+        None => None,
+    }
+}
+
+fn best<H: Holders>(table: &Table, holders: &H, now: Moment) -> Option<Offer>
+    ensures { result ≡ best_offer (H.servers holders.now) now.0 (finite.entries table.now.table.chunks) }
+{
+    table.is_sound();
+    let mut best = None;
+    for number in 0..table.next_handle().0 {
+        let handle = Handle(number);
+        best = better(best, offer_at(table, holders, handle, now));
+    }
+    best
+}
+
+fn best_of<H: Holders>(table: &Table, holders: &H, now: Moment, doubted: &Doubted) -> Option<Offer>
+    requires whole { AreWholeBut (H.servers holders.now) table.now.table.chunks doubted.now }
+    ensures { result ≡ best_offer (H.servers holders.now) now.0 (finite.entries table.now.table.chunks) }
 {
     table.is_sound();
     let mut best = None;
     for (number, _) in doubted.iter() {
         let handle = Handle(*number);
-        best = better(best, clone_at(table, holders, handle, goal, now));
+        best = better(best, offer_at(table, holders, handle, now));
     }
     best
 }
 
 // The clone of the chunk with this handle.
-fn clone_at<H: Holders>(
-    table: &Table,
-    holders: &H,
-    handle: Handle,
-    goal: u32,
-    now: Moment,
-) -> Option<CloneOrder>
-    requires goal { goal ≡ (H.state holders.now).config.goal }
-    requires now { now.0 ≡ (H.state holders.now).now }
-    ensures { result ≡ clone_at (H.state holders.now) table.now.table.chunks handle.0 }
+fn offer_at<H: Holders>(table: &Table, holders: &H, handle: Handle, now: Moment) -> Option<Offer>
+    ensures { result ≡ offer_at (H.servers holders.now) now.0 table.now.table.chunks handle.0 }
 {
     match table.chunk(handle) {
-        Some(chunk) => clone_of(chunk, holders, handle, goal, now),
+        Some(chunk) => offer_of(chunk, holders, handle, now),
         None => None,
     }
 }
 
 // The clone of one chunk, where it lacks replicas and may be copied.
-fn clone_of<H: Holders>(
-    chunk: &Chunk,
-    holders: &H,
-    handle: Handle,
-    goal: u32,
-    now: Moment,
-) -> Option<CloneOrder>
-    requires goal { goal ≡ (H.state holders.now).config.goal }
-    requires now { now.0 ≡ (H.state holders.now).now }
-    ensures { result ≡ clone_of (H.state holders.now) handle.0 chunk.now }
+fn offer_of<H: Holders>(chunk: &Chunk, holders: &H, handle: Handle, now: Moment) -> Option<Offer>
+    ensures { result ≡ offer_of (H.servers holders.now) now.0 handle.0 chunk.now }
 {
     if chunk.granted() == Version(0) || !ended(chunk, now) {
         return None;
     }
-    let missing = u64::from(goal).saturating_sub(count_current(holders, chunk, handle));
+    let missing = u64::from(chunk.shape().goal).saturating_sub(count_current(
+        holders, chunk, handle,
+    ));
     if missing == 0 {
         return None;
     }
@@ -99,11 +97,11 @@ fn clone_of<H: Holders>(
     let Some(target) = target(holders, handle) else {
         return None;
     };
-    Some(CloneOrder {
+    let order = CloneOrder {
         handle,
         version: source.version,
         source: source.server,
         target,
-        missing,
-    })
+    };
+    Some(Offer { order, missing })
 }

@@ -14,21 +14,14 @@ use std::alloc::{AllocError, Global};
 /// Handles of chunks that may lack replicas.
 pub type Doubted = OrderedMap<()>;
 
-/// The granted chunks that have fewer present current holders than the goal. Goes over all handles that were given out.
-pub fn lacking<H: Holders>(
-    alloc: Global,
-    table: &Table,
-    holders: &H,
-    goal: u32,
-) -> Result<Doubted, AllocError>
-    requires table { table.now.table ≡ (H.state holders.now).logged.table }
-    requires goal { goal ≡ (H.state holders.now).config.goal }
-    ensures { IfOk result (AreWholeBut (H.state holders.now)) }
+/// The granted chunks that have fewer present current holders than their goal. Goes over all handles that were given out.
+pub fn lacking<H: Holders>(alloc: Global, table: &Table, holders: &H) -> Result<Doubted, AllocError>
+    ensures { IfOk result (AreWholeBut (H.servers holders.now) table.now.table.chunks) }
 {
     table.is_sound();
     let mut found = OrderedMap::new(alloc);
     for number in 0..table.next_handle().0 {
-        if lacks_at(table, holders, Handle(number), goal) {
+        if lacks_at(table, holders, Handle(number)) {
             found.insert(number, ())?;
         }
     }
@@ -40,37 +33,32 @@ pub fn still_lacking<H: Holders>(
     alloc: Global,
     table: &Table,
     holders: &H,
-    goal: u32,
     doubted: &Doubted,
 ) -> Result<Doubted, AllocError>
-    requires table { table.now.table ≡ (H.state holders.now).logged.table }
-    requires goal { goal ≡ (H.state holders.now).config.goal }
-    requires whole { AreWholeBut (H.state holders.now) doubted.now }
-    ensures { IfOk result (AreWholeBut (H.state holders.now)) }
+    requires whole { AreWholeBut (H.servers holders.now) table.now.table.chunks doubted.now }
+    ensures { IfOk result (AreWholeBut (H.servers holders.now) table.now.table.chunks) }
 {
     let mut found = OrderedMap::new(alloc);
     for (number, _) in doubted.iter() {
-        if lacks_at(table, holders, Handle(*number), goal) {
+        if lacks_at(table, holders, Handle(*number)) {
             found.insert(*number, ())?;
         }
     }
     Ok(found)
 }
 
-fn lacks_at<H: Holders>(table: &Table, holders: &H, handle: Handle, goal: u32) -> bool
-    requires table { table.now.table ≡ (H.state holders.now).logged.table }
-    requires goal { goal ≡ (H.state holders.now).config.goal }
-    ensures { result ≡ lacks_at (H.state holders.now) handle.0 }
+fn lacks_at<H: Holders>(table: &Table, holders: &H, handle: Handle) -> bool
+    ensures { result ≡ lacks_at (H.servers holders.now) table.now.table.chunks handle.0 }
 {
     match table.chunk(handle) {
-        Some(chunk) => lacks(chunk, holders, handle, goal),
+        Some(chunk) => lacks(chunk, holders, handle),
         None => false,
     }
 }
 
-fn lacks<H: Holders>(chunk: &Chunk, holders: &H, handle: Handle, goal: u32) -> bool
-    requires goal { goal ≡ (H.state holders.now).config.goal }
-    ensures { result ≡ lacks (H.state holders.now) handle.0 chunk.now }
+fn lacks<H: Holders>(chunk: &Chunk, holders: &H, handle: Handle) -> bool
+    ensures { result ≡ lacks (H.servers holders.now) handle.0 chunk.now }
 {
-    chunk.granted() > Version(0) && count_current(holders, chunk, handle) < u64::from(goal)
+    chunk.granted() > Version(0)
+        && count_current(holders, chunk, handle) < u64::from(chunk.shape().goal)
 }

@@ -8,7 +8,7 @@ use Rattle.gfs_types.specs.declared.torn.Torn.TheVariants as torn
 use Rattle.script.specs.Numbers.{number_of}
 use Rattle.script.specs.Nodes.{client_of}
 use Rattle.script.specs.Words.{path_of}
-use Rattle.script.specs.Lines.{short_call_of, append_call_of, range_call_of, chunk_of, words_of, is_skipped}
+use Rattle.script.specs.Lines.{short_call_of, append_call_of, long_call_of, chunk_of, words_of, is_skipped}
 use Rattle.script.specs.Kinds.{kind_named}
 use Rattle.script.specs.CellNodes.{server_of, node_of}
 use Rattle.script.specs.declared.cell_lines.ClientCall.{ClientCall}
@@ -41,7 +41,7 @@ pair_call_of name first last =
 abbrev pub call_of : List (List ℕ) → Option Call
 call_of (name ∷ word ∷ []) = word_call_of name word
 call_of (name ∷ first ∷ last ∷ []) = pair_call_of name first last
-call_of (name ∷ fd ∷ offset ∷ last ∷ []) = range_call_of name fd offset last
+call_of (name ∷ first ∷ second ∷ last ∷ []) = long_call_of name first second last
 call_of _ = None
 
 abbrev pub client_call_of : List ℕ → List (List ℕ) → Option ClientCall

@@ -1,5 +1,5 @@
 -- What a line of a script asks for.
-use Rattle.std.specs.Prelude.{ℕ, ◌^◌, ◌-◌, Bool, true, ◌==◌, nat_lt, if◌then◌else◌, List, [], ◌∷◌, length, Option, Some, None, option_map, option_and_then, codes}
+use Rattle.std.specs.Prelude.{ℕ, ◌^◌, ◌-◌, min, Bool, true, ◌==◌, nat_lt, if◌then◌else◌, List, [], ◌∷◌, length, Option, Some, None, option_map, option_and_then, codes}
 use Rattle.std.specs.List.{slice_split}
 use Rattle.std.specs.Str.{byte, bytes_eq}
 use Rattle.gfs_types.specs.declared.ids.Fd.{Fd}
@@ -17,7 +17,7 @@ use Rattle.script.specs.Words.{path_of, full_path_of, data_of}
 abbrev pub name_call_for : List ℕ → List ℕ → Option Call
 name_call_for name path =
     if bytes_eq name (codes "mkdir") then Some (calls.Mkdir path)
-    else if bytes_eq name (codes "create") then Some (calls.Create path)
+    else if bytes_eq name (codes "create") then Some (calls.Create path None)
     else if bytes_eq name (codes "open") then Some (calls.Open path)
     else if bytes_eq name (codes "list") then Some (calls.List path)
     else None
@@ -60,10 +60,24 @@ abbrev pub range_call_of : List ℕ → List ℕ → List ℕ → List ℕ → O
 range_call_of name fd offset last =
     option_and_then (λ f. option_and_then (λ o. range_call_for name (record { 0 = f }) o last) (number_of offset)) (number_of fd)
 
+-- numbers that are too great for a shape become the greatest that it may have, which fits no settings
+abbrev pub create_call : List ℕ → ℕ → ℕ → Call
+create_call path chunk goal = calls.Create path (Some (record { chunk = min chunk 4294967295; goal = min goal 255 }))
+
+-- a file with a shape of its own
+abbrev pub create_call_of : List ℕ → List ℕ → List ℕ → Option Call
+create_call_of path chunk goal =
+    option_and_then (λ p. option_and_then (λ c. option_map (create_call p c) (number_of goal)) (number_of chunk)) (path_of path)
+
+-- a call with three words
+abbrev pub long_call_of : List ℕ → List ℕ → List ℕ → List ℕ → Option Call
+long_call_of name first second last =
+    if bytes_eq name (codes "create") then create_call_of first second last else range_call_of name first second last
+
 abbrev pub call_of : List (List ℕ) → Option Call
 call_of (name ∷ word ∷ []) = short_call_of name word
 call_of (name ∷ fd ∷ last ∷ []) = append_call_of name fd last
-call_of (name ∷ fd ∷ offset ∷ last ∷ []) = range_call_of name fd offset last
+call_of (name ∷ first ∷ second ∷ last ∷ []) = long_call_of name first second last
 call_of _ = None
 
 abbrev pub client_line : List ℕ → List (List ℕ) → Option CallLine

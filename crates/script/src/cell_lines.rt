@@ -7,7 +7,7 @@ ghost use Rattle.script.specs.CellLines.{alone, byte_of, call_of, chunk_line, cl
 use crate::cell_nodes::{node, server};
 use crate::fault::LineFault;
 use crate::kinds::{Kind, kind_named};
-use crate::lines::{FileChunk, MAX_LINE, append, file_chunk, range_call, short_call, split_words};
+use crate::lines::{FileChunk, MAX_LINE, append, file_chunk, long_call, short_call, split_words};
 use crate::nodes::client;
 use crate::numbers::number;
 use crate::words::read_path;
@@ -111,7 +111,7 @@ fn call(alloc: Global, words: &[&[u8]]) -> Result<Call, LineFault>
     match words {
         [name, word] => word_call(alloc, name, word),
         [name, first, last] => pair_call(alloc, name, first, last),
-        [name, fd, offset, last] => range_call(alloc, name, fd, offset, last),
+        [name, first, second, last] => long_call(alloc, name, first, second, last),
         _ => Err(LineFault::Bad),
     }
 }

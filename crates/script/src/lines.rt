@@ -2,7 +2,7 @@
 
 ghost use Rattle.std.specs.Prelude.{◌≡◌, IfOk, map};
 ghost use Rattle.script.specs.Words.{Reads};
-ghost use Rattle.script.specs.Lines.{words_of, write_call, append_call, name_call_of, short_call_of, append_call_of, range_call_of, call_of, client_line, chunk_of, line_for, line_of};
+ghost use Rattle.script.specs.Lines.{words_of, write_call, append_call, name_call_of, short_call_of, append_call_of, range_call_of, create_call, create_call_of, long_call_of, call_of, client_line, chunk_of, line_for, line_of};
 
 use crate::fault::LineFault;
 use crate::nodes::client;
@@ -11,7 +11,9 @@ use crate::words::{Data, read_data, read_full_path, read_path};
 use bytes::Bytes;
 use gfs_types::call::Call;
 use gfs_types::ids::{ClientId, Fd};
+use gfs_types::lists::Text;
 use gfs_types::path::Path;
+use gfs_types::shape::Shape;
 use std::alloc::{AllocError, Global};
 
 /// The bytes of a line before its line feed, at most.
@@ -44,7 +46,7 @@ fn name_call(alloc: Global, name: &[u8], word: &[u8]) -> Result<Call, LineFault>
     if name == b"mkdir".as_slice() {
         Ok(Call::Mkdir(path))
     } else if name == b"create".as_slice() {
-        Ok(Call::Create(path))
+        Ok(Call::Create(path, None))
     } else if name == b"open".as_slice() {
         Ok(Call::Open(path))
     } else if name == b"list".as_slice() {
@@ -99,7 +101,7 @@ pub fn append(alloc: Global, name: &[u8], fd: &[u8], last: &[u8]) -> Result<Call
 }
 
 /// A call on a range of an open file.
-pub fn range_call(
+fn range_call(
     alloc: Global,
     name: &[u8],
     fd: &[u8],
@@ -119,13 +121,51 @@ pub fn range_call(
     }
 }
 
+/// Numbers that are too great for a shape become the greatest that it may have, which fits no settings.
+fn create_call(path: Text, chunk: u64, goal: u64) -> Call
+    ensures { result ≡ create_call path chunk goal }
+{
+    let shape = Shape {
+        chunk: chunk.min(u64::from(u32::MAX)) as u32,
+        goal: goal.min(u64::from(u8::MAX)) as u8,
+    };
+    Call::Create(path, Some(shape))
+}
+
+/// A file with a shape of its own.
+fn create(alloc: Global, path: &[u8], chunk: &[u8], goal: &[u8]) -> Result<Call, LineFault>
+    ensures { Reads result (create_call_of path.now chunk.now goal.now) }
+{
+    let path = read_path(alloc, path)?;
+    let chunk = number(chunk).ok_or(LineFault::Bad)?;
+    let goal = number(goal).ok_or(LineFault::Bad)?;
+    Ok(create_call(path, chunk, goal))
+}
+
+/// A call with three words: on a range of an open file, or one that makes a file with a shape of its own.
+pub fn long_call(
+    alloc: Global,
+    name: &[u8],
+    first: &[u8],
+    second: &[u8],
+    last: &[u8],
+) -> Result<Call, LineFault>
+    ensures { Reads result (long_call_of name.now first.now second.now last.now) }
+{
+    if name == b"create".as_slice() {
+        create(alloc, first, second, last)
+    } else {
+        range_call(alloc, name, first, second, last)
+    }
+}
+
 fn call(alloc: Global, words: &[&[u8]]) -> Result<Call, LineFault>
     ensures { Reads result (call_of (map (λ w. w.now) words.now)) }
 {
     match words {
         [name, word] => short_call(alloc, name, word),
         [name, fd, last] => append(alloc, name, fd, last),
-        [name, fd, offset, last] => range_call(alloc, name, fd, offset, last),
+        [name, first, second, last] => long_call(alloc, name, first, second, last),
         _ => Err(LineFault::Bad),
     }
 }

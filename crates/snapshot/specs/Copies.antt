@@ -1,26 +1,88 @@
--- The copy that a write to a shared chunk needs first (section 3.4).
-use Rattle.std.specs.Prelude.{ℕ, suc, nat_lt, if◌then◌else◌, Option, Some, None}
-use Rattle.log_records.specs.declared.record.Record.{Record}
-use Rattle.log_records.specs.declared.record.Record.TheVariants as log
-use Rattle.chunk_table.specs.ChunkTable.{ChunkRow, TableState, handles_of, chunk_of}
-use Rattle.protocol.specs.Tables.{element_at}
-use Rattle.protocol.specs.Sending.{file_id, handle_of, version_of}
-use Rattle.snapshot.specs.declared.plan.CopyPlan.{CopyPlan}
+-- What a snapshot copies and shares (section 3.4).
+use Rattle.std.specs.Prelude.{ℕ, Bool, true, ◌==◌, ◌&&◌, nat_lt, if◌then◌else◌, List, [], ◌∷◌, ◌++◌, map, filter, flat_map, length, drop, Option, Some, None, is_none}
+use Rattle.std.specs.List.{list_all}
+use Rattle.gfs_types.specs.Paths.{Path, is_path, is_at_or_below}
+use Rattle.relaxed_file.specs.Names.{Names, Node, Dir, File, copied_entries}
+use Rattle.chunk_table.specs.ChunkTable.{ChunkRow, ChunkTable, TableState, handles_of, chunk_of, with_shared}
+use Rattle.chunk_table.specs.Refusals.{share_refusal}
+use Rattle.leases.specs.LeaseEnds.{has_ended}
 
-abbrev pub copy_of_row : TableState → ℕ → ℕ → ℕ → Option ChunkRow → Option CopyPlan
-copy_of_row s file index handle None = None
-copy_of_row s file index handle (Some row) =
-    if nat_lt 1 row.references
-    then Some (record { file = file_id file; index = index; source = handle_of handle; copy = handle_of s.next_handle; version = version_of (suc row.issued) })
-    else None
+-- those of these entries that lie at `from` or below it, moved to `to`
+abbrev pub moved : Path → Path → List (Path × Node) → List (Path × Node)
+moved from to es = map (λ e. (to ++ drop (length from) e.0, e.1)) (filter (λ e. is_at_or_below from e.0) es)
 
-abbrev pub copy_of_handle : TableState → ℕ → ℕ → Option ℕ → Option CopyPlan
-copy_of_handle s file index None = None
-copy_of_handle s file index (Some handle) = copy_of_row s file index handle (chunk_of s.table handle)
+-- a list that rises, with one more number in its place
+abbrev pub with_number : List ℕ → ℕ → List ℕ
+with_number [] n = n ∷ []
+with_number (x ∷ xs) n = if x == n then x ∷ xs else (if nat_lt n x then n ∷ x ∷ xs else x ∷ with_number xs n)
 
--- the copy of a file's chunk that has several owners
-abbrev pub copy_of_chunk : TableState → ℕ → ℕ → Option CopyPlan
-copy_of_chunk s file index = copy_of_handle s file index (element_at (handles_of s.table file) index)
+-- the same numbers in rising order, each once
+abbrev pub rising : List ℕ → List ℕ
+rising [] = []
+rising (x ∷ xs) = with_number (rising xs) x
 
-abbrev pub record_of : CopyPlan → Record
-record_of p = log.CopyStart p.file p.index p.source p.copy p.version
+abbrev pub node_files : Node → List ℕ
+node_files Dir = []
+node_files (File id) = id ∷ []
+
+abbrev pub node_chunks : ChunkTable → Node → List ℕ
+node_chunks t Dir = []
+node_chunks t (File id) = handles_of t id
+
+-- A snapshot: the names that it adds, in the order of their paths, each file still under the id that it is copied from; the files in that order; and their chunks in rising number, each once.
+pub record SnapshotState : Type 0 where
+  pub copies : List (Path × Node)
+  pub files : List ℕ
+  pub chunks : List ℕ
+
+-- the files of these names
+abbrev pub files_of : List (Path × Node) → List ℕ
+files_of copies = flat_map (λ e. node_files e.1) copies
+
+-- their chunks, by file
+abbrev pub chunks_of : ChunkTable → List (Path × Node) → List ℕ
+chunks_of t copies = flat_map (λ e. node_chunks t e.1) copies
+
+abbrev pub snapshot_by : ChunkTable → List (Path × Node) → SnapshotState
+snapshot_by t copies = record { copies = copies; files = files_of copies; chunks = rising (chunks_of t copies) }
+
+-- what a snapshot of `from` at `to` is about
+abbrev pub snapshot_of : Names → ChunkTable → Path → Path → SnapshotState
+snapshot_of names t from to = snapshot_by t (copied_entries names from to)
+
+abbrev pub are_paths : List (Path × Node) → Bool
+are_paths copies = list_all (λ e. is_path e.0) copies
+
+-- whether a chunk's lease has ended
+abbrev pub is_closed : ℕ → Option ChunkRow → Bool
+is_closed now None = true
+is_closed now (Some row) = has_ended row now
+
+-- each of these chunks is closed
+abbrev pub are_closed : ChunkTable → ℕ → List ℕ → Bool
+are_closed t now handles = list_all (λ handle. is_closed now (chunk_of t handle)) handles
+
+abbrev pub is_node_closed : ChunkTable → ℕ → Node → Bool
+is_node_closed t now node = are_closed t now (node_chunks t node)
+
+-- each chunk of each file that is copied is closed, as the table stands
+abbrev pub are_all_closed : ChunkTable → ℕ → List (Path × Node) → Bool
+are_all_closed t now copies = list_all (λ e. is_node_closed t now e.1) copies
+
+-- a copied file gets the next id, the same shape and the same chunks, each with one owner more; a directory needs nothing
+abbrev pub with_node_shared : TableState → Node → TableState
+with_node_shared s Dir = s
+with_node_shared s (File id) = with_shared s id
+
+abbrev pub with_all_shared : TableState → List (Path × Node) → TableState
+with_all_shared s [] = s
+with_all_shared s (e ∷ rest) = with_all_shared (with_node_shared s e.1) rest
+
+abbrev pub may_share : TableState → Node → Bool
+may_share s Dir = true
+may_share s (File id) = is_none (share_refusal s id)
+
+-- each copied file can be shared after those before it
+abbrev pub may_share_all : TableState → List (Path × Node) → Bool
+may_share_all s [] = true
+may_share_all s (e ∷ rest) = may_share s e.1 && may_share_all (with_node_shared s e.1) rest

@@ -1,12 +1,21 @@
 //! When a chunk is copied before it is written.
 
 ghost use Rattle.std.specs.Prelude.{◌≡◌};
-ghost use Rattle.snapshot.specs.Copies.{copy_of_chunk, record_of};
+ghost use Rattle.snapshot.specs.CopyPlans.{copy_of_chunk};
 
-use crate::plan::CopyPlan;
 use chunk_table::table::Table;
 use gfs_types::ids::{FileId, Handle, Version};
-use log_records::record::Record;
+
+/// The copy of a shared chunk: a file's chunk of this index gets the handle `copy`, whose first version is this one; the replicas of
+/// `source` are copied.
+#[derive(Clone, Copy, Debug, PartialEq, Eq)]
+pub struct CopyPlan {
+    pub file: FileId,
+    pub index: u64,
+    pub source: Handle,
+    pub copy: Handle,
+    pub version: Version,
+}
 
 /// The copy that a write to a file's chunk of that index needs first, where another file owns the chunk too: under the next handle,
 /// with the version that follows the last that was issued. None: the file has no such chunk, or is its only owner. Takes no memory.
@@ -17,11 +26,10 @@ pub fn copy_plan(table: &Table, file: FileId, index: u64) -> Option<CopyPlan>
     let Some(handles) = table.file(file) else {
         return None;
     };
-    let handles = handles.as_slice();
-    if index >= handles.len() as u64 {
+    let Some(source) = handles.as_slice().get(index as usize) else {
         return None;
-    }
-    let source = Handle(handles[index as usize]);
+    };
+    let source = Handle(*source);
     let Some(chunk) = table.chunk(source) else {
         return None;
     };
@@ -35,17 +43,4 @@ pub fn copy_plan(table: &Table, file: FileId, index: u64) -> Option<CopyPlan>
         copy: table.next_handle(),
         version: Version(chunk.issued().0 + 1),
     })
-}
-
-/// The record that is logged before the copy is ordered.
-pub fn record(plan: CopyPlan) -> Record
-    ensures { result ≡ record_of plan }
-{
-    Record::CopyStart {
-        file: plan.file,
-        index: plan.index,
-        handle: plan.source,
-        copy: plan.copy,
-        copy_version: plan.version,
-    }
 }

@@ -1,20 +1,34 @@
--- Which files a master collects at a tick (section 4.4).
-use Rattle.std.specs.Prelude.{◌≡◌, ℕ, ◌-◌, Bool, ◌&&◌, nat_le, if◌then◌else◌, List, map, take, Option, Some, None}
+-- Which hidden files are collected (section 4.4).
+use Rattle.std.specs.Prelude.{ℕ, ◌+◌, ◌-◌, ◌*◌, Bool, ◌&&◌, nat_le, if◌then◌else◌, List, [], ◌∷◌, map, take, Option, Some, None}
+use Rattle.std.specs.Str.{byte}
 use Rattle.gfs_types.specs.declared.ids.FileId.{FileId}
+use Rattle.gfs_types.specs.Paths.{trash}
 use Rattle.relaxed_file.specs.Names.{Names, Node, Dir, File}
-use Rattle.protocol.specs.Sending.{file_id}
-use Rattle.protocol.specs.Master.{MasterState}
-use Rattle.protocol.specs.MasterStep.{number_from, expired_files}
+use Rattle.path_trie.specs.Below.{children_by_part}
 
+-- the number that digits in base ten write, behind one that stands before them
+abbrev pub number_from : ℕ → List ℕ → ℕ
+number_from before [] = before
+number_from before (c ∷ rest) = number_from (before * 10 + (c - byte "0")) rest
+
+-- a moment is so long ago
 abbrev pub is_kept_long : ℕ → ℕ → ℕ → Bool
 is_kept_long now keep_ms moment = nat_le moment now && nat_le keep_ms (now - moment)
 
--- a file under a hidden name's last part, where it was kept long enough
-abbrev pub old_at : ℕ → ℕ → List ℕ → Node → Option ℕ
-old_at now keep_ms part Dir = None
-old_at now keep_ms part (File id) = if is_kept_long now keep_ms (number_from 0 (take 20 part)) then Some id else None
+abbrev pub file_id : ℕ → FileId
+file_id n = record { 0 = n }
 
--- a master with these names, this moment and this setting collects these files
-abbrev pub AreExpired : Names → ℕ → ℕ → List FileId → Type 0
-AreExpired names now keep_ms files =
-    (m : MasterState) → m.logged.names ≡ names → m.now ≡ now → m.config.keep_ms ≡ keep_ms → files ≡ map file_id (expired_files m)
+-- the file under a hidden name's last part, which begins with the moment in 20 digits, where it was kept long enough
+abbrev pub old_at : ℕ → ℕ → List ℕ → Node → Option FileId
+old_at now keep_ms part Dir = None
+old_at now keep_ms part (File id) = if is_kept_long now keep_ms (number_from 0 (take 20 part)) then Some (file_id id) else None
+
+-- those before the first that there is not
+abbrev pub before_none : {X : Type 0} → List (Option X) → List X
+before_none [] = []
+before_none (None ∷ rest) = []
+before_none (Some x ∷ rest) = x ∷ before_none rest
+
+-- the hidden files that were kept long enough, in the order of their names, up to the first that stays
+abbrev pub expired_files : Names → ℕ → ℕ → List FileId
+expired_files names now keep_ms = before_none (map (λ c. old_at now keep_ms c.0 c.1) (children_by_part names trash))

@@ -1,17 +1,15 @@
 //! Files that were deleted long ago.
 
-ghost use Rattle.std.specs.Prelude.{◌≡◌, ◌&&◌, ◌+◌, ◌-◌, ◌*◌, ◌≤◌, ◌^◌, ℕ, nat_le, map, take, IfOk, MatchOption, option_map};
+ghost use Rattle.std.specs.Prelude.{◌≡◌, ◌+◌, ◌-◌, ◌*◌, ◌≤◌, ◌^◌, map, take, IfOk, MatchOption};
 ghost use Rattle.std.specs.Str.{byte};
 ghost use Rattle.gfs_types.specs.Paths.{trash};
-ghost use Rattle.protocol.specs.Sending.{file_id};
-ghost use Rattle.protocol.specs.MasterStep.{before_none, number_from};
-ghost use Rattle.stale_collect.specs.Expiry.{AreExpired, old_at, is_kept_long};
+ghost use Rattle.stale_collect.specs.Expiry.{before_none, expired_files, is_kept_long, number_from, old_at};
 
 use gfs_types::ids::{FileId, Moment};
 use gfs_types::no_memory::NoMemory;
 use gfs_types::path::{Path, PathFault};
-use master_state::name_kind::NameKind;
-use master_state::node::{NameNode, Namespace};
+use namespace::name_kind::NameKind;
+use namespace::node::{NameNode, Namespace};
 use path_trie::child::Child;
 use std::alloc::{Allocator, Global};
 
@@ -23,7 +21,7 @@ pub fn expired<A: Allocator + Clone>(
     now: Moment,
     keep_ms: u64,
 ) -> Result<Vec<FileId>, NoMemory>
-    ensures { IfOk result (λ files. AreExpired names.now now.0 keep_ms files.items) }
+    ensures { IfOk result (λ files. files.items ≡ expired_files names.now now.0 keep_ms) }
 {
     let trash = trash(alloc)?;
     let children = names.children(alloc, &trash)?;
@@ -42,7 +40,7 @@ fn old_files(
     now: Moment,
     keep_ms: u64,
 ) -> Result<Vec<FileId>, NoMemory>
-    ensures { IfOk result (λ files. files.items ≡ before_none (map (λ child. option_map file_id (old_at now.0 keep_ms child.0 child.1)) children.now)) }
+    ensures { IfOk result (λ files. files.items ≡ before_none (map (λ child. old_at now.0 keep_ms child.0 child.1) children.now)) }
 {
     let mut files = Vec::new(alloc);
     for child in children {
@@ -55,7 +53,7 @@ fn old_files(
 }
 
 fn old_file(child: &Child<'_, NameNode>, now: Moment, keep_ms: u64) -> Option<FileId>
-    ensures { result ≡ option_map file_id (old_at now.0 keep_ms child.now.0 child.now.1) }
+    ensures { result ≡ old_at now.0 keep_ms child.now.0 child.now.1 }
 {
     match child.value().kind() {
         NameKind::File(file) if is_old(child.name(), now, keep_ms) => Some(file),

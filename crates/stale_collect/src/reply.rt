@@ -2,8 +2,7 @@
 
 ghost use Rattle.std.specs.Prelude.{◌≡◌, IfOk};
 ghost use Rattle.chunk_table.specs.ChunkTable.{chunk_of};
-ghost use Rattle.protocol.specs.MasterReports.{is_useless};
-ghost use Rattle.stale_collect.specs.Drops.{useless_drops, Answers};
+ghost use Rattle.stale_collect.specs.Drops.{is_useless, useless_drops};
 
 use crate::drop_order::DropOrder;
 use chunk_table::table::Table;
@@ -18,8 +17,7 @@ pub fn reply(
     report: &[ReplicaLine],
     table: &Table,
 ) -> Result<Vec<DropOrder>, NoMemory>
-    ensures drops { IfOk result (λ drops. drops.items ≡ useless_drops table.now.table report.now) }
-    ensures answers { IfOk result (λ drops. Answers table.now.table report.now drops.items) }
+    ensures { IfOk result (λ drops. drops.items ≡ useless_drops table.now.table report.now) }
 {
     let mut drops = Vec::new(alloc);
     for line in report {

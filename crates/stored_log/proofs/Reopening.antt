@@ -4,11 +4,13 @@ use Rattle.disk.specs.Device.{Follows}
 use Rattle.oplog.specs.Areas.{AreaState, AreaSays}
 use Rattle.oplog.proofs.Areas.{area_unique}
 use Rattle.oplog.specs.Disks.{area_of, is_formatted, HasLog}
+use Rattle.oplog.specs.Formats.{is_format_2}
 use Rattle.log_records.specs.declared.record.Record.{Record}
 use Rattle.oplog.specs.NewLogs.{IsLogOf}
 use Rattle.oplog.specs.Reopening.{IsAmong, IsReopened}
 use Rattle.oplog.proofs.NewestArea.{current_is, only_area}
-use Rattle.oplog.proofs.Whole.{front_formatted, opened_log}
+use Rattle.oplog.proofs.SecondGate.{log_of_format_2, opened_log}
+use Rattle.oplog.proofs.Whole.{front_formatted}
 use Rattle.operation_log.specs.Logs.{IsDecided}
 use Rattle.protocol.specs.Logged.{LogDisk}
 use Rattle.stored_log.specs.declared.standing.LogStanding.{LogStanding}
@@ -36,9 +38,17 @@ kept_formatted items records Unread d log = log_formatted items records d log
 kept_formatted items records (Appending entry) d log = ⊎_elim (log_formatted items records d) (log_formatted items (records ++ entry ∷ []) d) log
 kept_formatted items records (Checkpointing written) d log = ⊎_elim (log_formatted items records d) (log_formatted written [] d) log
 
+-- what is kept is a log of format 2
+kept_format_2 : (items records : List Record) (standing : LogStanding) (d : List ℕ) → HasKept items records standing d → is_format_2 d ≡ true
+kept_format_2 items records Open d log = log_of_format_2 items records d log
+kept_format_2 items records Unread d log = log_of_format_2 items records d log
+kept_format_2 items records (Appending entry) d log = ⊎_elim (log_of_format_2 items records d) (log_of_format_2 items (records ++ entry ∷ []) d) log
+kept_format_2 items records (Checkpointing written) d log = ⊎_elim (log_of_format_2 items records d) (log_of_format_2 written [] d) log
+
 reopened : (items records : List Record) (standing : LogStanding) (d c : List ℕ) → HasKept items records standing d → IsReopened d c → HasKept items records standing c
 reopened items records standing d c kept (inl same) = subst (HasKept items records standing) (sym same) kept
-reopened items records standing d c kept (inr new) = let both : true ≡ false = sym (kept_formatted items records standing d kept) ∙ new.0 in absurd cc
+reopened items records standing d c kept (inr (inl new)) = let both : true ≡ false = sym (kept_formatted items records standing d kept) ∙ new.0 in absurd cc
+reopened items records standing d c kept (inr (inr upgrading)) = let both : true ≡ false = sym (kept_format_2 items records standing d kept) ∙ upgrading.was.closed in absurd cc
 
 -- a log that is begun anew has what it had
 pub reopened_leaves : {D : Type 0} (may_leave : D → List ℕ → Type 0) (old new : D) (items records : List Record) (standing : LogStanding) → Follows IsReopened (may_leave old) (may_leave new)
@@ -50,7 +60,7 @@ reopened_leaves may_leave old new items records standing follows kept c left =
 -- the log that is found, among two
 log_found : (items records found_items found_records : List Record) (d : List ℕ) → 4096 ≤ length d → IsLogOf found_items found_records d → HasLog items records d → log_of found_items found_records ≡ log_of items records
 log_found items records found_items found_records d large found log =
-    logs_unique items records found_items found_records d large log (opened_log found_items found_records d (log_formatted items records d log) found)
+    logs_unique items records found_items found_records d large log (opened_log found_items found_records d (log_formatted items records d log) (log_of_format_2 items records d log) found)
 
 decided : (items records found_items found_records : List Record) (standing : LogStanding) (d : List ℕ) → 4096 ≤ length d → IsLogOf found_items found_records d → HasKept items records (closed standing) d
     → IsDecided (log_of items records) (changes_of standing) (log_of found_items found_records)

@@ -1,5 +1,5 @@
 -- How many bytes a log takes of its area.
-use Rattle.std.proofs.Common.{◌≡◌, ℕ, ◌+◌, ◌<◌, List, [], ◌∷◌, ◌++◌, length, length-append, sym, ap, ◌∙◌, arith}
+use Rattle.std.proofs.Common.{◌≡◌, ℕ, ◌+◌, ◌<◌, List, [], ◌∷◌, ◌++◌, length, length-append, None, Some, sym, ap, ◌∙◌, arith}
 use Rattle.std.specs.List.{sum_by}
 use Rattle.std.proofs.lemmas.List.Sums.{sum_by-cons}
 use Rattle.log_records.specs.declared.record.Record.{Record}
@@ -17,7 +17,8 @@ payload_is : (r : Record) → payload_size r ≡ length (payload r)
 payload_is (log.Epoch epoch) = payload_len (log.Epoch epoch)
 payload_is (log.Mkdir client n path) = payload_len (log.Mkdir client n path)
 payload_is (log.Rmdir client n path) = payload_len (log.Rmdir client n path)
-payload_is (log.Create client n file path) = payload_len (log.Create client n file path)
+payload_is (log.Create client n file None path) = payload_len (log.Create client n file None path)
+payload_is (log.Create client n file (Some shape) path) = payload_len (log.Create client n file (Some shape) path)
 payload_is (log.Delete client n moment path) = payload_len (log.Delete client n moment path)
 payload_is (log.Rename client n from to) = payload_len (log.Rename client n from to)
 payload_is (log.Snapshot client n from to) = payload_len (log.Snapshot client n from to)
@@ -29,7 +30,8 @@ payload_is (log.Grant handle version primary members) = payload_len (log.Grant h
 payload_is (log.CopyStart file index handle copy copy_version) = payload_len (log.CopyStart file index handle copy copy_version)
 payload_is (log.Counters next_file next_handle epoch) = payload_len (log.Counters next_file next_handle epoch)
 payload_is (log.DirItem path) = payload_len (log.DirItem path)
-payload_is (log.FileItem path file handles) = payload_len (log.FileItem path file handles)
+payload_is (log.FileItem path file None handles) = payload_len (log.FileItem path file None handles)
+payload_is (log.FileItem path file (Some shape) handles) = payload_len (log.FileItem path file (Some shape) handles)
 payload_is (log.ChunkItem handle granted issued primary members) = payload_len (log.ChunkItem handle granted issued primary members)
 payload_is (log.ClientItem client n refusal) = payload_len (log.ClientItem client n refusal)
 

@@ -44,7 +44,14 @@ fn write_data(text: &mut Vec<u8>, name: &str, numbers: &[u64], data: &[u8]) -> i
 pub fn write_call(text: &mut Vec<u8>, call: &Call) -> io::Result<()> {
     match call {
         Call::Mkdir(path) => write_line(text, "mkdir", &[path.as_str()]),
-        Call::Create(path) => write_line(text, "create", &[path.as_str()]),
+        Call::Create(path, None) => write_line(text, "create", &[path.as_str()]),
+        Call::Create(path, Some(shape)) => writeln!(
+            text,
+            "c1 create {} {} {}",
+            path.as_str(),
+            shape.chunk,
+            shape.goal
+        ),
         Call::Open(path) => write_line(text, "open", &[path.as_str()]),
         Call::List(path) => write_line(text, "list", &[path.as_str()]),
         Call::Rmdir(path) => write_line(text, "rmdir", &[path.as_str()]),

@@ -5,6 +5,7 @@ use crate::small::slice_of;
 use bytes::Bytes;
 use gfs_types::answer::Answer;
 use gfs_types::call::Call;
+use gfs_types::config::Config;
 use gfs_types::ids::{Fd, FileId};
 use gfs_types::lists::RoundList;
 use gfs_types::no_memory::NoMemory;
@@ -36,11 +37,11 @@ pub struct PlainCell {
 }
 
 impl PlainCell {
-    pub fn new(alloc: Global, size: u64) -> Result<PlainCell, NoMemory> {
+    pub fn new(alloc: Global, config: Config) -> Result<PlainCell, NoMemory> {
         Ok(PlainCell {
             alloc,
-            size,
-            names: NameTable::new(alloc)?,
+            size: u64::from(config.chunk),
+            names: NameTable::new(alloc, config)?,
             files: Vec::new(alloc),
             opened: Vec::new(alloc),
         })

@@ -75,7 +75,7 @@ fn does_print(alloc: Global, size: u64, script: &[u8], expected: &[u8]) -> bool 
 fn agrees(alloc: Global, seed: u64, counts: &mut Counts) -> bool {
     let mut source = CallSource::new(alloc, seed);
     let size = source.size();
-    let Ok(mut model) = PlainCell::new(alloc, size) else {
+    let Ok(mut model) = PlainCell::new(alloc, options(size).config) else {
         return false;
     };
     let mut script = Vec::new(alloc);

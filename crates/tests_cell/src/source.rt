@@ -5,6 +5,7 @@ use gfs_types::call::Call;
 use gfs_types::ids::Fd;
 use gfs_types::lists::Text;
 use gfs_types::no_memory::NoMemory;
+use gfs_types::shape::Shape;
 use rand::rngs::SmallRng;
 use rand::seq::IndexedRandom;
 use rand::{RngExt, SeedableRng};
@@ -15,6 +16,9 @@ const PATHS: [&str; 7] = ["/f", "/f", "/g", "/a", "/a", "/a/b", "/a/b/c"];
 
 /// Names that are there from the beginning, or that no call makes.
 const ODD_PATHS: [&str; 7] = ["/", "/.gone", "/.gone/x", "/a/", "a", "/x/y", "/a//b"];
+
+/// The chunks of files that are made with a shape.
+const CHUNKS: [u32; 6] = [64, 64, 80, 80, 72, 48];
 
 const DIRECTORIES: [&str; 5] = ["/", "/", "/a", "/a/b", "/f"];
 
@@ -68,7 +72,7 @@ impl CallSource {
     fn first_call(&mut self) -> Result<Call, NoMemory> {
         let path = Text::from_str("/f", self.alloc)?;
         Ok(if self.numbers.random_ratio(60, 100) {
-            Call::Create(path)
+            Call::Create(path, None)
         } else {
             Call::Open(path)
         })
@@ -86,7 +90,10 @@ impl CallSource {
         };
         match self.numbers.random_range(0..14) {
             0..3 => Ok(Call::Mkdir(self.text(path)?)),
-            3..6 => Ok(Call::Create(self.text(path)?)),
+            3..6 => {
+                let shape = self.shape();
+                Ok(Call::Create(self.text(path)?, shape))
+            }
             6..9 => Ok(Call::Open(self.text(path)?)),
             9 => Ok(Call::Rmdir(self.text(path)?)),
             10..12 => self.rename(path),
@@ -95,6 +102,17 @@ impl CallSource {
                 Ok(Call::List(self.text(directory)?))
             }
         }
+    }
+
+    /// None most often; else one of which some fit.
+    fn shape(&mut self) -> Option<Shape> {
+        if self.numbers.random_ratio(70, 100) {
+            return None;
+        }
+        Some(Shape {
+            chunk: CHUNKS.choose(&mut self.numbers).copied().unwrap_or(0),
+            goal: self.numbers.random_range(0..=9),
+        })
     }
 
     fn rename(&mut self, path: &str) -> Result<Call, NoMemory> {

@@ -77,7 +77,7 @@ pub fn open<R: Wait + Clock>(
 /// Makes a file, and tells whether it did.
 pub fn create<R: Wait + Clock>(rt: &R, alloc: Global, seat: &mut ClientSeat, name: &str) -> bool {
     match Text::from_str(name, alloc) {
-        Ok(path) => seat.create(rt, path).is_ok(),
+        Ok(path) => seat.create(rt, path, None).is_ok(),
         Err(_) => false,
     }
 }

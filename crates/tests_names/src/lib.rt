@@ -9,6 +9,8 @@ mod deep;
 mod locks;
 #[cfg(test)]
 mod names;
+#[cfg(test)]
+mod plans;
 pub mod put;
 #[cfg(test)]
 mod random;

@@ -2,6 +2,7 @@
 
 use gfs_types::answer::Answer;
 use gfs_types::call::Call;
+use gfs_types::config::Config;
 use gfs_types::ids::FileId;
 use gfs_types::lists::{NameList, Text};
 use gfs_types::no_memory::NoMemory;
@@ -41,7 +42,7 @@ fn call_of(alloc: Global, step: &Step) -> Result<Call, NoMemory> {
     Ok(match step.0 {
         Word::Mkdir => Call::Mkdir(path),
         Word::Rmdir => Call::Rmdir(path),
-        Word::Create => Call::Create(path),
+        Word::Create => Call::Create(path, None),
         Word::Open => Call::Open(path),
         Word::List => Call::List(path),
         Word::Delete => Call::Delete(path),
@@ -111,7 +112,7 @@ fn first_wrong(
 
 /// The same in a new table, and the number of steps where there is none.
 fn wrong(alloc: Global, steps: &[Step]) -> Result<usize, NoMemory> {
-    let mut table = NameTable::new(alloc)?;
+    let mut table = NameTable::new(alloc, Config::default())?;
     let first = first_wrong(&mut table, alloc, steps);
     drop(table);
     Ok(first?.unwrap_or(steps.len()))

@@ -22,6 +22,8 @@ mod log_faults;
 #[cfg(test)]
 mod log_stops;
 #[cfg(test)]
+mod old_logs;
+#[cfg(test)]
 mod places;
 #[cfg(test)]
 mod plan;

@@ -7,8 +7,8 @@ use oplog::{LogFault, read_range};
 use std::alloc::{AllocError, Global};
 use std::test::Fail;
 
-// The head and its open gate.
-const HEAD: [u8; 16] = [71, 70, 83, 76, 1, 0, 0, 0, 0, 0, 0, 0, 0, 0, 0, 1];
+// The head of format 2, and its open gate.
+const HEAD: [u8; 16] = [71, 70, 83, 76, 1, 1, 0, 0, 0, 0, 0, 0, 0, 0, 0, 1];
 
 // An open area's gate, its number, and the length of a checkpoint with no items.
 const AREA: [u8; 13] = [1, 1, 0, 0, 0, 0, 0, 0, 0, 0, 0, 0, 0];
@@ -16,14 +16,14 @@ const AREA: [u8; 13] = [1, 1, 0, 0, 0, 0, 0, 0, 0, 0, 0, 0, 0];
 // Epoch 1 behind its open gate.
 const EPOCH: [u8; 14] = [1, 9, 0, 0, 0, 1, 1, 0, 0, 0, 0, 0, 0, 0];
 
-// A Create's 34 bytes on the disk: an open gate, the length 29, and the payload.
-const CREATE: [u8; 34] = [
-    1, 29, 0, 0, 0, 4, 1, 0, 0, 0, 0, 0, 0, 0, 1, 0, 0, 0, 0, 0, 0, 0, 1, 0, 0, 0, 0, 0, 0, 0, 2,
-    0, 47, 97,
+// A Create's 39 bytes on the disk: an open gate, the length 34, and the payload.
+const CREATE: [u8; 39] = [
+    1, 34, 0, 0, 0, 15, 1, 0, 0, 0, 0, 0, 0, 0, 1, 0, 0, 0, 0, 0, 0, 0, 1, 0, 0, 0, 0, 0, 0, 0, 64,
+    0, 0, 0, 2, 2, 0, 47, 97,
 ];
 
-// Whether these bytes stand on the disk at this place.
-fn holds<D: Disk>(disk: &mut D, alloc: Global, place: usize, wanted: &[u8]) -> bool {
+/// Whether these bytes stand on the disk at this place.
+pub(crate) fn holds<D: Disk>(disk: &mut D, alloc: Global, place: usize, wanted: &[u8]) -> bool {
     let size = disk.size();
     if place > size || wanted.len() > size - place {
         return false;
@@ -40,7 +40,7 @@ fn are_in_place<D: Disk>(disk: &mut D, alloc: Global) -> bool {
         && holds(disk, alloc, 16, &AREA)
         && holds(disk, alloc, 29, &EPOCH)
         && holds(disk, alloc, 43, &CREATE)
-        && holds(disk, alloc, 77, &[0])
+        && holds(disk, alloc, 82, &[0])
         && holds(disk, alloc, 2_048, &[0])
 }
 
@@ -100,6 +100,6 @@ fn records_lie_in_their_places(rt: HostRuntime) -> Result<(), Fail> {
     let filled = filled_with(alloc, &record);
     drop(record);
     assert!(rt; are_appended?);
-    assert!(rt; filled? == Some(59), "so many Creates fit");
+    assert!(rt; filled? == Some(51), "so many Creates fit");
     Ok(())
 }

@@ -4,6 +4,7 @@ use disk::Disk;
 use gfs_types::ids::{ClientId, FileId};
 use gfs_types::lists::Text;
 use gfs_types::no_memory::NoMemory;
+use gfs_types::shape::Shape;
 use gfs_types::torn::Torn;
 use log_codec::{is_item, is_writable};
 use log_records::record::Record;
@@ -28,12 +29,13 @@ pub(crate) struct Ran {
     pub(crate) fault: Option<LogFault>,
 }
 
-/// A Create by client 1, its call 1, of file 1, with the path `/a`.
+/// A Create by client 1, its call 1, of file 1, with chunks of 64 bytes and a goal of 2, and the path `/a`.
 pub(crate) fn create(alloc: Global) -> Result<Record, NoMemory> {
     Ok(Record::Create {
         client: ClientId(1),
         call: 1,
         file: FileId(1),
+        shape: Some(Shape { chunk: 64, goal: 2 }),
         path: Text::from_str("/a", alloc)?,
     })
 }

@@ -33,7 +33,7 @@ pub(crate) struct Made {
     pub(crate) fault: Option<LogFault>,
 }
 
-fn counters(next: u64) -> Record {
+pub(crate) fn counters(next: u64) -> Record {
     Record::Counters {
         next_file: FileId(next),
         next_handle: Handle(next),
@@ -47,7 +47,7 @@ fn root(alloc: Global) -> Result<Record, NoMemory> {
     })
 }
 
-fn only(alloc: Global, record: Record) -> Result<Vec<Record>, NoMemory> {
+pub(crate) fn only(alloc: Global, record: Record) -> Result<Vec<Record>, NoMemory> {
     let mut all = Vec::new(alloc);
     all.push(record)?;
     Ok(all)
@@ -125,7 +125,11 @@ fn are_writable(items: &[Record]) -> bool
     }
 }
 
-fn write_items<D: Disk>(log: &mut Log<D>, alloc: Global, items: &[Record]) -> Result<(), LogFault>
+pub(crate) fn write_items<D: Disk>(
+    log: &mut Log<D>,
+    alloc: Global,
+    items: &[Record],
+) -> Result<(), LogFault>
     requires { log.old.is_open ≡ true }
     ensures { OnOk result (log.new.is_open ≡ true) }
 {

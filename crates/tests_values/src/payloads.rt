@@ -6,6 +6,7 @@ ghost use Rattle.log_codec.specs.declared.fault.DecodeFault.TheVariants.{Damaged
 
 use crate::samples::{client_item, copy_start, create, file_item, grant};
 use gfs_types::refusal::Refusal;
+use gfs_types::shape::Shape;
 use log_codec::{DecodeFault, decode, encode, is_writable};
 use log_records::record::Record;
 use std::alloc::Global;
@@ -14,6 +15,12 @@ use std::test::Fail;
 // 29 bytes; with a gate and a length before it they are the 34 of the disk.
 const CREATE: [u8; 29] = [
     4, 1, 0, 0, 0, 0, 0, 0, 0, 1, 0, 0, 0, 0, 0, 0, 0, 1, 0, 0, 0, 0, 0, 0, 0, 2, 0, 0x2f, 0x61,
+];
+
+// The same of a file with a shape: 34 bytes, the 39 of the disk.
+const SHAPED_CREATE: [u8; 34] = [
+    15, 1, 0, 0, 0, 0, 0, 0, 0, 1, 0, 0, 0, 0, 0, 0, 0, 1, 0, 0, 0, 0, 0, 0, 0, 64, 0, 0, 0, 2, 2,
+    0, 0x2f, 0x61,
 ];
 
 const COPY_START: [u8; 37] = [
@@ -29,6 +36,14 @@ const FILE: [u8; 33] = [
     22, 2, 0, 0x2f, 0x66, 3, 0, 0, 0, 0, 0, 0, 0, 2, 0, 0, 0, 7, 0, 0, 0, 0, 0, 0, 0, 8, 0, 0, 0,
     0, 0, 0, 0,
 ];
+
+const SHAPED_FILE: [u8; 38] = [
+    25, 2, 0, 0x2f, 0x66, 3, 0, 0, 0, 0, 0, 0, 0, 64, 0, 0, 0, 2, 2, 0, 0, 0, 7, 0, 0, 0, 0, 0, 0,
+    0, 8, 0, 0, 0, 0, 0, 0, 0,
+];
+
+// Chunks of 64 bytes, and two replicas of each.
+const SMALL: Shape = Shape { chunk: 64, goal: 2 };
 
 /// The item of client 1, whose call 9 was answered so.
 fn answered(outcome: u8) -> [u8; 18] {
@@ -77,6 +92,24 @@ fn is_written(alloc: Global, record: Record, wanted: &[u8]) -> bool {
     is_written
 }
 
+/// Whether what is read of a record's bytes is that record, which is then let go.
+fn is_read_again(alloc: Global, record: Record) -> bool {
+    let is_read = is_writable(&record) && is_same(&record, again(alloc, &record));
+    drop(record);
+    is_read
+}
+
+fn is_same(record: &Record, read: Result<Record, DecodeFault>) -> bool {
+    match read {
+        Ok(found) => {
+            let is_same = found == *record;
+            drop(found);
+            is_same
+        }
+        Err(_) => false,
+    }
+}
+
 /// Whether these are no record's bytes.
 fn are_damaged(alloc: Global, bytes: &[u8]) -> bool {
     match decode(alloc, bytes) {
@@ -90,9 +123,27 @@ fn are_damaged(alloc: Global, bytes: &[u8]) -> bool {
 
 #[test]
 fn texts_and_lists_have_their_length_first(rt: HostRuntime) -> Result<(), Fail> {
-    assert!(rt; is_written(rt.alloc(), create(rt.alloc())?, &CREATE));
+    assert!(rt; is_written(rt.alloc(), create(rt.alloc(), None)?, &CREATE));
     assert!(rt; is_written(rt.alloc(), grant(rt.alloc())?, &GRANT));
-    assert!(rt; is_written(rt.alloc(), file_item(rt.alloc())?, &FILE));
+    assert!(rt; is_written(rt.alloc(), file_item(rt.alloc(), None)?, &FILE));
+    Ok(())
+}
+
+#[test]
+fn a_shape_stands_before_what_has_a_length(rt: HostRuntime) -> Result<(), Fail> {
+    let record = create(rt.alloc(), Some(SMALL))?;
+    assert!(rt; is_written(rt.alloc(), record, &SHAPED_CREATE));
+    let item = file_item(rt.alloc(), Some(SMALL))?;
+    assert!(rt; is_written(rt.alloc(), item, &SHAPED_FILE));
+    Ok(())
+}
+
+#[test]
+fn a_shape_of_any_bytes_is_read(rt: HostRuntime) -> Result<(), Fail> {
+    for (chunk, goal) in [(0, 0), (1, 9), (u32::MAX, u8::MAX)] {
+        let record = create(rt.alloc(), Some(Shape { chunk, goal }))?;
+        assert!(rt; is_read_again(rt.alloc(), record), "{chunk} {goal}");
+    }
     Ok(())
 }
 
@@ -119,19 +170,23 @@ fn outcomes(rt: HostRuntime) {
 
 #[test]
 fn other_bytes_are_damaged(rt: HostRuntime) {
-    let others: [&[u8]; 9] = [
+    let others: [&[u8]; 12] = [
         &[],
         // tags
         &[0],
         &[14, 0, 0, 0, 0, 0, 0, 0, 0],
-        &[25, 0, 0, 0, 0, 0, 0, 0, 0],
+        &[16, 0, 0, 0, 0, 0, 0, 0, 0],
+        &[26, 0, 0, 0, 0, 0, 0, 0, 0],
+        // records that tell a shape, cut short
+        &SHAPED_CREATE[..30],
+        &SHAPED_FILE[..18],
         // no path, a path that ends in a slash, text that isn't UTF-8
         &[21, 0, 0],
         &[21, 3, 0, 0x2f, 0x61, 0x2f],
         &[21, 2, 0, 0x2f, 0xff],
         // numbers of no refusal
         &[8, 1, 0, 0, 0, 0, 0, 0, 0, 9, 0, 0, 0, 0, 0, 0, 0, 0],
-        &[24, 1, 0, 0, 0, 0, 0, 0, 0, 9, 0, 0, 0, 0, 0, 0, 0, 22],
+        &[24, 1, 0, 0, 0, 0, 0, 0, 0, 9, 0, 0, 0, 0, 0, 0, 0, 23],
     ];
     for bytes in others {
         assert!(rt; are_damaged(rt.alloc(), bytes));

@@ -4,6 +4,7 @@ use gfs_types::ids::{ClientId, FileId, Handle, ServerId, Version};
 use gfs_types::lists::{HandleList, ServerList, Text};
 use gfs_types::no_memory::NoMemory;
 use gfs_types::refusal::Refusal;
+use gfs_types::shape::Shape;
 use log_records::record::Record;
 use std::alloc::Global;
 
@@ -26,11 +27,12 @@ pub(crate) fn two_handles(alloc: Global) -> Result<HandleList, NoMemory> {
 }
 
 /// A Create by client 1, its call 1, of file 1, with the path `/a`.
-pub(crate) fn create(alloc: Global) -> Result<Record, NoMemory> {
+pub(crate) fn create(alloc: Global, shape: Option<Shape>) -> Result<Record, NoMemory> {
     Ok(Record::Create {
         client: ClientId(1),
         call: 1,
         file: FileId(1),
+        shape,
         path: text_of(alloc, "/a")?,
     })
 }
@@ -54,10 +56,11 @@ pub(crate) fn copy_start() -> Record {
     }
 }
 
-pub(crate) fn file_item(alloc: Global) -> Result<Record, NoMemory> {
+pub(crate) fn file_item(alloc: Global, shape: Option<Shape>) -> Result<Record, NoMemory> {
     Ok(Record::FileItem {
         path: text_of(alloc, "/f")?,
         file: FileId(3),
+        shape,
         handles: two_handles(alloc)?,
     })
 }

@@ -1,9 +1,10 @@
-//! Paths, refusals, and what is printed.
+//! Paths, shapes, refusals, and what is printed.
 
-use gfs_types::config::ConfigFault;
+use gfs_types::config::{Config, ConfigFault};
 use gfs_types::no_memory::NoMemory;
 use gfs_types::path::{Path, PathFault};
 use gfs_types::refusal::Refusal;
+use gfs_types::shape::Shape;
 use std::alloc::Global;
 use std::test::Fail;
 
@@ -70,9 +71,37 @@ fn a_path_ends_at_its_bounds(rt: HostRuntime) -> Result<(), Fail> {
     Ok(())
 }
 
+// shapes
+
+fn fits(config: &Config, chunk: u32, goal: u8) -> bool {
+    config.block >= 1 && Shape { chunk, goal }.fits(config)
+}
+
+#[test]
+fn a_shape_fits_within_its_bounds(rt: HostRuntime) {
+    let mut config = Config::default();
+    config.chunk = 128;
+    config.block = 16;
+    for (chunk, goal) in [(128, 1), (128, 8)] {
+        assert!(rt; fits(&config, chunk, goal), "{chunk} {goal}");
+    }
+    // a file has the settings' chunk
+    for chunk in [0, 48, 63, 64, 72, 112, 127, 129, 144, 256, 4_294_967_295] {
+        assert!(rt; !fits(&config, chunk, 1), "{chunk}");
+    }
+    for goal in [0, 9, 255] {
+        assert!(rt; !fits(&config, 128, goal), "{goal}");
+    }
+    // it is at least 64, and made of whole blocks, whatever the settings are
+    config.chunk = 48;
+    assert!(rt; !fits(&config, 48, 1));
+    config.chunk = 72;
+    assert!(rt; !fits(&config, 72, 1));
+}
+
 // refusals
 
-const CLIENT_REFUSALS: [(Refusal, u8, &str); 21] = [
+const CLIENT_REFUSALS: [(Refusal, u8, &str); 22] = [
     (Refusal::BadPath, 1, "BadPath"),
     (Refusal::NoParent, 2, "NoParent"),
     (Refusal::Exists, 3, "Exists"),
@@ -94,6 +123,7 @@ const CLIENT_REFUSALS: [(Refusal, u8, &str); 21] = [
     (Refusal::ClockBroken, 19, "ClockBroken"),
     (Refusal::JournalFull, 20, "JournalFull"),
     (Refusal::Closed, 21, "Closed"),
+    (Refusal::BadSize, 22, "BadSize"),
 ];
 
 const SERVER_REFUSALS: [(Refusal, u8, &str); 12] = [

@@ -11,10 +11,10 @@ loop-handle-preserved c =
     let i = c.loop-handle.handle-index in
     let lt : i < length hs = omega arith in
     record {
-      owned = ap (λ m. with_owned m (drop (i + 1) hs)) c.in_ok-own_at.ensures ∙ sym (at_drop_more (with_owned c.loop-handle.chunks) hs i 0 lt) ∙ c.loop-handle.invariant.owned;
+      owned = ap (λ m. with_owned c.args.shape m (drop (i + 1) hs)) c.in_ok-own_at.ensures ∙ sym (at_drop_more (with_owned c.args.shape c.loop-handle.chunks) hs i 0 lt) ∙ c.loop-handle.invariant.owned;
       room = λ q. (
           let e = ap (λ m. references_at m q) c.in_ok-own_at.ensures in
-          let up = references_owned_le c.loop-handle.chunks (get_or hs i 0) q in
+          let up = references_owned_le c.args.shape c.loop-handle.chunks (get_or hs i 0) q in
           let r = c.loop-handle.invariant.room q in
           omega arith);
     }

@@ -6,6 +6,6 @@ use Rattle.chunk_table.proofs.chunks.own_each.Given as goal
 
 abbrev pub invariant-loop-handle : goal.invariant-loop-handle
 invariant-loop-handle l = record {
-  owned : with_owned l.chunks (drop l.handle-index l.handles) ≡ with_owned l.fn.chunks l.handles;
+  owned : with_owned l.shape l.chunks (drop l.handle-index l.handles) ≡ with_owned l.shape l.fn.chunks l.handles;
   room : (q : ℕ) → references_at l.chunks q + (length l.handles - l.handle-index) ≤ counter_limit;
 }

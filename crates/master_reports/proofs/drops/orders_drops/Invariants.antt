@@ -1,6 +1,6 @@
 use Rattle.std.proofs.Common.{◌≡◌, drop}
 use Rattle.protocol.specs.Logged.{LogDisk}
-use Rattle.stale_collect.specs.Drops.{orders_drops}
+use Rattle.master_reports.specs.Drops.{orders_drops}
 use Rattle.master_plan.specs.Plans.{doing}
 use Rattle.master_reports.proofs.drops.orders_drops.Given as goal
 

@@ -1,5 +1,5 @@
 use Rattle.std.proofs.Common.{arith}
-use Rattle.stale_collect.proofs.HiddenNames.{past_all}
+use Rattle.stale_collect.proofs.Digits.{past_all}
 use Rattle.stale_collect.proofs.expired.number_in.Goals as goal
 
 pub returns-in_default : goal.returns-in_default

@@ -1,5 +1,5 @@
 use Rattle.std.proofs.Common.{◌≡◌, drop}
-use Rattle.protocol.specs.MasterStep.{number_from}
+use Rattle.stale_collect.specs.Expiry.{number_from}
 use Rattle.stale_collect.proofs.expired.number_in.Given as goal
 
 abbrev pub invariant-loop-digit : goal.invariant-loop-digit

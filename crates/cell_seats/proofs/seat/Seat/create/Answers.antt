@@ -6,7 +6,7 @@ use Rattle.cell_seats.proofs.Sitting.{answers, fails}
 use Rattle.cell_seats.proofs.seat.Seat.create.Goals as goal
 
 pub returns-clause-ok : goal.returns-clause-ok
-returns-clause-ok g c = answers c.call.result c.done_in.result _ _ (call.Create c.args.path) (λ _. answer.Done) c.call.ensures.ok c.done_in.ensures.ok
+returns-clause-ok g c = answers c.call.result c.done_in.result _ _ (call.Create c.args.path c.args.shape) (λ _. answer.Done) c.call.ensures.ok c.done_in.ensures.ok
 
 pub returns-clause-err : goal.returns-clause-err
-returns-clause-err g c = fails is_done c.call.result c.done_in.result _ _ (call.Create c.args.path) refl c.call.ensures.ok c.call.ensures.err c.done_in.ensures.err
+returns-clause-err g c = fails is_done c.call.result c.done_in.result _ _ (call.Create c.args.path c.args.shape) refl c.call.ensures.ok c.call.ensures.err c.done_in.ensures.err

@@ -6,11 +6,11 @@ use Rattle.chunk_table.proofs.table.Table.drop_file.Goals as goal
 pub overflow_sub-self : goal.overflow_sub-self
 overflow_sub-self c =
     let t = c.self.inside in
-    let le = dropped_le t.files t.chunks t.next_file t.next_handle t.owners c.self.invariant c.args.file.0 c.in-Some.handles (sym c.in-Some.ensures.value) in
+    let le = dropped_le t.files t.shapes t.chunks t.next_file t.next_handle t.owners c.self.invariant c.args.file.0 c.in-Some.handles (sym c.in-Some.ensures.value) in
     omega (arith, c.len.ensures)
 
 pub invariant_of-self-2 : goal.invariant_of-self-2
 invariant_of-self-2 c =
     let t = c.self.inside in
-    along c.remove.ensures.rest (c.leave_each.ensures ∙ ap (leave_all t.chunks) c.as_slice.ensures) (omega (arith, c.len.ensures))
-    (holds_dropped t.files t.chunks t.next_file t.next_handle t.owners c.self.invariant c.args.file.0 c.in-Some.handles (sym c.in-Some.ensures.value))
+    along c.remove.ensures.rest c.remove-2.ensures.rest (c.leave_each.ensures ∙ ap (leave_all t.chunks) c.as_slice.ensures) (omega (arith, c.len.ensures))
+    (holds_dropped t.files t.shapes t.chunks t.next_file t.next_handle t.owners c.self.invariant c.args.file.0 c.in-Some.handles (sym c.in-Some.ensures.value))

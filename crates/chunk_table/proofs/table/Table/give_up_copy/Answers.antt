@@ -5,5 +5,5 @@ use Rattle.chunk_table.proofs.table.Table.give_up_copy.Goals as goal
 pub invariant_of-self : goal.invariant_of-self
 invariant_of-self c =
     let t = c.self.inside in
-    along refl c.remove.ensures.rest refl
-    (holds_copy_removed t.files t.chunks t.next_file t.next_handle t.owners c.self.invariant c.args.copy.0 c.in-Some.chunk.now (sym c.in-Some.ensures) (omega (arith, c.references.ensures)))
+    along refl refl c.remove.ensures.rest refl
+    (holds_copy_removed t.files t.shapes t.chunks t.next_file t.next_handle t.owners c.self.invariant c.args.copy.0 c.in-Some.chunk.now (sym c.in-Some.ensures) (omega (arith, c.references.ensures)))

@@ -5,5 +5,5 @@ use Rattle.chunk_table.proofs.table.Table.grant.Goals as goal
 pub invariant_of-self : goal.invariant_of-self
 invariant_of-self c =
     let t = c.self.inside in
-    along refl c.grant_at.ensures refl
-    (holds_granted t.files t.chunks t.next_file t.next_handle t.owners c.self.invariant c.args.handle.0 c.in-Some.chunk.now c.args.version.0 c.args.primary.0 c.args.members c.in-Some.ensures (search rules))
+    along refl refl c.grant_at.ensures refl
+    (holds_granted t.files t.shapes t.chunks t.next_file t.next_handle t.owners c.self.invariant c.args.handle.0 c.in-Some.chunk.now c.args.version.0 c.args.primary.0 c.args.members c.in-Some.ensures (search rules))

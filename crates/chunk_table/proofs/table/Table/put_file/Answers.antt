@@ -6,6 +6,7 @@ use Rattle.chunk_table.specs.ChunkTable.{with_owned}
 use Rattle.chunk_table.specs.Owners.{references_at}
 use Rattle.chunk_table.specs.Refusals.{is_given}
 use Rattle.chunk_table.proofs.Sound.{along, room_to_share}
+use Rattle.chunk_table.proofs.Shaped.{none_there}
 use Rattle.chunk_table.proofs.Owning.{holds_file_put}
 use Rattle.chunk_table.proofs.table.Table.put_file.Goals as goal
 
@@ -17,7 +18,12 @@ own_each-requires c =
     let room : t.owners + length c.args.handles ≤ counter_limit = omega (arith, c.len-count.ensures, sound.1) in
     λ q. (
     let P : List ℕ → Type 0 = λ l. references_at t.chunks q + length l ≤ counter_limit in
-    subst P (sym c.as_slice-2.ensures) (room_to_share t.files t.chunks t.next_file t.next_handle t.owners sound c.args.handles room q))
+    subst P (sym c.as_slice-2.ensures) (room_to_share t.files t.shapes t.chunks t.next_file t.next_handle t.owners sound c.args.handles room q))
+
+pub insert_file-requires : goal.insert_file-requires
+insert_file-requires c =
+    let t = c.self.inside in
+    none_there t.files t.shapes c.args.file.0 c.self.invariant.0.shapes (search rules)
 
 pub invariant_of-result : goal.invariant_of-result
 invariant_of-result c =
@@ -28,5 +34,5 @@ invariant_of-result c =
     let fresh : map.get t.files c.args.file.0 ≡ None = search rules in
     let file_given : is_given t.next_file c.args.file.0 ≡ true = search rules in
     let given : list_all (is_given t.next_handle) c.args.handles ≡ true = search rules in
-    along c.in-Ok-insert.ensures.ok (c.in-Ok.ensures ∙ ap (with_owned t.chunks) c.as_slice-2.ensures) (ap (λ x. t.owners + x) c.len-count.ensures)
-    (holds_file_put t.files t.chunks t.next_file t.next_handle t.owners sound c.args.file.0 c.args.handles fresh file_given given room)
+    along c.in-Ok-insert_file.ensures.files c.in-Ok-insert_file.ensures.shapes (c.in-Ok.ensures ∙ ap (with_owned c.args.shape t.chunks) c.as_slice-2.ensures) (ap (λ x. t.owners + x) c.len-count.ensures)
+    (holds_file_put t.files t.shapes t.chunks t.next_file t.next_handle t.owners sound c.args.file.0 c.args.shape c.args.handles fresh file_given given room)

@@ -15,6 +15,7 @@ invariant_of-self c =
     let lt : i < length handles = omega (arith, ap length c.as_slice-handles.ensures) in
     along
     (c.set_at.ensures ∙ sym (ap (λ o. map.insert t.files c.args.file.0 (set (unwrap_or o []) i copy)) c.in-Some.ensures))
+    refl
     (c.leave_at.ensures ∙ ap (λ m. leave_one m (get_or seen i 0)) c.share_at.ensures ∙ ap (λ hs. leave_one (share_one t.chunks copy) (get_or hs i 0)) c.as_slice-handles.ensures)
     refl
-    (holds_swapped t.files t.chunks t.next_file t.next_handle t.owners c.self.invariant c.args.file.0 handles i copy c.in-Some-get.chunk.now (sym c.in-Some.ensures) lt (sym c.in-Some-get.ensures))
+    (holds_swapped t.files t.shapes t.chunks t.next_file t.next_handle t.owners c.self.invariant c.args.file.0 handles i copy c.in-Some-get.chunk.now (sym c.in-Some.ensures) lt (sym c.in-Some-get.ensures))

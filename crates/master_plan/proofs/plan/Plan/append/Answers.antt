@@ -10,9 +10,9 @@ invariant_of-self-2 g c =
     let i = c.self.inside in (
       (
         c.self.invariant.0.0,
-        concerned_if i.state c.replay.new.state c.args.entry i.snapshots.items i.concerned_files i.concerned_chunks c.follow-known.new.chunks i.knows_concerned c.touches-touched.result c.follow-known.result
-            (c.touches-touched.ensures ∙ ap (λ (ss : List PendingSnapshot). touches i.state ss i.concerned_files c.args.entry) c.as_slice.ensures.value) c.in_ok-replay.ensures.ok (λ e. let s = c.follow-known.ensures e in (sym c.stays_known-stays.ensures ∙ s.0, s.1)) c.self.invariant.0.1,
+        concerned_if i.state c.replay_at.new.state c.args.entry i.snapshots i.concerned_files i.concerned_chunks c.follow-known.new.chunks i.knows_concerned c.touches-touched.result c.follow-known.result
+            (c.touches-touched.ensures ∙ ap (λ (ss : List PendingSnapshot). touches i.state ss i.concerned_files c.args.entry) c.as_slice.ensures.value) c.in_ok-replay_at.ensures.ok (λ e. let s = c.follow-known.ensures e in (sym c.stays_known-stays.ensures ∙ s.0, s.1)) c.self.invariant.0.1,
       ),
-      appended_if i.config i.server_count i.reported i.whole_until c.doubt_granted-until.result c.doubt_granted-until.ensures.kept i.holders i.state c.replay.new.state i.doubted c.doubt_granted-until.new.doubted
-          c.args.entry c.doubt_granted-until.ensures.doubted c.in_ok-replay.ensures.ok c.self.invariant.1,
+      appended_if i.config i.server_count i.reported i.whole_until c.doubt_granted-until.result c.doubt_granted-until.ensures.kept i.holders i.state c.replay_at.new.state i.doubted c.doubt_granted-until.new.doubted
+          c.args.entry c.doubt_granted-until.ensures.doubted c.in_ok-replay_at.ensures.ok c.self.invariant.1,
     )

@@ -1,8 +1,7 @@
 use Rattle.std.proofs.Common.{◌≤◌, subst, IfSome, Option, ℕ, arith}
 use Rattle.std.proofs.lemmas.Bool.Decides.{nat_tests}
-use Rattle.rereplicate.specs.Whole.{AreWholeBut}
 use Rattle.master_plan.specs.Plans.{PlanState, known}
-use Rattle.master_plan.specs.Watched.{IsWholeAt}
+use Rattle.master_plan.specs.Watched.{IsWhole, IsWholeAt}
 use Rattle.master_plan.proofs.StillWhole.{still_whole}
 use Rattle.master_plan.proofs.plan.Plan.doubted.Goals as goal
 
@@ -12,5 +11,5 @@ returns-in-Some g c =
     let before : i.clock ≤ c.in-Some.until = grind (arith, nat_tests) in
     let then_ : IsWholeAt i.config i.server_count i.state i.holders i.reported i.doubted c.in-Some.until =
     subst (λ (o : Option ℕ). IfSome o (IsWholeAt i.config i.server_count i.state i.holders i.reported i.doubted)) c.in-Some.is c.self.invariant.1 in
-    subst (λ (p : PlanState). AreWholeBut (known p) i.doubted) c.self.view_is
+    subst (λ (p : PlanState). IsWhole (known p) i.doubted) c.self.view_is
     (still_whole i.config i.server_count i.state i.holders i.reported i.doubted c.in-Some.until i.clock before then_)

@@ -10,7 +10,7 @@ invariant_of-self g c =
     let is = c.set_lease_end.ensures in (
       (
         c.self.invariant.0.0,
-        same_files i.state c.set_lease_end.new.self i.snapshots.items i.concerned_files i.concerned_chunks i.knows_concerned (ap (λ (l : Logged). l.names) is) (ap (λ (l : Logged). l.table.files) is) c.self.invariant.0.1,
+        same_files i.state c.set_lease_end.new.self i.snapshots i.concerned_files i.concerned_chunks i.knows_concerned (ap (λ (l : Logged). l.names) is) (ap (λ (l : Logged). l.table.files) is) c.self.invariant.0.1,
       ),
       ended_if i.config i.server_count i.holders i.reported i.doubted i.whole_until i.state c.set_lease_end.new.self c.args.handle.0 c.args.moment.0 c.set_lease_end.ensures c.self.invariant.1,
     )

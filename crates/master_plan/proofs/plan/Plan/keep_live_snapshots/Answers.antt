@@ -13,8 +13,8 @@ invariant_of-self g c =
     let count = length c.as_slice-count.result.now in (
       (
         c.self.invariant.0.0,
-        subst (λ (b : Bool). IfKnown b (AreConcerned i.state c.keep_live.new.snapshots.items i.concerned_files i.concerned_chunks)) (sym c.are_still_known-self-inside.ensures) (
-            live_on i.state (λ s. nat_lt i.clock s.deadline) i.snapshots.items c.keep_live.new.snapshots.items i.concerned_files i.concerned_chunks i.knows_concerned (left == count) c.keep_live.ensures
+        subst (λ (b : Bool). IfKnown b (AreConcerned i.state c.keep_live.new.self i.concerned_files i.concerned_chunks)) (sym c.are_still_known-self-inside.ensures) (
+            live_on i.state (λ s. nat_lt i.clock s.deadline) i.snapshots c.keep_live.new.self i.concerned_files i.concerned_chunks i.knows_concerned (left == count) c.keep_live.ensures
             (λ e. sym (ap (λ (ss : List PendingSnapshot). length ss) c.as_slice-left.ensures.value) ∙ eqb-true left count e ∙ ap (λ (ss : List PendingSnapshot). length ss) c.as_slice-count.ensures.value) c.self.invariant.0.1),
       ),
       c.self.invariant.1,

@@ -8,7 +8,7 @@ invariant_of-self g c =
     let i = c.self.inside in (
       (
         c.self.invariant.0.0,
-        subst (λ (ss : List PendingSnapshot). IfKnown i.knows_concerned (AreConcerned i.state ss i.concerned_files i.concerned_chunks)) (sym c.note_at_call.ensures) c.self.invariant.0.1,
+        subst (λ (ss : List PendingSnapshot). IfKnown i.knows_concerned (AreConcerned i.state ss i.concerned_files i.concerned_chunks)) (sym c.note.ensures) c.self.invariant.0.1,
       ),
       c.self.invariant.1,
     )

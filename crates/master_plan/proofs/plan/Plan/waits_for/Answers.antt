@@ -9,7 +9,7 @@ use Rattle.master_plan.proofs.plan.Plan.waits_for.Goals as goal
 pub returns-then-self-clause-answer : goal.returns-then-self-clause-answer
 returns-then-self-clause-answer g c =
     let i = c.self.inside in
-    let are = subst (λ (b : Bool). IfKnown b (AreConcerned i.state i.snapshots.items i.concerned_files i.concerned_chunks)) c.if-self.true c.self.invariant.0.1 in
+    let are = subst (λ (b : Bool). IfKnown b (AreConcerned i.state i.snapshots i.concerned_files i.concerned_chunks)) c.if-self.true c.self.invariant.0.1 in
     subst (λ (p : PlanState). c.has.result ≡ waits_for (known p) c.args.handle.0) c.self.view_is (c.has.ensures ∙ are.1 c.args.handle.0)
 
 pub returns-clause-answer : goal.returns-clause-answer

@@ -1,7 +1,0 @@
-use Rattle.std.proofs.Common.{◌≡◌, ◌++◌}
-use Rattle.master_replay.specs.Copied.{moved}
-use Rattle.master_replay.proofs.copied.moved_names.Given as goal
-
--- what is left completes the names
-abbrev pub invariant-loop-name : goal.invariant-loop-name
-invariant-loop-name l = l.found.items ++ moved l.from l.to l.name-iterator.rest.items ≡ moved l.from l.to l.fn.names.items
