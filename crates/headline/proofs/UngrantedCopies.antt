@@ -4,7 +4,7 @@ use Rattle.std.specs.FinMap as table
 use Rattle.log_records.specs.declared.record.Record.{Record}
 use Rattle.log_records.specs.declared.record.Record.TheVariants as log
 use Rattle.relaxed_file.specs.Names.{copied_entries}
-use Rattle.chunk_table.specs.ChunkTable.{ChunkRow, new_row, grant, row_granted, row_issued}
+use Rattle.chunk_table.specs.ChunkTable.{ChunkRow, added_row, copied_row, grant, row_granted, row_issued}
 use Rattle.protocol.specs.Sending.{handle_of}
 use Rattle.protocol.specs.Choice.{decided_changes}
 use Rattle.protocol.specs.Logged.{Logged, Copy, log_changed_by_all, after_record, copies_for_file, swapped_in}
@@ -63,12 +63,12 @@ module _ (l : Logged) (h : AreUngranted l) (chunk version primary : ℕ) (member
 
 ungranted_after : (l k : Logged) (r : Record) → IsDue (Unit {0}) l r → AreUngranted k → AreUngranted (after_record k r)
 ungranted_after l k (log.AddChunk file new) due h handle c is row at =
-    elim (put_cases (rows_of k) new.0 (record new_row { references = 1 }) handle row at) [
+    elim (put_cases (rows_of k) new.0 (added_row k.table file.0) handle row at) [
       | inl now ↦ sym (ap (λ (x : ChunkRow). x.granted) now.1)
       | inr before ↦ h handle c is row before
     ]
 ungranted_after l k (log.CopyStart file index source copy copy_version) due h handle c is row at =
-    elim (put_split (rows_of k) copy.0 (record new_row { issued = copy_version.0 }) handle row at) [
+    elim (put_split (rows_of k) copy.0 (copied_row k.table source.0 copy_version.0) handle row at) [
       | inl now ↦ sym (ap (λ (x : ChunkRow). x.granted) now.1)
       | inr before ↦ elim (put_split k.copies copy.0 (record { file = file.0; index = index; source = source.0 }) handle c is) [
         | inl now ↦ absurd (before.0 now.0)
@@ -116,7 +116,7 @@ copies_kept =
       records = λ l k r same due names h. (rows_kept.records l k r same due names h.0, ungranted_after l k r due h.1);
       checkpoint = λ l k same tree h. (rows_kept.checkpoint l k same tree h.0, λ handle c is. none_some c (sym (checkpoint_no_copies l handle) ∙ is));
       less = λ l k handles copied h. (rows_kept.less l k handles copied h.0, h.1);
-      rows = λ l k shapes chunks same h. (rows_kept.rows l k shapes chunks same h.0, h.1);
+      rows = λ l k f shapes chunks same shaped h. (rows_kept.rows l k f shapes chunks same shaped h.0, h.1);
     }
 
 -- no Grant of it was sent

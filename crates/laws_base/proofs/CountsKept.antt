@@ -125,7 +125,7 @@ alone_after l other due alone = alone
 
 -- what records ask is there, in the state and in the log
 
-state_due : (l k : Logged) (r : Record) → parts_of l ≡ parts_of k → IsDue (Unit {0}) l r → IsCountedLog l k → IsCountDue l r
+pub state_due : (l k : Logged) (r : Record) → parts_of l ≡ parts_of k → IsDue (Unit {0}) l r → IsCountedLog l k → IsCountDue l r
 state_due l k (log.Create client n file shape path) same due h = ap (λ (m : ℕ). table.get l.table.files m) due ∙ new_is_none l.table.files l.next_file (files_below l h.base.here)
 state_due l k (log.Snapshot client n from to) same due h = files_below l h.base.here
 state_due l k (log.Expired file) same due h = apart_here l k h
@@ -138,7 +138,7 @@ state_due l k (log.FileItem path file shape handles) same due h = absurd due
 state_due l k (log.ChunkItem handle granted issued primary members) same due h = absurd due
 state_due l k other same due h = tt
 
-log_due : (l k : Logged) (r : Record) → parts_of l ≡ parts_of k → IsDue (Unit {0}) l r → IsCountedLog l k → IsCountDue k r
+pub log_due : (l k : Logged) (r : Record) → parts_of l ≡ parts_of k → IsDue (Unit {0}) l r → IsCountedLog l k → IsCountDue k r
 log_due l k (log.Create client n file shape path) same due h =
     ap (λ (m : ℕ). table.get k.table.files m) (due ∙ ap (λ (p : Parts). p.next_file) same) ∙ new_is_none k.table.files k.next_file (files_below k h.log.base.one_name)
 log_due l k (log.Snapshot client n from to) same due h = files_below k h.log.base.one_name
@@ -354,5 +354,5 @@ counts_kept =
       records = records_counted;
       checkpoint = checkpoint_counted;
       less = less_counted;
-      rows = rows_counted;
+      rows = λ l k f shapes chunks same shaped h. rows_counted l k shapes chunks same h;
     }

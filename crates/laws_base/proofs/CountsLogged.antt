@@ -163,7 +163,7 @@ snapshot_none t next (e ∷ es) q none = snapshot_none (with_copied_node t next 
     one Dir = none
     one (File id) = let put = times_put t.files next (handles_of t id) q in let low = times_at_least t.files id q in omega (arith, put, low, none)
 
-with_at_most : (hs : List ℕ) (index to q : ℕ) → (q ≡ to → ⊥) → stands q (with_at hs index to) ≤ stands q hs
+pub with_at_most : (hs : List ℕ) (index to q : ℕ) → (q ≡ to → ⊥) → stands q (with_at hs index to) ≤ stands q hs
 with_at_most [] index to q other = omega arith
 with_at_most (x ∷ xs) zero to q other =
     let new = count-cons (λ h. h == q) to xs in let old = count-cons (λ h. h == q) x xs in let none = tally_other to q other in omega (arith, new, old, none)

@@ -91,6 +91,19 @@ found_mapped {X} change (e ∷ es) q x h = by_key (eq_by_cmp nat_cmp q e.0) refl
     by_key true is rest g = (e.1, ap (λ (b : Bool). cond b (Some e.1) (find nat_cmp q es)) is, same_some (change e.1) x g)
     by_key false is rest g = let r = rest g in (r.0, ap (λ (b : Bool). cond b (Some e.1) (find nat_cmp q es)) is ∙ r.1, r.2)
 
+found_changed : {X : Type 0} (change : X → X) (es : List (ℕ × X)) (q : ℕ) (x : X) → find nat_cmp q es ≡ Some x → find nat_cmp q (map (λ e. (e.0, change e.1)) es) ≡ Some (change x)
+found_changed change [] q x is = none_some x is
+found_changed {X} change (e ∷ es) q x is = by_key (eq_by_cmp nat_cmp q e.0) (found_changed change es q x) is
+  where
+    by_key : (b : Bool) → (find nat_cmp q es ≡ Some x → find nat_cmp q (map (λ y. (y.0, change y.1)) es) ≡ Some (change x))
+        → cond b (Some e.1) (find nat_cmp q es) ≡ Some x → cond b (Some (change e.1)) (find nat_cmp q (map (λ y. (y.0, change y.1)) es)) ≡ Some (change x)
+    by_key true rest g = ap (λ (y : X). Some (change y)) (same_some e.1 x g)
+    by_key false rest g = rest g
+
+pub mapped_at : {X : Type 0} (change : X → X) (t : Table X) (q : ℕ) (x : X) → table.get t q ≡ Some x → table.get (map_values change t) q ≡ Some (change x)
+mapped_at change t q x is =
+    table.get-from_entries nat_cmp_total (map (λ e. (e.0, change e.1)) (table.entries t)) q ∙ found_changed change (table.entries t) q x (sym (table.get-entries t q) ∙ is)
+
 -- values that are changed under their numbers
 pub mapped_cases : {X : Type 0} (change : X → X) (t : Table X) (q : ℕ) (x : X) → table.get (map_values change t) q ≡ Some x → (old : X) × (table.get t q ≡ Some old) × (change old ≡ x)
 mapped_cases change t q x h =

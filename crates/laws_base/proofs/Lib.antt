@@ -32,6 +32,7 @@ pub mod FilesLogged
 pub mod Owners
 pub mod CountsLogged
 pub mod CountsKept
+pub mod ShapesKept
 pub mod RowsSame
 pub mod RowsLogged
 pub mod RowsKept

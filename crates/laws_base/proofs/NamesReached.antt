@@ -1,5 +1,5 @@
 -- In each world that is reached, a master that is up has the names, counters, epoch and kept answers of its log, and what else its records keep of them.
-use Rattle.std.proofs.Common.{◌≡◌, ℕ, suc, ◌+◌, ◌≤◌, Bool, true, false, cond, List, [], ◌∷◌, map, take, drop, Option, Some, None, refl, sym, ap, subst, ◌∙◌, arith}
+use Rattle.std.proofs.Common.{◌≡◌, ℕ, suc, ◌+◌, ◌≤◌, Bool, true, false, cond, List, [], ◌∷◌, map, take, drop, Option, Some, None, refl, sym, ap, subst, ◌∙◌, inl, inr, arith}
 use Rattle.std.specs.Prelude.{◌==◌, ◌&&◌, not, option_map, IsTrue}
 use Rattle.std.specs.Ordering.{nat_cmp, eq_by_cmp}
 use Rattle.std.specs.Cmp.{nat_cmp_total, unsigned_tied}
@@ -16,13 +16,14 @@ use Rattle.gfs_types.specs.Counters.{counter_limit}
 use Rattle.protocol.specs.Tables.{Table, map_values}
 use Rattle.protocol.specs.Choice.{Choice, Ending, Goes, Lost, Stops}
 use Rattle.protocol.specs.Seen.{Taken, no_step}
-use Rattle.chunk_table.specs.ChunkTable.{ChunkRow, changed_by, no_shape, known_shape}
+use Rattle.chunk_table.specs.ChunkTable.{ChunkRow, ChunkTable, changed_by, no_shape, known_shape}
 use Rattle.protocol.specs.LogSizes.{checkpoint_fits}
 use Rattle.protocol.specs.Logged.{Logged, LogDisk, LogChange, AppendRecord, WriteCheckpoint, first_logged, log_changed, log_changed_by_all, after_record, after_records, checkpoint_of, copies_given_up, all_copies_given_up}
 use Rattle.protocol.specs.Master.{MasterState, MasterDoing, stopped_master, master_begins, fits, appends, writes_checkpoint, logs_after_checkpoint, is_of_copy}
 use Rattle.protocol.specs.MasterStep.{master_goes, master_ends, master_bounded, master_step, is_within_limits, may_end, found_log, row_after_restart, started_master, opening, has_opened, opens_as, new_master, first_log}
 use Rattle.protocol.specs.World.{WorldState, IsReached}
-use Rattle.laws_base.proofs.Steps.{on_cond, none_some}
+use Rattle.laws_base.proofs.Steps.{on_cond, none_some, put_cases}
+use Rattle.laws_base.proofs.Entries.{mapped_cases, mapped_at}
 use Rattle.laws_base.proofs.ChunkRows.{Rows, rows_of, AreIssued, issued_from}
 use Rattle.laws_base.proofs.LeasesEnded.{AreReady, none_ready, less_ready}
 use Rattle.laws_base.proofs.GrantedIssued.{IsIssued, step_issued, opens_issued, new_issued, started_from}
@@ -43,6 +44,11 @@ without_end row = record row { shape = no_shape; lease_end = 0 }
 abbrev pub AreSameButEnds : Table ChunkRow → Table ChunkRow → Type 0
 AreSameButEnds t u = (handle : ℕ) → option_map without_end (table.get t handle) ≡ option_map without_end (table.get u handle)
 
+-- shapes of files, and of chunks with them, become others
+pub record AreShapedBy (f : Shape → Shape) (t : ChunkTable) (shapes : Table Shape) (chunks : Table ChunkRow) : Type 0 where
+  pub files : (file : ℕ) (shape : Shape) → table.get t.shapes file ≡ Some shape → table.get shapes file ≡ Some (f shape)
+  pub rows : (handle : ℕ) (row : ChunkRow) → table.get chunks handle ≡ Some row → (old : ChunkRow) × (table.get t.chunks handle ≡ Some old) × (f old.shape ≡ row.shape)
+
 -- What is needed to hold in each reached world of what the master keeps and what its log says, with what it says of the log alone.
 pub record IsKeptByLog (G : Logged → Type 0) (R : Logged → Logged → Type 0) : Type 0 where
   pub good : (l k : Logged) → R l k → G k
@@ -54,7 +60,8 @@ pub record IsKeptByLog (G : Logged → Type 0) (R : Logged → Logged → Type 0
   pub records : (l k : Logged) (r : Record) → parts_of l ≡ parts_of k → IsDue (Unit {0}) l r → AreNames l r → R l k → R (after_record l r) (after_record k r)
   pub checkpoint : (l k : Logged) → parts_of l ≡ parts_of k → Tree l.names → R l k → R (all_copies_given_up l) (after_records first_logged (checkpoint_of l))
   pub less : (l k : Logged) (handles : List ℕ) → AreCopied l handles → R l k → R (copies_given_up l handles) k
-  pub rows : (l k : Logged) (shapes : Table Shape) (chunks : Table ChunkRow) → AreSameButEnds l.table.chunks chunks → R l k → R (record l { table = record l.table { shapes = shapes; chunks = chunks } }) k
+  pub rows : (l k : Logged) (f : Shape → Shape) (shapes : Table Shape) (chunks : Table ChunkRow) → AreSameButEnds l.table.chunks chunks → AreShapedBy f l.table shapes chunks
+      → R l k → R (record l { table = record l.table { shapes = shapes; chunks = chunks } }) k
 
 -- a chunk whose lease's end is set is the same but for that
 pub ended_same : (t : Table ChunkRow) (handle moment : ℕ) → AreSameButEnds t (changed_by t handle (λ row. record row { lease_end = moment }) (table.get t handle))
@@ -71,6 +78,20 @@ ended_same t handle moment q = by_row (table.get t handle) refl
         by_key row (q == handle) refl is
         ∙ sym (ap (λ (o : Option ChunkRow). option_map without_end o)
         (table.get-insert nat_cmp_total t handle (record row { lease_end = moment }) q ∙ ap (λ (b : Bool). cond b (Some (record row { lease_end = moment })) (table.get t q)) (unsigned_tied q handle)))
+
+-- and has the same shape
+ended_shape : (t : Table ChunkRow) (handle moment q : ℕ) (row : ChunkRow) → table.get (changed_by t handle (λ r. record r { lease_end = moment }) (table.get t handle)) q ≡ Some row
+    → (old : ChunkRow) × (table.get t q ≡ Some old) × (old.shape ≡ row.shape)
+ended_shape t handle moment q row is = by_row (table.get t handle) refl is
+  where
+    by_row : (o : Option ChunkRow) → table.get t handle ≡ o → table.get (changed_by t handle (λ r. record r { lease_end = moment }) o) q ≡ Some row
+        → (old : ChunkRow) × (table.get t q ≡ Some old) × (old.shape ≡ row.shape)
+    by_row None at now = (row, now, refl)
+    by_row (Some old) at now =
+        elim (put_cases t handle (record old { lease_end = moment }) q row now) [
+          | inl new ↦ (old, ap (λ (n : ℕ). table.get t n) new.0 ∙ at, ap (λ (r : ChunkRow). r.shape) new.1)
+          | inr before ↦ (row, before, refl)
+        ]
 
 -- chunks whose rows are the same but for the ends, as lists
 same_found : (change : ChunkRow → ChunkRow) → ((row : ChunkRow) → without_end row ≡ without_end (change row)) → (es : List (ℕ × ChunkRow)) (q : ℕ)
@@ -138,7 +159,8 @@ module _ (G : Logged → Type 0) (R : Logged → Logged → Type 0) (b : IsKeptB
   ended : (start : LogDisk) (c : Core) (handle moment : ℕ) → IsNaming start c → IsNaming start (core_ended c handle moment)
   ended start c handle moment h =
       let rows : Table ChunkRow = changed_by c.logged.table.chunks handle (λ row. record row { lease_end = moment }) (table.get c.logged.table.chunks handle) in
-      quieter start c (record c.logged { table = record c.logged.table { chunks = rows } }) refl (b.rows c.logged (state_of c.disk) c.logged.table.shapes rows (ended_same c.logged.table.chunks handle moment) h.tied) h
+      let shaped : AreShapedBy (λ shape. shape) c.logged.table c.logged.table.shapes rows = record { files = λ file shape is. is; rows = ended_shape c.logged.table.chunks handle moment } in
+      quieter start c (record c.logged { table = record c.logged.table { chunks = rows } }) refl (b.rows c.logged (state_of c.disk) (λ shape. shape) c.logged.table.shapes rows (ended_same c.logged.table.chunks handle moment) shaped h.tied) h
 
   pub naming_keeps : (start : LogDisk) → (Ended : ℕ → ℕ → Type 0) → Keeps (Unit {0}) Nothing Ended (IsNaming start)
   naming_keeps start Ended =
@@ -215,8 +237,14 @@ module _ (G : Logged → Type 0) (R : Logged → Logged → Type 0) (b : IsKeptB
       let given_up : Logged = all_copies_given_up (state_of found) in
       let rows : Rows = map_values (row_after_restart config moment) given_up.table.chunks in
       let shapes : Table Shape = map_values (known_shape (usual_shape config)) given_up.table.shapes in
+      let known : Shape → Shape = known_shape (usual_shape config) in
+      let shaped : AreShapedBy known given_up.table shapes rows =
+      record {
+        files = λ file shape is. mapped_at known given_up.table.shapes file shape is;
+        rows = λ handle row is. let old = mapped_cases (row_after_restart config moment) given_up.table.chunks handle row is in (old.0, old.1, ap (λ (r : ChunkRow). r.shape) old.2);
+      } in
       let kept : R (record given_up { table = record given_up.table { shapes = shapes; chunks = rows } }) (state_of found) =
-      b.rows given_up (state_of found) shapes rows (mapped_same given_up.table.chunks (row_after_restart config moment) (later_end config moment)) (b.restart (state_of found) good.1) in
+      b.rows given_up (state_of found) known shapes rows (mapped_same given_up.table.chunks (row_after_restart config moment) (later_end config moment)) shaped (b.restart (state_of found) good.1) in
       record { none = refl; disk = refl; same = refl; tied = kept; stops = good }
 
   pub opening_naming : (config : Config) (count : ℕ) (found : LogDisk) (moment : ℕ) → IsGood found → AreIssued (rows_of (state_of found))

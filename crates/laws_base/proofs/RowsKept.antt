@@ -25,7 +25,7 @@ use Rattle.laws_base.proofs.OrderNumbers.{after-append}
 use Rattle.laws_base.proofs.ChunkRows.{Rows, rows_of}
 use Rattle.laws_base.proofs.LoggedParts.{parts_of}
 use Rattle.laws_base.proofs.FilesNamed.{Files}
-use Rattle.laws_base.proofs.NamesReached.{IsKeptByLog, AreSameButEnds, without_end}
+use Rattle.laws_base.proofs.NamesReached.{IsKeptByLog, AreSameButEnds, AreShapedBy, without_end}
 use Rattle.laws_base.proofs.Owners.{references_of, refs, HasRow, has_row, changed_refs}
 use Rattle.laws_base.proofs.CountsLogged.{IsCountedLog, keeps_row}
 use Rattle.laws_base.proofs.CountsKept.{counts_kept}
@@ -294,10 +294,11 @@ owned_ends o None same h = tt
 owned_ends None (Some row) same h = none_some (without_end row) same
 owned_ends (Some old) (Some row) same h = let count = ap (λ (x : ChunkRow). x.references) (same_some (without_end old) (without_end row) same) in omega (arith, count, h)
 
-rows_rowed : (l k : Logged) (shapes : Table Shape) (chunks : Table ChunkRow) → AreSameButEnds l.table.chunks chunks → IsRowedLog l k → IsRowedLog (record l { table = record l.table { shapes = shapes; chunks = chunks } }) k
-rows_rowed l k shapes chunks same h =
+rows_rowed : (l k : Logged) (f : Shape → Shape) (shapes : Table Shape) (chunks : Table ChunkRow) → AreSameButEnds l.table.chunks chunks → AreShapedBy f l.table shapes chunks → IsRowedLog l k
+    → IsRowedLog (record l { table = record l.table { shapes = shapes; chunks = chunks } }) k
+rows_rowed l k f shapes chunks same shaped h =
     record {
-      base = counts_kept.rows l k shapes chunks same h.base;
+      base = counts_kept.rows l k f shapes chunks same shaped h.base;
       log = h.log;
       owned = λ q none. owned_ends (table.get l.table.chunks q) (table.get chunks q) (same q) (h.owned q none);
       same = λ q agree. sym (same q) ∙ h.same q agree;

@@ -16,8 +16,8 @@ use Rattle.relaxed_file.specs.Names.{Names, File, IsTree, node_at}
 use Rattle.protocol.specs.Tables.{Table, element_at, has_number}
 use Rattle.protocol.specs.Sending.{the_server, handle_of, version_of, order_number}
 use Rattle.protocol.specs.Choice.{Choice}
-use Rattle.chunk_table.specs.ChunkTable.{ChunkRow, ChunkTable, chunk_of, no_shape}
-use Rattle.protocol.specs.Logged.{Logged, all_copies_given_up, replayed}
+use Rattle.chunk_table.specs.ChunkTable.{ChunkRow, ChunkTable, chunk_of, handles_of, shape_of, no_shape}
+use Rattle.protocol.specs.Logged.{Logged, Copy, all_copies_given_up, replayed}
 use Rattle.leases.specs.LeaseHeld.{LeaseHeld, counts_at}
 use Rattle.primary_order.specs.SerialOrder.{SerialOrder}
 use Rattle.protocol.specs.Seen.{Taken}
@@ -217,6 +217,18 @@ abbrev pub LogHasTheChunks : Type 0
 LogHasTheChunks =
     (config : Config) (servers clients : ℕ) (w : WorldState) → IsReached config servers clients w → IsTrue w.master.up
     → (handle : ℕ) → chunk_but_end (all_copies_given_up w.master.logged).table handle ≡ chunk_but_end (replayed w.master.disk).table handle
+
+-- Each file has a shape, which each of its chunks has; a copy under way has that of the file that it is for.
+pub record HaveFilesShapes (l : Logged) : Type 0 where
+  pub known : (file : ℕ) → IsTrue (table.contains_key l.table.files file) → IsTrue (table.contains_key l.table.shapes file)
+  pub chunks : (file index handle : ℕ) (row : ChunkRow) → element_at (handles_of l.table file) index ≡ Some handle → chunk_of l.table handle ≡ Some row → row.shape ≡ shape_of l.table file
+  pub copies : (handle : ℕ) (c : Copy) (row : ChunkRow) → table.get l.copies handle ≡ Some c → chunk_of l.table handle ≡ Some row → row.shape ≡ shape_of l.table c.file
+
+-- So it is of a master that is up, and of its log, replayed (sections 2.3 and 3.4).
+abbrev pub ChunksHaveTheirFilesShapes : Type 0
+ChunksHaveTheirFilesShapes =
+    (config : Config) (servers clients : ℕ) (w : WorldState) → IsReached config servers clients w → IsTrue w.master.up
+    → HaveFilesShapes w.master.logged × HaveFilesShapes (replayed w.master.disk)
 
 -- What a step of the master gave with what its code has, and what the definitions give: the same output, the same that is seen, and what a stop may leave.
 abbrev pub IsGivenAs : Taken MasterState → Taken MasterState → Type 0

@@ -132,5 +132,5 @@ right_kept =
       checkpoint = λ l k same tree h.
           (counts_kept.checkpoint l k same tree h.0, h.1, subst (λ (ns : Names). HidesRight ns) (sym (ap (λ (p : Parts). p.names) (checkpoint_parts l tree))) h.1);
       less = λ l k handles copied h. (counts_kept.less l k handles copied h.0, h.1, h.2);
-      rows = λ l k shapes chunks same h. (counts_kept.rows l k shapes chunks same h.0, h.1, h.2);
+      rows = λ l k f shapes chunks same shaped h. (counts_kept.rows l k f shapes chunks same shaped h.0, h.1, h.2);
     }
