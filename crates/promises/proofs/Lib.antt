@@ -16,3 +16,8 @@ pub mod LeftAlone
 pub mod SinceLengths
 pub mod Lengths
 pub mod WorkedTrace
+pub mod Follows
+pub mod Opens
+pub mod ReopenedReads
+pub mod RecordReads
+pub mod PartReads

@@ -2,6 +2,7 @@
 #![tactic(auto)]
 
 pub mod examples;
+pub mod readers;
 pub mod reads;
 pub mod records;
 pub mod worlds;

@@ -1,7 +1,7 @@
 //! Laws of readers that open a file again before they read it, in the words of calls and answers.
 
 ghost use Rattle.promises.specs.Promises.{InEachRun};
-ghost use Rattle.promises_readers.specs.Readers.{AnswersReachRecords, AnswersReachWrites, ReadersMissNoAppend, ReadersMissNoWrite, ReadersMissNothing, ReopenedFilesShowRecords, ReopenedFilesShowWrites, WholeChunksMissNothing};
+ghost use Rattle.promises.specs.Readers.{AnswersReachRecords, AnswersReachWrites, ReadersMissNoAppend, ReadersMissNoWrite, ReadersMissNothing, ReopenedFilesShowRecords, ReopenedFilesShowWrites, WholeChunksMissNothing};
 
 /// A read that is made after the file of an answered record was opened again, and whose answer reaches past the record, shows it whole, whatever rounds it names, until a later mutation covers some of it.
 pub fn reopened_files_show_records()

@@ -1,5 +1,5 @@
-use Rattle.promises_readers.proofs.PartReads.{answers_reach_writes, readers_miss_no_write}
-use Rattle.promises_readers.proofs.readers.readers_miss_no_write.Goals as goal
+use Rattle.promises.proofs.PartReads.{answers_reach_writes, readers_miss_no_write}
+use Rattle.promises.proofs.readers.readers_miss_no_write.Goals as goal
 
 pub returns-clause-reach : goal.returns-clause-reach
 returns-clause-reach c = answers_reach_writes

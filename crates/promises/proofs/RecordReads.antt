@@ -19,8 +19,8 @@ use Rattle.promises.proofs.AnswerMoments.{then, reached, way, descriptors_are_of
 use Rattle.promises.proofs.StandingRecords as record_at
 use Rattle.promises.proofs.KeptRanges.{IsKept, CutAt, cut_at, no_bytes}
 use Rattle.promises.proofs.LeftAlone.{appends_leave_records_alone}
-use Rattle.promises_readers.specs.Readers.{IsReadAfterOpen, ReopenedFilesShowRecords, AnswersReachRecords, ReadersMissNothing, ReadersMissNoAppend, WholeChunksMissNothing}
-use Rattle.promises_readers.proofs.ReopenedReads.{reaches_to, shows}
+use Rattle.promises.specs.Readers.{IsReadAfterOpen, ReopenedFilesShowRecords, AnswersReachRecords, ReadersMissNothing, ReadersMissNoAppend, WholeChunksMissNothing}
+use Rattle.promises.proofs.ReopenedReads.{reaches_to, shows}
 
 -- a range that begins in the chunk that holds a place begins in the record's chunk, or past the record, which has no byte then
 chunk_of : (size index o len x offset : ℕ) → x ≡ index * size + o → o + len ≤ size → offset / size ≡ x / size → (offset / size ≡ index) ⊎ (x + len ≤ offset)

@@ -1,5 +1,5 @@
-use Rattle.promises_readers.proofs.RecordReads.{answers_reach_records, readers_miss_nothing, readers_miss_no_append, whole_chunks_miss_nothing}
-use Rattle.promises_readers.proofs.readers.readers_miss_nothing.Goals as goal
+use Rattle.promises.proofs.RecordReads.{answers_reach_records, readers_miss_nothing, readers_miss_no_append, whole_chunks_miss_nothing}
+use Rattle.promises.proofs.readers.readers_miss_nothing.Goals as goal
 
 pub returns-clause-reach : goal.returns-clause-reach
 returns-clause-reach c = answers_reach_records

@@ -22,8 +22,8 @@ use Rattle.promises.specs.Promises.{InEachRun}
 use Rattle.promises.proofs.AnswerMoments.{AnsweredIn, at, then, past, reached, way, its_file, descriptors_are_of_one_file}
 use Rattle.promises.proofs.WrittenBytes.{writes_stand}
 use Rattle.promises.proofs.KeptRanges.{IsKept, CutAt, cut_at}
-use Rattle.promises_readers.specs.Readers.{IsReadAfterOpen, ReopenedFilesShowWrites, AnswersReachWrites, ReadersMissNoWrite}
-use Rattle.promises_readers.proofs.ReopenedReads.{reaches_to, shows}
+use Rattle.promises.specs.Readers.{IsReadAfterOpen, ReopenedFilesShowWrites, AnswersReachWrites, ReadersMissNoWrite}
+use Rattle.promises.proofs.ReopenedReads.{reaches_to, shows}
 
 -- what an option is
 there_is : {A : Type 0} (o : Option A) → IsSome o → (x : A) × (o ≡ Some x)

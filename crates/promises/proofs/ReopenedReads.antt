@@ -39,9 +39,9 @@ use Rattle.promises.proofs.SincePieces.{ReadSince, pieces_since}
 use Rattle.promises.proofs.PieceBytes.{IsFair, IsFound, begin, within, find, bytes_of}
 use Rattle.promises.proofs.ReadPieces.{leads_to, settings, fair_piece}
 use Rattle.promises.proofs.KeptRanges.{IsKept, cut_at, no_bytes, is_shown, by_round}
-use Rattle.promises_readers.specs.Readers.{IsReadAfterOpen}
-use Rattle.promises_readers.proofs.Follows.{Follows, follows_to, follows_open, look_is_late, never_past}
-use Rattle.promises_readers.proofs.Opens.{OpenAnswer, open_answer}
+use Rattle.promises.specs.Readers.{IsReadAfterOpen}
+use Rattle.promises.proofs.Follows.{Follows, follows_to, follows_open, look_is_late, never_past}
+use Rattle.promises.proofs.Opens.{OpenAnswer, open_answer}
 
 -- the rounds of an order are at most the chunk's
 round_at : (least most : ℕ) (order : List Entry) (place : ℕ) (e : Entry) → IsWithin least most order → slice_get order place ≡ Some e → e.round ≤ most

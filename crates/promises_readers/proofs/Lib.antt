@@ -1,6 +1,0 @@
-pub mod Follows
-pub mod Opens
-pub mod ReopenedReads
-pub mod RecordReads
-pub mod PartReads
-pub mod WorkedTrace

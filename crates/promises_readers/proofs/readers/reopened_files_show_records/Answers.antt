@@ -1,5 +1,0 @@
-use Rattle.promises_readers.proofs.RecordReads.{reopened_files_show_records}
-use Rattle.promises_readers.proofs.readers.reopened_files_show_records.Goals as goal
-
-pub returns : goal.returns
-returns c = reopened_files_show_records
