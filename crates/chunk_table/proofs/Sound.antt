@@ -14,7 +14,7 @@ use Rattle.chunk_table.specs.ChunkTable.{NumberTable, ChunkRow, TableState, new_
 use Rattle.chunk_table.specs.Owners.{total, times, owners, all_owners, references_in, references_at, IsSoundRow, IsSoundFile, IsSound}
 use Rattle.chunk_table.proofs.Lookups.{at_key, get_changed, key_itself}
 use Rattle.chunk_table.proofs.Sums.{total_added, total_removed, total_replaced}
-use Rattle.chunk_table.proofs.Shaped.{HaveShapes, shapes_added, shapes_replaced, shapes_removed, shapes_known}
+use Rattle.chunk_table.proofs.Shaped.{shapes_added, shapes_replaced, shapes_removed, shapes_known}
 use Rattle.chunk_table.proofs.Counts.{AllRows, AllOwned, one_at, one_here, one_there, times_more, references_shared, references_left, references_all_shared, references_all_left, rows_changed, rows_one_shared, rows_one_left, rows_all_shared, rows_all_left}
 
 abbrev pub Holds : NumberTable (List ℕ) → NumberTable Shape → NumberTable ChunkRow → ℕ → ℕ → ℕ → Type 0

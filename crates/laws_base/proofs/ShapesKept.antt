@@ -42,7 +42,7 @@ stands_somewhere : (files : Files) (file q : ℕ) → 1 ≤ stands q (chunks_at 
 stands_somewhere files file q at = by_file (table.get files file) at
   where
     by_file : (o : Option (List ℕ)) → StandsIn q o → is_some o ≡ true
-    by_file None none = absurd (omega (arith, none))
+    by_file None none = absurd (let low : 1 ≤ stands q [] = none in omega (arith, low))
     by_file (Some hs) some = refl
 
 -- each file has a shape, which each of its chunks has
@@ -166,7 +166,7 @@ gone_shaped files shapes rows f h =
 
     by_key : (file q : ℕ) (row : ChunkRow) → 1 ≤ stands q (chunks_at (table.remove files f) file) → table.get rows q ≡ Some row → (file ≡ f) ⊎ (file ≡ f → ⊥)
         → row.shape ≡ shape_at (table.remove shapes f) file
-    by_key file q row at is (inl same) = absurd (let none = subst (StandsIn q) (gone_there files f file same) at in omega (arith, none))
+    by_key file q row at is (inl same) = absurd (let none : 1 ≤ stands q [] = subst (StandsIn q) (gone_there files f file same) at in omega (arith, none))
     by_key file q row at is (inr other) =
         h.chunks file q row (subst (StandsIn q) (gone_other files f file other) at) is ∙ sym (ap (λ (o : Option Shape). unwrap_or o no_shape) (gone_other shapes f file other))
 
@@ -254,7 +254,7 @@ module _ (j : Logged) (h : IsShaped j) where
       -- a chunk that is not the new one was there before
       before_at : (id q : ℕ) → (q ≡ handle → ⊥) → 1 ≤ stands q (chunks_at (table.insert j.table.files file longer) id) → (id ≡ file) ⊎ (id ≡ file → ⊥) → 1 ≤ stands q (chunks_at j.table.files id)
       before_at id q other at (inl same) =
-          let now = subst (StandsIn q) (put_there j.table.files file longer id same) at in
+          let now : 1 ≤ stands q longer = subst (StandsIn q) (put_there j.table.files file longer id same) at in
           let whole = count-append (λ x. x == q) (chunks_at j.table.files file) (handle ∷ []) in
           let last = count-cons (λ x. x == q) handle [] in
           let no_one = tally_other handle q other in
@@ -559,7 +559,7 @@ checkpoint_shaped l counted h =
     back = checkpoint_read l
 
     stood : (file q : ℕ) (o : Option (List ℕ)) → table.get j.table.files file ≡ o → StandsIn q o → 1 ≤ stands q (handles_of l.table file)
-    stood file q None is at = absurd (omega (arith, at))
+    stood file q None is at = absurd (let low : 1 ≤ stands q [] = at in omega (arith, low))
     stood file q (Some hs) is at = subst (λ (xs : List ℕ). 1 ≤ stands q xs) (back.lists file hs is) at
 
     chunks : (file q : ℕ) (row : ChunkRow) → 1 ≤ stands q (chunks_at j.table.files file) → table.get (rows_of j) q ≡ Some row → row.shape ≡ shape_at j.table.shapes file
