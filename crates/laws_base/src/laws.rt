@@ -82,7 +82,7 @@ pub fn references_are_counted()
     ensures { ReferencesAreCounted }
 {}
 
-/// The log, replayed, has the chunks of a master that is up, but for the ends of leases and for copies under way, which a restart gives up.
+/// The log, replayed, has the chunks of a master that is up, but for the ends of leases, for shapes and for copies under way, which a restart gives up.
 pub fn log_has_the_chunks()
     ensures { LogHasTheChunks }
 {}
