@@ -456,7 +456,7 @@ pub create_named : (m : MasterState) (client : ClientId) (n : ℕ) (file : FileI
     → IsNamespace m.logged.names m.snapshots → IsNamed m.logged.names next (log.Create client n file told p) m.snapshots
 create_named m client n file shape told p next h is =
     let may = not_refused m (call.Create p shape) h in
-    record { due = (shape, m.config, may.1); after = create_names m.logged.names p shape file.0 m.snapshots (m.config, may.1) (not_busy (call.Create p shape) refl m.snapshots may.0) is }
+    record { due = (shape, (m.config, may.1)); after = create_names m.logged.names p shape file.0 m.snapshots (m.config, may.1) (not_busy (call.Create p shape) refl m.snapshots may.0) is }
 
 pub delete_named : (m : MasterState) (client : ClientId) (n : ℕ) (moment : Moment) (p : Path) (next : ℕ) → next ≤ counter_limit → master_refusal m (call.Delete p) ≡ None → IsNamespace m.logged.names m.snapshots
     → IsNamed m.logged.names next (log.Delete client n moment p) m.snapshots

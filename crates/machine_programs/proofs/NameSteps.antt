@@ -28,11 +28,11 @@ all_settings ((path, File id) ∷ rest) t = all_settings rest (with_copy t path 
 pub snapshot_performs : (old new : NameTable) (p q : Path) (moment : ℕ) → new ≡ with_all_copies old (copied_entries old.names p q) → Performs old (call.Snapshot p q) moment new
 snapshot_performs old new p q moment is m has = (
   has.0 ∙ all_settings (copied_entries old.names p q) old ∙ ap (λ (t : NameTable). t.config) (sym is),
-  ap (λ names. with_copies names (suc m.file_count) (copied_entries names p q)) has.1.0
-      ∙ ap (λ n. with_copies old.names (suc n) (copied_entries old.names p q)) has.1.1
+  ap (λ names. with_copies names (suc m.file_count) (copied_entries names p q)) has.1
+      ∙ ap (λ n. with_copies old.names (suc n) (copied_entries old.names p q)) has.2
       ∙ all_names (copied_entries old.names p q) old ∙ ap (λ (t : NameTable). t.names) (sym is),
-  ap (λ names. id_after_all (suc m.file_count) (copied_entries names p q) - 1) has.1.0
-      ∙ ap (λ n. id_after_all (suc n) (copied_entries old.names p q) - 1) has.1.1
+  ap (λ names. id_after_all (suc m.file_count) (copied_entries names p q) - 1) has.1
+      ∙ ap (λ n. id_after_all (suc n) (copied_entries old.names p q) - 1) has.2
       ∙ (let ids : id_after_all (suc old.file_count) (copied_entries old.names p q) ≡ suc (with_all_copies old (copied_entries old.names p q)).file_count = all_ids (copied_entries old.names p q) old in
       let last : id_after_all (suc old.file_count) (copied_entries old.names p q) - 1 ≡ (with_all_copies old (copied_entries old.names p q)).file_count = omega (arith, ids) in last)
       ∙ ap (λ (t : NameTable). t.file_count) (sym is),
