@@ -124,7 +124,7 @@ shared_by t handle (Some row) e = put_owned t handle row (row_shared row) e refl
 shared_owned : (t : Rows) (handle : ℕ) → OwnedFrom t (share_one t handle)
 shared_owned t handle = shared_by t handle (table.get t handle) refl
 
-all_shared_owned : (t : Rows) (handles : List ℕ) → OwnedFrom t (share_all t handles)
+pub all_shared_owned : (t : Rows) (handles : List ℕ) → OwnedFrom t (share_all t handles)
 all_shared_owned t [] = same_owned t
 all_shared_owned t (h ∷ hs) = then_owned t (share_one t h) (share_all (share_one t h) hs) (shared_owned t h) (all_shared_owned (share_one t h) hs)
 

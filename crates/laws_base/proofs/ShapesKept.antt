@@ -1,6 +1,6 @@
 -- Each file has a shape, which each of its chunks has, also in the log; a copy under way has that of the file that it is for.
-use Rattle.std.proofs.Common.{◌≡◌, ◌⊎◌, ℕ, ◌≤◌, ◌<◌, Bool, true, false, cond, List, [], ◌∷◌, ◌++◌, map, Option, Some, None, is_some, refl, sym, ap, subst, ◌∙◌, inl, inr, arith}
-use Rattle.std.specs.Prelude.{◌==◌, nat_le, nat_lt, filter, unwrap_or}
+use Rattle.std.proofs.Common.{◌≡◌, ◌⊎◌, ℕ, ◌≤◌, ◌<◌, true, false, List, [], ◌∷◌, ◌++◌, map, Option, Some, None, is_some, refl, sym, ap, subst, ◌∙◌, inl, inr, arith}
+use Rattle.std.specs.Prelude.{◌==◌, nat_lt, filter, unwrap_or}
 use Rattle.std.specs.Ordering.{nat_cmp}
 use Rattle.std.specs.FinMap as table
 use Rattle.std.proofs.lemmas.Bool.{true≢false}
@@ -12,11 +12,11 @@ use Rattle.log_records.specs.declared.record.Record.TheVariants as log
 use Rattle.relaxed_file.specs.Names.{Node, Dir, File, id_after, copied_entries}
 use Rattle.protocol.specs.Tables.{Table, removed_all, with_at}
 use Rattle.protocol.specs.Sending.{file_id, handle_of}
-use Rattle.chunk_table.specs.ChunkTable.{ChunkRow, ChunkTable, no_shape, shape_of, shape_in, handles_of, changed_by, row_shared, row_left, row_issued, row_granted, share_one, share_all, left_by, leave_one, leave_all, added_row, copied_row, owned_row, with_owned, grant}
-use Rattle.protocol.specs.Logged.{Logged, KeptCall, Copy, first_logged, after_record, after_records, copies_for_file, copies_given_up, all_copies_given_up, swapped_in, with_copied_node, with_copied_nodes, checkpoint_of, name_item, node_item, chunk_item, client_item}
+use Rattle.chunk_table.specs.ChunkTable.{ChunkRow, ChunkTable, no_shape, shape_of, shape_in, handles_of, changed_by, row_issued, row_granted, share_all, added_row, copied_row, owned_row, with_owned, grant}
+use Rattle.protocol.specs.Logged.{Logged, KeptCall, Copy, first_logged, after_record, after_records, copies_given_up, all_copies_given_up, swapped_in, with_copied_node, with_copied_nodes, checkpoint_of, name_item, node_item, chunk_item, client_item}
 use Rattle.laws_base.specs.Laws.{times_in, HaveFilesShapes, ChunksHaveTheirFilesShapes}
 use Rattle.laws_base.proofs.Steps.{none_some, count-cons, count-append, same_or_not, put_cases, put_split, put_there, put_other, gone_there, gone_other, kept_cases, removed_cases}
-use Rattle.laws_base.proofs.ChunkRows.{Rows, rows_of}
+use Rattle.laws_base.proofs.ChunkRows.{Rows, rows_of, OwnedFrom, removed_owned, all_shared_owned, all_copied_owned, swapped_owned, expired_owned}
 use Rattle.laws_base.proofs.MasterMoves.{IsDue}
 use Rattle.laws_base.proofs.OrderNumbers.{state_of, after-append}
 use Rattle.laws_base.proofs.LoggedParts.{Parts, parts_of}
@@ -90,30 +90,11 @@ changed_keeps rows x change same = by_row (table.get rows x) refl
     by_row None at = same_keeps rows
     by_row (Some old) at = put_keeps rows x old (change old) at (same old)
 
-shared_keeps : (rows : Rows) (x : ℕ) → KeepsShapes rows (share_one rows x)
-shared_keeps rows x = changed_keeps rows x row_shared (λ row. refl)
-
-all_shared_keeps : (rows : Rows) (hs : List ℕ) → KeepsShapes rows (share_all rows hs)
-all_shared_keeps rows [] = same_keeps rows
-all_shared_keeps rows (x ∷ xs) = joined_keeps rows (share_one rows x) (share_all (share_one rows x) xs) (shared_keeps rows x) (all_shared_keeps (share_one rows x) xs)
-
-left_keeps : (rows : Rows) (x : ℕ) → KeepsShapes rows (leave_one rows x)
-left_keeps rows x = by_row (table.get rows x) refl
-  where
-    by_test : (old : ChunkRow) → table.get rows x ≡ Some old → (b : Bool) → KeepsShapes rows (cond b (table.remove rows x) (table.insert rows x (row_left old)))
-    by_test old at true = λ q row is. (row, kept_cases rows x q row is, refl)
-    by_test old at false = put_keeps rows x old (row_left old) at refl
-
-    by_row : (o : Option ChunkRow) → table.get rows x ≡ o → KeepsShapes rows (left_by rows x o)
-    by_row None at = same_keeps rows
-    by_row (Some old) at = by_test old at (nat_le old.references 1)
-
-all_left_keeps : (rows : Rows) (hs : List ℕ) → KeepsShapes rows (leave_all rows hs)
-all_left_keeps rows [] = same_keeps rows
-all_left_keeps rows (x ∷ xs) = joined_keeps rows (leave_one rows x) (leave_all (leave_one rows x) xs) (left_keeps rows x) (all_left_keeps (leave_one rows x) xs)
+owned_keeps : (rows more : Rows) → OwnedFrom rows more → KeepsShapes rows more
+owned_keeps rows more owned q row is = let was = owned q row is in (was.0, was.1, ap (λ (r : ChunkRow). r.shape) was.2)
 
 removed_keeps : (rows : Rows) (hs : List ℕ) → KeepsShapes rows (removed_all rows hs)
-removed_keeps rows hs q row is = (row, removed_cases rows hs q row is, refl)
+removed_keeps rows hs = owned_keeps rows (removed_all rows hs) (removed_owned rows hs)
 
 kept_shaped : (files : Files) (shapes : Table Shape) (rows more : Rows) → KeepsShapes rows more → AreShaped files shapes rows → AreShaped files shapes more
 kept_shaped files shapes rows more keeps h =
@@ -180,18 +161,9 @@ snapshot_shaped t next (e ∷ es) h = snapshot_shaped (with_copied_node t next e
     one : (n : Node) → AreShaped (with_copied_node t next n).files (with_copied_node t next n).shapes (with_copied_node t next n).chunks
     one Dir = h
     one (File id) =
-        kept_shaped (table.insert t.files next (handles_of t id)) (table.insert t.shapes next (shape_of t id)) t.chunks (share_all t.chunks (handles_of t id)) (all_shared_keeps t.chunks (handles_of t id))
+        kept_shaped (table.insert t.files next (handles_of t id)) (table.insert t.shapes next (shape_of t id)) t.chunks (share_all t.chunks (handles_of t id))
+        (owned_keeps t.chunks (share_all t.chunks (handles_of t id)) (all_shared_owned t.chunks (handles_of t id)))
         (put_shaped t.files t.shapes t.chunks next (handles_of t id) (shape_of t id) (λ q row at is. h.chunks id q row at is) h)
-
-snapshot_keeps : (t : ChunkTable) (next : ℕ) (es : List (Path × Node)) → KeepsShapes t.chunks (with_copied_nodes t next es).chunks
-snapshot_keeps t next [] = same_keeps t.chunks
-snapshot_keeps t next (e ∷ es) =
-    joined_keeps t.chunks (with_copied_node t next e.1).chunks (with_copied_nodes (with_copied_node t next e.1) (id_after next e.1) es).chunks (one e.1)
-    (snapshot_keeps (with_copied_node t next e.1) (id_after next e.1) es)
-  where
-    one : (n : Node) → KeepsShapes t.chunks (with_copied_node t next n).chunks
-    one Dir = same_keeps t.chunks
-    one (File id) = all_shared_keeps t.chunks (handles_of t id)
 
 snapshot_shape : (t : ChunkTable) (next : ℕ) (es : List (Path × Node)) (id : ℕ) → id < next → shape_at (with_copied_nodes t next es).shapes id ≡ shape_at t.shapes id
 snapshot_shape t next [] id low = refl
@@ -324,12 +296,12 @@ module _ (j : Logged) (h : IsShaped j) where
             copies = kept_copies j.copies j.copies j.table.shapes (rows_of j) rows (λ q c at. at) first h.copies;
           }
       by_copy (Some c) some named =
-          let shared : Rows = share_one rows handle in
-          let keeps : KeepsShapes (rows_of j) (leave_one shared c.source) =
-          joined_keeps (rows_of j) rows (leave_one shared c.source) first (joined_keeps rows shared (leave_one shared c.source) (shared_keeps rows handle) (left_keeps shared c.source)) in
+          let one : Logged = record j { table = grant j.table handle version primary members } in
+          let after : Rows = rows_of (swapped_in one handle (Some c)) in
+          let keeps : KeepsShapes (rows_of j) after = joined_keeps (rows_of j) rows after first (owned_keeps rows after (swapped_owned one handle (Some c))) in
           record {
-            files = swapped (leave_one shared c.source) handle c keeps some (named c refl);
-            copies = kept_copies j.copies (table.remove j.copies handle) j.table.shapes (rows_of j) (leave_one shared c.source) (λ q d at. kept_cases j.copies handle q d at) keeps h.copies;
+            files = swapped after handle c keeps some (named c refl);
+            copies = kept_copies j.copies (table.remove j.copies handle) j.table.shapes (rows_of j) after (λ q d at. kept_cases j.copies handle q d at) keeps h.copies;
           }
 
   copied : (file index source copy version : ℕ) → times_in j.table.files copy ≡ 0 → HasRow (rows_of j) source → IsPlacedIn j.table.files (record { file = file; index = index; source = source })
@@ -373,14 +345,12 @@ shaped_after j (log.Snapshot client n from to) due h =
     record {
       files = snapshot_shaped j.table j.next_file es h.files;
       copies = λ handle c row is at.
-          let old = snapshot_keeps j.table j.next_file es handle row at in
+          let old = owned_keeps j.table.chunks (with_copied_nodes j.table j.next_file es).chunks (all_copied_owned j.table j.next_file es) handle row at in
           sym old.2 ∙ h.copies handle c old.0 is old.1 ∙ sym (snapshot_shape j.table j.next_file es c.file (due handle c is));
     }
 shaped_after j (log.Expired file) due h =
-    let handles : List ℕ = copies_for_file j file.0 in
-    let less : Rows = removed_all (rows_of j) handles in
-    let left : Rows = leave_all less (chunks_at j.table.files file.0) in
-    let keeps : KeepsShapes (rows_of j) left = joined_keeps (rows_of j) less left (removed_keeps (rows_of j) handles) (all_left_keeps less (chunks_at j.table.files file.0)) in
+    let left : Rows = rows_of (after_record j (log.Expired file)) in
+    let keeps : KeepsShapes (rows_of j) left = owned_keeps (rows_of j) left (expired_owned j file) in
     record {
       files = gone_shaped j.table.files j.table.shapes left file.0 (kept_shaped j.table.files j.table.shapes (rows_of j) left keeps h.files);
       copies = λ handle c row is at.
