@@ -48,9 +48,8 @@ def of_number(what, word, most=None):
 
 
 def of_path(word):
-    for byte, name in ((b'\0', 'a NUL'), (b'\r', 'a carriage return')):
-        if byte in word:
-            return f'PATH: {name} in it'
+    if b'\r' in word:
+        return 'PATH: a carriage return in it'
     return 'PATH: it is not UTF-8' if is_refused(path_of, word) else None
 
 

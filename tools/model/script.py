@@ -41,12 +41,12 @@ def data(word):
 
 
 def path_of(word):
-    """A word of any text without NUL and carriage return."""
+    """A word of any text without a carriage return."""
     try:
         word.decode('utf-8')
     except UnicodeDecodeError:
         raise BadLine() from None
-    if b'\0' in word or b'\r' in word:
+    if b'\r' in word:
         raise BadLine()
     return bytes(word)
 

@@ -20,9 +20,9 @@ Reads (Err NoMemory) expected = ⊤
 abbrev pub text_of : List ℕ → Option (List ℕ)
 text_of word = if is_utf8 word then Some word else None
 
--- any text without NUL and carriage return
+-- any text without a carriage return
 abbrev pub path_of : List ℕ → Option (List ℕ)
-path_of word = if nat_lt 0 (length word) && not (list_any (λ c. c == 0) word) && not (list_any (λ c. c == 13) word) then text_of word else None
+path_of word = if nat_lt 0 (length word) && not (list_any (λ c. c == 13) word) then text_of word else None
 
 abbrev pub full_path_for : List ℕ → Option Path
 full_path_for text = if is_path text then Some text else None

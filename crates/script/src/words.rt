@@ -32,11 +32,11 @@ fn text(word: &[u8]) -> Option<&str>
     }
 }
 
-/// The text of a path: any text without NUL and carriage return.
+/// The text of a path: any text without a carriage return.
 fn path_text(word: &[u8]) -> Option<&str>
     ensures { option_map (λ t. t.now) result ≡ path_of word.now }
 {
-    if word.is_empty() || word.contains(&0) || word.contains(&b'\r') {
+    if word.is_empty() || word.contains(&b'\r') {
         return None;
     }
     text(word)

@@ -15,6 +15,8 @@ mod lines;
 #[cfg(test)]
 mod model;
 #[cfg(test)]
+mod nul;
+#[cfg(test)]
 mod outcome;
 #[cfg(test)]
 mod primary;
