@@ -1,8 +1,12 @@
 -- Rows of the journal.
 use Rattle.std.proofs.Common.{zero, suc, get_or, Some, None, slice_get, ◌≡◌, ◌≤◌, ◌<◌, ◌*◌, ◌^◌, ℕ, ◌+◌, List, [], ◌∷◌, ◌++◌, length, refl, sym, subst, ap, ◌∙◌, arith, append_assoc}
-use Rattle.std.proofs.lemmas.List.{append-nil, length-append}
+use Rattle.std.specs.Prelude.{map}
+use Rattle.std.proofs.lemmas.List.{append-nil, length-append, length-map}
 use Rattle.messages.specs.declared.message.Message.{Message}
-use Rattle.protocol_journal.specs.Journal.{Entry}
+use Rattle.protocol_journal.specs.Journal.{Entry, sent_after}
+use Rattle.laws_rebase.specs.Whole.{raised_entry, whole}
+use Rattle.cell_journal.specs.Identity.{Identity}
+use Rattle.cell_journal.specs.WholeHistories.{history_of}
 use Rattle.cell_journal.specs.declared.counted_entry.CountedEntry.{CountedEntry}
 use Rattle.cell_journal.specs.CountedEntries.{entries_in, sent_in, AreCounted}
 
@@ -13,6 +17,16 @@ entries_push (x ∷ rows) r = ap (λ es. x.entry ∷ es) (entries_push rows r)
 pub entries_count : (rows : List CountedEntry) → length (entries_in rows) ≡ length rows
 entries_count [] = refl
 entries_count (x ∷ rows) = ap suc (entries_count rows)
+
+-- the whole history has the base's entries and these
+pub history_count : (cell : Identity) (es : List Entry) → length (history_of cell es) ≡ length cell.base + length es
+history_count cell es =
+    let raise : Entry → Entry = raised_entry (length (sent_after [] cell.base)) in
+    length-append cell.base (map raise es) ∙ ap (λ (n : ℕ). length cell.base + n) (length-map es raise)
+
+-- of a cell that did nothing there is none
+pub history_none : (cell : Identity) → cell.base ≡ [] → history_of cell [] ≡ []
+history_none cell none = ap (λ (base : List Entry). whole base []) none
 
 pub sent_push : (rows : List CountedEntry) (r : CountedEntry) → sent_in (rows ++ r ∷ []) ≡ sent_in rows ++ r.entry.out.sent
 sent_push [] r = append-nil r.entry.out.sent

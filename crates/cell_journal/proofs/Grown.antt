@@ -9,10 +9,12 @@ use Rattle.protocol.specs.Tables.{element_at}
 use Rattle.protocol.specs.World.{new_world, numbered_from_1, stamped}
 use Rattle.protocol_journal.specs.Journal.{StepCause, Calls, Takes, Restarts, Entry, NodeState, node_in, is_node, own, LeadsTo, with_messages, sent_after, IsForNode, IsLawful, with_end}
 use Rattle.protocol_journal.proofs.Nodes.{node_is, node_itself}
-use Rattle.protocol_journal.proofs.Journals.{journals_grow}
+use Rattle.laws_rebase.specs.Whole.{whole}
+use Rattle.laws_rebase.proofs.CutJournals.{own_whole, whole_journals_grow}
 use Rattle.cell_journal.specs.Identity.{Identity}
 use Rattle.cell_journal.specs.declared.view.View.{View}
 use Rattle.cell_journal.specs.Rules.{IsJournalOf, IsStepOf}
+use Rattle.cell_journal.specs.WholeHistories.{history_of, steps_of, all_steps, IsHistoryOf}
 
 pub own_append : (n : Node) (xs ys : List Entry) → own n (xs ++ ys) ≡ own n xs ++ own n ys
 own_append n [] ys = refl
@@ -77,19 +79,28 @@ at_state cell log n s ends lawful leads = record {
 
 pub journal_grows : (cell : Identity) (log : List Entry) (v : View) (e : Entry) → v.of ≡ cell → log ≡ v.seen → own e.node log ≡ v.mine → IsJournalOf cell log → IsStepOf v e → IsJournalOf cell (log ++ e ∷ [])
 journal_grows cell log v e of here mine lawful step =
-    let leads : LeadsTo (node_in (new_world cell.config cell.servers cell.clients) e.node) (own e.node log) (Some step.state) =
-    subst (λ (es : List Entry). LeadsTo (node_in (new_world cell.config cell.servers cell.clients) e.node) es (Some step.state)) (sym mine)
-    (subst (λ (k : Identity). LeadsTo (node_in (new_world k.config k.servers k.clients) e.node) v.mine (Some step.state)) of step.leads) in
+    let steps : own e.node (history_of cell log) ≡ all_steps v e.node =
+    own_whole e.node cell.base log ∙ (ap (λ (es : List Entry). steps_of cell e.node es) mine ∙ ap (λ (k : Identity). steps_of k e.node v.mine) (sym of)) in
+    let leads : LeadsTo (node_in (new_world cell.config cell.servers cell.clients) e.node) (own e.node (history_of cell log)) (Some step.state) =
+    subst (λ (es : List Entry). LeadsTo (node_in (new_world cell.config cell.servers cell.clients) e.node) es (Some step.state)) (sym steps)
+    (subst (λ (k : Identity). LeadsTo (node_in (new_world k.config k.servers k.clients) e.node) (all_steps v e.node) (Some step.state)) of step.leads) in
     let ends = with_end lawful.0 e.node step.state in
     let at : ends e.node ≡ Some step.state = ap (λ (b : Bool). cond b (Some step.state) (lawful.0 e.node)) (node_itself e.node) in
     let reads : IsForNode (sent_after [] log) e.node e.cause =
-    subst (λ (es : List Entry). IsForNode (sent_after [] es) e.node e.cause) (sym here) (for_node_stays step.read v.seen e.node e.cause step.before step.reads) in
-    (_, journals_grow cell.config cell.servers cell.clients log ends (at_state cell log e.node step.state lawful.0 lawful.1 leads) e step.state step.choice at (step.moment, reads) step.may step.gives)
+    subst (λ (es : List Entry). IsForNode (sent_after [] es) e.node e.cause) (sym here) (for_node_stays step.read v.seen e.node e.cause step.before step.reads) in (
+      _,
+      whole_journals_grow cell.config cell.servers cell.clients cell.base log ends (at_state cell (history_of cell log) e.node step.state lawful.0 lawful.1 leads) e step.state step.choice at
+          (step.moment, reads) step.may step.gives,
+    )
 
 first_leads : (o : Option NodeState) → LeadsTo o [] o
 first_leads None = (refl, refl)
 first_leads (Some s) = (s, refl, refl)
 
+-- the history of a cell in which nothing was done
+pub none_lawful : (cell : Identity) → IsHistoryOf cell []
+none_lawful cell = (node_in (new_world cell.config cell.servers cell.clients), record { follow = tt; nodes = λ n. first_leads (node_in (new_world cell.config cell.servers cell.clients) n) })
+
 -- the journal of a new cell
-pub begins_lawful : (cell : Identity) → IsJournalOf cell []
-begins_lawful cell = (node_in (new_world cell.config cell.servers cell.clients), record { follow = tt; nodes = λ n. first_leads (node_in (new_world cell.config cell.servers cell.clients) n) })
+pub begins_lawful : (cell : Identity) → cell.base ≡ [] → IsJournalOf cell []
+begins_lawful cell none = subst (IsHistoryOf cell) (sym (ap (λ (base : List Entry). whole base []) none)) (none_lawful cell)

@@ -17,7 +17,7 @@ use Rattle.cell_journal.specs.Identity.{Identity, Filled}
 use Rattle.cell_journal.specs.declared.view.View.{View}
 use Rattle.cell_journal.specs.Roles.{WritesAs, own_of}
 use Rattle.cell_journal.specs.Rules.{IsJournalOf, Writes, Fits, AllFit, Apart, NoHolder, rooms_in, AtHome, Keeps, first_view, Took, HasTaken, Takes, gave, Gives, Marks, IsSame, LeavesRoom, Adds, next_writer, after_next}
-use Rattle.cell_journal.proofs.Grown.{own_append, own_other, journal_grows, begins_lawful}
+use Rattle.cell_journal.proofs.Grown.{own_append, own_other, journal_grows}
 use Rattle.cell_journal.proofs.Roles.{later_writes, next_writes, never_both, own_same, own_only}
 
 set_first : (ws : List ℕ) (n : ℕ) → 0 < length ws → slice_index (slice_set ws 0 n) 0 ≡ n
@@ -330,11 +330,11 @@ splits_step cell id v s k at = record {
     no_holder : NoHolder s.views → NoHolder (set_views ++ right ∷ [])
     no_holder none i a e h = let x = had i a e h in none i x.0 x.1 x.2
 
--- the table of a new cell
-pub begins : (cell : Identity) (y : Filled) → y.cell ≡ cell → y.entries ≡ [] → Keeps cell (opening (0 ∷ []) (Some y ∷ []) (first_view cell))
-begins cell y is none = record {
+-- the table of a journal that has no entries yet
+pub begins : (cell : Identity) (y : Filled) → y.cell ≡ cell → y.entries ≡ [] → IsJournalOf cell [] → Keeps cell (opening (0 ∷ []) (Some y ∷ []) (first_view cell))
+begins cell y is none lawful = record {
   log = [];
-  lawful = begins_lawful cell;
+  lawful = lawful;
   fit = λ j b e. subst (Fits cell []) (only j b e) (record { of = λ m h. refl; seen = ([], refl); mine = λ m h. refl; here = λ h. refl });
   apart = record { roles = λ i j a b m ei ej wa wb. zero_at i a ei ∙ sym (zero_at j b ej); holders = λ i j a b ei ej ha hb. zero_at i a ei ∙ sym (zero_at j b ej) };
   word = omega arith;

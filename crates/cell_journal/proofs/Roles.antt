@@ -11,7 +11,7 @@ use Rattle.cell_journal.specs.declared.view.Role.TheVariants.{Nobody, Only, From
 use Rattle.cell_journal.specs.Roles.{number_of, node_at, WritesAs, next_role, later_roles, own_of}
 
 -- a node's number is the number that it is at
-number_at : (servers k : ℕ) → number_of servers (node_at servers k) ≡ k
+pub number_at : (servers k : ℕ) → number_of servers (node_at servers k) ≡ k
 number_at servers zero = refl
 number_at servers (suc k) = by_test (nat_le (suc k) servers) refl
   where

@@ -22,6 +22,7 @@ use Rattle.protocol_journal.specs.Journal.{sent_after}
 use Rattle.atomic_table.specs.Table.{rest}
 use Rattle.cell_journal.proofs.Lending.{lent, left}
 use Rattle.cell_journal.specs.Writers.{IsNodeWriter, IsLater, IsRead, GoesOn, IsSeen, Prepares, IsWaiting}
+use Rattle.cell_journal.specs.WholeHistories.{history_of, all_seen}
 
 pub when_true : (A B : Type 0) (b : Bool) → b ≡ true → MatchBool b A B → A
 when_true A B true is h = h
@@ -215,16 +216,18 @@ module _ (old mid final : Mine) (y : Filled) (e : Entry) where
   pub ended_goes : Took old.0 mid.0 y → IsStepOf old.0 e → final ≡ (gave mid.0 now_is, []) → GoesOn old.0 final.0 e
   ended_goes t s is = subst (λ (m : Mine). GoesOn old.0 m.0 e) (sym is) (goes_on old.0 mid.0 y e (y.reserved - 1) t s)
 
-  pub ended_seen : Took old.0 mid.0 y → final ≡ (gave mid.0 now_is, []) → (beginning : Listed Entry) (count : ℕ) → beginning ≡ listed mid.0.of.name (mid.0.seen ++ e ∷ []) → count ≡ length (mid.0.seen ++ e ∷ []) → IsSeen final.0 beginning count
+  pub ended_seen : Took old.0 mid.0 y → final ≡ (gave mid.0 now_is, []) → (beginning : Listed Entry) (count : ℕ) → beginning ≡ listed mid.0.of.name (history_of mid.0.of (mid.0.seen ++ e ∷ [])) → count ≡ length (history_of mid.0.of (mid.0.seen ++ e ∷ [])) → IsSeen final.0 beginning count
   ended_seen t is beginning count b k =
       let entries : mid.0.seen ≡ y.entries = ap (λ (x : View). x.seen) t.is in
-      subst (λ (m : Mine). IsSeen m.0 beginning count) (sym is)
-      (b ∙ ap (λ (es : List Entry). listed mid.0.of.name (es ++ e ∷ [])) entries, k ∙ ap (λ (es : List Entry). length (es ++ e ∷ [])) entries)
+      subst (λ (m : Mine). IsSeen m.0 beginning count) (sym is) (
+        b ∙ ap (λ (es : List Entry). listed mid.0.of.name (history_of mid.0.of (es ++ e ∷ []))) entries,
+        k ∙ ap (λ (es : List Entry). length (history_of mid.0.of (es ++ e ∷ []))) entries,
+      )
 
-  pub ended_clocks : Took old.0 mid.0 y → final ≡ (gave mid.0 now_is, []) → (kept : Bool) → kept ≡ are_clocks_kept mid.0.of (mid.0.seen ++ e ∷ []) → kept ≡ are_clocks_kept final.0.of final.0.seen
+  pub ended_clocks : Took old.0 mid.0 y → final ≡ (gave mid.0 now_is, []) → (kept : Bool) → kept ≡ are_clocks_kept mid.0.of (history_of mid.0.of (mid.0.seen ++ e ∷ [])) → kept ≡ are_clocks_kept final.0.of (all_seen final.0)
   ended_clocks t is kept k =
       let entries : mid.0.seen ≡ y.entries = ap (λ (x : View). x.seen) t.is in
-      subst (λ (m : Mine). kept ≡ are_clocks_kept m.0.of m.0.seen) (sym is) (k ∙ ap (λ (es : List Entry). are_clocks_kept mid.0.of (es ++ e ∷ [])) entries)
+      subst (λ (m : Mine). kept ≡ are_clocks_kept m.0.of (all_seen m.0)) (sym is) (k ∙ ap (λ (es : List Entry). are_clocks_kept mid.0.of (history_of mid.0.of (es ++ e ∷ []))) entries)
 
 pub ended_writer : (n : Node) (old mid final : Mine) (y : Filled) (e : Entry) → IsNodeWriter n old → Took old.0 mid.0 y → final ≡ (gave mid.0 (filled y.cell (y.entries ++ e ∷ []) (y.reserved - 1)), []) → IsNodeWriter n final
 ended_writer n old mid final y e writer t is =

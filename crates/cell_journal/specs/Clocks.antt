@@ -18,6 +18,6 @@ clocks_of o = record { greatest = o.greatest; kept = o.are_clocks_kept }
 abbrev pub clocks_after : Config → List Entry → Clocks
 clocks_after config entries = clocks_of (observer_of config entries)
 
--- whether clocks were kept in these steps of a cell
+-- whether clocks were kept in this history of a cell
 abbrev pub are_clocks_kept : Identity → List Entry → Bool
-are_clocks_kept cell entries = (observer_of cell.config entries).are_clocks_kept
+are_clocks_kept cell history = (observer_of cell.config history).are_clocks_kept

@@ -4,15 +4,16 @@ use Rattle.logbook.specs.Pages.{Book}
 use Rattle.gfs_types.specs.declared.config.Config.{Config}
 use Rattle.protocol_journal.specs.Journal.{Entry}
 
--- the name of the journal's list, the settings, and how many servers and clients there may be
+-- the name of the journal's list, the settings, how many servers and clients there may be, and all entries of the cell before those of the journal
 pub record Identity : Type 0 where
   pub name : Book
   pub config : Config
   pub servers : ℕ
   pub clients : ℕ
+  pub base : List Entry
 
-abbrev pub identity : Book → Config → ℕ → ℕ → Identity
-identity name config servers clients = record { name = name; config = config; servers = servers; clients = clients }
+abbrev pub identity : Book → Config → ℕ → ℕ → List Entry → Identity
+identity name config servers clients base = record { name = name; config = config; servers = servers; clients = clients; base = base }
 
 -- a journal: of which cell, its entries, and for how many more there is room
 pub record Filled : Type 0 where

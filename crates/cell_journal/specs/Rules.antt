@@ -7,7 +7,7 @@ use Rattle.atomic_table.specs.Table.{State, Me, Step}
 use Rattle.gfs_types.specs.declared.ids.Node.{Node}
 use Rattle.protocol.specs.Choice.{Choice}
 use Rattle.protocol.specs.World.{new_world}
-use Rattle.protocol_journal.specs.Journal.{Entry, NodeState, node_in, node_step, may_take, own, LeadsTo, sent_after, IsForNode, IsLawful}
+use Rattle.protocol_journal.specs.Journal.{Entry, NodeState, node_in, node_step, may_take, own, LeadsTo, sent_after, IsForNode}
 use Rattle.protocol.specs.Tables.{moment_limit}
 use Rattle.std.specs.Prelude.{nat_le}
 use Rattle.cell_journal.specs.Identity.{Identity, Filled}
@@ -15,10 +15,11 @@ use Rattle.cell_journal.specs.declared.view.View.{View}
 use Rattle.cell_journal.specs.declared.view.Role.{Role}
 use Rattle.cell_journal.specs.declared.view.Role.TheVariants.{Nobody, Only, From}
 use Rattle.cell_journal.specs.Roles.{WritesAs, next_role, later_roles, own_of}
+use Rattle.cell_journal.specs.WholeHistories.{history_of, all_steps, IsHistoryOf}
 
--- a lawful journal of this cell
+-- a journal of this cell: its entries make a lawful history
 abbrev pub IsJournalOf : Identity → List Entry → Type 0
-IsJournalOf cell entries = (ends : Node → Option NodeState) × IsLawful cell.config cell.servers cell.clients entries ends
+IsJournalOf cell entries = IsHistoryOf cell (history_of cell entries)
 
 abbrev pub Writes : View → Node → Type 0
 Writes v n = WritesAs v.of.servers v.role n
@@ -91,12 +92,12 @@ Gives s v found w = Gave v w
 abbrev pub Marks : Step (Option Filled) → Me (Option Filled) View → ℕ → Me (Option Filled) View → Type 0
 Marks s v found w = w ≡ v
 
--- The next step of a writer's own node: for some choice it is the step from the state that the node's own steps led to. What it takes was sent in a beginning of the journal.
+-- The next step of a writer's own node: for some choice it is the step from the state that all steps of the node led to. What it takes was sent in a beginning of the journal.
 pub record IsStepOf (v : View) (e : Entry) : Type 0 where
   pub role : v.role ≡ Only e.node
   pub state : NodeState
   pub choice : Choice
-  pub leads : LeadsTo (node_in (new_world v.of.config v.of.servers v.of.clients) e.node) v.mine (Some state)
+  pub leads : LeadsTo (node_in (new_world v.of.config v.of.servers v.of.clients) e.node) (all_steps v e.node) (Some state)
   pub may : IsTrue (may_take state e.cause)
   pub gives : (node_step state e.moment e.cause choice).out ≡ e.out
   pub moment : IsTrue (nat_le e.moment moment_limit)

@@ -13,6 +13,7 @@ use Rattle.cell_journal.specs.Identity.{Filled}
 use Rattle.cell_journal.specs.declared.view.View.{View}
 use Rattle.cell_journal.specs.declared.view.Role.TheVariants.{Only}
 use Rattle.cell_journal.specs.Rules.{IsJournalOf}
+use Rattle.cell_journal.specs.WholeHistories.{all_seen}
 
 -- a writer at this table, which has one word and one slot
 abbrev pub IsAt : TableId → TableId → Type 0
@@ -47,9 +48,9 @@ pub record GoesOn (v w : View) (e : Entry) : Type 0 where
   pub last : w.seen ≡ before ++ e ∷ []
   pub lawful : IsJournalOf w.of w.seen
 
--- the journal that a writer saw last, under its name, and its length
+-- the whole history as a writer saw it last, under the cell's name, and its length
 abbrev pub IsSeen : View → Listed Entry → ℕ → Type 0
-IsSeen v beginning count = (beginning ≡ listed v.of.name v.seen) × (count ≡ length v.seen)
+IsSeen v beginning count = (beginning ≡ listed v.of.name (all_seen v)) × (count ≡ length (all_seen v))
 
 -- what whoever has a journal makes of it for a step: room for one entry more and the step's message, or nothing
 pub record Prepares (v : View) (y : Filled) (n : Node) (number : Option ℕ) (found : Result (Option Message) Refusal) (me : Me (Option Filled) View) : Type 0 where

@@ -6,16 +6,19 @@ ghost use Rattle.cell_journal.specs.Log.{listed};
 ghost use Rattle.cell_journal.specs.Clocks.{are_clocks_kept};
 ghost use Rattle.cell_journal.specs.Identity.{Filled, filled};
 ghost use Rattle.cell_journal.specs.Rules.{IsSame, IsStepOf, gave};
+ghost use Rattle.cell_journal.specs.WholeHistories.{history_of};
 
 use crate::history::History;
 use crate::journal_entry::JournalEntry;
 use crate::journal_steps::give_extended;
+use crate::raised_entry::RaisedEntry;
 use crate::{Beginning, JournalWriter, SharedHistory};
 
-/// The journal as it is once a step was added, its length, how many messages were sent before, and whether clocks were kept.
+/// The whole history as it is once a step was added, its length, how many messages were sent in the journal before, and whether clocks were
+/// kept.
 #[derive(Drop)]
 pub struct ExtendedHistory {
-    pub beginning: Beginning<JournalEntry>,
+    pub beginning: Beginning<RaisedEntry>,
     pub count: usize,
     pub sent_before: u128,
     pub are_clocks_kept: bool,
@@ -31,10 +34,10 @@ pub struct AddedStep {
 fn push(slot: &mut Option<History>, entry: JournalEntry) -> ExtendedHistory
     requires { (y : Filled) × (slot.old ≡ Some y) × (0 < y.reserved) }
     ensures slot { (y : Filled) → slot.old ≡ Some y → slot.new ≡ Some (filled y.cell (y.entries ++ entry ∷ []) (y.reserved - 1)) }
-    ensures beginning { (y : Filled) → slot.old ≡ Some y → result.beginning ≡ listed y.cell.name (y.entries ++ entry ∷ []) }
-    ensures count { (y : Filled) → slot.old ≡ Some y → result.count ≡ length (y.entries ++ entry ∷ []) }
+    ensures beginning { (y : Filled) → slot.old ≡ Some y → result.beginning ≡ listed y.cell.name (history_of y.cell (y.entries ++ entry ∷ [])) }
+    ensures count { (y : Filled) → slot.old ≡ Some y → result.count ≡ length (history_of y.cell (y.entries ++ entry ∷ [])) }
     ensures sent { (y : Filled) → slot.old ≡ Some y → result.sent_before ≡ length (sent_after [] y.entries) }
-    ensures clocks { (y : Filled) → slot.old ≡ Some y → result.are_clocks_kept ≡ are_clocks_kept y.cell (y.entries ++ entry ∷ []) }
+    ensures clocks { (y : Filled) → slot.old ≡ Some y → result.are_clocks_kept ≡ are_clocks_kept y.cell (history_of y.cell (y.entries ++ entry ∷ [])) }
 {
     match slot {
         Some(history) => {
@@ -42,7 +45,7 @@ fn push(slot: &mut Option<History>, entry: JournalEntry) -> ExtendedHistory
             history.push(entry);
             ExtendedHistory {
                 beginning: history.beginning(),
-                count: history.len(),
+                count: history.whole_len(),
                 sent_before,
                 are_clocks_kept: history.are_clocks_kept(),
             }
@@ -59,9 +62,9 @@ pub fn add(shared: &SharedHistory, writer: &mut JournalWriter, entry: JournalEnt
     requires step { IsStepOf writer.old.me.0 entry }
     ensures same { (writer.new.table_id ≡ writer.old.table_id) × (writer.new.id ≡ writer.old.id) }
     ensures gave { (y : Filled) → writer.old.me.1 ≡ (0, Some y) ∷ [] → writer.new.me ≡ (gave writer.old.me.0 (filled y.cell (y.entries ++ entry ∷ []) (y.reserved - 1)), []) }
-    ensures beginning { result.extended.beginning ≡ listed writer.old.me.0.of.name (writer.old.me.0.seen ++ entry ∷ []) }
-    ensures count { result.extended.count ≡ length (writer.old.me.0.seen ++ entry ∷ []) }
-    ensures clocks { result.extended.are_clocks_kept ≡ are_clocks_kept writer.old.me.0.of (writer.old.me.0.seen ++ entry ∷ []) }
+    ensures beginning { result.extended.beginning ≡ listed writer.old.me.0.of.name (history_of writer.old.me.0.of (writer.old.me.0.seen ++ entry ∷ [])) }
+    ensures count { result.extended.count ≡ length (history_of writer.old.me.0.of (writer.old.me.0.seen ++ entry ∷ [])) }
+    ensures clocks { result.extended.are_clocks_kept ≡ are_clocks_kept writer.old.me.0.of (history_of writer.old.me.0.of (writer.old.me.0.seen ++ entry ∷ [])) }
 {
     let extended = push(writer.slot_mut(shared, 0), entry);
     let found = give_extended(shared, writer);

@@ -5,21 +5,23 @@ ghost use Rattle.std.specs.Option.{option_copied};
 ghost use mathlib.Core.List.{IsPrefix};
 ghost use Rattle.cell_journal.specs.Log.{listed};
 ghost use Rattle.cell_journal.specs.Clocks.{are_clocks_kept};
+ghost use Rattle.cell_journal.specs.WholeHistories.{whole_of};
 
 use crate::clocks::Clocks;
 use crate::counted_entry::CountedEntry;
 use crate::identity::CellIdentity;
 use crate::journal_entry::JournalEntry;
 use crate::lookup::entry_at;
+use crate::raised_entry::RaisedEntry;
 use crate::{Beginning, WholeList};
 use std::marker::Model;
 
-/// All entries of a cell that was closed.
+/// All entries of the journal of a cell that was closed.
 pub struct ClosedHistory {
     pub(crate) cell: CellIdentity,
     pub(crate) rows: Vec<CountedEntry>,
     pub(crate) clocks: Clocks,
-    pub(crate) whole: WholeList<JournalEntry>,
+    pub(crate) whole: WholeList<RaisedEntry>,
 }
 
 // Stands here, once, so that no function that lets one go, here or above, takes its fields apart.
@@ -39,12 +41,13 @@ impl Model for ClosedHistory {
     ghost use Rattle.cell_journal.specs.Clocks.{clocks_after};
     ghost use Rattle.cell_journal.specs.Identity.{Closed, closed};
     ghost use Rattle.cell_journal.specs.CountedEntries.{entries_in};
+    ghost use Rattle.cell_journal.specs.WholeHistories.{history_of};
 
     ghost Value = { Closed };
 
     ghost view = { λ p. closed p.cell (entries_in p.rows.items) };
 
-    ghost invariant = { λ p. (p.whole.name ≡ p.cell.name) × (p.whole.items ≡ entries_in p.rows.items) × (p.clocks ≡ clocks_after p.cell.config (entries_in p.rows.items)) };
+    ghost invariant = { λ p. (p.whole.name ≡ p.cell.name) × (p.whole.items ≡ history_of p.cell (entries_in p.rows.items)) × (p.clocks ≡ clocks_after p.cell.config (history_of p.cell (entries_in p.rows.items))) };
 }
 
 impl ClosedHistory {
@@ -64,7 +67,7 @@ impl ClosedHistory {
 
     /// Whether clocks were kept: no moment of a step is behind that of an earlier one by more than the clock bound.
     pub fn are_clocks_kept(&self) -> bool
-        ensures { result ≡ are_clocks_kept self.now.cell self.now.entries }
+        ensures { result ≡ are_clocks_kept self.now.cell (whole_of self.now) }
     {
         self.clocks.kept
     }
@@ -76,17 +79,17 @@ impl ClosedHistory {
         entry_at(&self.rows, place)
     }
 
-    fn whole(&self) -> &WholeList<JournalEntry>
-        ensures { result.now ≡ listed self.now.cell.name self.now.entries }
+    fn whole(&self) -> &WholeList<RaisedEntry>
+        ensures { result.now ≡ listed self.now.cell.name (whole_of self.now) }
     {
         &self.whole
     }
 }
 
-/// Each beginning of a journal begins the closed journal.
-pub fn agree(beginning: &Beginning<JournalEntry>, journal: &ClosedHistory)
+/// Each beginning of a cell's history begins the whole history at whose end it was closed.
+pub fn agree(beginning: &Beginning<RaisedEntry>, journal: &ClosedHistory)
     requires { beginning.now.name ≡ journal.now.cell.name }
-    ensures { IsPrefix beginning.now.items journal.now.entries }
+    ensures { IsPrefix beginning.now.items (whole_of journal.now) }
 {
     crate::agree(beginning, journal.whole());
 }

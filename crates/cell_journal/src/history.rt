@@ -7,6 +7,8 @@ ghost use Rattle.protocol_journal.specs.Journal.{sent_after};
 ghost use Rattle.cell_journal.specs.Clocks.{moved, are_clocks_kept};
 ghost use Rattle.cell_journal.specs.Log.{listed};
 ghost use Rattle.cell_journal.specs.Identity.{identity, filled, closed};
+ghost use Rattle.cell_journal.specs.Rules.{IsJournalOf};
+ghost use Rattle.cell_journal.specs.WholeHistories.{history_of};
 
 use crate::clocks::Clocks;
 use crate::closed_history::ClosedHistory;
@@ -14,6 +16,7 @@ use crate::counted_entry::CountedEntry;
 use crate::identity::CellIdentity;
 use crate::journal_entry::JournalEntry;
 use crate::lookup::{copy_numbered, entry_at, message_in};
+use crate::raised_entry::RaisedEntry;
 use crate::{Beginning, GrowingList};
 use gfs_types::config::Config;
 use gfs_types::no_memory::NoMemory;
@@ -29,7 +32,10 @@ pub struct History {
     count: u128,
     reserved: u64,
     clocks: Clocks,
-    list: GrowingList<JournalEntry>,
+    /// How many messages the cell sent, and how many entries it had, before this journal.
+    earlier: u128,
+    base_len: usize,
+    list: GrowingList<RaisedEntry>,
 }
 
 // Stands here, once, so that no function that lets one go, here or above, takes its fields apart.
@@ -41,13 +47,17 @@ impl Drop for History {
             count: _,
             reserved: _,
             clocks: _,
+            earlier: _,
+            base_len: _,
             list: _list,
         } = self;
     }
 }
 
 impl Model for History {
-    ghost use Rattle.std.specs.Prelude.{◌≡◌, ◌≤◌, ◌-◌, ◌*◌, ◌^◌, length, vec_len, vec_capacity};
+    ghost use Rattle.std.specs.Prelude.{◌≡◌, ◌≤◌, ◌<◌, ◌+◌, ◌-◌, ◌*◌, ◌^◌, [], length, vec_len, vec_capacity};
+    ghost use Rattle.protocol_journal.specs.Journal.{sent_after};
+    ghost use Rattle.cell_journal.specs.WholeHistories.{history_of};
     ghost use Rattle.cell_journal.specs.Clocks.{clocks_after};
     ghost use Rattle.cell_journal.specs.Identity.{Filled, filled};
     ghost use Rattle.cell_journal.specs.CountedEntries.{entries_in, sent_in, AreCounted};
@@ -56,13 +66,15 @@ impl Model for History {
 
     ghost view = { λ p. filled p.cell (entries_in p.rows.items) p.reserved };
 
-    ghost invariant = { λ p. (p.list.name ≡ p.cell.name) × (p.list.items ≡ entries_in p.rows.items) × (p.count ≡ length (sent_in p.rows.items)) × AreCounted 0 p.rows.items × (p.reserved ≤ vec_capacity p.rows - vec_len p.rows) × (p.count ≤ 2 ^ 64 * vec_len p.rows) × (p.clocks ≡ clocks_after p.cell.config (entries_in p.rows.items)) };
+    ghost invariant = { λ p. (p.list.name ≡ p.cell.name) × (p.list.items ≡ history_of p.cell (entries_in p.rows.items)) × (p.count ≡ length (sent_in p.rows.items)) × AreCounted 0 p.rows.items × (p.reserved ≤ vec_capacity p.rows - vec_len p.rows) × (p.count ≤ 2 ^ 64 * vec_len p.rows) × (p.clocks ≡ clocks_after p.cell.config (history_of p.cell (entries_in p.rows.items))) × (p.earlier ≡ length (sent_after [] p.cell.base)) × (p.base_len ≡ length p.cell.base) × (p.base_len < 2 ^ 63) × (vec_len p.rows + p.reserved ≤ 2 ^ 32) };
 }
 
 impl History {
-    /// The journal of a new cell. Takes no memory.
+    /// The journal of a new cell, which has no base. Takes no memory.
+    #[tactic(auto, using(crate::proofs::CountedEntries::history_none, crate::proofs::Grown::begins_lawful))]
     pub fn new(alloc: Global, config: Config, servers: u64, clients: u64) -> Option<History>
-        ensures { IfSome result (λ p. p ≡ filled (identity p.cell.name config servers clients) [] 0) }
+        ensures journal { IfSome result (λ p. p ≡ filled (identity p.cell.name config servers clients []) [] 0) }
+        ensures lawful { IfSome result (λ p. IsJournalOf p.cell []) }
     {
         let list = GrowingList::new()?;
         let cell = CellIdentity::new(list.beginning(), config, servers, clients);
@@ -75,6 +87,8 @@ impl History {
                 greatest: 0,
                 kept: true,
             },
+            earlier: 0,
+            base_len: 0,
             list,
         })
     }
@@ -91,6 +105,13 @@ impl History {
         ensures { result ≡ length self.now.entries }
     {
         self.rows.len()
+    }
+
+    /// How many entries the cell's whole history has.
+    pub fn whole_len(&self) -> usize
+        ensures { result ≡ length (history_of self.now.cell self.now.entries) }
+    {
+        self.base_len + self.rows.len()
     }
 
     /// The entry at this place.
@@ -121,7 +142,7 @@ impl History {
 
     /// Whether clocks were kept so far: no moment of a step is behind that of an earlier one by more than the clock bound.
     pub fn are_clocks_kept(&self) -> bool
-        ensures { result ≡ are_clocks_kept self.now.cell self.now.entries }
+        ensures { result ≡ are_clocks_kept self.now.cell (history_of self.now.cell self.now.entries) }
     {
         self.clocks.kept
     }
@@ -166,13 +187,18 @@ impl History {
         self.reserved -= 1;
         let clocks = clocks_with(self.clocks, &self.cell, &entry);
         self.clocks = clocks;
-        self.list.push(&entry);
+        let raised = RaisedEntry {
+            entry,
+            earlier: self.earlier,
+        };
+        self.list.push(&raised);
+        let RaisedEntry { entry, earlier: _ } = raised;
         add(&mut self.rows, CountedEntry { entry, before });
     }
 
-    /// The entries so far, as a beginning of the list.
-    pub fn beginning(&self) -> Beginning<JournalEntry>
-        ensures { result ≡ listed self.now.cell.name self.now.entries }
+    /// The whole history so far, as a beginning of the list.
+    pub fn beginning(&self) -> Beginning<RaisedEntry>
+        ensures { result ≡ listed self.now.cell.name (history_of self.now.cell self.now.entries) }
     {
         self.list.beginning()
     }
@@ -187,6 +213,8 @@ impl History {
             count: _,
             reserved: _,
             clocks,
+            earlier: _,
+            base_len: _,
             list,
         } = self;
         ClosedHistory {

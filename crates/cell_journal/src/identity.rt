@@ -4,14 +4,15 @@ ghost use Rattle.std.specs.Prelude.{◌≡◌};
 ghost use Rattle.cell_journal.specs.Identity.{identity};
 
 use crate::Beginning;
-use crate::journal_entry::JournalEntry;
+use crate::raised_entry::RaisedEntry;
 use gfs_types::config::Config;
 use std::marker::Model;
 
-/// The cell of a journal: the name of its list, its settings, and how many servers and clients it may have.
+/// The cell of a journal: the name of its list, what that list had before the journal's first entry, its settings, and how many servers and
+/// clients it may have.
 #[derive(Drop)]
 pub struct CellIdentity {
-    list: Beginning<JournalEntry>,
+    base: Beginning<RaisedEntry>,
     config: Config,
     servers: u64,
     clients: u64,
@@ -22,20 +23,20 @@ impl Model for CellIdentity {
 
     ghost Value = { Identity };
 
-    ghost view = { λ i. identity i.list.name i.config i.servers i.clients };
+    ghost view = { λ i. identity i.base.name i.config i.servers i.clients i.base.items };
 }
 
 impl CellIdentity {
     pub fn new(
-        list: Beginning<JournalEntry>,
+        base: Beginning<RaisedEntry>,
         config: Config,
         servers: u64,
         clients: u64,
     ) -> CellIdentity
-        ensures { result ≡ identity list.name config servers clients }
+        ensures { result ≡ identity base.name config servers clients base.items }
     {
         CellIdentity {
-            list,
+            base,
             config,
             servers,
             clients,
@@ -47,7 +48,7 @@ impl CellIdentity {
         ensures { result ≡ self.now }
     {
         CellIdentity {
-            list: self.list.again(),
+            base: self.base.again(),
             config: self.config,
             servers: self.servers,
             clients: self.clients,

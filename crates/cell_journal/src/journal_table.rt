@@ -2,7 +2,7 @@
 
 ghost use Rattle.std.specs.Prelude.{◌≡◌, ◌∷◌, [], IfOk, Some};
 ghost use Rattle.cell_journal.specs.Identity.{Filled};
-ghost use Rattle.cell_journal.specs.Rules.{first_view};
+ghost use Rattle.cell_journal.specs.Rules.{first_view, IsJournalOf};
 
 use crate::history::History;
 use crate::identity::CellIdentity;
@@ -14,9 +14,10 @@ use std::alloc::Global;
 /// The table in which a cell's journal lies.
 pub type JournalTable = Table<Option<History>, View, CellIdentity, JournalRule, Global>;
 
-/// A table with the journal of a new cell, and the first writer at it, which writes for every node.
+/// A table with a journal that has no entries yet, behind a lawful base, and the first writer at it, which writes for every node.
 pub fn open(alloc: Global, history: History) -> Result<(JournalTable, JournalWriter), NoMemory>
-    requires { history.entries ≡ [] }
+    requires none { history.entries ≡ [] }
+    requires lawful { IsJournalOf history.cell [] }
     ensures table { IfOk result (λ t. (t.0.shared.table_id.words ≡ 1) × (t.0.shared.table_id.slots ≡ 1)) }
     ensures writer { IfOk result (λ t. (t.1.table_id ≡ t.0.shared.table_id) × (t.1.me ≡ (first_view history.cell, []))) }
 {
@@ -31,7 +32,8 @@ fn table_of(
     slots: Vec<Option<History>>,
     cell: &CellIdentity,
 ) -> Result<(JournalTable, JournalWriter), NoMemory>
-    requires { (y : Filled) × (slots.items ≡ Some y ∷ []) × (y.cell ≡ cell.now) × (y.entries ≡ []) }
+    requires has { (y : Filled) × (slots.items ≡ Some y ∷ []) × (y.cell ≡ cell.now) × (y.entries ≡ []) }
+    requires lawful { IsJournalOf cell.now [] }
     ensures table { IfOk result (λ t. (t.0.shared.table_id.words ≡ 1) × (t.0.shared.table_id.slots ≡ 1)) }
     ensures writer { IfOk result (λ t. (t.1.table_id ≡ t.0.shared.table_id) × (t.1.me ≡ (first_view cell.now, []))) }
 {

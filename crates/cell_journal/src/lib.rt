@@ -20,6 +20,7 @@ mod list_rule;
 mod list_steps;
 mod lookup;
 mod note;
+pub mod raised_entry;
 mod step_cause;
 mod step_end;
 mod step_start;

@@ -42,7 +42,7 @@ client_led config servers id n v w held some within registered is =
 -- the writer that was made is the slot's
 pub new_node : (config : Config) (servers : ℕ) (node n : Node) (v w : View) (s : SlotState) → IsRegistered config servers node v n w → s ≡ slot_state n w → IsNewNode node v s.node s.view
 new_node config servers node n v w s registered is =
-    subst (λ (x : SlotState). IsNewNode node v x.node x.view) (sym is) (record { node_is = registered.node_is; of = registered.of; mine = registered.mine; seen = registered.seen })
+    subst (λ (x : SlotState). IsNewNode node v x.node x.view) (sym is) (record { node_is = registered.node_is; of = registered.of; mine = registered.mine; unused = registered.unused; seen = registered.seen })
 
 -- few nodes were registered
 pub few : (registered servers id : ℕ) → registered ≡ servers + id → id ≤ 64 → servers < 65536 → registered < 4611686018427387904

@@ -33,8 +33,9 @@ pub record IsCellOf (config : Config) (servers : ℕ) (cell : Identity) : Type 0
   pub servers_are : cell.servers ≡ servers
   pub clients_are : cell.clients ≡ 64
 
+-- a new cell, which did nothing before
 abbrev pub IsNewCell : Config → ℕ → CellState → Type 0
-IsNewCell config servers c = IsCellOf config servers c.of × (c.made ≡ 0) × (c.policy ≡ no_policy) × (c.restarts ≡ replicate 66 0)
+IsNewCell config servers c = IsCellOf config servers c.of × (c.of.base ≡ []) × (c.made ≡ 0) × (c.policy ≡ no_policy) × (c.restarts ≡ replicate 66 0)
 
 -- one client more was made
 abbrev pub more : CellState → CellState

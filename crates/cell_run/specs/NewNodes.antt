@@ -7,6 +7,7 @@ use Rattle.gfs_types.specs.declared.ids.Node.{Node}
 use Rattle.gfs_types.specs.declared.ids.Node.TheVariants.{Client}
 use Rattle.cell_run.specs.declared.start_fault.StartFault.{StartFault}
 use Rattle.cell_run.specs.declared.start_fault.StartFault.TheVariants.{NoMemory, Log}
+use Rattle.protocol_journal.specs.Journal.{own}
 use Rattle.cell_journal.specs.declared.view.View.{View}
 use Rattle.cell_seats.specs.declared.node_registry.NodeRegistry.{NodeRegistry}
 
@@ -35,6 +36,7 @@ pub record IsNewNode (node : Node) (v : View) (n : Node) (w : View) : Type 0 whe
   pub node_is : n ≡ node
   pub of : w.of ≡ v.of
   pub mine : w.mine ≡ []
+  pub unused : own node v.of.base ≡ []
   pub seen : w.seen ≡ v.seen
 
 abbrev pub IsNewClient : ClientId → View → Node → View → Type 0

@@ -7,6 +7,7 @@ ghost use Rattle.journal_headline.specs.Journals.{AreExplained};
 ghost use Rattle.cell_journal.specs.Clocks.{are_clocks_kept};
 ghost use Rattle.cell_journal.specs.Log.{listed};
 ghost use Rattle.cell_journal.specs.Rules.{IsJournalOf};
+ghost use Rattle.cell_journal.specs.WholeHistories.{whole_of};
 ghost use Rattle.cell_run.specs.NewNodes.{IsFitting, IsSame};
 ghost use Rattle.cell_seats.specs.Controls.{WritesControls, no_policy, policy_in};
 ghost use Rattle.cell_run.specs.Cells.{IsCellOf, IsNewCell, IsNewSeat, IsSeatFault, more, with_policy, asked_again};
@@ -18,7 +19,7 @@ pub use crate::start_fault::StartFault;
 use crate::threads::{CLOSING, ENDED, serve, stop_all, tick, wait_for_clients};
 use crate::watch::{Watch, Watcher, tell_on};
 use cell_journal::history::History;
-use cell_journal::journal_entry::JournalEntry;
+use cell_journal::raised_entry::RaisedEntry;
 use cell_journal::{Beginning, open};
 use cell_seats::controls::{ControlWriter, new_controls};
 use cell_seats::gate::Gate;
@@ -53,7 +54,7 @@ pub struct Cell {
     alloc: Global,
     registry: NodeRegistry,
     /// The journal with no step in it, which is what a new client has seen.
-    nothing: Beginning<JournalEntry>,
+    nothing: Beginning<RaisedEntry>,
     /// The mailboxes of the clients from the next one on, the next one's last.
     inboxes: Vec<Receiver<MailboxItem>>,
     /// How many clients were made.
@@ -189,7 +190,7 @@ impl Cell {
     pub fn close<R: Threads + Wait + Clock>(self, rt: &R) -> Journal
         ensures cell { result.cell ≡ self.of }
         ensures lawful { IsJournalOf result.cell result.entries }
-        ensures explained { IsTrue (are_clocks_kept result.cell result.entries) → AreExplained result.cell.config result.entries }
+        ensures explained { IsTrue (are_clocks_kept result.cell (whole_of result)) → AreExplained result.cell.config (whole_of result) }
     {
         let Self {
             alloc: _,
@@ -210,7 +211,7 @@ impl Cell {
 #[derive(Drop)]
 struct Parts {
     registry: NodeRegistry,
-    nothing: Beginning<JournalEntry>,
+    nothing: Beginning<RaisedEntry>,
     boxes: Mailboxes,
     control_writer: ControlWriter,
 }
@@ -222,6 +223,7 @@ fn start_with<
 >(rt: R, alloc: Global, parts: Parts, ticker: Thread, gate: G) -> Result<Cell, StartFault>
     requires fits { IsFitting parts.registry.config }
     requires first { parts.registry.registered ≡ 0 }
+    requires base { parts.registry.writer.me.0.of.base ≡ [] }
     requires nothing { parts.nothing ≡ listed parts.registry.writer.me.0.of.name [] }
     requires boxes { vec_len parts.boxes.clients ≡ 64 }
     requires asks { WritesControls (arc_value parts.registry.shared).controls parts.control_writer }
@@ -330,6 +332,7 @@ fn new_registry(
 ) -> Result<Parts, StartFault>
     requires { first_out_of_range config ≡ None }
     ensures registry { IfOk result (λ p. (p.registry.config ≡ config) × (p.registry.servers ≡ servers) × (p.registry.registered ≡ 0)) }
+    ensures base { IfOk result (λ p. p.registry.writer.me.0.of.base ≡ []) }
     ensures nothing { IfOk result (λ p. p.nothing ≡ listed p.registry.writer.me.0.of.name []) }
     ensures boxes { IfOk result (λ p. vec_len p.boxes.clients ≡ 64) }
     ensures asks { IfOk result (λ p. WritesControls (arc_value p.registry.shared).controls p.control_writer) }

@@ -1,5 +1,5 @@
 -- A node's next step.
-use Rattle.std.proofs.Common.{◌≡◌, ℕ, ◌≤◌, Bool, true, false, List, [], ◌∷◌, ◌++◌, Option, Some, None, refl, sym, ap, subst, ◌∙◌}
+use Rattle.std.proofs.Common.{◌≡◌, ℕ, ◌≤◌, Bool, true, false, List, [], ◌∷◌, ◌++◌, length, Option, Some, None, refl, sym, ap, subst, ◌∙◌}
 use Rattle.std.specs.Prelude.{IsTrue, Result, Ok, Err, IfOk, OnErr, IfSome}
 use Rattle.std.proofs.lemmas.Bool.{le-leb}
 use Rattle.atomic_table.specs.Table.{Me}
@@ -10,12 +10,16 @@ use Rattle.messages.specs.declared.event.StepOut.{StepOut}
 use Rattle.protocol.specs.Choice.{Choice}
 use Rattle.protocol.specs.Tables.{moment_limit}
 use Rattle.protocol.specs.World.{new_world}
-use Rattle.protocol_journal.specs.Journal.{StepCause, Entry, NodeState, node_in, node_step, may_take, sent_after, RunsTo, LeadsTo, IsForNode}
+use Rattle.protocol.specs.Seen.{Taken}
+use Rattle.protocol_journal.specs.Journal.{StepCause, Entry, NodeState, node_in, node_step, may_take, own, sent_after, RunsTo, LeadsTo, IsForNode}
+use Rattle.laws_rebase.specs.Whole.{raised_cause, raised_entry}
+use Rattle.laws_rebase.proofs.CutJournals.{step_same, may_same, steps_more}
 use Rattle.cell_journal.specs.Log.{Listed}
 use Rattle.cell_journal.proofs.Begins.{prefix_self, prefix_trans}
 use Rattle.cell_journal.specs.Clocks.{are_clocks_kept}
 use Rattle.cell_journal.specs.Identity.{Filled, Identity}
 use Rattle.cell_journal.specs.Entries.{entry}
+use Rattle.cell_journal.specs.WholeHistories.{all_seen, steps_of, all_steps}
 use Rattle.cell_journal.specs.declared.view.View.{View}
 use Rattle.cell_journal.specs.Rules.{IsStepOf}
 use Rattle.cell_journal.specs.Writers.{IsNodeWriter, IsLater, IsRead, GoesOn, IsSeen}
@@ -42,8 +46,8 @@ module _ (v w : View) (n : Node) where
   pub led_later : (Stands : NodeState → Type 0) → IsLater v w → IsLedTo v n Stands → IsLedTo w n Stands
   led_later Stands later led = record {
     state = led.state;
-    leads = subst (λ (es : List Entry). LeadsTo (node_in (new_world w.of.config w.of.servers w.of.clients) n) es (Some led.state)) (sym later.mine)
-        (subst (λ (c : Identity). LeadsTo (node_in (new_world c.config c.servers c.clients) n) v.mine (Some led.state)) (sym later.of) led.leads);
+    leads = subst (λ (es : List Entry). LeadsTo (node_in (new_world w.of.config w.of.servers w.of.clients) n) (steps_of w.of n es) (Some led.state)) (sym later.mine)
+        (subst (λ (c : Identity). LeadsTo (node_in (new_world c.config c.servers c.clients) n) (steps_of c n v.mine) (Some led.state)) (sym later.of) led.leads);
     stands = led.stands;
   }
 
@@ -52,11 +56,33 @@ module _ (v w : View) (n : Node) where
       → GoesOn v w (entry n moment cause out) → IsLedTo w n After
   led_on Stands After moment cause out led may steps goes = record {
     state = (node_step led.state moment cause steps.choice).state;
-    leads = subst (λ (es : List Entry). LeadsTo (node_in (new_world w.of.config w.of.servers w.of.clients) n) es (Some (node_step led.state moment cause steps.choice).state)) (sym goes.mine)
-        (subst (λ (c : Identity). LeadsTo (node_in (new_world c.config c.servers c.clients) n) (v.mine ++ entry n moment cause out ∷ []) (Some (node_step led.state moment cause steps.choice).state)) (sym goes.of)
-        (leads_more (node_in (new_world v.of.config v.of.servers v.of.clients) n) led.state v.mine (entry n moment cause out) steps.choice led.leads may steps.gives));
+    leads = subst (λ (es : List Entry). LeadsTo (node_in (new_world w.of.config w.of.servers w.of.clients) n) (steps_of w.of n es) (Some after)) (sym goes.mine)
+        (subst (λ (c : Identity). LeadsTo (node_in (new_world c.config c.servers c.clients) n) (steps_of c n (v.mine ++ e ∷ [])) (Some after)) (sym goes.of)
+        (subst (λ (es : List Entry). LeadsTo start es (Some after)) (sym (steps_more k (own n v.of.base) v.mine e)) on));
     stands = steps.stands;
   }
+    where
+      e : Entry
+      e = entry n moment cause out
+
+      k : ℕ
+      k = length (sent_after [] v.of.base)
+
+      start : Option NodeState
+      start = node_in (new_world v.of.config v.of.servers v.of.clients) n
+
+      after : NodeState
+      after = (node_step led.state moment cause steps.choice).state
+
+      -- the step is the same whatever the number of its message
+      same : node_step led.state moment (raised_cause k cause) steps.choice ≡ node_step led.state moment cause steps.choice
+      same = step_same k led.state moment cause steps.choice
+
+      on : LeadsTo start (all_steps v n ++ raised_entry k e ∷ []) (Some after)
+      on =
+          subst (λ (t : Taken NodeState). LeadsTo start (all_steps v n ++ raised_entry k e ∷ []) (Some t.state)) same
+          (leads_more start led.state (all_steps v n) (raised_entry k e) steps.choice led.leads (subst (λ (b : Bool). IsTrue b) (sym (may_same k led.state cause)) may)
+          (ap (λ (t : Taken NodeState). t.out) same ∙ steps.gives))
 
 pub step_of : (v : View) (c : List (ℕ × Option Filled)) (n : Node) (Stands After : NodeState → Type 0) (moment : ℕ) (cause : StepCause) (out : StepOut) → IsNodeWriter n (v, c) → (led : IsLedTo v n Stands) → IsTrue (may_take led.state cause)
     → StepsSo led.state moment cause out After → moment ≤ moment_limit → IsForNode (sent_after [] v.seen) n cause → IsStepOf v (entry n moment cause out)
@@ -75,14 +101,14 @@ step_of v c n Stands After moment cause out writer led may steps within reads = 
 
 -- a step that stands in the journal, with what its caller is told of its answer
 pub step_taken : (n : Node) (v w : View) (moment : ℕ) (cause : StepCause) (out : StepOut) (answer : Option Answer) (told : Result (Option Answer) Refusal) (beginning : Listed Entry) (count : ℕ) (kept : Bool)
-    → GoesOn v w (entry n moment cause out) × IsSeen w beginning count → kept ≡ are_clocks_kept w.of w.seen → answer ≡ out.answer → told ≡ told_where kept answer
+    → GoesOn v w (entry n moment cause out) × IsSeen w beginning count → kept ≡ are_clocks_kept w.of (all_seen w) → answer ≡ out.answer → told ≡ told_where kept answer
     → StepTaken n v w cause told beginning count
 step_taken n v w moment cause out answer told beginning count kept (goes, seen) clocks same is = record {
   entry = entry n moment cause out;
   node_is = refl;
   goes = goes;
   cause_is = refl;
-  answer_is = is ∙ (ap (λ (b : Bool). told_where b answer) clocks ∙ ap (λ (o : Option Answer). told_where (are_clocks_kept w.of w.seen) o) same);
+  answer_is = is ∙ (ap (λ (b : Bool). told_where b answer) clocks ∙ ap (λ (o : Option Answer). told_where (are_clocks_kept w.of (all_seen w)) o) same);
   seen = seen;
 }
 

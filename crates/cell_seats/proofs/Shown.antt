@@ -1,6 +1,6 @@
 -- What is seen of a client's steps.
 use Rattle.std.proofs.Common.{◌≡◌, ℕ, Bool, true, false, List, [], ◌∷◌, ◌++◌, Option, Some, None, refl, sym, ap, subst, ◌∙◌, inl, inr, append_assoc}
-use Rattle.std.specs.Prelude.{Result, Ok, Err, IfOk, IfErr, IsErrAnd}
+use Rattle.std.specs.Prelude.{length, map, Result, Ok, Err, IfOk, IfErr, IsErrAnd}
 use Rattle.std.proofs.lemmas.List.{append-nil}
 use Rattle.gfs_types.specs.declared.answer.Answer.{Answer}
 use Rattle.gfs_types.specs.declared.call.Call.{Call}
@@ -8,11 +8,14 @@ use Rattle.gfs_types.specs.declared.ids.Node.{Node}
 use Rattle.gfs_types.specs.declared.refusal.Refusal.{Refusal}
 use Rattle.gfs_types.specs.declared.refusal.Refusal.TheVariants.{ClockBroken}
 use Rattle.messages.specs.declared.message.Message.{Message}
-use Rattle.protocol_journal.specs.Journal.{StepCause, Calls, Takes, Restarts, Entry, own}
+use Rattle.protocol_journal.specs.Journal.{StepCause, Calls, Takes, Restarts, Entry, own, sent_after}
+use Rattle.laws_rebase.specs.Whole.{raised_cause, raised_entry}
 use Rattle.cell_journal.specs.Log.{Listed}
 use Rattle.cell_journal.proofs.Begins.{prefix_self, prefix_trans}
 use Rattle.cell_journal.specs.Clocks.{are_clocks_kept}
 use Rattle.cell_journal.specs.declared.view.View.{View}
+use Rattle.cell_journal.specs.Identity.{Identity}
+use Rattle.cell_journal.specs.WholeHistories.{all_seen, steps_of}
 use Rattle.cell_journal.specs.Writers.{IsLater, GoesOn}
 use Rattle.cell_seats.specs.declared.mailboxes.Input.{Input}
 use Rattle.cell_seats.specs.declared.mailboxes.Input.TheVariants.{Deliver, Tick, Restart}
@@ -24,6 +27,22 @@ visible_append : (xs ys : List Entry) → visible_of (xs ++ ys) ≡ visible_of x
 visible_append [] ys = refl
 visible_append (x ∷ xs) ys =
     ap (λ l. asked_in x.cause ++ answered_in x.out.answer ++ l) (visible_append xs ys) ∙ sym (append_assoc (asked_in x.cause ++ answered_in x.out.answer) (visible_of xs) (visible_of ys))
+
+-- the same is seen of a step whatever the number of its message
+asked_raised : (k : ℕ) (cause : StepCause) → asked_in (raised_cause k cause) ≡ asked_in cause
+asked_raised k (Calls call) = refl
+asked_raised k (Takes given) = refl
+asked_raised k Restarts = refl
+
+visible_raised : (k : ℕ) (es : List Entry) → visible_of (map (raised_entry k) es) ≡ visible_of es
+visible_raised k [] = refl
+visible_raised k (e ∷ es) = ap (λ l. l ++ answered_in e.out.answer ++ visible_of (map (raised_entry k) es)) (asked_raised k e.cause) ∙ ap (λ l. asked_in e.cause ++ answered_in e.out.answer ++ l) (visible_raised k es)
+
+-- of all steps of a client
+pub visible_steps : (cell : Identity) (n : Node) (mine : List Entry) → visible_of (steps_of cell n mine) ≡ visible_of (own n cell.base) ++ visible_of mine
+visible_steps cell n mine =
+    let k : ℕ = length (sent_after [] cell.base) in
+    visible_append (own n cell.base) (map (raised_entry k) mine) ∙ ap (λ l. visible_of (own n cell.base) ++ l) (visible_raised k mine)
 
 -- what is seen of one step more
 visible_more : (v w : View) (e : Entry) → GoesOn v w e → visible_of w.mine ≡ visible_of v.mine ++ (asked_in e.cause ++ answered_in e.out.answer)
@@ -53,8 +72,8 @@ module _ (n : Node) (v w : View) (cause : StepCause) (answer : Result (Option An
   pub further_taken : IsFurther v w
   further_taken = record { of = t.goes.of; grows = t.goes.grows }
 
-  kept_and_told : (o : Option Answer) → answer ≡ Ok o → (are_clocks_kept w.of w.seen ≡ true) × (t.entry.out.answer ≡ o)
-  kept_and_told o is = told_so (are_clocks_kept w.of w.seen) t.entry.out.answer o (sym t.answer_is ∙ is)
+  kept_and_told : (o : Option Answer) → answer ≡ Ok o → (are_clocks_kept w.of (all_seen w) ≡ true) × (t.entry.out.answer ≡ o)
+  kept_and_told o is = told_so (are_clocks_kept w.of (all_seen w)) t.entry.out.answer o (sym t.answer_is ∙ is)
 
   has_seen : (h : AnsweredCall) → answer ≡ Ok (Some h.answer) → h.beginning ≡ beginning → h.count ≡ count → HasSeen n w h.beginning h.count
   has_seen h is b k = record {
@@ -140,7 +159,7 @@ handed_on (Err e) P refusal is p = subst P (sym is) p
 refused_step : (r : Result (Option AnsweredCall) Refusal) (n : Node) (v w : View) (cause : StepCause) (answer : Result (Option Answer) Refusal) (beginning : Listed Entry) (count : ℕ)
     → StepTaken n v w cause answer beginning count → IfErr r (λ refusal. answer ≡ Err refusal) → IfErr r (ShowsNoMore (visible_of v.mine) (visible_of w.mine))
 refused_step (Ok h) n v w cause answer beginning count t is = tt
-refused_step (Err refusal) n v w cause answer beginning count t is = inr (not_told (are_clocks_kept w.of w.seen) t.entry.out.answer refusal (sym t.answer_is ∙ is))
+refused_step (Err refusal) n v w cause answer beginning count t is = inr (not_told (are_clocks_kept w.of (all_seen w)) t.entry.out.answer refusal (sym t.answer_is ∙ is))
 
 pub refused_call : (r : Result (Option AnsweredCall) Refusal) (n : Node) (v w : View) (call : Call) (answer : Result (Option Answer) Refusal) (beginning : Listed Entry) (count : ℕ)
     → StepTaken n v w (Calls call) answer beginning count → IfErr r (λ refusal. answer ≡ Err refusal) → IfErr r (ShowsNoMore (visible_of v.mine) (visible_of w.mine))

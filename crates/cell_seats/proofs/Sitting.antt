@@ -1,5 +1,5 @@
 -- A client and its calls.
-use Rattle.std.proofs.Common.{◌≡◌, ℕ, Bool, true, false, List, [], ◌∷◌, ◌++◌, length, Option, Some, None, refl, sym, ap, subst, ◌∙◌}
+use Rattle.std.proofs.Common.{◌≡◌, ℕ, Bool, true, false, List, [], ◌∷◌, ◌++◌, length, Option, Some, None, refl, sym, ap, subst, ◌∙◌, append_assoc}
 use Rattle.std.specs.Prelude.{Result, Ok, Err, IfOk, IfErr, IfSome, IsTrue}
 use mathlib.Core.List.{IsPrefix}
 use Rattle.gfs_types.specs.declared.answer.Answer.{Answer}
@@ -15,19 +15,31 @@ use Rattle.cell_journal.proofs.Begins.{prefix_self, prefix_trans}
 use Rattle.cell_journal.specs.Clocks.{are_clocks_kept}
 use Rattle.cell_journal.specs.Identity.{Identity}
 use Rattle.cell_journal.specs.declared.view.View.{View}
-use Rattle.cell_journal.specs.Rules.{IsJournalOf}
+use Rattle.laws_rebase.proofs.CutJournals.{own_whole, whole_prefix}
+use Rattle.cell_journal.specs.WholeHistories.{history_of, all_seen, steps_of, all_steps, IsHistoryOf}
+use Rattle.cell_seats.proofs.Shown.{visible_steps}
 use Rattle.cell_seats.specs.Seen.{Asked, Answered, visible_of, IsFurther, HasSeen}
 use Rattle.cell_seats.specs.Seats.{SeatState, seat_state, is_some, is_the_cells, IsSeat, IsAnswered, IsLost, Fails, AnswersSo, Loses, is_value_of, refusal_in, IsRefusal}
 
--- a lawful journal in which clocks were kept, of a cell whose settings are in their ranges
-pub explains : (cell : Identity) (entries : List Entry) → first_out_of_range cell.config ≡ None → IsJournalOf cell entries → IsTrue (are_clocks_kept cell entries) → AreExplained cell.config entries
+-- a lawful history in which clocks were kept, of a cell whose settings are in their ranges
+pub explains : (cell : Identity) (entries : List Entry) → first_out_of_range cell.config ≡ None → IsHistoryOf cell entries → IsTrue (are_clocks_kept cell entries) → AreExplained cell.config entries
 explains cell entries in_range lawful clocks = journals_are_explained cell.config cell.servers cell.clients entries lawful.0 lawful.1 in_range clocks
 
 range_later : (v w : View) → IsFurther v w → first_out_of_range v.of.config ≡ None → first_out_of_range w.of.config ≡ None
 range_later v w further in_range = subst (λ (c : Identity). first_out_of_range c.config ≡ None) (sym further.of) in_range
 
-items_of : (n : Node) (w : View) (now : Listed Entry) (after : ℕ) → HasSeen n w now after → now.items ≡ w.seen
+items_of : (n : Node) (w : View) (now : Listed Entry) (after : ℕ) → HasSeen n w now after → now.items ≡ all_seen w
 items_of n w now after has = ap (λ (l : Listed Entry). l.items) has.seen.0
+
+-- what a client's view has seen of its own steps is all of them
+own_all : (m : Node) (w : View) (now : Listed Entry) (after : ℕ) → HasSeen m w now after → own m now.items ≡ all_steps w m
+own_all m w now after has = ap (own m) (items_of m w now after has) ∙ (own_whole m w.of.base w.seen ∙ ap (λ (l : List Entry). steps_of w.of m l) (sym has.own_is))
+
+-- what began the history begins it later on
+grown : (v w : View) (was : Listed Entry) → IsFurther v w → IsPrefix was.items (all_seen v) → IsPrefix was.items (all_seen w)
+grown v w was further begins =
+    let longer : IsPrefix (all_seen v) (all_seen w) = subst (λ (c : Identity). IsPrefix (all_seen v) (history_of c w.seen)) (sym further.of) (whole_prefix v.of.base v.seen w.seen further.grows) in
+    prefix_trans was.items (all_seen v) (all_seen w) begins longer
 
 -- a client that was answered
 answered : (n m : Node) (v w : View) (was now : Listed Entry) (count after : ℕ) (call : Call) (reply : Answer) → m ≡ n → IsSeat n v was count None → IsFurther v w → HasSeen m w now after
@@ -35,20 +47,26 @@ answered : (n m : Node) (v w : View) (was now : Listed Entry) (count after : ℕ
 answered n m v w was now count after call reply same seat further has shows = record {
   node = same;
   cell = further.of;
-  begins = subst (IsPrefix was.items) (sym items) (prefix_trans was.items v.seen w.seen seat.begins further.grows);
+  begins = subst (IsPrefix was.items) (sym items) (grown v w was further seat.begins);
   lawful = lawful_now;
   clocks = clocks_now;
   explained = explains w.of now.items (range_later v w further seat.in_range) lawful_now clocks_now;
-  shows = ap (λ l. visible_of (own m l)) items ∙ (ap visible_of (sym has.own_is) ∙ (shows ∙ ap (λ l. visible_of l ++ Asked call ∷ Answered reply ∷ []) (sym (seat.own_is refl))));
+  shows = ap visible_of (own_all m w now after has)
+      ∙ (visible_steps w.of m w.mine
+      ∙ (ap (λ (c : Identity). visible_of (own m c.base) ++ visible_of w.mine) further.of
+      ∙ (ap (λ (k : Node). visible_of (own k v.of.base) ++ visible_of w.mine) same
+      ∙ (ap (λ l. visible_of (own n v.of.base) ++ l) shows
+      ∙ (sym (append_assoc (visible_of (own n v.of.base)) (visible_of v.mine) (Asked call ∷ Answered reply ∷ []))
+      ∙ ap (λ l. l ++ Asked call ∷ Answered reply ∷ []) (sym (visible_steps v.of n v.mine) ∙ ap visible_of (sym (seat.own_is refl))))))));
   was_open = refl;
   still_open = refl;
 }
   where
-    items : now.items ≡ w.seen
+    items : now.items ≡ all_seen w
     items = items_of m w now after has
 
-    lawful_now : IsJournalOf w.of now.items
-    lawful_now = subst (IsJournalOf w.of) (sym items) has.lawful
+    lawful_now : IsHistoryOf w.of now.items
+    lawful_now = subst (IsHistoryOf w.of) (sym items) has.lawful
 
     clocks_now : IsTrue (are_clocks_kept w.of now.items)
     clocks_now = subst (λ l. IsTrue (are_clocks_kept w.of l)) (sym items) has.clocks
@@ -64,15 +82,15 @@ pub sits : (n m : Node) (v w : View) (was now : Listed Entry) (count after : ℕ
 sits n m v w was now count after lost seat further has = record {
   name = ap (λ (l : Listed Entry). l.name) has.seen.0;
   count_is = has.seen.1 ∙ ap length (sym items);
-  begins = subst (λ l. IsPrefix l w.seen) (sym items) (prefix_self w.seen);
-  lawful = subst (IsJournalOf w.of) (sym items) has.lawful;
+  begins = subst (λ l. IsPrefix l (all_seen w)) (sym items) (prefix_self (all_seen w));
+  lawful = subst (IsHistoryOf w.of) (sym items) has.lawful;
   clocks = subst (λ l. IsTrue (are_clocks_kept w.of l)) (sym items) has.clocks;
   in_range = range_later v w further seat.in_range;
-  own_is = λ _. ap (own m) items ∙ sym has.own_is;
+  own_is = λ _. own_all m w now after has;
   refused = tt;
 }
   where
-    items : now.items ≡ w.seen
+    items : now.items ≡ all_seen w
     items = items_of m w now after has
 
 -- one that was refused keeps what it saw
@@ -81,8 +99,8 @@ pub sits_still : (n m : Node) (v w : View) (was : Listed Entry) (count : ℕ) (l
 sits_still n m v w was count lost refusal seat further of_it = record {
   name = seat.name ∙ ap (λ c. c.name) (sym further.of);
   count_is = seat.count_is;
-  begins = prefix_trans was.items v.seen w.seen seat.begins further.grows;
-  lawful = subst (λ c. IsJournalOf c was.items) (sym further.of) seat.lawful;
+  begins = grown v w was further seat.begins;
+  lawful = subst (λ c. IsHistoryOf c was.items) (sym further.of) seat.lawful;
   clocks = subst (λ c. IsTrue (are_clocks_kept c was.items)) (sym further.of) seat.clocks;
   in_range = range_later v w further seat.in_range;
   own_is = λ h. absurd (let both : Some refusal ≡ None = h in cc);

@@ -9,7 +9,9 @@ use Rattle.gfs_types.specs.declared.ids.Node.TheVariants as node
 use Rattle.gfs_types.specs.declared.ids.ServerId.{ServerId}
 use Rattle.protocol.specs.Tables.{element_at, first_numbers}
 use Rattle.protocol.specs.World.{new_world, numbered_from_1}
-use Rattle.protocol_journal.specs.Journal.{Entry, NodeState, node_in, LeadsTo}
+use Rattle.protocol_journal.specs.Journal.{Entry, NodeState, node_in, own, LeadsTo}
+use Rattle.cell_journal.specs.Identity.{Identity}
+use Rattle.cell_journal.specs.WholeHistories.{steps_of, all_steps}
 use Rattle.cell_journal.specs.Roles.{node_at}
 use Rattle.cell_journal.specs.declared.view.View.{View}
 use Rattle.cell_seats.specs.Slots.{IsLedTo}
@@ -61,16 +63,25 @@ pub numbered_is : {Y : Type 0} (f : ℕ → Y) (count number : ℕ) → 0 < numb
 numbered_is f count zero some within = absurd (omega (arith, some))
 numbered_is f count (suc k) some within = element_is f count k (let e : k < count = omega (arith, within) in e)
 
+-- a node that took no step, neither before nor in the journal, has none
+pub no_steps : (node : Node) (v : View) (n : Node) (w : View) → n ≡ node → w.of ≡ v.of → w.mine ≡ [] → own node v.of.base ≡ [] → all_steps w n ≡ []
+no_steps node v n w node_is of mine unused =
+    ap (λ (es : List Entry). steps_of w.of n es) mine
+    ∙ (ap (λ (c : Identity). own n c.base ++ []) of ∙ (ap (λ (m : Node). own m v.of.base ++ []) node_is ∙ ap (λ (es : List Entry). es ++ []) unused))
+
 -- a node that took no step yet is in the state in which its cell began
 pub led_new : (config : Config) (servers : ℕ) (node n : Node) (v w : View) (Stands : NodeState → Type 0) (state : NodeState) → IsRegistered config servers node v n w
     → node_in (new_world config servers 64) node ≡ Some state → Stands state → IsLedTo w n Stands
 led_new config servers node n v w Stands state registered begins stands = record {
   state = state;
-  leads = subst (λ (es : List Entry). LeadsTo (node_in (new_world w.of.config w.of.servers w.of.clients) n) es (Some state)) (sym registered.mine)
+  leads = subst (λ (es : List Entry). LeadsTo (node_in (new_world w.of.config w.of.servers w.of.clients) n) es (Some state)) (sym none)
       (subst (λ (o : Option NodeState). LeadsTo o [] (Some state)) (sym (world ∙ begins)) (state, refl, refl));
   stands = stands;
 }
   where
+    none : all_steps w n ≡ []
+    none = no_steps node v n w registered.node_is registered.of registered.mine registered.unused
+
     world : node_in (new_world w.of.config w.of.servers w.of.clients) n ≡ node_in (new_world config servers 64) node
     world = ap (λ (c : Config). node_in (new_world c w.of.servers w.of.clients) n) registered.config_is
         ∙ (ap (λ (k : ℕ). node_in (new_world config k w.of.clients) n) registered.servers_are

@@ -15,10 +15,10 @@ use Rattle.cell_journal.specs.Log.{Listed}
 use Rattle.cell_journal.specs.Clocks.{are_clocks_kept}
 use Rattle.cell_journal.specs.Identity.{Identity}
 use Rattle.cell_journal.specs.declared.view.View.{View}
-use Rattle.cell_journal.specs.Rules.{IsJournalOf}
+use Rattle.cell_journal.specs.WholeHistories.{all_seen, all_steps, IsHistoryOf}
 use Rattle.cell_seats.specs.Seen.{Visible, Asked, Answered, visible_of}
 
--- a client, its cell, the journal as the client last saw it, and whether it was refused for good
+-- a client, its cell, the cell's whole history as the client last saw it, and whether it was refused for good
 pub record SeatState : Type 0 where
   pub node : Node
   pub cell : Identity
@@ -32,7 +32,7 @@ abbrev pub is_some : {X : Type 0} → Option X → Bool
 is_some None = false
 is_some (Some x) = true
 
--- the client's calls and answers, as the journal has them
+-- the client's calls and answers, as the history has them
 abbrev pub shown : SeatState → List Visible
 shown s = visible_of (own s.node s.seen)
 
@@ -43,15 +43,15 @@ is_the_cells JournalFull = true
 is_the_cells Closed = true
 is_the_cells other = false
 
--- A client's view, and what it keeps: the journal as it saw it last, its length, and, where it wasn't refused for good, all its own steps.
+-- A client's view, and what it keeps: the whole history as it saw it last, its length, and, where it wasn't refused for good, all its own steps.
 pub record IsSeat (n : Node) (v : View) (seen : Listed Entry) (count : ℕ) (lost : Option Refusal) : Type 0 where
   pub name : seen.name ≡ v.of.name
   pub count_is : count ≡ length seen.items
-  pub begins : IsPrefix seen.items v.seen
-  pub lawful : IsJournalOf v.of seen.items
+  pub begins : IsPrefix seen.items (all_seen v)
+  pub lawful : IsHistoryOf v.of seen.items
   pub clocks : IsTrue (are_clocks_kept v.of seen.items)
   pub in_range : first_out_of_range v.of.config ≡ None
-  pub own_is : lost ≡ None → own n seen.items ≡ v.mine
+  pub own_is : lost ≡ None → own n seen.items ≡ all_steps v n
   pub refused : IfSome lost (λ refusal. IsTrue (is_the_cells refusal))
 
 -- The call was answered: what the client saw goes on lawfully, with clocks kept, and has one more call of its own, with this answer, at the end. All calls and answers that it saw are a run of the machine.
@@ -59,7 +59,7 @@ pub record IsAnswered (old new : SeatState) (call : Call) (reply : Answer) : Typ
   pub node : new.node ≡ old.node
   pub cell : new.cell ≡ old.cell
   pub begins : IsPrefix old.seen new.seen
-  pub lawful : IsJournalOf new.cell new.seen
+  pub lawful : IsHistoryOf new.cell new.seen
   pub clocks : IsTrue (are_clocks_kept new.cell new.seen)
   pub explained : AreExplained new.cell.config new.seen
   pub shows : shown new ≡ shown old ++ Asked call ∷ Answered reply ∷ []

@@ -12,6 +12,7 @@ use Rattle.cell_journal.specs.Log.{Listed}
 use Rattle.cell_journal.specs.Clocks.{are_clocks_kept}
 use Rattle.cell_journal.specs.declared.view.View.{View}
 use Rattle.cell_journal.specs.Rules.{IsJournalOf}
+use Rattle.cell_journal.specs.WholeHistories.{all_seen}
 use Rattle.cell_journal.specs.Writers.{IsSeen}
 use Rattle.cell_seats.specs.declared.client_call.AnsweredCall.{AnsweredCall}
 
@@ -44,11 +45,11 @@ pub record IsFurther (v w : View) : Type 0 where
   pub of : w.of ≡ v.of
   pub grows : IsPrefix v.seen w.seen
 
--- a journal in which clocks were kept was seen whole just after the client's last step
+-- a history in which clocks were kept was seen whole just after the client's last step
 pub record HasSeen (n : Node) (w : View) (beginning : Listed Entry) (count : ℕ) : Type 0 where
   pub seen : IsSeen w beginning count
   pub lawful : IsJournalOf w.of w.seen
-  pub clocks : IsTrue (are_clocks_kept w.of w.seen)
+  pub clocks : IsTrue (are_clocks_kept w.of (all_seen w))
   pub own_is : w.mine ≡ own n w.seen
 
 -- a step's answer, if it has one, is given with the journal as it was seen then

@@ -15,6 +15,7 @@ use Rattle.protocol_journal.specs.Journal.{StepCause, Calls, Takes, Restarts, En
 use Rattle.cell_journal.specs.Log.{Listed}
 use Rattle.cell_journal.specs.Clocks.{are_clocks_kept}
 use Rattle.cell_journal.specs.declared.view.View.{View}
+use Rattle.cell_journal.specs.WholeHistories.{all_seen, all_steps}
 use Rattle.cell_journal.specs.Writers.{GoesOn, IsSeen}
 use Rattle.cell_seats.specs.declared.mailboxes.Input.{Input}
 use Rattle.cell_seats.specs.declared.mailboxes.Input.TheVariants.{Deliver, Tick, Restart}
@@ -33,10 +34,10 @@ pub record StepsSo (s : NodeState) (moment : ℕ) (cause : StepCause) (out : Ste
   pub gives : (node_step s moment cause choice).out ≡ out
   pub stands : Stands (node_step s moment cause choice).state
 
--- the node's own steps, as its writer knows them, led to a state for which it stands
+-- all steps of the node, as its writer knows them, led to a state for which it stands
 pub record IsLedTo (v : View) (n : Node) (Stands : NodeState → Type 0) : Type 0 where
   pub state : NodeState
-  pub leads : LeadsTo (node_in (new_world v.of.config v.of.servers v.of.clients) n) v.mine (Some state)
+  pub leads : LeadsTo (node_in (new_world v.of.config v.of.servers v.of.clients) n) (all_steps v n) (Some state)
   pub stands : Stands state
 
 abbrev pub number_in : Input → Option ℕ
@@ -76,7 +77,7 @@ pub record StepTaken (n : Node) (v w : View) (cause : StepCause) (answer : Resul
   pub node_is : entry.node ≡ n
   pub goes : GoesOn v w entry
   pub cause_is : entry.cause ≡ cause
-  pub answer_is : answer ≡ told_where (are_clocks_kept w.of w.seen) entry.out.answer
+  pub answer_is : answer ≡ told_where (are_clocks_kept w.of (all_seen w)) entry.out.answer
   pub seen : IsSeen w beginning count
 
 -- the same, on what an input names

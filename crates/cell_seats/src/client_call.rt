@@ -9,7 +9,7 @@ use crate::mailboxes::MailboxItem;
 use crate::slot::{Slot, StepResult};
 use crate::stepper::Stepper;
 use cell_journal::Beginning;
-use cell_journal::journal_entry::JournalEntry;
+use cell_journal::raised_entry::RaisedEntry;
 use crossbeam_channel::Receiver;
 use gfs_types::answer::Answer;
 use gfs_types::call::Call;
@@ -21,7 +21,7 @@ use std::time::Clock;
 #[derive(Drop)]
 pub struct AnsweredCall {
     pub answer: Answer,
-    pub beginning: Beginning<JournalEntry>,
+    pub beginning: Beginning<RaisedEntry>,
     pub count: usize,
 }
 

@@ -7,6 +7,7 @@ ghost use Rattle.gfs_types.specs.Settings.{first_out_of_range};
 ghost use Rattle.journal_headline.specs.Journals.{AreExplained};
 ghost use Rattle.cell_journal.specs.Clocks.{are_clocks_kept};
 ghost use Rattle.cell_journal.specs.Rules.{IsJournalOf};
+ghost use Rattle.cell_journal.specs.WholeHistories.{whole_of};
 
 use crate::seat::Seat;
 use crate::stepper::Stepper;
@@ -15,7 +16,7 @@ use cell_journal::closed_history::ClosedHistory;
 use cell_journal::journal_entry::JournalEntry;
 use std::marker::Model;
 
-/// All steps of a cell that was closed, in one order.
+/// All steps in the journal of a cell that was closed, in one order.
 #[derive(Drop)]
 pub struct Journal {
     history: ClosedHistory,
@@ -40,23 +41,24 @@ impl Journal {
         requires range { first_out_of_range history.cell.config ≡ None }
         ensures journal { result ≡ history }
         ensures lawful { IsJournalOf result.cell result.entries }
-        ensures explained { IsTrue (are_clocks_kept result.cell result.entries) → AreExplained result.cell.config result.entries }
+        ensures explained { IsTrue (are_clocks_kept result.cell (whole_of result)) → AreExplained result.cell.config (whole_of result) }
     {
         Journal { history }
     }
 
-    /// How many steps there are. They are a lawful journal of the cell. Where clocks were kept their calls and answers are a run of the machine.
+    /// How many steps there are. Behind those of the base they are a lawful history of the cell. Where clocks were kept in it, its calls and
+    /// answers are a run of the machine.
     pub fn len(&self) -> usize
         ensures count { result ≡ length self.now.entries }
         ensures lawful { IsJournalOf self.now.cell self.now.entries }
-        ensures explained { IsTrue (are_clocks_kept self.now.cell self.now.entries) → AreExplained self.now.cell.config self.now.entries }
+        ensures explained { IsTrue (are_clocks_kept self.now.cell (whole_of self.now)) → AreExplained self.now.cell.config (whole_of self.now) }
     {
         self.history.len()
     }
 
     /// Whether clocks were kept: no moment of a step is behind that of an earlier one by more than the clock bound.
     pub fn are_clocks_kept(&self) -> bool
-        ensures { result ≡ are_clocks_kept self.now.cell self.now.entries }
+        ensures { result ≡ are_clocks_kept self.now.cell (whole_of self.now) }
     {
         self.history.are_clocks_kept()
     }
@@ -69,10 +71,10 @@ impl Journal {
     }
 }
 
-/// What a client has seen begins the journal of its cell.
+/// What a client has seen begins the whole history of its cell.
 pub fn agree<N: Stepper + Drop>(seat: &Seat<N>, journal: &Journal)
     requires { seat.now.cell.name ≡ journal.now.cell.name }
-    ensures { IsPrefix seat.now.seen journal.now.entries }
+    ensures { IsPrefix seat.now.seen (whole_of journal.now) }
 {
     closed_history::agree(seat.view(), &journal.history);
 }

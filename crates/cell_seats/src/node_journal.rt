@@ -7,6 +7,7 @@ ghost use Rattle.protocol_journal.specs.Journal.{sent_after};
 ghost use Rattle.cell_journal.specs.Clocks.{are_clocks_kept};
 ghost use Rattle.cell_journal.specs.Entries.{entry, cause_of};
 ghost use Rattle.cell_journal.specs.Rules.{IsStepOf};
+ghost use Rattle.cell_journal.specs.WholeHistories.{all_seen};
 ghost use Rattle.cell_journal.specs.Writers.{IsAt, IsNodeWriter, IsLater, IsRead, GoesOn, IsSeen};
 
 use crate::gate::Kind;
@@ -126,7 +127,7 @@ impl NodeJournal {
         requires step { IsStepOf self.old.writer.me.0 (entry self.old.node now.0 (cause_of cause) out) }
         ensures node { self.new.node ≡ self.old.node }
         ensures some { IfSome result (λ l. GoesOn self.old.writer.me.0 self.new.writer.me.0 (entry self.old.node now.0 (cause_of cause) out) × IsSeen self.new.writer.me.0 l.beginning l.count) }
-        ensures clocks { IfSome result (λ l. l.are_clocks_kept ≡ are_clocks_kept self.new.writer.me.0.of self.new.writer.me.0.seen) }
+        ensures clocks { IfSome result (λ l. l.are_clocks_kept ≡ are_clocks_kept self.new.writer.me.0.of (all_seen self.new.writer.me.0)) }
         ensures none { IfNone result (self.new.writer.me ≡ self.old.writer.me) }
     {
         let receivers = receivers_of(alloc, &out);

@@ -7,6 +7,7 @@ ghost use Rattle.journal_headline.specs.Journals.{AreExplained};
 ghost use Rattle.cell_journal.specs.Clocks.{are_clocks_kept};
 ghost use Rattle.cell_journal.specs.Roles.{node_at};
 ghost use Rattle.cell_journal.specs.Rules.{IsJournalOf};
+ghost use Rattle.cell_journal.specs.WholeHistories.{whole_of};
 ghost use Rattle.cell_journal.specs.Writers.{IsAt};
 ghost use Rattle.cell_seats.specs.Registry.{Registers, IsRegistered};
 
@@ -48,6 +49,7 @@ impl Drop for NodeRegistry {
 
 impl NodeRegistry {
     /// The next node's journal.
+    #[tactic(auto, using(crate::proofs::RegisteredNodes::next_unused, crate::proofs::RegisteredNodes::later_unused))]
     pub fn next(&mut self, node: Node) -> Result<NodeJournal, NoMemory>
         requires node { node_at self.old.servers self.old.registered ≡ node }
         requires few { self.old.registered < 2 ^ 62 }
@@ -62,11 +64,12 @@ impl NodeRegistry {
         Ok(NodeJournal::new(theirs, node, own))
     }
 
-    /// Closes the journal. Nothing is added to it any more. Where clocks were kept its calls and answers are a run of the machine.
+    /// Closes the journal. Nothing is added to it any more. Where clocks were kept the calls and answers of the
+    /// whole history are a run of the machine.
     pub fn close<R: Wait + Clock>(self, rt: &R) -> Journal
         ensures cell { result.cell ≡ self.writer.me.0.of }
         ensures lawful { IsJournalOf result.cell result.entries }
-        ensures explained { IsTrue (are_clocks_kept result.cell result.entries) → AreExplained result.cell.config result.entries }
+        ensures explained { IsTrue (are_clocks_kept result.cell (whole_of result)) → AreExplained result.cell.config (whole_of result) }
     {
         let Self {
             shared,

@@ -6,7 +6,7 @@ ghost use Rattle.protocol_journal.specs.Journal.{observer_of};
 ghost use Rattle.journal_headline.specs.Journals.{AreExplained};
 ghost use Rattle.cell_journal.specs.Log.{listed};
 ghost use Rattle.cell_journal.specs.Clocks.{are_clocks_kept};
-ghost use Rattle.cell_journal.specs.Rules.{IsJournalOf};
+ghost use Rattle.cell_journal.specs.WholeHistories.{IsHistoryOf};
 ghost use Rattle.cell_seats.specs.Seats.{IsAnswered, IsLost, seat_state, shown, IsSeat, is_the_cells};
 ghost use Rattle.cell_seats.specs.Seen.{of_client};
 
@@ -16,7 +16,7 @@ use crate::shared_state::SharedState;
 use crate::slot::Slot;
 use crate::stepper::Stepper;
 use cell_journal::Beginning;
-use cell_journal::journal_entry::JournalEntry;
+use cell_journal::raised_entry::RaisedEntry;
 use crossbeam_channel::Receiver;
 use gfs_types::answer::Answer;
 use gfs_types::call::Call;
@@ -30,7 +30,7 @@ use std::time::Clock;
 pub struct Seat<N: Stepper + Drop> {
     slot: Slot<N>,
     inbox: Receiver<MailboxItem>,
-    view: Beginning<JournalEntry>,
+    view: Beginning<RaisedEntry>,
     count: usize,
     /// The bit of this client among those that are in a call.
     bit: u64,
@@ -67,7 +67,7 @@ impl<N: Stepper + Drop> Seat<N> {
     pub fn new(
         slot: Slot<N>,
         inbox: Receiver<MailboxItem>,
-        view: Beginning<JournalEntry>,
+        view: Beginning<RaisedEntry>,
         count: usize,
         bit: u64,
     ) -> Seat<N>
@@ -84,11 +84,11 @@ impl<N: Stepper + Drop> Seat<N> {
         }
     }
 
-    /// How many steps of the cell it has seen: all up to its last answer. They are a lawful journal of its cell, in which clocks were kept,
+    /// How many steps of the cell it has seen: all up to its last answer. They are a lawful history of its cell, in which clocks were kept,
     /// and their calls and answers are a run of the machine, in which this client has its own.
     pub fn seen(&self) -> u64
         ensures count { result ≡ length self.now.seen }
-        ensures lawful { IsJournalOf self.now.cell self.now.seen }
+        ensures lawful { IsHistoryOf self.now.cell self.now.seen }
         ensures clocks { IsTrue (are_clocks_kept self.now.cell self.now.seen) }
         ensures explained { AreExplained self.now.cell.config self.now.seen }
         ensures own { (client : ℕ) → self.now.node ≡ Client (record { 0 = client }) → of_client client (observer_of self.now.cell.config self.now.seen).trace ≡ shown self.now }
@@ -96,8 +96,8 @@ impl<N: Stepper + Drop> Seat<N> {
         self.count as u64
     }
 
-    /// The journal as it was at the last answer.
-    pub fn view(&self) -> &Beginning<JournalEntry>
+    /// The cell's whole history as it was at the last answer.
+    pub fn view(&self) -> &Beginning<RaisedEntry>
         ensures { result.now ≡ listed self.now.cell.name self.now.seen }
     {
         &self.view

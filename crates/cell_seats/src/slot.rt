@@ -14,7 +14,8 @@ use crate::node_journal::NodeJournal;
 use crate::shared_state::SharedState;
 use crate::stepper::{NodeStep, Stepper};
 use cell_journal::Beginning;
-use cell_journal::journal_entry::{JournalEntry, StepCause};
+use cell_journal::journal_entry::StepCause;
+use cell_journal::raised_entry::RaisedEntry;
 use gfs_types::answer::Answer;
 use gfs_types::call::Call;
 use gfs_types::ids::Moment;
@@ -26,8 +27,8 @@ use std::marker::Model;
 use std::sync::Wait;
 use std::time::Clock;
 
-/// A node with its journal. A node that took a step while the journal was closed is gone. While it is there, its own steps in the journal
-/// led to the state in which it is.
+/// A node with its journal. A node that took a step while the journal was closed is gone. While it is there, all its steps led to
+/// the state in which it is.
 pub struct Slot<N: Stepper + Drop> {
     alloc: Global,
     journal: NodeJournal,
@@ -61,7 +62,7 @@ impl<N: Stepper + Drop> Model for Slot<N> {
 #[derive(Drop)]
 pub struct StepResult {
     pub answer: Result<Option<Answer>, Refusal>,
-    pub beginning: Beginning<JournalEntry>,
+    pub beginning: Beginning<RaisedEntry>,
     pub count: usize,
 }
 

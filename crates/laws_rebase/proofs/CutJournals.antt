@@ -3,6 +3,7 @@ use Rattle.std.proofs.Common.{◌≡◌, ℕ, Bool, true, false, cond, List, [],
 use Rattle.std.specs.Prelude.{IsTrue}
 use Rattle.std.specs.Option.{option_map}
 use Rattle.std.proofs.lemmas.List.{append_assoc, append-nil, map-append}
+use mathlib.Core.List.{IsPrefix}
 use Rattle.gfs_types.specs.declared.ids.Node.{Node}
 use Rattle.gfs_types.specs.declared.ids.Node.TheVariants as node
 use Rattle.messages.specs.declared.message.Message.{Message}
@@ -20,7 +21,7 @@ use Rattle.laws_rebase.proofs.SameSteps.{master_same, server_same, client_same}
 use Rattle.laws_rebase.proofs.CutWorlds.{numbered, sent_on}
 
 -- no step looks at a message's number
-step_same : (k : ℕ) (s : NodeState) (moment : ℕ) (t : StepCause) (choice : Choice)
+pub step_same : (k : ℕ) (s : NodeState) (moment : ℕ) (t : StepCause) (choice : Choice)
     → node_step s moment (raised_cause k t) choice ≡ node_step s moment t choice
 step_same k (MasterIs m) moment (Takes i) choice = ap (λ t. taken_by MasterIs t) (master_same k m moment i choice)
 step_same k (MasterIs m) moment Restarts choice = refl
@@ -32,7 +33,7 @@ step_same k (ClientIs c) moment (Calls call) choice = refl
 step_same k (ClientIs c) moment (Takes i) choice = ap (λ t. taken_by ClientIs t) (client_same k c moment i choice)
 step_same k (ClientIs c) moment Restarts choice = refl
 
-may_same : (k : ℕ) (s : NodeState) (t : StepCause) → may_take s (raised_cause k t) ≡ may_take s t
+pub may_same : (k : ℕ) (s : NodeState) (t : StepCause) → may_take s (raised_cause k t) ≡ may_take s t
 may_same k (MasterIs m) (Takes i) = refl
 may_same k (MasterIs m) Restarts = refl
 may_same k (MasterIs m) (Calls call) = refl
@@ -115,6 +116,22 @@ own_whole n base es =
     let k : ℕ = length (sent_after [] base) in
     own_append n base (raised_all k es) ∙ ap (λ (xs : List Entry). own n base ++ xs) (own_raised k n es)
 
+-- and with one entry more of its own
+pub steps_more : (k : ℕ) (before mine : List Entry) (e : Entry) → before ++ raised_all k (mine ++ e ∷ []) ≡ (before ++ raised_all k mine) ++ raised_entry k e ∷ []
+steps_more k before mine e = ap (λ (l : List Entry). before ++ l) (map-append (raised_entry k) mine (e ∷ [])) ∙ sym (append_assoc before (raised_all k mine) (raised_entry k e ∷ []))
+
+-- one entry more
+pub whole_more : (base es : List Entry) (e : Entry) → whole base (es ++ e ∷ []) ≡ whole base es ++ raised_entry (length (sent_after [] base)) e ∷ []
+whole_more base es e = steps_more (length (sent_after [] base)) base es e
+
+-- entries that begin others begin them behind a base, too
+pub whole_prefix : (base xs ys : List Entry) → IsPrefix xs ys → IsPrefix (whole base xs) (whole base ys)
+whole_prefix base xs ys p =
+    let k : ℕ = length (sent_after [] base) in (
+      raised_all k p.0,
+      append_assoc base (raised_all k xs) (raised_all k p.0) ∙ ap (λ (l : List Entry). base ++ l) (sym (map-append (raised_entry k) xs p.0) ∙ ap (raised_all k) p.1),
+    )
+
 runs_raised : (k : ℕ) (s t : NodeState) (es : List Entry) → RunsTo s es t → RunsTo s (raised_all k es) t
 runs_raised k s t [] h = h
 runs_raised k s t (e ∷ rest) h = (
@@ -170,7 +187,7 @@ whole_journals_grow config servers clients base es ends lawful e s choice at fol
     let longer : IsLawful config servers clients (all ++ here ∷ []) (with_end ends e.node (node_step s e.moment here.cause choice).state) =
     journals_grow config servers clients all ends lawful here s choice at (follows.0, reads) may_here out_here in
     let list_is : all ++ here ∷ [] ≡ whole base (es ++ e ∷ []) =
-    append_assoc base (raised_all k es) (here ∷ []) ∙ ap (λ (l : List Entry). base ++ l) (sym (map-append (raised_entry k) es (e ∷ []))) in
+    sym (whole_more base es e) in
     subst (λ (l : List Entry). IsLawful config servers clients l (with_end ends e.node (node_step s e.moment e.cause choice).state)) list_is
     (subst (λ (x : Taken NodeState). IsLawful config servers clients (all ++ here ∷ []) (with_end ends e.node x.state)) stepped longer)
 

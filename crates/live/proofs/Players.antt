@@ -23,10 +23,10 @@ use Rattle.script.specs.declared.options.Options.{Options}
 use Rattle.protocol_journal.specs.Journal.{Entry, own}
 use Rattle.journal_headline.specs.Journals.{AreExplained}
 use Rattle.cell_journal.proofs.Begins.{prefix_self, prefix_trans, prefix_shorter}
-use Rattle.cell_journal.proofs.Grown.{begins_lawful}
+use Rattle.cell_journal.proofs.Grown.{none_lawful}
 use Rattle.cell_journal.specs.Clocks.{are_clocks_kept}
 use Rattle.cell_journal.specs.Identity.{Identity}
-use Rattle.cell_journal.specs.Rules.{IsJournalOf}
+use Rattle.cell_journal.specs.WholeHistories.{IsHistoryOf}
 use Rattle.cell_seats.specs.Seen.{visible_of}
 use Rattle.cell_seats.proofs.Sitting.{explains}
 use Rattle.cell_seats.specs.Seats.{SeatState, shown, IsAnswered, IsLost}
@@ -283,7 +283,7 @@ have_played cell xs olds news new all none k q at =
 -- what all of these clients of a cell saw begins this beginning of the journal
 record IsLongest (cell : Identity) (players : List Player) (entries longest : List Entry) : Type 0 where
   pub begins : IsPrefix longest entries
-  pub lawful : IsJournalOf cell longest
+  pub lawful : IsHistoryOf cell longest
   pub clocks : IsTrue (are_clocks_kept cell longest)
   pub explained : AreExplained cell.config longest
   pub all : (k : ℕ) (p : Player) → slice_get players k ≡ Some p → IsPrefix p.seat.seen longest
@@ -295,9 +295,9 @@ AllSeenPart cell players entries = (k : ℕ) (p : Player) → slice_get players 
 longest_of_none : (cell : Identity) (entries : List Entry) → first_out_of_range cell.config ≡ None → IsLongest cell [] entries []
 longest_of_none cell entries in_range = record {
   begins = (entries, refl);
-  lawful = begins_lawful cell;
+  lawful = none_lawful cell;
   clocks = refl;
-  explained = explains cell [] in_range (begins_lawful cell) refl;
+  explained = explains cell [] in_range (none_lawful cell) refl;
   all = λ k p at. absurd (let none : None ≡ Some p = at in cc);
 }
 
@@ -306,7 +306,7 @@ first_longest : (cell : Identity) (p : Player) (ps : List Player) (entries : Lis
     → ((k : ℕ) (q : Player) → slice_get ps k ≡ Some q → IsPrefix q.seat.seen p.seat.seen) → IsLongest cell (p ∷ ps) entries p.seat.seen
 first_longest cell p ps entries same part rest = record {
   begins = part.begins;
-  lawful = subst (λ (i : Identity). IsJournalOf i p.seat.seen) same part.lawful;
+  lawful = subst (λ (i : Identity). IsHistoryOf i p.seat.seen) same part.lawful;
   clocks = subst (λ (i : Identity). IsTrue (are_clocks_kept i p.seat.seen)) same part.clocks;
   explained = subst (λ (i : Identity). AreExplained i.config p.seat.seen) same part.explained;
   all = each;

@@ -10,7 +10,7 @@ use Rattle.protocol_journal.specs.Journal.{Entry, own}
 use Rattle.journal_headline.specs.Journals.{AreExplained}
 use Rattle.cell_journal.specs.Clocks.{are_clocks_kept}
 use Rattle.cell_journal.specs.Identity.{Identity}
-use Rattle.cell_journal.specs.Rules.{IsJournalOf}
+use Rattle.cell_journal.specs.WholeHistories.{IsHistoryOf}
 use Rattle.cell_seats.specs.Seats.{SeatState}
 use Rattle.cell_seats.specs.Seen.{visible_of}
 use Rattle.cell_run.specs.Cells.{IsCellOf}
@@ -38,25 +38,25 @@ abbrev pub told_from : ℕ → List (List Answer) → List ℕ
 told_from client [] = []
 told_from client (answers ∷ rest) = told_by client answers ++ told_from (suc client) rest
 
--- What a client saw begins this journal. It is a lawful journal of the cell in which clocks were kept, and its calls and answers are a run of the machine.
+-- What a client saw begins this history. It is a lawful history of the cell in which clocks were kept, and its calls and answers are a run of the machine.
 pub record HasSeenPart (entries : List Entry) (s : SeatState) : Type 0 where
   pub begins : IsPrefix s.seen entries
-  pub lawful : IsJournalOf s.cell s.seen
+  pub lawful : IsHistoryOf s.cell s.seen
   pub clocks : IsTrue (are_clocks_kept s.cell s.seen)
   pub explained : AreExplained s.cell.config s.seen
 
--- A client of this number made these calls and was answered so, by a beginning of this journal.
+-- A client of this number made these calls and was answered so, by a beginning of this history.
 pub record HasAnswers (entries : List Entry) (client : ℕ) (calls : List Call) (replies : List Answer) : Type 0 where
   pub seen : List Entry
   pub begins : IsPrefix seen entries
   pub answered : AreAnswered (visible_of (own (Client (record { 0 = client })) seen)) calls replies
 
--- These clients' calls of the lines were answered so by one cell, whose lawful journal shows it. Clocks were kept in it, and all its calls and answers, in its order, are one run of the machine.
+-- These clients' calls of the lines were answered so by one cell, whose lawful history shows it. Clocks were kept in it, and all its calls and answers, in its order, are one run of the machine.
 pub record AreAnswersOf (options : Options) (lines : List LiveLine) (answers : List (List Answer)) : Type 0 where
   pub cell : Identity
   pub cell_is : IsCellOf options.config options.servers cell
   pub entries : List Entry
-  pub lawful : IsJournalOf cell entries
+  pub lawful : IsHistoryOf cell entries
   pub clocks : IsTrue (are_clocks_kept cell entries)
   pub explained : AreExplained cell.config entries
   pub clients : length answers ≡ options.clients

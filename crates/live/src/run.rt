@@ -1,6 +1,7 @@
 //! Runs a script on a running cell.
 
 ghost use Rattle.std.specs.Prelude.{ℕ, ◌≡◌, ◌+◌, ◌≤◌, ◌<◌, IfOk, IfErr, IfSome, OnOk, Some, length, slice_get, map, true, false};
+ghost use Rattle.cell_journal.specs.WholeHistories.{whole_of};
 ghost use Rattle.cell_run.specs.Cells.{IsNewCell};
 ghost use Rattle.live.specs.Live.{IsScript, HasSeenPart, AreAnswersOf, Prints, Stops};
 ghost use Rattle.live.specs.Faults.{IsOfRun};
@@ -150,20 +151,20 @@ fn stop_watch(rt: &impl Threads, watch: Option<Watch>) {
     }
 }
 
-// What each client saw begins the journal.
+// What each client saw begins the cell's history.
 fn agree_all(players: &[Player], journal: &Journal)
     requires { (k : ℕ) (p : Player) → slice_get players.now k ≡ Some p → p.seat.cell ≡ journal.now.cell }
-    ensures { (k : ℕ) (p : Player) → slice_get players.now k ≡ Some p → HasSeenPart journal.now.entries p.seat }
+    ensures { (k : ℕ) (p : Player) → slice_get players.now k ≡ Some p → HasSeenPart (whole_of journal.now) p.seat }
 {
     for before in 0..players.len() {
         agree_one(&players[before], journal);
     }
 }
 
-// What a client saw begins the journal.
+// What a client saw begins the cell's history.
 fn agree_one(player: &Player, journal: &Journal)
     requires { player.now.seat.cell ≡ journal.now.cell }
-    ensures { HasSeenPart journal.now.entries player.now.seat }
+    ensures { HasSeenPart (whole_of journal.now) player.now.seat }
 {
     agree(&player.seat, journal);
     player.seat.seen();

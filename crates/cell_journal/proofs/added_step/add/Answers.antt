@@ -3,6 +3,7 @@ use Rattle.protocol_journal.specs.Journal.{Entry}
 use Rattle.cell_journal.specs.Log.{listed}
 use Rattle.cell_journal.specs.Clocks.{are_clocks_kept}
 use Rattle.cell_journal.specs.Identity.{Identity, Filled, filled}
+use Rattle.cell_journal.specs.WholeHistories.{history_of}
 use Rattle.cell_journal.proofs.Lending.{lends, lent, left}
 use Rattle.cell_journal.proofs.added_step.add.Goals as goal
 
@@ -44,6 +45,7 @@ returns c =
     let h = c.requires.has in
     let l = c.args.writer.now.me.1 in
     let e = c.args.entry in
+    let of : Identity = c.args.writer.now.me.0.of in
     let now = lent l c.slot_mut.result.now h.0 c.slot_mut.ensures.value h.1 in
     record {
       same = c.give_extended-found.ensures.same;
@@ -51,8 +53,9 @@ returns c =
           c.give_extended-found.ensures.gave (filled y.cell (y.entries ++ e ∷ []) (y.reserved - 1))
           (left l c.push-extended.new.slot y (filled y.cell (y.entries ++ e ∷ []) (y.reserved - 1)) has (c.push-extended.ensures.slot y (lent l c.slot_mut.result.now y c.slot_mut.ensures.value has)));
       beginning = c.push-extended.ensures.beginning h.0 now
-          ∙ (ap (λ (i : Identity). listed i.name (h.0.entries ++ e ∷ [])) h.2.1 ∙ ap (λ (es : List Entry). listed c.args.writer.now.me.0.of.name (es ++ e ∷ [])) h.2.2);
-      count = c.push-extended.ensures.count h.0 now ∙ ap (λ (es : List Entry). length (es ++ e ∷ [])) h.2.2;
+          ∙ (ap (λ (i : Identity). listed i.name (history_of i (h.0.entries ++ e ∷ []))) h.2.1 ∙ ap (λ (es : List Entry). listed of.name (history_of of (es ++ e ∷ []))) h.2.2);
+      count = c.push-extended.ensures.count h.0 now
+          ∙ (ap (λ (i : Identity). length (history_of i (h.0.entries ++ e ∷ []))) h.2.1 ∙ ap (λ (es : List Entry). length (history_of of (es ++ e ∷ []))) h.2.2);
       clocks = c.push-extended.ensures.clocks h.0 now
-          ∙ (ap (λ (i : Identity). are_clocks_kept i (h.0.entries ++ e ∷ [])) h.2.1 ∙ ap (λ (es : List Entry). are_clocks_kept c.args.writer.now.me.0.of (es ++ e ∷ [])) h.2.2);
+          ∙ (ap (λ (i : Identity). are_clocks_kept i (history_of i (h.0.entries ++ e ∷ []))) h.2.1 ∙ ap (λ (es : List Entry). are_clocks_kept of (history_of of (es ++ e ∷ []))) h.2.2);
     }

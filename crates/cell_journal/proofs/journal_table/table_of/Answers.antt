@@ -3,4 +3,4 @@ use Rattle.cell_journal.proofs.Keeping.{begins}
 use Rattle.cell_journal.proofs.journal_table.table_of.Goals as goal
 
 pub new-requires : goal.new-requires
-new-requires c = let h = c.requires in rw h.1 (begins c.args.cell.now h.0 h.2 h.3)
+new-requires c = let h = c.requires.has in rw h.1 (begins c.args.cell.now h.0 h.2 h.3 c.requires.lawful)
