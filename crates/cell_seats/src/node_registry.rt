@@ -49,7 +49,6 @@ impl Drop for NodeRegistry {
 
 impl NodeRegistry {
     /// The next node's journal.
-    #[tactic(auto, using(crate::proofs::RegisteredNodes::next_unused, crate::proofs::RegisteredNodes::later_unused))]
     pub fn next(&mut self, node: Node) -> Result<NodeJournal, NoMemory>
         requires node { node_at self.old.servers self.old.registered ≡ node }
         requires few { self.old.registered < 2 ^ 62 }

@@ -16,9 +16,9 @@ use Rattle.protocol_journal.specs.Journal.{StepCause, Calls, Takes, Restarts, En
 use Rattle.protocol_journal.proofs.Journals.{journals_grow}
 use Rattle.laws_rebase.specs.Rebased.{raised, all_raised, raised_number}
 use Rattle.laws_rebase.specs.Whole.{raised_cause, raised_entry, whole}
-use Rattle.laws_rebase.specs.Journals.{WholeJournalsGrow, JournalsWithBasesAreLawful, BasesChangeNothingSeen}
+use Rattle.laws_rebase.specs.Journals.{WholeJournalsGrow, JournalsWithBasesAreLawful, JournalsWithoutBasesAreWhole, BasesChangeNothingSeen}
 use Rattle.laws_rebase.proofs.SameSteps.{master_same, server_same, client_same}
-use Rattle.laws_rebase.proofs.CutWorlds.{numbered, sent_on}
+use Rattle.laws_rebase.proofs.CutWorlds.{plus_zero, numbered, sent_on}
 
 -- no step looks at a message's number
 pub step_same : (k : ℕ) (s : NodeState) (moment : ℕ) (t : StepCause) (choice : Choice)
@@ -190,6 +190,20 @@ whole_journals_grow config servers clients base es ends lawful e s choice at fol
     sym (whole_more base es e) in
     subst (λ (l : List Entry). IsLawful config servers clients l (with_end ends e.node (node_step s e.moment e.cause choice).state)) list_is
     (subst (λ (x : Taken NodeState). IsLawful config servers clients (all ++ here ∷ []) (with_end ends e.node x.state)) stepped longer)
+
+-- no message came before
+
+cause_alike : (t : StepCause) → raised_cause 0 t ≡ t
+cause_alike (Takes (input.Deliver m)) = ap (λ (number : ℕ). Takes (input.Deliver (record m { number = number }))) (plus_zero m.number)
+cause_alike (Takes input.Tick) = refl
+cause_alike (Calls call) = refl
+cause_alike Restarts = refl
+
+pub journals_without_bases_are_whole : JournalsWithoutBasesAreWhole
+journals_without_bases_are_whole [] = refl
+journals_without_bases_are_whole (e ∷ rest) =
+    ap (λ (t : StepCause). record e { cause = t } ∷ raised_all 0 rest) (cause_alike e.cause)
+    ∙ ap (λ (es : List Entry). e ∷ es) (journals_without_bases_are_whole rest)
 
 -- what is seen
 

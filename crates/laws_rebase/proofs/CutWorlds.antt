@@ -31,7 +31,7 @@ use Rattle.laws_rebase.specs.Rebased.{raised, all_raised, raised_input, raised_n
 use Rattle.laws_rebase.specs.CutWorlds.{CutWorldsGoAlike, CutRunsAreRuns, RebasesAreRuns}
 use Rattle.laws_rebase.proofs.SameSteps.{master_same, server_same, client_same}
 
-plus_zero : (n : ℕ) → n + zero ≡ n
+pub plus_zero : (n : ℕ) → n + zero ≡ n
 plus_zero n = omega arith
 
 plus_suc : (n k : ℕ) → n + suc k ≡ suc (n + k)

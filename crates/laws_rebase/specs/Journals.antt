@@ -24,6 +24,10 @@ JournalsWithBasesAreLawful =
     → EachMayFollow [] entries → ((n : Node) → LeadsTo (middles n) (own n entries) (ends n))
     → IsLawful config servers clients (whole base entries) ends
 
+-- A journal without a base is its whole list.
+abbrev pub JournalsWithoutBasesAreWhole : Type 0
+JournalsWithoutBasesAreWhole = (entries : List Entry) → whole [] entries ≡ entries
+
 -- The same is seen of entries under raised numbers: calls, answers, moments, clocks.
 abbrev pub BasesChangeNothingSeen : Type 0
 BasesChangeNothingSeen =

@@ -1,5 +1,6 @@
 use Rattle.std.proofs.Common.{◌∙◌, List, sym, ap}
 use Rattle.std.specs.Prelude.{slice_get}
+use Rattle.cell_journal.specs.WholeHistories.{whole_of}
 use Rattle.live.specs.declared.play.Player.{Player}
 use Rattle.live.proofs.Players.{told_so}
 use Rattle.live.proofs.run.play_on_new.Goals as goal
@@ -11,5 +12,5 @@ agree_all-requires g c = λ k p at.
 
 pub returns-clause-players : goal.returns-clause-players
 returns-clause-players g c =
-    told_so c.args.options.now c.in_ok-cell.cell.of c.close-journal.result.entries c.args.lines.now c.in-Ok.players.items c.in_ok-cell.ensures.cell.0 c.in-Ok.ensures.count c.in-Ok.ensures.players
+    told_so c.args.options.now c.in_ok-cell.cell.of (whole_of c.close-journal.result) c.args.lines.now c.in-Ok.players.items c.in_ok-cell.ensures.cell.0 c.in-Ok.ensures.count c.in-Ok.ensures.players
     (λ k p at. c.agree_all.ensures k p (ap (λ (l : List Player). slice_get l k) c.as_slice.ensures.value ∙ at))
