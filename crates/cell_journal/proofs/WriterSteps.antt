@@ -216,7 +216,8 @@ module _ (old mid final : Mine) (y : Filled) (e : Entry) where
   pub ended_goes : Took old.0 mid.0 y → IsStepOf old.0 e → final ≡ (gave mid.0 now_is, []) → GoesOn old.0 final.0 e
   ended_goes t s is = subst (λ (m : Mine). GoesOn old.0 m.0 e) (sym is) (goes_on old.0 mid.0 y e (y.reserved - 1) t s)
 
-  pub ended_seen : Took old.0 mid.0 y → final ≡ (gave mid.0 now_is, []) → (beginning : Listed Entry) (count : ℕ) → beginning ≡ listed mid.0.of.name (history_of mid.0.of (mid.0.seen ++ e ∷ [])) → count ≡ length (history_of mid.0.of (mid.0.seen ++ e ∷ [])) → IsSeen final.0 beginning count
+  pub ended_seen : Took old.0 mid.0 y → final ≡ (gave mid.0 now_is, []) → (beginning : Listed Entry) (count : ℕ) → beginning ≡ listed mid.0.of.name (history_of mid.0.of (mid.0.seen ++ e ∷ []))
+      → count ≡ length (history_of mid.0.of (mid.0.seen ++ e ∷ [])) → IsSeen final.0 beginning count
   ended_seen t is beginning count b k =
       let entries : mid.0.seen ≡ y.entries = ap (λ (x : View). x.seen) t.is in
       subst (λ (m : Mine). IsSeen m.0 beginning count) (sym is) (
@@ -224,7 +225,8 @@ module _ (old mid final : Mine) (y : Filled) (e : Entry) where
         k ∙ ap (λ (es : List Entry). length (history_of mid.0.of (es ++ e ∷ []))) entries,
       )
 
-  pub ended_clocks : Took old.0 mid.0 y → final ≡ (gave mid.0 now_is, []) → (kept : Bool) → kept ≡ are_clocks_kept mid.0.of (history_of mid.0.of (mid.0.seen ++ e ∷ [])) → kept ≡ are_clocks_kept final.0.of (all_seen final.0)
+  pub ended_clocks : Took old.0 mid.0 y → final ≡ (gave mid.0 now_is, []) → (kept : Bool) → kept ≡ are_clocks_kept mid.0.of (history_of mid.0.of (mid.0.seen ++ e ∷ []))
+      → kept ≡ are_clocks_kept final.0.of (all_seen final.0)
   ended_clocks t is kept k =
       let entries : mid.0.seen ≡ y.entries = ap (λ (x : View). x.seen) t.is in
       subst (λ (m : Mine). kept ≡ are_clocks_kept m.0.of (all_seen m.0)) (sym is) (k ∙ ap (λ (es : List Entry). are_clocks_kept mid.0.of (history_of mid.0.of (es ++ e ∷ []))) entries)

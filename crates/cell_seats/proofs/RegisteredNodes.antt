@@ -63,7 +63,8 @@ module _ (config : Config) (servers registered : ℕ) (me : Me (Option Filled) V
       })
 
 -- the first writer of a cell without a base
-pub first_registers : (config : Config) (servers : ℕ) (cell : Identity) (me : Me (Option Filled) View) → cell ≡ identity cell.name config servers 64 [] → me ≡ (first_view cell, []) → Registers config servers 0 me
+pub first_registers : (config : Config) (servers : ℕ) (cell : Identity) (me : Me (Option Filled) View) → cell ≡ identity cell.name config servers 64 []
+    → me ≡ (first_view cell, []) → Registers config servers 0 me
 first_registers config servers cell me of is =
     subst (Registers config servers 0) (sym is)
     (record {

@@ -36,7 +36,9 @@ asked_raised k Restarts = refl
 
 visible_raised : (k : ℕ) (es : List Entry) → visible_of (map (raised_entry k) es) ≡ visible_of es
 visible_raised k [] = refl
-visible_raised k (e ∷ es) = ap (λ l. l ++ answered_in e.out.answer ++ visible_of (map (raised_entry k) es)) (asked_raised k e.cause) ∙ ap (λ l. asked_in e.cause ++ answered_in e.out.answer ++ l) (visible_raised k es)
+visible_raised k (e ∷ es) =
+    ap (λ l. l ++ answered_in e.out.answer ++ visible_of (map (raised_entry k) es)) (asked_raised k e.cause)
+    ∙ ap (λ l. asked_in e.cause ++ answered_in e.out.answer ++ l) (visible_raised k es)
 
 -- of all steps of a client
 pub visible_steps : (cell : Identity) (n : Node) (mine : List Entry) → visible_of (steps_of cell n mine) ≡ visible_of (own n cell.base) ++ visible_of mine

@@ -10,4 +10,5 @@ use Rattle.cell_seats.proofs.journal.Journal.len.Goals as goal
 pub returns-clause-explained : goal.returns-clause-explained
 returns-clause-explained c =
     let h = c.self.inside.history in
-    subst (λ (j : Closed). IsTrue (are_clocks_kept j.cell (whole_of j)) → AreExplained j.cell.config (whole_of j)) c.self.view_is (λ clocks. explains h.cell (whole_of h) c.self.invariant.1 c.self.invariant.0 clocks)
+    subst (λ (j : Closed). IsTrue (are_clocks_kept j.cell (whole_of j)) → AreExplained j.cell.config (whole_of j)) c.self.view_is
+    (λ clocks. explains h.cell (whole_of h) c.self.invariant.1 c.self.invariant.0 clocks)
