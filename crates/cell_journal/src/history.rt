@@ -61,20 +61,20 @@ impl Model for History {
     ghost use Rattle.cell_journal.specs.Clocks.{clocks_after};
     ghost use Rattle.cell_journal.specs.Identity.{Filled, filled};
     ghost use Rattle.cell_journal.specs.CountedEntries.{entries_in, sent_in, AreCounted};
+    ghost use Rattle.cell_journal.specs.Rules.{IsJournalOf};
 
     ghost Value = { Filled };
 
     ghost view = { λ p. filled p.cell (entries_in p.rows.items) p.reserved };
 
-    ghost invariant = { λ p. (p.list.name ≡ p.cell.name) × (p.list.items ≡ history_of p.cell (entries_in p.rows.items)) × (p.count ≡ length (sent_in p.rows.items)) × AreCounted 0 p.rows.items × (p.reserved ≤ vec_capacity p.rows - vec_len p.rows) × (p.count ≤ 2 ^ 64 * vec_len p.rows) × (p.clocks ≡ clocks_after p.cell.config (history_of p.cell (entries_in p.rows.items))) × (p.earlier ≡ length (sent_after [] p.cell.base)) × (p.base_len ≡ length p.cell.base) × (p.base_len < 2 ^ 63) × (vec_len p.rows + p.reserved ≤ 2 ^ 32) };
+    ghost invariant = { λ p. (p.list.name ≡ p.cell.name) × (p.list.items ≡ history_of p.cell (entries_in p.rows.items)) × (p.count ≡ length (sent_in p.rows.items)) × AreCounted 0 p.rows.items × (p.reserved ≤ vec_capacity p.rows - vec_len p.rows) × (p.count ≤ 2 ^ 64 * vec_len p.rows) × (p.clocks ≡ clocks_after p.cell.config (history_of p.cell (entries_in p.rows.items))) × (p.earlier ≡ length (sent_after [] p.cell.base)) × (p.base_len ≡ length p.cell.base) × (p.base_len < 2 ^ 63) × (vec_len p.rows + p.reserved ≤ 2 ^ 32) × IsJournalOf p.cell [] };
 }
 
 impl History {
     /// The journal of a new cell, which has no base. Takes no memory.
     #[tactic(auto, using(crate::proofs::CountedEntries::history_none, crate::proofs::Grown::begins_lawful))]
     pub fn new(alloc: Global, config: Config, servers: u64, clients: u64) -> Option<History>
-        ensures journal { IfSome result (λ p. p ≡ filled (identity p.cell.name config servers clients []) [] 0) }
-        ensures lawful { IfSome result (λ p. IsJournalOf p.cell []) }
+        ensures { IfSome result (λ p. p ≡ filled (identity p.cell.name config servers clients []) [] 0) }
     {
         let list = GrowingList::new()?;
         let cell = CellIdentity::new(list.beginning(), config, servers, clients);
@@ -93,9 +93,10 @@ impl History {
         })
     }
 
-    /// The cell of this journal.
+    /// The cell of this journal, which stands behind a lawful base.
     pub fn cell(&self) -> CellIdentity
-        ensures { result ≡ self.now.cell }
+        ensures cell { result ≡ self.now.cell }
+        ensures lawful { IsJournalOf result [] }
     {
         self.cell.again()
     }

@@ -14,10 +14,9 @@ use std::alloc::Global;
 /// The table in which a cell's journal lies.
 pub type JournalTable = Table<Option<History>, View, CellIdentity, JournalRule, Global>;
 
-/// A table with a journal that has no entries yet, behind a lawful base, and the first writer at it, which writes for every node.
+/// A table with a journal that has no entries yet, and the first writer at it, which writes for every node.
 pub fn open(alloc: Global, history: History) -> Result<(JournalTable, JournalWriter), NoMemory>
-    requires none { history.entries ≡ [] }
-    requires lawful { IsJournalOf history.cell [] }
+    requires { history.entries ≡ [] }
     ensures table { IfOk result (λ t. (t.0.shared.table_id.words ≡ 1) × (t.0.shared.table_id.slots ≡ 1)) }
     ensures writer { IfOk result (λ t. (t.1.table_id ≡ t.0.shared.table_id) × (t.1.me ≡ (first_view history.cell, []))) }
 {

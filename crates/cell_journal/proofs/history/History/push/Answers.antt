@@ -41,6 +41,7 @@ invariant_of-self c =
       i.8,
       i.9,
       omega (arith, i.10, longer, c.requires, ap (λ (f : Filled). f.reserved) c.self.view_is),
+      i.11,
     )
 
 pub returns : goal.returns
