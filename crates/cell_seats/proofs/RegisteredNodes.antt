@@ -1,17 +1,16 @@
 -- For which nodes a registry's writer writes.
-use Rattle.std.proofs.Common.{◌≡◌, ℕ, suc, ◌+◌, ◌≤◌, [], Option, refl, sym, ap, subst, ◌∙◌, arith}
+use Rattle.std.proofs.Common.{◌≡◌, ℕ, ◌+◌, ◌≤◌, [], Option, refl, sym, ap, subst, ◌∙◌, arith}
 use Rattle.protocol_journal.specs.Journal.{own}
 use Rattle.atomic_table.specs.Table.{Me}
 use Rattle.gfs_types.specs.declared.config.Config.{Config}
 use Rattle.gfs_types.specs.declared.ids.Node.{Node}
 use Rattle.gfs_types.specs.declared.ids.Node.TheVariants as node
 use Rattle.cell_journal.specs.Identity.{Identity, Filled, identity}
-use Rattle.cell_journal.specs.Roles.{number_of, node_at, WritesAs, later_roles}
+use Rattle.cell_journal.specs.Roles.{number_of, node_at, WritesAs}
 use Rattle.cell_journal.proofs.Roles.{number_at}
-use Rattle.cell_journal.specs.Rules.{Writes, first_view, next_writer, after_next}
+use Rattle.cell_journal.specs.Rules.{Writes, first_view, next_writer}
 use Rattle.cell_journal.specs.declared.view.View.{View}
 use Rattle.cell_journal.specs.declared.view.Role.{Role}
-use Rattle.cell_journal.specs.declared.view.Role.TheVariants.{From}
 use Rattle.cell_seats.specs.Registry.{Registers, IsRegistered}
 
 module _ (config : Config) (servers registered : ℕ) (me : Me (Option Filled) View) (registers : Registers config servers registered me) where
@@ -45,21 +44,6 @@ module _ (config : Config) (servers registered : ℕ) (me : Me (Option Filled) V
         mine = registers.mine;
         unused = next_unused m at;
         seen = refl;
-      })
-
-  -- and the one that is left
-  pub left_registers : (left : Me (Option Filled) View) → left ≡ (after_next me.0, me.1) → Registers config servers (registered + 1) left
-  left_registers left is =
-      let one_more : suc registered ≡ registered + 1 = omega arith in
-      subst (Registers config servers (registered + 1)) (sym is)
-      (record {
-        role = ap later_roles registers.role ∙ ap (λ (k : ℕ). From k) one_more;
-        mine = registers.mine;
-        unused = λ n past. registers.unused n (omega (arith, past));
-        free = registers.free;
-        config_is = registers.config_is;
-        servers_are = registers.servers_are;
-        clients_are = registers.clients_are;
       })
 
 -- the first writer of a cell without a base

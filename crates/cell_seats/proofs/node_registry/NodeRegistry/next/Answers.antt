@@ -1,11 +1,6 @@
 use Rattle.std.proofs.Common.{◌∙◌}
-use Rattle.cell_seats.proofs.RegisteredNodes.{next_registered, left_registers}
+use Rattle.cell_seats.proofs.RegisteredNodes.{next_registered}
 use Rattle.cell_seats.proofs.node_registry.NodeRegistry.next.Goals as goal
-
-pub invariant_of-self-clause-registers : goal.invariant_of-self-clause-registers
-invariant_of-self-clause-registers c =
-    let d = c.args.self.now in
-    left_registers d.config d.servers d.registered d.writer.me d.registers c.next-own.new.writer.me c.next-own.ensures.left.2
 
 pub returns-clause-journal : goal.returns-clause-journal
 returns-clause-journal c =
