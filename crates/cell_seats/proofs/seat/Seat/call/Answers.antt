@@ -1,4 +1,4 @@
-use Rattle.cell_seats.proofs.Sitting.{answered_here, sits}
+use Rattle.cell_seats.proofs.Sitting.{answered_here, sits, sits_still}
 use Rattle.cell_seats.proofs.seat.Seat.call.Goals as goal
 
 pub returns-in-Ok-clause-ok : goal.returns-in-Ok-clause-ok
@@ -15,3 +15,9 @@ invariant_of-self g c =
     let w = c.ask-answered.new.slot in
     let h = c.in-Ok.field-0 in
     sits s.slot.node w.node s.slot.view w.view s.view h.beginning s.count h.count s.lost c.self.invariant c.ask-answered.ensures.further c.in-Ok.ensures.seen
+
+pub invariant_of-self-in-Err : goal.invariant_of-self-in-Err
+invariant_of-self-in-Err g c =
+    let s = c.self.inside in
+    let w = c.ask-answered.new.slot in
+    sits_still s.slot.node w.node s.slot.view w.view s.view s.count s.lost c.of_the_cell-own.result c.self.invariant c.ask-answered.ensures.further c.of_the_cell-own.ensures
