@@ -4,3 +4,5 @@ pub mod Explained
 pub mod Reached
 pub mod CellLaws
 pub mod Files
+pub mod Settings
+pub mod Stores

@@ -4,4 +4,6 @@
 pub mod cell_master;
 pub mod kept_promises;
 pub mod laws;
+pub mod making;
+pub mod start_fault;
 pub mod world;

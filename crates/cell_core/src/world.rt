@@ -1,6 +1,6 @@
 //! A cell that a list of events led to, with the headline as the contract of its steps, runs and rebases.
 
-ghost use Rattle.std.specs.Prelude.{◌≡◌, ◌≤◌, ◌+◌, [], length, map, option_map, All, IfOk, IfErr, OnOk, OnErr};
+ghost use Rattle.std.specs.Prelude.{◌≡◌, ◌≤◌, ◌+◌, [], None, length, map, option_map, All, IfOk, IfErr, OnOk, OnErr};
 ghost use Rattle.std.specs.Option.{option_copied};
 ghost use Rattle.std.specs.FinMap as table;
 ghost use Rattle.gfs_types.specs.Settings.{largest_chunk};
@@ -11,6 +11,7 @@ ghost use Rattle.protocol.specs.World.{happens, new_world, numbered_from_1};
 ghost use Rattle.replica_store.specs.Replicas.{new_server_disk};
 ghost use Rattle.cell_core.specs.Headline.{RebasesAsMachine, RunsAsMachine, StepsAsMachine};
 ghost use Rattle.cell_core.specs.Standing.{DropsAll, IsShown};
+ghost use Rattle.cell_core.specs.Starts.{IsStartFault, bad_start};
 ghost use Rattle.cell_world.specs.AsStored.{as_stored};
 ghost use Rattle.cell_world.specs.Events.{MayBeRefused};
 ghost use Rattle.cell_world.specs.Held.{HasEffect, IsHeldAs};
@@ -18,6 +19,10 @@ ghost use Rattle.cell_world.specs.Looks.{file_held, has_open_call, regions_held,
 ghost use Rattle.cell_world.specs.Rebasing.{IsBehind, Rebases};
 ghost use Rattle.cell_world.specs.Runs.{Runs, RanUntil};
 
+use crate::making::{
+    WorldMaster, WorldStore, are_fitting, have_room, is_count, new_master, new_stores,
+};
+use crate::start_fault::StartFault;
 use cell_world::cell::CellState;
 use cell_world::fault::RunFault;
 use cell_world::master::CellMaster;
@@ -32,19 +37,17 @@ use messages::message::Message;
 use relaxed_file::region::Region;
 use script::stored::StoredReplica;
 use server_store::fault::ReplicaStoreFault;
-use server_store::stoppable_store::StoppableStore;
-use server_store::store::ReplicaStore;
-use std::alloc::Global;
+use std::alloc::{Allocator, Global};
 use std::marker::Model;
 
-/// One master, and chunkservers and clients by their numbers, from 1, with each message that was sent since they were dropped last. Each
-/// is what a list of events led to from a new cell.
+/// One master, whose names lie in `A`, and chunkservers and clients by their numbers, from 1, with each message that was sent since they
+/// were dropped last. Each is what a list of events led to from a new cell.
 #[derive(Drop)]
-pub struct World<M: CellMaster, S: ReplicaStore> {
-    cell: CellState<M, S>,
+pub struct World<A: Allocator + Clone> {
+    cell: CellState<WorldMaster<A>, WorldStore>,
 }
 
-impl<M: CellMaster, S: ReplicaStore> Model for World<M, S> {
+impl<A: Allocator + Clone> Model for World<A> {
     ghost use Rattle.std.specs.Coded.{codes, coded_ℕ, coded_list};
     ghost use Rattle.std.specs.FinMap as map;
     ghost use Rattle.lru.specs.LruCache.{lru_cache_code};
@@ -60,22 +63,51 @@ impl<M: CellMaster, S: ReplicaStore> Model for World<M, S> {
     ghost invariant = { λ w. HasReachedWorld w.cell };
 }
 
-impl<M: CellMaster + Drop, S: ReplicaStore + Drop> World<M, S> {
-    /// A new cell of a new master, with a new server over each of the new stores, and new clients. The settings are within their ranges.
+impl<A: Allocator + Clone> World<A> {
+    /// A new cell of so many servers and clients, whose names lie in `A`. Its nodes' disks lie in memory.
     pub fn new(
         alloc: Global,
         config: Config,
-        master: M,
-        stores: Vec<S>,
+        servers: u64,
         clients: u64,
-    ) -> Result<World<M, S>, NoMemory>
+        names: A,
+    ) -> Result<World<A>, StartFault>
+        ensures new { IfOk result (λ world. IsHeldAs (new_world config servers clients) world) }
+        ensures good { OnOk result (bad_start config servers clients ≡ None) }
+        ensures fault { IfErr result (IsStartFault (bad_start config servers clients)) }
+    {
+        if !are_fitting(&config) {
+            return Err(StartFault::Config);
+        }
+        let Ok(server_count) = u16::try_from(servers) else {
+            return Err(StartFault::Count);
+        };
+        if !is_count(servers) || !is_count(clients) {
+            return Err(StartFault::Count);
+        }
+        if !have_room(alloc, &names)? {
+            return Err(StartFault::NamesFull);
+        }
+        let master = new_master(alloc, config, server_count, names)?;
+        let stores = new_stores(alloc, config, server_count)?;
+        Ok(World::of_nodes(alloc, config, master, stores, clients)?)
+    }
+
+    // A new cell of a new master, with a new server over each of the new stores, and new clients. The settings are within their ranges.
+    fn of_nodes(
+        alloc: Global,
+        config: Config,
+        master: WorldMaster<A>,
+        stores: Vec<WorldStore>,
+        clients: u64,
+    ) -> Result<World<A>, NoMemory>
         requires least { 64 ≤ config.chunk }
         requires most { config.chunk ≤ largest_chunk }
         requires skew { config.skew_ms ≤ 60000 }
-        requires stores { All (λ s. (S.disk s ≡ new_server_disk config.block) × (S.under_way s ≡ [])) stores.items }
+        requires stores { All (λ s. (s.0 ≡ new_server_disk config.block) × (s.1 ≡ [])) stores.items }
         requires count { length stores.items ≤ 65535 }
-        requires master { M.state master ≡ new_master config (length stores.items) }
-        requires files { M.files master ≡ table.empty }
+        requires master { ⟦<WorldMaster<A> as CellMaster>⟧.state master ≡ new_master config (length stores.items) }
+        requires files { ⟦<WorldMaster<A> as CellMaster>⟧.files master ≡ table.empty }
         ensures { IfOk result (λ world. IsHeldAs (new_world config (length stores.items) clients) world) }
     {
         let cell = CellState::new(alloc, config, master, stores, clients)?;
@@ -83,7 +115,7 @@ impl<M: CellMaster + Drop, S: ReplicaStore + Drop> World<M, S> {
     }
 }
 
-impl<M: CellMaster, S: StoppableStore> World<M, S> {
+impl<A: Allocator + Clone> World<A> {
     /// One event, and what it answers. One that names no such node, message, replica, place or moment, or a node that is down, changes
     /// nothing. A run of the machine has the calls and answers so far, and led to what the cell shows. An error: a byte didn't
     /// rot, as the store of its server couldn't take it, and nothing has changed.
@@ -113,7 +145,7 @@ impl<M: CellMaster, S: StoppableStore> World<M, S> {
     /// error nothing has changed.
     ///
     /// - `Clock`: the moment is more than the clock bound behind the greatest one that a node was given.
-    pub fn rebase(self, now: Moment) -> Result<World<M, S>, (World<M, S>, RebaseFault)>
+    pub fn rebase(self, now: Moment) -> Result<World<A>, (World<A>, RebaseFault)>
         ensures ok { IfOk result (λ world. Rebases self now.0 world) }
         ensures explained { IfOk result (λ world. RebasesAsMachine self now.0 world) }
         ensures clock { OnOk result (self.greatest ≤ now.0 + self.config.skew_ms) }

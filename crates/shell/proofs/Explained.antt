@@ -29,7 +29,8 @@ use Rattle.cell_simulator.specs.Steps.{Step, Simulated, DropsTimes, Stays, Lead,
 use Rattle.cell_simulator.specs.Lines.{ComesTo}
 use Rattle.cell_simulator.specs.Scripts.{ComeTo, RunsOn, StopsWith}
 use Rattle.shell.specs.Worlds.{DropsMessages, Steps}
-use Rattle.shell.specs.Cells.{IsNew, are_in_range, is_count, world_of}
+use Rattle.cell_core.specs.Starts.{is_count}
+use Rattle.shell.specs.Cells.{IsNew, are_in_range, world_of}
 use Rattle.shell.specs.Explained.{LeadsTo, DoesNotRot, MayDrop, LeadTo, LineLeads, raised_step, IsRunOfMachine, AreRunsOfMachine, AreExplained, IsEndlessExplained, AreExplainedUntil}
 use Rattle.shell.specs.Scripts.{at_0}
 use Rattle.shell.proofs.Clocks.{AreClocksKept, later, clocks_kept}

@@ -1,10 +1,9 @@
 pub mod Shown
 pub mod Counted
-pub mod Settings
 pub mod Clocks
 pub mod Printed
 pub mod Raised
 pub mod Restarts
+pub mod Ranges
 pub mod Explained
 pub mod Running
-pub mod Stores

@@ -1,15 +1,12 @@
 -- New cells that scripts run on.
 use Rattle.std.specs.Prelude.{◌≡◌, ◌⊎◌, ℕ, Bool, ◌&&◌, is_none}
-use Rattle.gfs_types.specs.Settings.{is_within, first_out_of_range}
+use Rattle.gfs_types.specs.Settings.{first_out_of_range}
 use Rattle.protocol.specs.World.{WorldState, new_world}
+use Rattle.cell_core.specs.Starts.{is_count}
 use Rattle.cell_world.specs.Held.{HeldCell, IsHeldAs}
 use Rattle.script.specs.declared.options.Options.{Options}
 use Rattle.script.specs.declared.script_fault.ScriptFault.{ScriptFault}
 use Rattle.script.specs.declared.script_fault.ScriptFault.TheVariants.{Start, NoMemory}
-
--- a count of servers, or of clients, that a cell may have
-abbrev pub is_count : ℕ → Bool
-is_count count = is_within 1 64 count
 
 -- each setting is in its range, and the counts are
 abbrev pub are_in_range : Options → Bool

@@ -4,7 +4,6 @@ ghost use Rattle.shell.specs.Worlds.{meaning_of};
 
 use cell_core::world::World;
 use cell_simulator::cell::SimulatedCell;
-use cell_world::master::CellMaster;
 use gfs_types::answer::Answer;
 use gfs_types::ids::{ClientId, FileId, Handle, Moment};
 use gfs_types::no_memory::NoMemory;
@@ -13,17 +12,15 @@ use messages::event::Event;
 use messages::message::Message;
 use relaxed_file::region::Region;
 use script::stored::StoredReplica;
-use server_store::stoppable_store::StoppableStore;
-use server_store::store::ReplicaStore;
-use std::alloc::Global;
+use std::alloc::{Allocator, Global};
 
 /// A cell that a script drives. A byte that a server's store can't take doesn't rot.
 #[derive(Drop)]
-pub struct SimulatedWorld<M: CellMaster, S: ReplicaStore> {
-    pub world: World<M, S>,
+pub struct SimulatedWorld<A: Allocator + Clone> {
+    pub world: World<A>,
 }
 
-impl<M: CellMaster, S: StoppableStore> SimulatedCell for SimulatedWorld<M, S> {
+impl<A: Allocator + Clone> SimulatedCell for SimulatedWorld<A> {
     ghost meaning = { meaning_of (λ c. c.world) };
 
     fn step(&mut self, event: Event) -> Option<Answer> {

@@ -1,4 +1,4 @@
-//! Tests of `shell`, and callers of the tables that stand alone.
+//! Tests of a cell by scripts and by lists of events, and callers of the tables that stand alone.
 #![tactic(auto)]
 
 pub mod callers;
@@ -10,6 +10,8 @@ mod counts;
 mod failing;
 #[cfg(test)]
 mod file;
+#[cfg(test)]
+mod late_grant;
 #[cfg(test)]
 mod lines;
 #[cfg(test)]
@@ -25,12 +27,24 @@ mod random;
 #[cfg(test)]
 mod rebased;
 #[cfg(test)]
+mod recorded;
+#[cfg(test)]
 mod records;
 #[cfg(test)]
 mod refused;
 #[cfg(test)]
+mod refused_events;
+#[cfg(test)]
 mod region;
+#[cfg(test)]
+mod rows;
+#[cfg(test)]
+mod runs;
 #[cfg(test)]
 mod small;
 #[cfg(test)]
 mod source;
+#[cfg(test)]
+mod starts;
+#[cfg(test)]
+mod watched;

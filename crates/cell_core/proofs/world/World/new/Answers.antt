@@ -1,6 +1,6 @@
-use Rattle.std.specs.Prelude.{length}
-use Rattle.cell_core.proofs.Reached.{stands_new}
+use Rattle.std.proofs.Common.{sym, ap, ◌∙◌}
+use Rattle.protocol.specs.MasterStep.{new_master}
 use Rattle.cell_core.proofs.world.World.new.Goals as goal
 
-pub invariant_of-result : goal.invariant_of-result
-invariant_of-result g c = stands_new c.args.config (length c.args.stores.items) c.args.clients c.in_ok-cell.cell c.in_ok-cell.ensures
+pub of_nodes-requires-clause-master : goal.of_nodes-requires-clause-master
+of_nodes-requires-clause-master g c = c.in_ok-master.ensures.state ∙ ap (new_master c.args.config) (sym c.in_ok-stores.ensures.count)

@@ -1,7 +1,7 @@
 use Rattle.std.proofs.Common.{ℕ, length, ap, ◌∙◌}
 use Rattle.std.specs.Prelude.{◌%◌}
-use Rattle.shell.proofs.Stores.{none_new, one_more, count_more}
-use Rattle.shell.proofs.making.new_stores.Goals as goal
+use Rattle.cell_core.proofs.Stores.{none_new, one_more, count_more}
+use Rattle.cell_core.proofs.making.new_stores.Goals as goal
 
 pub new_store-requires : goal.new_store-requires
 new_store-requires c =

@@ -1,5 +1,5 @@
-use Rattle.shell.proofs.Settings.{bounds_ok}
-use Rattle.shell.proofs.making.are_fitting.Goals as goal
+use Rattle.cell_core.proofs.Settings.{bounds_ok}
+use Rattle.cell_core.proofs.making.are_fitting.Goals as goal
 
 pub returns-clause-lease : goal.returns-clause-lease
 returns-clause-lease c = λ t. (bounds_ok c.args.config.now c.check.result c.is_ok.result c.check.ensures c.is_ok.ensures.value t).lease

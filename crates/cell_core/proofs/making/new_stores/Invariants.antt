@@ -1,7 +1,7 @@
 use Rattle.std.proofs.Common.{◌≡◌, [], length}
 use Rattle.std.specs.Prelude.{All}
 use Rattle.replica_store.specs.Replicas.{new_server_disk}
-use Rattle.shell.proofs.making.new_stores.Given as goal
+use Rattle.cell_core.proofs.making.new_stores.Given as goal
 
 -- so many new stores were made
 abbrev pub invariant-loop : goal.invariant-loop

@@ -1,0 +1,104 @@
+//! A Grant that a server gets again after it began again.
+
+use crate::recorded::{Recorded, record_row};
+use crate::rows::Row;
+use cell_simulator::cell::SimulatedCell;
+use gfs_types::ids::{Moment, Node, ServerId};
+use gfs_types::refusal::Refusal;
+use messages::event::Event;
+use messages::message::{Body, Message};
+use script::script_fault::ScriptFault;
+use std::alloc::Global;
+
+/// One record.
+const RECORD: Row = Row {
+    lease_ms: 60_000,
+    path: "/f",
+    script: "c1 create /f\nc1 open /f\nc1 append 1 a*13\n",
+    printed: "c1 done\nc1 fd 1\nc1 at 0\n",
+};
+
+const PRIMARY: ServerId = ServerId(1);
+
+/// The moment of all these events.
+const NOW: Moment = Moment(0);
+
+/// The number of the first message of a kind to the primary; 0 where there is none.
+fn first_number(recorded: &Recorded, is_it: fn(&Body) -> bool) -> u64 {
+    for number in 1..=recorded.message_count() {
+        if let Some(message) = recorded.message(number) {
+            if message.receiver == Node::Server(PRIMARY) && is_it(&message.body) {
+                return number;
+            }
+        }
+    }
+    0
+}
+
+fn is_grant(body: &Body) -> bool {
+    matches!(body, Body::Grant { .. })
+}
+
+fn is_mutate(body: &Body) -> bool {
+    matches!(body, Body::Mutate { .. })
+}
+
+/// Whether the message that was sent last is a refusal for want of a lease.
+fn is_refused(recorded: &Recorded) -> bool {
+    match recorded.message(recorded.message_count()) {
+        Some(
+            Message {
+                body: Body::Refused { refusal, .. },
+                ..
+            },
+        ) => *refusal == Refusal::NoLease,
+        _ => false,
+    }
+}
+
+/// Whether the last message is the answer to a settled attempt.
+fn is_done(recorded: &Recorded) -> bool {
+    match recorded.message(recorded.message_count()) {
+        Some(
+            Message {
+                body: Body::Done { .. },
+                ..
+            },
+        ) => true,
+        _ => false,
+    }
+}
+
+/// Whether a repeated Mutate is answered as before, and refused once its primary began again, though the Grant comes once more.
+fn is_lost_for_good(alloc: Global) -> Result<bool, ScriptFault> {
+    let Some(recorded) = record_row(alloc, &RECORD)? else {
+        return Ok(false);
+    };
+    let mut cell = recorded;
+    let grant = first_number(&cell, is_grant);
+    let mutate = first_number(&cell, is_mutate);
+    let repeat = Event::Deliver {
+        number: mutate,
+        now: NOW,
+    };
+    let again = repeat.copy(alloc)?;
+    let _ = cell.step(repeat);
+    let was_done = is_done(&cell);
+    let _ = cell.step(Event::Restart {
+        node: Node::Server(PRIMARY),
+        now: NOW,
+    });
+    let sent = cell.message_count();
+    let _ = cell.step(Event::Deliver {
+        number: grant,
+        now: NOW,
+    });
+    let is_passed_over = cell.message_count() == sent;
+    let _ = cell.step(again);
+    Ok(grant > 0 && mutate > 0 && was_done && is_passed_over && is_refused(&cell))
+}
+
+#[test]
+fn a_grant_that_comes_again_counts_for_nothing(rt: HostRuntime) {
+    assert!(rt; matches!(is_lost_for_good(rt.alloc()), Ok(true)));
+}
