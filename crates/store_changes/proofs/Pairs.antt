@@ -3,15 +3,16 @@ use Rattle.std.proofs.Common.{◌≡◌, ℕ, suc, ◌+◌, ◌-◌, ◌*◌, �
 use Rattle.std.specs.Prelude.{IfSome, nat_le}
 use native.Mathlib.Nat.{suc-mul}
 use Rattle.std.proofs.lemmas.Bool.Decides.{nat_tests}
-use Rattle.std.proofs.lemmas.List.{drop_all, length-drop, length-take, take_all}
-use Rattle.std.proofs.Math.Nat.{lt-div-mul-add}
+use Rattle.std.proofs.lemmas.List.{drop_all, length-drop, length-take, length-take-le, take_all}
+use Rattle.std.proofs.Math.Nat.{div-mul-le_self, lt-div-mul-add}
 use Rattle.std.proofs.lemmas.Nat.{div-add-mod', div-mul-add}
 use Rattle.disk.specs.Bytes.{range_at}
 use Rattle.store_disk.specs.Blocks.{chunk_on_disk}
 use Rattle.store_disk.proofs.Runs.{touched_is}
 use Rattle.replica_store.specs.Replicas.{Replica, block_matches, blocks_match, is_writable}
 use Rattle.store_changes.specs.Reading.{checked_part}
-use Rattle.store_changes.specs.Edging.{block_at, checked_edges, edges_around}
+use Rattle.store_changes.specs.Edging.{AreLong, block_at, checked_edges, edges_around}
+use Rattle.store_changes.specs.declared.edges.Edges.{Edges}
 use Rattle.store_changes.proofs.Ends.{block_end}
 
 both_true : (a b : Bool) → (a ≡ true → b ≡ true) → (b ≡ true → a ≡ true) → a ≡ b
@@ -145,3 +146,26 @@ pub last_part : (block end_place : ℕ) → 1 ≤ block → end_place - (end_pla
 last_part block end_place positive =
     let less : end_place - 1 < (end_place - 1) / block * block + block = lt-div-mul-add positive in
     omega (arith, less)
+
+-- how long the edges are
+module _ (block offset end_place : ℕ) (positive : 1 ≤ block) (some : offset < end_place) (before after : List ℕ) where
+  pub aligned_long : (((offset % block) == 0) && ((end_place % block) == 0)) ≡ true → before ≡ [] → after ≡ [] → AreLong block offset end_place (record { before = before; after = after })
+  aligned_long is no_before no_after =
+      let both = and_both ((offset % block) == 0) ((end_place % block) == 0) is in
+      let ends = block_end block end_place positive (omega (arith, some)) (zero_test (end_place % block) both.1) in
+      record {
+        before = ap length no_before ∙ sym (zero_test (offset % block) both.0);
+        after = ap length no_after ∙ omega (arith, ends);
+      }
+
+  pub parts_long : (one two : List ℕ) → length one ≡ block → length two ≡ block → before ≡ take (offset % block) one → after ≡ drop (end_place - (end_place - 1) / block * block) two → AreLong block offset end_place (record { before = before; after = after })
+  parts_long one two long_one long_two is_before is_after =
+      let k = end_place - (end_place - 1) / block * block in
+      record {
+        before = ap length is_before ∙ length-take-le (offset % block) one (omega (arith, long_one, mod_less offset block positive));
+        after = ap length is_after ∙ omega (arith, length-drop k two, long_two, div-mul-le_self (end_place - 1) block, some);
+      }
+
+-- of a range of so many bytes
+pub long_of : (block offset : ℕ) (o : Option Edges) (edges : Edges) (n m : ℕ) → o ≡ Some edges → n ≡ m → IfSome o (AreLong block offset (offset + n)) → AreLong block offset (offset + m) edges
+long_of block offset o edges n m is same long = subst (λ (k : ℕ). AreLong block offset (offset + k) edges) same (subst (λ (p : Option Edges). IfSome p (AreLong block offset (offset + n))) is long)

@@ -1,23 +1,12 @@
 -- What is written of a replica that is written over.
-use Rattle.std.proofs.Common.{◌≡◌, ℕ, suc, ◌+◌, ◌-◌, ◌*◌, ◌/◌, ◌%◌, ◌≤◌, Bool, true, false, ◌&&◌, ◌||◌, ◌==◌, if◌then◌else◌, List, [], ◌∷◌, length, drop, refl, sym, ap, ◌∙◌, arith, Option, Some, None}
+use Rattle.std.proofs.Common.{◌≡◌, ℕ, ◌+◌, ◌-◌, ◌/◌, ◌%◌, ◌≤◌, Bool, true, false, ◌&&◌, ◌||◌, ◌==◌, if◌then◌else◌, List, [], ◌∷◌, length, refl, sym, ap, ◌∙◌, arith, Option, Some, None}
 use Rattle.std.specs.Prelude.{nat_le}
-use Rattle.std.specs.FinMap as map
-use native.Mathlib.Nat.{suc-mul}
-use Rattle.std.proofs.Math.Nat.{div-mul-le_self}
 use Rattle.std.proofs.lemmas.Bool.Decides.{nat_tests}
-use Rattle.std.proofs.lemmas.List.{length-drop, length-take-le}
-use Rattle.std.proofs.lemmas.Nat.{mul-le}
-use Rattle.store_disk.specs.Blocks.{chunk_on_disk}
-use Rattle.store_disk.proofs.Others.{length_others}
-use Rattle.store_disk.proofs.BlockPuts.{length_filled}
-use Rattle.replica_store.specs.Replicas.{Replica, ServerDisk, block_matches, filled_to, is_writable, is_writable_at, replica_of, writable_in}
+use Rattle.replica_store.specs.Replicas.{Replica, ServerDisk, block_matches, is_writable, is_writable_at, replica_of, writable_in}
 use Rattle.replica_store.specs.declared.row.Row.{Row}
-use Rattle.store_changes.proofs.Bounds.{first_last}
-use Rattle.store_changes.specs.Edging.{block_at, checked_edges, edges_around}
+use Rattle.store_changes.specs.Edging.{checked_edges, edges_around}
 use Rattle.store_changes.specs.Writing.{checked_ranges, header_range_of, ranges_of, written_ranges}
 use Rattle.store_changes.specs.declared.edges.Edges.{Edges}
-use Rattle.store_changes.proofs.Ends.{to_within}
-use Rattle.store_changes.proofs.Pairs.{mod_less}
 
 -- tests of what may be there
 module _ {A : Type 0} (x : A) where
@@ -62,40 +51,6 @@ module _ (chunk block : ℕ) (r : Replica) (slot handle : ℕ) (row : Row) (offs
         ap (λ b. if b then Some (ranges_of chunk block r slot handle row offset content) else None) yes.0
         ∙ ap (λ b. Some (if b then header else written_ranges chunk block slot handle row (edges_around chunk block r offset end_place) offset content)) later
         )
-
-    -- how long the edges are
-    module _ (positive : 1 ≤ block) (even : chunk % block ≡ 0) (short : length r.bytes ≤ chunk) (fits : end_place ≤ chunk) (edges : Edges) (is : Some edges ≡ checked_edges chunk block r offset end_place) where
-      around : edges ≡ edges_around chunk block r offset end_place
-      around = (some_if (edges_around chunk block r offset end_place) (is_writable block r offset end_place) edges is).1
-
-      disk_long : length (chunk_on_disk chunk r) ≡ chunk
-      disk_long = length_others (map.entries r.changed) (filled_to chunk r.bytes) ∙ length_filled chunk r.bytes short
-
-      block_long : (n : ℕ) → n * block + block ≤ chunk → length (block_at chunk block r n) ≡ block
-      block_long n room = length-take-le block (drop (n * block) (chunk_on_disk chunk r)) (omega (arith, length-drop (n * block) (chunk_on_disk chunk r), disk_long, room))
-
-      last_room : (end_place - 1) / block * block + block ≤ chunk
-      last_room = to_within chunk block r offset content positive even short some fits
-
-      first_room : offset / block * block + block ≤ chunk
-      first_room =
-          let low = first_last chunk block offset end_place positive even (omega (arith, some)) fits in
-          let more : suc (offset / block) * block ≤ suc ((end_place - 1) / block) * block = mul-le (suc (offset / block)) block (suc ((end_place - 1) / block)) block (omega (arith, low)) (omega arith) in
-          omega (arith, more, suc-mul (offset / block) block, suc-mul ((end_place - 1) / block) block, last_room)
-
-      pub before_long : length edges.before ≡ offset % block
-      before_long =
-          let long = block_long (offset / block) first_room in
-          ap (λ (e : Edges). length e.before) around ∙ length-take-le (offset % block) (block_at chunk block r (offset / block)) (omega (arith, long, mod_less offset block positive))
-
-      pub after_long : length edges.after ≡ (end_place - 1) / block * block + block - end_place
-      after_long =
-          let last = (end_place - 1) / block in
-          let long = block_long last last_room in
-          let k = end_place - last * block in
-          let low : last * block ≤ end_place - 1 = div-mul-le_self (end_place - 1) block in
-          let dropped = length-drop k (block_at chunk block r last) in
-          ap (λ (e : Edges). length e.after) around ∙ omega (arith, dropped, long, low, some)
 
 -- whether it can be written over
 pub writable_at : (d : ServerDisk) (block handle : ℕ) (r : Replica) (offset end_place : ℕ) → replica_of d handle ≡ Some r → d.block ≡ block → is_writable_at d handle offset end_place ≡ is_writable block r offset end_place

@@ -2,7 +2,7 @@
 use Rattle.std.proofs.Common.{◌≡◌, ℕ, ◌+◌, ◌%◌, ◌≤◌, true, false, List, length, sym, ◌∙◌, subst, Some, None}
 use Rattle.std.specs.FinMap as map
 use Rattle.disk_redo.specs.Changes.{applied}
-use Rattle.disk_redo.specs.Redo.{FitsArea, is_open, stands_for}
+use Rattle.disk_redo.specs.Redo.{is_open, stands_for}
 use Rattle.disk_redo.specs.declared.range.RedoRange.{RedoRange}
 use Rattle.store_disk.specs.Blocks.{IsNoticed}
 use Rattle.replica_store.specs.declared.change.StoreChange.TheVariants.{Write}
@@ -17,7 +17,6 @@ use Rattle.store_disk.specs.Fields.{FitsHeader}
 use Rattle.store_disk.specs.Places.{disk_size}
 use Rattle.store_changes.proofs.Rested.{holds_at_rest}
 use Rattle.store_changes.specs.Writing.{IsNoticedAt, checked_ranges, ranges_of, written_row}
-use Rattle.store_changes.proofs.Fitting.{ranges_fit}
 use Rattle.store_changes.proofs.Planning.{none_if, some_if, writable_at}
 use Rattle.store_changes.proofs.Stored.{write_stored}
 use Rattle.store_disk.specs.Stored.{Holds, IsDiskOf, IsKnown, header_of}
@@ -58,12 +57,6 @@ module _ (chunk block slots : ℕ) (index : IndexState) (disk : List ℕ) (size 
       -- it can be written over
       pub is_written : (d : ServerDisk) → Says chunk block slots index disk d → true ≡ is_writable_at d handle offset (offset + length content)
       is_written d says = let p = plan d says in sym (writable_at d block handle p.0 offset (offset + length content) p.1 says.block_is ∙ (tested d says).0)
-
-      pub write_fits : (d : ServerDisk) → Says chunk block slots index disk d → 1 ≤ block → chunk % block ≡ 0 → offset + length content ≤ chunk → FitsArea (area_of chunk block) (length disk) items
-      write_fits d says positive even fits =
-          let p = plan d says in
-          subst (λ (rs : List RedoRange). FitsArea (area_of chunk block) (length disk) rs) (sym (tested d says).1)
-          (ranges_fit chunk block slots index disk size found.slot p.2.there p.0 handle now offset content positive even fits)
 
       pub write_law : 1 ≤ block → chunk % block ≡ 0 → offset + length content ≤ chunk → FitsHeader (header_of handle now) → (d : ServerDisk) → Says chunk block slots index disk d → IsNoticedAt d handle
           → IsDiskOf chunk block slots index_now (applied items rested) (disk_changed d (Write (record { 0 = handle }) (record { 0 = serial }) offset content))

@@ -24,7 +24,7 @@ pub put_fits : (chunk block slots handle slot : ℕ) (disk : List ℕ) (row : Ro
 put_fits chunk block slots handle slot disk row bytes ranges size lt le is =
     let count = length_slot chunk block disk slot (header_of handle row) bytes le in
     subst (λ (rs : List RedoRange). FitsArea (area_of chunk block) (length disk) rs) (sym is)
-    (slot_range_fits chunk block slots (record { held = map.empty; free = [] }) disk size slot (slot_bytes chunk block (header_of handle row) bytes) lt (omega (arith, count)))
+    (slot_range_fits chunk block slots disk size slot (slot_bytes chunk block (header_of handle row) bytes) lt (omega (arith, count)))
 
 module _ (chunk block slots : ℕ) (index : IndexState) (disk : List ℕ) (size : disk_size chunk block slots ≤ length disk) (closed : is_open (area_of chunk block) disk ≡ false) (handle : ℕ) (none : map.get index.held handle ≡ None)
     (slot : ℕ) (rest : List ℕ) (first : index.free ≡ slot ∷ rest) where

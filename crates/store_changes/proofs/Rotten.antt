@@ -91,17 +91,14 @@ module _ (chunk block slots : ℕ) (index : IndexState) (disk : List ℕ) (size 
       subst (λ (o : Option Replica). IsDiskOf chunk block slots index new (replica_becomes (λ q. rotten_replica q place byte) d h o)) (sym its.1)
       (subst (λ (m : map.FinMap nat_cmp HeldReplica). IsDiskOf chunk block slots (record index { held = m }) new (replica_becomes (λ q. rotten_replica q place byte) d h (Some r))) (insert_same index.held h found there) replaced)
 
-pub rot_slot : (chunk block slots : ℕ) (index : IndexState) (disk : List ℕ) (h : ℕ) (found : HeldReplica) → map.get index.held h ≡ Some found → (d : ServerDisk) → Says chunk block slots index disk d → found.slot < slots
-rot_slot chunk block slots index disk h found there d says = (its_replica chunk block slots index (stands_for (area_of chunk block) disk) d says h found there).2.there
-
 module _ (chunk block slots : ℕ) (index : IndexState) (disk : List ℕ) (size : disk_size chunk block slots ≤ length disk) (closed : is_open (area_of chunk block) disk ≡ false) (h : ℕ) (found : HeldReplica) (there : map.get index.held h ≡ Some found) (place byte : ℕ)
     (low : place < chunk) (ranges : List RedoRange) (are : ranges ≡ rotten_range chunk block found.slot place byte) where
   rested : disk_size chunk block slots ≤ length (stands_for (area_of chunk block) disk)
   rested = rest_size chunk block slots disk size closed
 
-  pub rot_fits : (d : ServerDisk) → Says chunk block slots index disk d → FitsArea (area_of chunk block) (length disk) ranges
-  rot_fits d says =
-      let before = slot_before chunk block found.slot slots (rot_slot chunk block slots index disk h found there d says) in
+  pub rot_fits : found.slot < slots → FitsArea (area_of chunk block) (length disk) ranges
+  rot_fits within =
+      let before = slot_before chunk block found.slot slots within in
       let behind = slots_behind chunk block found.slot in
       subst (λ (rs : List RedoRange). FitsArea (area_of chunk block) (length disk) rs) (sym are)
       (one_fits chunk block slots (length disk) size (data_place chunk block found.slot + place) (byte ∷ []) (omega (arith, behind)) (omega (arith, before, size, low)) (omega (arith, low)))

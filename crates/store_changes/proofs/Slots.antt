@@ -15,21 +15,18 @@ use Rattle.store_disk.proofs.FormatSlots.{slot_before}
 use Rattle.store_disk.specs.Fields.{FitsHeader, header_bytes}
 use Rattle.store_disk.specs.Places.{disk_size, slot_place, slot_size}
 use Rattle.store_disk.specs.Stored.{IsDiskOf, header_of, raised_row}
-use Rattle.store_disk.proofs.Stores.{raise_stored, remove_stored, slot_fits}
+use Rattle.store_disk.proofs.Stores.{raise_stored, remove_stored}
+
+-- bytes at the front of a slot have room in the area
+pub slot_range_fits : (chunk block slots : ℕ) (disk : List ℕ) → disk_size chunk block slots ≤ length disk → (slot : ℕ) (bytes : List ℕ) → slot < slots → length bytes ≤ slot_size chunk block → FitsArea (area_of chunk block) (length disk) (record { place = slot_place chunk block slot; bytes = bytes } ∷ [])
+slot_range_fits chunk block slots disk size slot bytes lt few =
+    let before = slot_before chunk block slot slots lt in
+    one_fits chunk block slots (length disk) size (slot_place chunk block slot) bytes (omega arith) (omega (arith, before, few, size)) (omega (arith, few))
 
 module _ (chunk block slots : ℕ) (index : IndexState) (disk : List ℕ) (size : disk_size chunk block slots ≤ length disk) where
-  -- bytes at the front of a slot have room in the area
-  pub slot_range_fits : (slot : ℕ) (bytes : List ℕ) → slot < slots → length bytes ≤ slot_size chunk block → FitsArea (area_of chunk block) (length disk) (record { place = slot_place chunk block slot; bytes = bytes } ∷ [])
-  slot_range_fits slot bytes lt few =
-      let before = slot_before chunk block slot slots lt in
-      one_fits chunk block slots (length disk) size (slot_place chunk block slot) bytes (omega arith) (omega (arith, before, few, size)) (omega (arith, few))
-
   module _ (closed : is_open (area_of chunk block) disk ≡ false) (handle : ℕ) (found : HeldReplica) (there : map.get index.held handle ≡ Some found) where
     rested : disk_size chunk block slots ≤ length (stands_for (area_of chunk block) disk)
     rested = rest_size chunk block slots disk size closed
-
-    pub slot_there : (d : ServerDisk) → Says chunk block slots index disk d → found.slot < slots
-    slot_there d says = (slot_fits chunk block slots index (stands_for (area_of chunk block) disk) d rested says handle found there).0
 
     pub raised : (version : ℕ) (ranges : List RedoRange) → FitsHeader (header_of handle (raised_row version found.row))
         → ranges ≡ record { place = slot_place chunk block found.slot; bytes = header_bytes (header_of handle (raised_row version found.row)) } ∷ []

@@ -6,7 +6,7 @@ ghost use Rattle.disk_redo.specs.GateMoments.{OnlyReads};
 ghost use Rattle.replica_store.specs.Replicas.{Replica, block_matches};
 ghost use Rattle.store_disk.specs.Places.{blocks_of, disk_size};
 ghost use Rattle.store_changes.specs.Reading.{checked_part};
-ghost use Rattle.store_changes.specs.Edging.{block_at, checked_edges};
+ghost use Rattle.store_changes.specs.Edging.{AreLong, block_at, checked_edges};
 ghost use Rattle.store_disk.specs.Stored.{Holds};
 
 use crate::read_blocks;
@@ -104,6 +104,7 @@ pub fn read_edges<D: Disk>(
     requires within { end ≤ layout.chunk }
     ensures edges { IfOk result (λ o. (handle : ℕ) (r : Replica) → Holds layout.chunk layout.block (D.seen disk.old) slot handle r
         → o ≡ checked_edges layout.chunk layout.block r offset end) }
+    ensures long { IfOk result (λ o. IfSome o (AreLong layout.block offset end)) }
     ensures reads { OnlyReads D.seen D.may_leave D.moment D.left_since disk.old disk.new }
     ensures cause { HasCause (D.failed disk.old) (D.failed disk.new) result }
 {

@@ -1,7 +1,7 @@
 //! Why a call of the store failed.
 
 ghost use Rattle.std.specs.Prelude.{◌≡◌};
-ghost use Rattle.store_changes.specs.Faults.{fault_of};
+ghost use Rattle.store_changes.specs.Faults.{fault_of, is_refusal};
 ghost use Rattle.store_changes.specs.declared.fault.StoreFault.TheVariants.{NoMemory as OutOfMemory};
 
 use disk::DiskFault;
@@ -32,6 +32,22 @@ pub enum StoreFault {
     /// Memory was refused. The store is open no more: open its disk again.
     #[error("no memory")]
     NoMemory,
+}
+
+impl StoreFault {
+    /// Whether it refuses the call: nothing changed, and the store is open still.
+    pub fn is_refusal(self) -> bool
+        ensures { result ≡ is_refusal self }
+    {
+        match self {
+            StoreFault::Device | StoreFault::NoMemory => false,
+            StoreFault::NoChunk
+            | StoreFault::Version
+            | StoreFault::OldSerial
+            | StoreFault::Corrupt
+            | StoreFault::NoRoom => true,
+        }
+    }
 }
 
 impl From<DiskFault> for StoreFault {

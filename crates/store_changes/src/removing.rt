@@ -5,9 +5,8 @@ ghost use Rattle.std.specs.FinMap as map;
 ghost use Rattle.disk.specs.Device.{HasCause};
 ghost use Rattle.disk_redo.specs.Redo.{IsAtRest};
 ghost use Rattle.replica_store.specs.declared.change.StoreChange.TheVariants.{Remove};
-ghost use Rattle.replica_store.specs.Replicas.{ServerDisk};
 ghost use Rattle.store_changes.specs.Areas.{area_of};
-ghost use Rattle.store_changes.specs.Changing.{IsChanged, LeavesEither, Says};
+ghost use Rattle.store_changes.specs.Changing.{IsChanged, LeavesEither};
 ghost use Rattle.store_disk.specs.Places.{disk_size, slot_place};
 
 use crate::making::{change, one_range};
@@ -40,7 +39,7 @@ pub fn remove<D: Disk>(
     requires size { disk_size layout.chunk layout.block layout.slots ≤ length (D.seen disk.old) }
     requires rest { IsAtRest D.seen D.may_leave (area_of layout.chunk layout.block) disk.old }
     requires found { map.get index.old.held handle.0 ≡ Some found }
-    requires stored { (d : ServerDisk) × Says layout.chunk layout.block layout.slots index.old (D.seen disk.old) d }
+    requires slot { found.slot < layout.slots }
     ensures rest { OnOk result (IsAtRest D.seen D.may_leave (area_of layout.chunk layout.block) disk.new) }
     ensures made { OnOk result (IsChanged layout.chunk layout.block layout.slots index.old (D.seen disk.old) index.new (D.seen disk.new) (Remove handle)) }
     ensures any_moment { LeavesEither D.seen D.moment D.left_since layout.chunk layout.block layout.slots disk.old disk.new index.old (Remove handle) }

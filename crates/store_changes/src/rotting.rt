@@ -49,7 +49,7 @@ pub fn rot<D: Disk>(
     requires size { disk_size layout.chunk layout.block layout.slots ≤ length (D.seen disk.old) }
     requires rest { IsAtRest D.seen D.may_leave (area_of layout.chunk layout.block) disk.old }
     requires found { map.get index.now.held handle.0 ≡ Some found }
-    requires stored { (d : ServerDisk) × Says layout.chunk layout.block layout.slots index.now (D.seen disk.old) d }
+    requires slot { found.slot < layout.slots }
     requires place { place < layout.chunk }
     ensures rest { OnOk result (IsAtRest D.seen D.may_leave (area_of layout.chunk layout.block) disk.new) }
     ensures made { OnOk result ((d : ServerDisk) → Says layout.chunk layout.block layout.slots index.now (D.seen disk.old) d

@@ -1,10 +1,10 @@
 //! A mutation of a replica.
 
-ghost use Rattle.std.specs.Prelude.{◌≡◌, ◌≤◌, ◌<◌, ◌+◌, ◌%◌, ℕ, true, false, max, length, IfOk, OnOk, Some, None, option_map};
+ghost use Rattle.std.specs.Prelude.{◌≡◌, ◌≤◌, ◌<◌, ◌+◌, ◌%◌, ℕ, true, false, max, length, IfOk, IfSome, OnOk, Some, None, option_map};
 ghost use Rattle.std.specs.FinMap as map;
 ghost use Rattle.disk.specs.Device.{HasCause};
 ghost use Rattle.disk_redo.specs.GateMoments.{OnlyReads};
-ghost use Rattle.disk_redo.specs.Redo.{IsAtRest};
+ghost use Rattle.disk_redo.specs.Redo.{FitsArea, IsAtRest};
 ghost use Rattle.replica_store.specs.declared.change.StoreChange.TheVariants.{Write};
 ghost use Rattle.replica_store.specs.Replicas.{Replica, ServerDisk, disk_changed, is_writable_at};
 ghost use Rattle.store_changes.specs.Areas.{area_of};
@@ -51,10 +51,10 @@ fn checked_ranges<D: Disk>(
     requires slot { new.slot < layout.slots }
     requires whole { layout.chunk % layout.block ≡ 0 }
     requires within { offset + length bytes.now ≤ layout.chunk }
-    requires held { (h : ℕ) × (r : Replica) × Holds layout.chunk layout.block (D.seen disk.old) new.slot h r }
     ensures ranges { IfOk result (λ o. (h : ℕ) (r : Replica) → Holds layout.chunk layout.block (D.seen disk.old) new.slot h r
         → option_map (λ v. v.items) o ≡ checked_value layout.chunk layout.block r new.slot handle.0 new.row offset bytes.now) }
     ensures fits { FitsHeader (header_of handle.0 new.row) }
+    ensures room { IfOk result (λ o. IfSome o (λ v. FitsArea (area_of layout.chunk layout.block) (length (D.seen disk.old)) v.items)) }
     ensures reads { OnlyReads D.seen D.may_leave D.moment D.left_since disk.old disk.new }
     ensures cause { HasCause (D.failed disk.old) (D.failed disk.new) result }
 {
@@ -92,7 +92,7 @@ pub fn write<D: Disk>(
     requires size { disk_size layout.chunk layout.block layout.slots ≤ length (D.seen disk.old) }
     requires rest { IsAtRest D.seen D.may_leave (area_of layout.chunk layout.block) disk.old }
     requires found { map.get index.old.held handle.0 ≡ Some found }
-    requires stored { (d : ServerDisk) × Says layout.chunk layout.block layout.slots index.old (D.seen disk.old) d }
+    requires slot { found.slot < layout.slots }
     requires whole { layout.chunk % layout.block ≡ 0 }
     requires within { offset + length bytes.now ≤ layout.chunk }
     ensures rest { OnOk result (IsAtRest D.seen D.may_leave (area_of layout.chunk layout.block) disk.new) }

@@ -1,6 +1,6 @@
 use Rattle.std.proofs.Common.{◌-◌, ◌*◌, ◌/◌, ◌%◌, sym, ◌∙◌, arith, Some}
 use Rattle.store_changes.proofs.Bounds.{first_last, last_within}
-use Rattle.store_changes.proofs.Pairs.{aligned_edges, ends_long, first_slice, last_part, last_slice, mod_less, no_edges, some_edges}
+use Rattle.store_changes.proofs.Pairs.{aligned_edges, aligned_long, ends_long, first_slice, last_part, last_slice, mod_less, no_edges, parts_long, some_edges}
 use Rattle.store_changes.proofs.edges.read_edges.Goals as goal
 
 pub returns-then-is_aligned-clause-edges : goal.returns-then-is_aligned-clause-edges
@@ -47,3 +47,17 @@ returns-clause-edges g c handle r h =
     let after = c.in_ok-after.ensures.ok ∙ last_slice two (c.args.end - (c.args.end - 1) / l.block * l.block) in
     (λ i. Some (record { before = before i; after = after i }))
     ∙ some_edges l.chunk l.block r c.args.offset c.args.end (omega (arith, l.block_range)) c.requires.some (sym c.is_aligned.ensures ∙ c.if-is_aligned.false) one two (sym c.in-Some.is ∙ c.in_ok-ends.ensures.ends handle r h)
+
+pub returns-then-is_aligned-clause-long : goal.returns-then-is_aligned-clause-long
+returns-then-is_aligned-clause-long g c =
+    let l = c.args.layout in
+    aligned_long l.block c.args.offset c.args.end (omega (arith, l.block_range)) c.requires.some c.new.result c.new-then-is_aligned.result (sym c.is_aligned.ensures ∙ c.if-is_aligned.true) c.new.ensures c.new-then-is_aligned.ensures
+
+pub returns-clause-long : goal.returns-clause-long
+returns-clause-long g c =
+    let l = c.args.layout in
+    let one = c.in-Some.ends.0 in
+    let two = c.in-Some.ends.1 in
+    let long = ends_long _ one two l.block c.in-Some.is c.in_ok-ends.ensures.long in
+    parts_long l.block c.args.offset c.args.end (omega (arith, l.block_range)) c.requires.some c.in_ok-before.before c.in_ok-after.after one two long.0 long.1
+    (c.in_ok-before.ensures.ok ∙ first_slice one (c.args.offset % l.block)) (c.in_ok-after.ensures.ok ∙ last_slice two (c.args.end - (c.args.end - 1) / l.block * l.block))

@@ -7,13 +7,8 @@ use Rattle.store_disk.specs.Index.{IndexState, index_without}
 use Rattle.store_changes.specs.Areas.{area_of}
 use Rattle.store_changes.specs.Changing.{IsChanged}
 use Rattle.store_changes.proofs.Made.{change_made, nothing_made, says_so}
-use Rattle.store_changes.proofs.Slots.{removed, slot_range_fits, slot_there}
+use Rattle.store_changes.proofs.Slots.{removed, slot_range_fits}
 use Rattle.store_changes.proofs.removing.remove.Goals as goal
-
-pub remove_ranges-requires : goal.remove_ranges-requires
-remove_ranges-requires g c =
-    let layout = c.args.layout in
-    slot_there layout.chunk layout.block layout.slots c.args.index.now (g.D.Disk.seen c.args.disk.now) c.requires.size c.requires.rest.closed c.args.handle.0 c.args.found c.requires.found c.requires.stored.0 c.requires.stored.1
 
 pub returns-in_err-ranges-clause-any_moment : goal.returns-in_err-ranges-clause-any_moment
 returns-in_err-ranges-clause-any_moment g c =
@@ -32,9 +27,8 @@ change-requires-clause-fits g c =
     let layout = c.args.layout in
     let old = g.D.Disk.seen c.args.disk.now in
     let is = c.deref.ensures.value ∙ c.in_ok-ranges.ensures in
-    let lt = slot_there layout.chunk layout.block layout.slots c.args.index.now old c.requires.size c.requires.rest.closed c.args.handle.0 c.args.found c.requires.found c.requires.stored.0 c.requires.stored.1 in
     subst (λ (rs : List RedoRange). FitsArea (area_of layout.chunk layout.block) (length old) rs) (sym is)
-    (slot_range_fits layout.chunk layout.block layout.slots c.args.index.now old c.requires.size c.args.found.slot (0 ∷ []) lt (omega arith))
+    (slot_range_fits layout.chunk layout.block layout.slots old c.requires.size c.args.found.slot (0 ∷ []) c.requires.slot (omega arith))
 
 pub returns-clause-made : goal.returns-clause-made
 returns-clause-made g c =

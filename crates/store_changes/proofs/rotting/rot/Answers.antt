@@ -2,13 +2,8 @@ use Rattle.std.proofs.Common.{ℕ, List, sym, ◌∙◌, subst}
 use Rattle.std.proofs.lemmas.Result.{on_ok_weaker}
 use Rattle.store_changes.specs.Rotting.{disk_rotten}
 use Rattle.store_disk.specs.Stored.{IsDiskOf}
-use Rattle.store_changes.proofs.Rotten.{nothing_rots, rot_fits, rot_law, rot_made, rot_slot}
+use Rattle.store_changes.proofs.Rotten.{nothing_rots, rot_fits, rot_law, rot_made}
 use Rattle.store_changes.proofs.rotting.rot.Goals as goal
-
-pub rotten_ranges-requires-clause-slot : goal.rotten_ranges-requires-clause-slot
-rotten_ranges-requires-clause-slot g c =
-    let l = c.args.layout in
-    rot_slot l.chunk l.block l.slots c.args.index.now (g.D.Disk.seen c.args.disk.now) c.args.handle.0 c.args.found c.requires.found c.requires.stored.0 c.requires.stored.1
 
 pub returns-in_err-ranges-clause-any_moment : goal.returns-in_err-ranges-clause-any_moment
 returns-in_err-ranges-clause-any_moment g c =
@@ -20,7 +15,7 @@ pub change-requires-clause-fits : goal.change-requires-clause-fits
 change-requires-clause-fits g c =
     let l = c.args.layout in
     let are = c.deref.ensures.value ∙ c.in_ok-ranges.ensures in
-    rot_fits l.chunk l.block l.slots c.args.index.now (g.D.Disk.seen c.args.disk.now) c.requires.size c.requires.rest.closed c.args.handle.0 c.args.found c.requires.found c.args.place c.args.byte c.requires.place c.deref.result.now are c.requires.stored.0 c.requires.stored.1
+    rot_fits l.chunk l.block l.slots c.args.index.now (g.D.Disk.seen c.args.disk.now) c.requires.size c.requires.rest.closed c.args.handle.0 c.args.found c.requires.found c.args.place c.args.byte c.requires.place c.deref.result.now are c.requires.slot
 
 pub returns-clause-made : goal.returns-clause-made
 returns-clause-made g c =

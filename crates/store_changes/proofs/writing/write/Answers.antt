@@ -13,19 +13,8 @@ use Rattle.store_disk.specs.Fields.{FitsHeader}
 use Rattle.store_disk.specs.Stored.{Holds, header_of}
 use Rattle.store_changes.specs.Writing.{checked_ranges, written_row}
 use Rattle.store_changes.proofs.Moments.{only_read, still_rests, written_either, written_so}
-use Rattle.store_changes.proofs.Plans.{is_written, not_written, plan, write_fits, write_law}
+use Rattle.store_changes.proofs.Plans.{is_written, not_written, write_law}
 use Rattle.store_changes.proofs.writing.write.Goals as goal
-
-pub checked_ranges-requires-clause-slot : goal.checked_ranges-requires-clause-slot
-checked_ranges-requires-clause-slot g c =
-    let l = c.args.layout in
-    (plan l.chunk l.block l.slots c.args.index.now (g.D.Disk.seen c.args.disk.now) c.requires.size c.requires.rest.closed c.args.handle.0 c.args.found c.requires.found c.requires.stored.0 c.requires.stored.1).2.there
-
-pub checked_ranges-requires-clause-held : goal.checked_ranges-requires-clause-held
-checked_ranges-requires-clause-held g c =
-    let l = c.args.layout in
-    let p = plan l.chunk l.block l.slots c.args.index.now (g.D.Disk.seen c.args.disk.now) c.requires.size c.requires.rest.closed c.args.handle.0 c.args.found c.requires.found c.requires.stored.0 c.requires.stored.1 in
-    (c.args.handle.0, p.0, p.3)
 
 pub returns-in_err-ranges-clause-any_moment : goal.returns-in_err-ranges-clause-any_moment
 returns-in_err-ranges-clause-any_moment g c =
@@ -70,24 +59,10 @@ change-requires-clause-rest g c =
 
 pub change-requires-clause-fits : goal.change-requires-clause-fits
 change-requires-clause-fits g c =
-    let disk = g.D.Disk in
     let l = c.args.layout in
-    let seen = disk.seen c.args.disk.now in
-    let index = c.args.index.now in
-    let h = c.args.handle.0 in
-    let found = c.args.found in
-    let serial = c.args.serial.0 in
-    let offset = c.args.offset in
-    let content = c.args.bytes.now in
-    let now : Row = written_row found.row serial offset content in
-    let row_is : c.row_after-row.result ≡ now = c.row_after-row.ensures ∙ ap (λ (n : ℕ). record { version = found.row.version; serial = c.args.serial; count = max found.row.count (offset + n) }) c.len-count.ensures.value in
-    let items : List RedoRange = c.deref.result.now in
-    let planned : (q : ℕ) (r : Replica) → Holds l.chunk l.block seen found.slot q r → Some items ≡ checked_ranges l.chunk l.block r found.slot h now offset content =
-    λ q r holds. ap (λ (rs : List RedoRange). Some rs) c.deref.ensures.value ∙ sym (ap (option_map (λ v. v.items)) c.in-Some.is) ∙ c.in_ok-ranges.ensures.ranges q r holds
-    ∙ ap (λ (row : Row). checked_ranges l.chunk l.block r found.slot h row offset content) row_is in
-    let positive : 1 ≤ l.block = omega (arith, l.block_range) in
-    subst (λ (s : List ℕ). FitsArea (area_of l.chunk l.block) (length s) items) (sym c.checked_ranges.ensures.reads.seen_same)
-    (write_fits l.chunk l.block l.slots index seen c.requires.size c.requires.rest.closed h found c.requires.found serial offset content items planned c.requires.stored.0 c.requires.stored.1 positive c.requires.whole c.requires.within)
+    let room = rw c.in-Some.is at c.in_ok-ranges.ensures.room in
+    subst (λ (s : List ℕ). FitsArea (area_of l.chunk l.block) (length s) c.deref.result.now) (sym c.checked_ranges.ensures.reads.seen_same)
+    (subst (λ (rs : List RedoRange). FitsArea (area_of l.chunk l.block) (length (g.D.Disk.seen c.args.disk.now)) rs) (sym c.deref.ensures.value) room)
 
 pub returns-in_err-update-clause-any_moment : goal.returns-in_err-update-clause-any_moment
 returns-in_err-update-clause-any_moment g c =

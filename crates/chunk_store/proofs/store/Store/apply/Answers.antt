@@ -5,7 +5,7 @@ use Rattle.store_changes.specs.Mutations.{change_of}
 use Rattle.store_changes.specs.declared.fault.StoreFault.TheVariants as faults
 use Rattle.store_changes.proofs.Answered.{disk_never, handed_over, never, no_such, not_corrupt, not_full, not_old, not_refused}
 use Rattle.chunk_store.proofs.Applied.{applied_open, leaves_same, serial_there, writable_same}
-use Rattle.chunk_store.proofs.StillOpen.{chunk_there, leaves_all, row_held, version_there}
+use Rattle.chunk_store.proofs.StillOpen.{chunk_there, held_within, leaves_all, row_held, version_there}
 use Rattle.chunk_store.proofs.store.Store.apply.Goals as goal
 
 pub returns-in-Err-clause-version : goal.returns-in-Err-clause-version
@@ -61,8 +61,8 @@ returns-in_err-bytes-clause-any_moment g c d says noticed =
     let disk = g.D.Disk in
     leaves_all disk.seen disk.may_leave c.args.self.now c.requires.is_open.0 c.requires.is_open.1 disk.moment disk.left_since (g.met.D.Disk.only_now c.args.self.now.disk) (change_of c.args.handle c.args.serial c.args.mutation.now) d says
 
-pub write-requires-clause-stored : goal.write-requires-clause-stored
-write-requires-clause-stored g c = (c.requires.is_open.0, c.requires.is_open.1.says)
+pub write-requires-clause-slot : goal.write-requires-clause-slot
+write-requires-clause-slot g c = (held_within g.D.Disk.seen g.D.Disk.may_leave c.args.self.now c.requires.is_open.0 c.requires.is_open.1 c.args.handle.0 c.in-Ok.found c.in-Ok.ensures.found.0).0
 
 pub write-requires-clause-within : goal.write-requires-clause-within
 write-requires-clause-within g c =

@@ -3,7 +3,7 @@ use Rattle.replica_store.specs.declared.change.StoreChange.TheVariants.{Remove}
 use Rattle.replica_store.specs.Replicas.{disk_changed}
 use Rattle.store_changes.specs.Faults.{fault_of}
 use Rattle.store_changes.proofs.Answered.{disk_never, not_refused}
-use Rattle.chunk_store.proofs.StillOpen.{chunk_there, leaves_all, none_held, still_open}
+use Rattle.chunk_store.proofs.StillOpen.{chunk_there, held_within, leaves_all, none_held, still_open}
 use Rattle.chunk_store.proofs.store.Store.drop_replica.Goals as goal
 
 pub returns-in_default-clause-no_chunk : goal.returns-in_default-clause-no_chunk
@@ -29,3 +29,6 @@ returns-in_err-remove-clause-refused g c d is e = absurd (not_refused c.from_res
 
 pub returns-in_err-remove-clause-only : goal.returns-in_err-remove-clause-only
 returns-in_err-remove-clause-only g c e = absurd (not_refused c.from_residual.result (fault_of c.in_err-remove.field-0.0) c.from_residual.ensures.1 (disk_never c.in_err-remove.field-0.0) e)
+
+pub remove-requires-clause-slot : goal.remove-requires-clause-slot
+remove-requires-clause-slot g c = (held_within g.D.Disk.seen g.D.Disk.may_leave c.args.self.now c.requires.is_open.0 c.requires.is_open.1 c.args.handle.0 c.in-Some.found (sym c.get.ensures ∙ c.in-Some.is)).0

@@ -5,7 +5,7 @@ use Rattle.store_changes.proofs.Rotten.{nothing_rots}
 use Rattle.store_disk.proofs.Looked.{order_stays}
 use Rattle.store_changes.specs.Faults.{fault_of}
 use Rattle.store_changes.proofs.Answered.{disk_never, not_refused}
-use Rattle.chunk_store.proofs.StillOpen.{chunk_there, none_held, still_open}
+use Rattle.chunk_store.proofs.StillOpen.{chunk_there, held_within, none_held, still_open}
 use Rattle.chunk_store.proofs.store.Store.rot.Goals as goal
 
 pub returns-in_default-clause-no_chunk : goal.returns-in_default-clause-no_chunk
@@ -23,8 +23,8 @@ returns-in_default-clause-any_moment g c =
 pub rot-requires-clause-found : goal.rot-requires-clause-found
 rot-requires-clause-found g c = sym c.get.ensures ∙ c.in-Some.is
 
-pub rot-requires-clause-stored : goal.rot-requires-clause-stored
-rot-requires-clause-stored g c = (c.requires.is_open.0, c.requires.is_open.1.says)
+pub rot-requires-clause-slot : goal.rot-requires-clause-slot
+rot-requires-clause-slot g c = (held_within g.D.Disk.seen g.D.Disk.may_leave c.args.self.now c.requires.is_open.0 c.requires.is_open.1 c.args.handle.0 c.in-Some.found (sym c.get.ensures ∙ c.in-Some.is)).0
 
 pub returns-clause-ok : goal.returns-clause-ok
 returns-clause-ok g c d is =

@@ -6,7 +6,7 @@ use Rattle.store_changes.specs.declared.fault.StoreFault.TheVariants as faults
 use Rattle.store_changes.specs.Faults.{fault_of}
 use Rattle.store_changes.proofs.Answered.{disk_never, handed_over, never, not_refused}
 use Rattle.store_disk.proofs.Looked.{order_stays}
-use Rattle.chunk_store.proofs.StillOpen.{chunk_there, leaves_all, still_open, version_there}
+use Rattle.chunk_store.proofs.StillOpen.{chunk_there, held_within, leaves_all, still_open, version_there}
 use Rattle.chunk_store.proofs.store.Store.set_version.Goals as goal
 
 pub returns-in-Err-clause-version : goal.returns-in-Err-clause-version
@@ -45,3 +45,6 @@ returns-in-Err-clause-only g c refused = elim c.in-Err.ensures.no_other [
 
 pub returns-in_err-raise-clause-only : goal.returns-in_err-raise-clause-only
 returns-in_err-raise-clause-only g c e = absurd (not_refused c.from_residual.result (fault_of c.in_err-raise.field-0.0) c.from_residual.ensures.1 (disk_never c.in_err-raise.field-0.0) e)
+
+pub raise-requires-clause-slot : goal.raise-requires-clause-slot
+raise-requires-clause-slot g c = (held_within g.D.Disk.seen g.D.Disk.may_leave c.args.self.now c.requires.is_open.0 c.requires.is_open.1 c.args.handle.0 c.in-Ok.found c.in-Ok.ensures.found.0).0
