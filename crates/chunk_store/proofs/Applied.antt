@@ -18,14 +18,14 @@ use Rattle.store_changes.proofs.Mutated.{change_same}
 use Rattle.store_changes.specs.Writing.{LeavesWritten}
 use Rattle.store_disk.specs.Stored.{IsStored}
 use Rattle.store_changes.specs.Mutations.{bytes_of, change_of, place_of}
-use Rattle.chunk_store.specs.Stores.{IsOpen}
-use Rattle.chunk_store.specs.declared.store.Store.{Store}
+use Rattle.chunk_store.specs.Volumes.{IsOpen}
+use Rattle.chunk_store.specs.declared.volume.StoreVolume.{StoreVolume}
 use Rattle.store_disk.proofs.Looked.{one_row, order_of, order_stays}
 use Rattle.chunk_store.proofs.StillOpen.{row_held, still_open}
 
-module _ {D : Type 0} (seen : D → List ℕ) (may_leave : D → List ℕ → Type 0) (moment : D → ℕ) (left_since : D → ℕ → List ℕ → Type 0) (store : Store D) (disk : D) (index : IndexState) where
+module _ {D : Type 0} (seen : D → List ℕ) (may_leave : D → List ℕ → Type 0) (moment : D → ℕ) (left_since : D → ℕ → List ℕ → Type 0) (store : StoreVolume D) (disk : D) (index : IndexState) where
   -- what the store knows, with another disk and index
-  abbrev then_store : Store D
+  abbrev then_store : StoreVolume D
   then_store = record { disk = disk; layout = store.layout; order = store.order; index = index; hashed = tt }
 
   -- nothing has changed
@@ -61,7 +61,7 @@ module _ {D : Type 0} (seen : D → List ℕ) (may_leave : D → List ℕ → Ty
         subst (λ (e : ServerDisk). StandsOnly seen moment left_since (area_of l.chunk l.block) store.disk disk (λ bs. IsStored l.chunk l.block l.slots bs d ⊎ IsStored l.chunk l.block l.slots bs e)) (same d) (written d says noticed)
 
 -- the serial is a new one
-pub serial_there : {D : Type 0} (seen : D → List ℕ) (may_leave : D → List ℕ → Type 0) (store : Store D) (d : ServerDisk) → IsOpen seen may_leave store d → {E : Type 0} (h : ℕ) (found : HeldReplica) (version : Version) (serial : ℕ)
+pub serial_there : {D : Type 0} (seen : D → List ℕ) (may_leave : D → List ℕ → Type 0) (store : StoreVolume D) (d : ServerDisk) → IsOpen seen may_leave store d → {E : Type 0} (h : ℕ) (found : HeldReplica) (version : Version) (serial : ℕ)
     → map.get store.index.held h ≡ Some found → found.row.serial.0 < serial → (E → ⊥) → E ↔ (row : Row) × (row_at d h ≡ Some row) × (row.version ≡ version) × (serial ≤ row.serial.0)
 serial_there seen may_leave store d is h found version serial there new other =
     (λ e. absurd (other e), λ p. (let one = ap (λ (r : Row). r.serial.0) (one_row (row_at d h) p.0 found.row p.1 (row_held seen may_leave store d is h found there)) in absurd (omega (arith, one, p.3, new))))

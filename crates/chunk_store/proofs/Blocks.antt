@@ -12,8 +12,8 @@ use Rattle.store_disk.specs.Places.{data_place, digests_place, disk_size, slot_p
 use Rattle.store_changes.proofs.Bounds.{bytes_room, digests_room}
 use Rattle.store_disk.proofs.Looked.{one_row}
 use Rattle.store_disk.specs.Stored.{Holds}
-use Rattle.chunk_store.specs.Stores.{IsOpen}
-use Rattle.chunk_store.specs.declared.store.Store.{Store}
+use Rattle.chunk_store.specs.Volumes.{IsOpen}
+use Rattle.chunk_store.specs.declared.volume.StoreVolume.{StoreVolume}
 use Rattle.chunk_store.specs.Matching.{HasItsDigest}
 use Rattle.chunk_store.proofs.Looked.{its_slot}
 use Rattle.chunk_store.proofs.OtherByte.{count, other_is, tells, told}
@@ -56,7 +56,7 @@ module _ (chunk block slots : ℕ) (disk : List ℕ) (slot : ℕ) (size : disk_s
         (sym (ap (λ (n : ℕ). digests_of n 1 (slice_set bytes k byte)) long) ∙ same ∙ digest_is)
 
 -- a block of an open store was looked at
-pub would_tell : {D : Type 0} (seen : D → List ℕ) (may_leave : D → List ℕ → Type 0) (store : Store D) (d : ServerDisk) (is : IsOpen seen may_leave store d) (h : ℕ) (found : HeldReplica) → map.get store.index.held h ≡ Some found → (place byte : ℕ) (b : Bool)
+pub would_tell : {D : Type 0} (seen : D → List ℕ) (may_leave : D → List ℕ → Type 0) (store : StoreVolume D) (d : ServerDisk) (is : IsOpen seen may_leave store d) (h : ℕ) (found : HeldReplica) → map.get store.index.held h ≡ Some found → (place byte : ℕ) (b : Bool)
     → ((handle : ℕ) (r : Replica) → Holds store.layout.chunk store.layout.block (seen store.disk) found.slot handle r → (IsTrue b ↔ HasItsDigest store.layout.chunk store.layout.block r place byte))
     → (r : Replica) → replica_of d h ≡ Some r → (IsTrue b ↔ HasItsDigest store.layout.chunk d.block r place byte)
 would_tell seen may_leave store d is h found there place byte b tells_it r own =

@@ -13,18 +13,19 @@ use Rattle.store_changes.specs.Changing.{Says}
 use Rattle.store_disk.specs.Stored.{IsDiskOf, IsStored}
 use Rattle.store_changes.specs.Images.{image_at}
 use Rattle.store_changes.proofs.Imaged.{image_length}
-use Rattle.chunk_store.specs.Stores.{IsOpen, LeavesChange}
-use Rattle.chunk_store.specs.declared.store.Store.{Store}
-use Rattle.chunk_store.proofs.StillOpen.{held_within, row_held, says_open}
+use Rattle.chunk_store.specs.Volumes.{IsOpen, IsReady, LeavesChange}
+use Rattle.chunk_store.specs.declared.volume.StoreVolume.{StoreVolume}
+use Rattle.chunk_store.proofs.StillOpen.{held_within, row_held}
 
-module _ {D : Type 0} (seen : D → List ℕ) (may_leave : D → List ℕ → Type 0) (store : Store D) (d : ServerDisk) (is : IsOpen seen may_leave store d) where
+module _ {D : Type 0} (seen : D → List ℕ) (may_leave : D → List ℕ → Type 0) (store : StoreVolume D) (d : ServerDisk) (is : IsOpen seen may_leave store d) where
   -- the bytes that were read fit a chunk
   pub image_fits : (h : ℕ) (found : HeldReplica) → map.get store.index.held h ≡ Some found → (bytes : List ℕ) → Some bytes ≡ image_at d h → length bytes ≤ store.layout.chunk
   image_fits h found there bytes read =
       let long = image_length d.block (replica_of d h) bytes found.row read (row_held seen may_leave store d is h found there) in
       omega (arith, long, (held_within seen may_leave store d is h found there).1)
 
-  module _ (moment : D → ℕ) (left_since : D → ℕ → List ℕ → Type 0) (mid : Store D) (reads : OnlyReads seen may_leave moment left_since store.disk mid.disk) (change : StoreChange) where
+module _ {D : Type 0} (seen : D → List ℕ) (may_leave : D → List ℕ → Type 0) (store : StoreVolume D) (ready : IsReady seen may_leave store) where
+  module _ (moment : D → ℕ) (left_since : D → ℕ → List ℕ → Type 0) (mid : StoreVolume D) (reads : OnlyReads seen may_leave moment left_since store.disk mid.disk) (change : StoreChange) where
     abbrev Either : StoreChange → ServerDisk → List ℕ → Type 0
     Either made e bytes =
         IsStored store.layout.chunk store.layout.block store.layout.slots bytes e ⊎ IsStored store.layout.chunk store.layout.block store.layout.slots bytes (disk_changed e made)
@@ -34,7 +35,7 @@ module _ {D : Type 0} (seen : D → List ℕ) (may_leave : D → List ℕ → Ty
         → Either made e (stands_for (area_of store.layout.chunk store.layout.block) c)
     left_before e says made c left =
         let l = store.layout in
-        inl (store.index, subst (λ (b : List ℕ). IsDiskOf l.chunk l.block l.slots store.index (stands_for (area_of l.chunk l.block) b) e) (sym (is.rest.durable c left)) says)
+        inl (store.index, subst (λ (b : List ℕ). IsDiskOf l.chunk l.block l.slots store.index (stands_for (area_of l.chunk l.block) b) e) (sym (ready.rest.durable c left)) says)
 
     says_still : (e : ServerDisk) → Says store.layout.chunk store.layout.block store.layout.slots store.index (seen store.disk) e → Says store.layout.chunk store.layout.block store.layout.slots store.index (seen mid.disk) e
     says_still e says = let l = store.layout in subst (λ (b : List ℕ). Says l.chunk l.block l.slots store.index b e) (sym reads.seen_same) says
@@ -47,7 +48,7 @@ module _ {D : Type 0} (seen : D → List ℕ) (may_leave : D → List ℕ → Ty
     }
 
     -- then it was changed
-    pub change_leaves : (new : Store D) (made : StoreChange) → mid ≡ record store { disk = mid.disk } → ((e : ServerDisk) → IsOpen seen may_leave store e → disk_changed e made ≡ disk_changed e change) → LeavesChange seen moment left_since mid new made
+    pub change_leaves : (new : StoreVolume D) (made : StoreChange) → mid ≡ record store { disk = mid.disk } → ((e : ServerDisk) → Says store.layout.chunk store.layout.block store.layout.slots store.index (seen store.disk) e → disk_changed e made ≡ disk_changed e change) → LeavesChange seen moment left_since mid new made
         → LeavesChange seen moment left_since store new change
     change_leaves new made kept same leaves e says = record {
       read = either (stands_for area (seen new.disk)) run.read;
@@ -58,8 +59,8 @@ module _ {D : Type 0} (seen : D → List ℕ) (may_leave : D → List ℕ → Ty
         area = area_of store.layout.chunk store.layout.block
 
         run : StandsOnly seen moment left_since area mid.disk new.disk (Either made e)
-        run = subst (λ (s : Store D). LeavesChange seen moment left_since s new made) kept leaves e (says_still e says)
+        run = subst (λ (s : StoreVolume D). LeavesChange seen moment left_since s new made) kept leaves e (says_still e says)
 
         either : (bytes : List ℕ) → Either made e bytes → Either change e bytes
         either bytes (inl p) = inl p
-        either bytes (inr p) = inr (subst (λ (x : ServerDisk). IsStored store.layout.chunk store.layout.block store.layout.slots bytes x) (same e (says_open seen may_leave store d is e says)) p)
+        either bytes (inr p) = inr (subst (λ (x : ServerDisk). IsStored store.layout.chunk store.layout.block store.layout.slots bytes x) (same e says) p)

@@ -1,5 +1,5 @@
 -- The head, as it is read.
-use Rattle.std.proofs.Common.{◌≡◌, ℕ, Bool, ◌==◌, List, length, get_or, take, sym, ap, ◌∙◌, arith}
+use Rattle.std.proofs.Common.{◌≡◌, ℕ, Bool, ◌==◌, List, get_or, take, sym, ap, ◌∙◌, arith}
 use Rattle.std.proofs.lemmas.List.{take-take}
 use Rattle.disk.specs.Bytes.{range_at}
 use Rattle.disk_redo.proofs.Ranges.{get_range}

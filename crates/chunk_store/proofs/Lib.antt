@@ -1,3 +1,4 @@
+pub mod Ready
 pub mod Gone
 pub mod SlotsFound
 pub mod Kept
@@ -13,3 +14,4 @@ pub mod OtherByte
 pub mod Blocks
 pub mod StillOpen
 pub mod Stopped
+pub mod States

@@ -13,8 +13,8 @@ use Rattle.store_changes.proofs.Rested.{holds_at_rest}
 use Rattle.store_changes.proofs.Planning.{writable_at}
 use Rattle.store_disk.proofs.Replicas.{its_replica, no_replica}
 use Rattle.store_disk.specs.Stored.{Holds}
-use Rattle.chunk_store.specs.Stores.{IsOpen}
-use Rattle.chunk_store.specs.declared.store.Store.{Store}
+use Rattle.chunk_store.specs.Volumes.{IsOpen}
+use Rattle.chunk_store.specs.declared.volume.StoreVolume.{StoreVolume}
 
 pub some_if : {X : Type 0} (b : Bool) (x : X) → is_some (if b then Some x else None) ≡ b
 some_if true x = refl
@@ -30,7 +30,7 @@ none_over block offset end_place (Some r) le = sym (ap (λ b. b || (((offset % b
 pub nothing_over : (d : ServerDisk) (h offset end_place : ℕ) → end_place ≤ offset → true ≡ is_writable_at d h offset end_place
 nothing_over d h offset end_place = none_over d.block offset end_place (replica_of d h)
 
-module _ {D : Type 0} (seen : D → List ℕ) (may_leave : D → List ℕ → Type 0) (store : Store D) (d : ServerDisk) (is : IsOpen seen may_leave store d) (h : ℕ) where
+module _ {D : Type 0} (seen : D → List ℕ) (may_leave : D → List ℕ → Type 0) (store : StoreVolume D) (d : ServerDisk) (is : IsOpen seen may_leave store d) (h : ℕ) where
   pub none_writable : (offset end_place : ℕ) → map.get store.index.held h ≡ None → true ≡ is_writable_at d h offset end_place
   none_writable offset end_place none =
       let l = store.layout in

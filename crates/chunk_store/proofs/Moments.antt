@@ -1,5 +1,5 @@
 -- What a stop leaves while a disk is opened.
-use Rattle.std.proofs.Common.{◌≡◌, ◌⊎◌, inl, inr, ℕ, Bool, true, false, List, sym, ap, ◌∙◌, subst}
+use Rattle.std.proofs.Common.{◌≡◌, inl, inr, ℕ, true, false, List, sym, ap, ◌∙◌, subst}
 use Rattle.std.specs.Prelude.{Err, Ok, OnOk, Result}
 use Rattle.disk.specs.Device.{Only}
 use Rattle.disk_redo.specs.GateMoments.{LeavesOnly, OnlyReads}

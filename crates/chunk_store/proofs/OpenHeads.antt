@@ -1,5 +1,5 @@
 -- A disk that stands for one with an open head has one.
-use Rattle.std.proofs.Common.{◌≡◌, ◌⊎◌, inl, inr, ℕ, ◌+◌, ◌<◌, ◌≤◌, Bool, true, ◌==◌, List, get_or, length, take, sym, ap, ◌∙◌, arith}
+use Rattle.std.proofs.Common.{◌≡◌, inr, ℕ, ◌<◌, ◌≤◌, true, ◌==◌, List, get_or, length, take, sym, ap, ◌∙◌, arith}
 use Rattle.std.proofs.lemmas.List.{ext_get_or, get_or-take, length-take}
 use Rattle.disk_redo.proofs.Fronts.{front_stands}
 use Rattle.disk_redo.specs.Redo.{stands_for}

@@ -1,25 +1,25 @@
 -- Replicas are found, slot by slot.
-use Rattle.std.proofs.Common.{◌≡◌, ◌⊎◌, inl, inr, ℕ, ◌+◌, ◌<◌, ◌≤◌, Bool, true, false, not, ◌&&◌, nat_lt, ◌==◌, if◌then◌else◌, List, [], ◌∷◌, length, get_or, refl, sym, ap, ◌∙◌, subst, arith, Option, None, Some}
+use Rattle.std.proofs.Common.{◌≡◌, inl, inr, ℕ, ◌+◌, ◌<◌, Bool, true, false, not, ◌&&◌, nat_lt, ◌==◌, if◌then◌else◌, List, length, get_or, refl, sym, ap, ◌∙◌, arith, Option, None, Some}
 use Rattle.std.specs.BTreeMap.{is_at}
 use Rattle.std.specs.FinMap as map
 use Rattle.std.specs.List.{range_with_len}
 use Rattle.std.specs.Ordering.{nat_cmp}
 use Rattle.std.specs.Set.{remove_key}
-use Rattle.std.proofs.lemmas.Bool.{cases_Bool, cases_eq, cases_lt}
+use Rattle.std.proofs.lemmas.Bool.{cases_eq, cases_lt}
 use Rattle.std.proofs.lemmas.Bool.Decides.{nat_tests}
 use Rattle.disk.specs.Bytes.{range_at}
 use Rattle.disk_redo.proofs.Ranges.{get_range}
-use Rattle.replica_store.specs.Replicas.{Replica, ServerDisk, replica_of, row_of}
+use Rattle.replica_store.specs.Replicas.{ServerDisk}
 use Rattle.replica_store.specs.declared.row.Row.{Row}
 use Rattle.store_disk.specs.Index.{IndexState}
 use Rattle.store_disk.specs.declared.held.HeldReplica.{HeldReplica}
 use Rattle.store_disk.specs.Fields.{header_in, used_header_in}
 use Rattle.store_disk.specs.declared.header.SlotHeader.{SlotHeader}
 use Rattle.store_disk.specs.Places.{slot_place}
-use Rattle.store_disk.specs.Stored.{IsDiskOf, IsKnown, free_slots, is_used}
+use Rattle.store_disk.specs.Stored.{IsDiskOf, is_used}
 use Rattle.store_disk.proofs.Free.{filter_all, filter_same}
 use Rattle.store_disk.proofs.Lookups.{found_elsewhere, found_here}
-use Rattle.store_disk.proofs.Replicas.{its_replica, no_replica, used_by}
+use Rattle.store_disk.proofs.Replicas.{its_replica, used_by}
 use Rattle.chunk_store.proofs.Gone.{one_gone}
 use Rattle.chunk_store.specs.Finding.{KnowsFirst}
 

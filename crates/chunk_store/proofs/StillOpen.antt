@@ -21,10 +21,10 @@ use Rattle.store_disk.proofs.Looked.{first_free, no_row, one_row, order_of}
 use Rattle.store_disk.proofs.Counted.{full_known}
 use Rattle.store_disk.proofs.Listed.{row_found, row_known}
 use Rattle.store_disk.proofs.Replicas.{its_replica}
-use Rattle.chunk_store.specs.Stores.{IsOpen, LeavesChange}
-use Rattle.chunk_store.specs.declared.store.Store.{Store}
+use Rattle.chunk_store.specs.Volumes.{IsOpen, LeavesChange}
+use Rattle.chunk_store.specs.declared.volume.StoreVolume.{StoreVolume}
 
-module _ {D : Type 0} (seen : D → List ℕ) (may_leave : D → List ℕ → Type 0) (store : Store D) (d : ServerDisk) (is : IsOpen seen may_leave store d) where
+module _ {D : Type 0} (seen : D → List ℕ) (may_leave : D → List ℕ → Type 0) (store : StoreVolume D) (d : ServerDisk) (is : IsOpen seen may_leave store d) where
   abbrev stands : List ℕ
   stands = stands_for (area_of store.layout.chunk store.layout.block) (seen store.disk)
 
@@ -67,10 +67,6 @@ module _ {D : Type 0} (seen : D → List ℕ) (may_leave : D → List ℕ → Ty
   -- where a slot is free, want of room isn't answered
   pub room_there : {E : Type 0} (h slot : ℕ) → slice_get store.index.free 0 ≡ Some slot → (E → ⊥) → E ↔ (row_at d h ≡ None) × (is_disk_full store.layout.slots d ≡ true)
   room_there h slot first other = (λ e. absurd (other e), λ p. (let f : [] ≡ slot ∷ drop 1 store.index.free = sym (full_open.1 p.1) ∙ first_free store.index.free slot first in absurd cc))
-
-  -- the disk says one thing, with its order
-  pub says_open : (e : ServerDisk) → Says store.layout.chunk store.layout.block store.layout.slots store.index (seen store.disk) e → IsOpen seen may_leave store e
-  says_open e says = record { says = says; order = is.order ∙ sym is.says.order_is ∙ says.order_is; large = is.large; whole = is.whole; rest = is.rest }
 
   -- a change was made
   pub still_open : (disk : D) (index : IndexState) (order : OrderNo) (after : ServerDisk) → length (seen disk) ≡ length (seen store.disk) → order ≡ order_of after → IsAtRest seen may_leave (area_of store.layout.chunk store.layout.block) disk

@@ -9,8 +9,7 @@ use Rattle.store_disk.specs.Formats.{IsFormatting}
 use Rattle.store_disk.specs.Stored.{IsStored}
 use Rattle.chunk_store.specs.Opening.{HoldsReplicas, IsOpening}
 use Rattle.chunk_store.specs.Stops.{HoldsEither, ReopensEither}
-use Rattle.chunk_store.specs.Stores.{IsOpen}
-use Rattle.chunk_store.specs.declared.store.Store.{Store}
+use Rattle.chunk_store.specs.Stores.{IsOpen, StoreState}
 use Rattle.chunk_store.proofs.Kept.{formatted_holds}
 use Rattle.chunk_store.proofs.Moments.{closed_holds}
 use Rattle.chunk_store.proofs.OpenHeads.{holds_stored}
@@ -47,7 +46,7 @@ module _ {D : Type 0} (seen : D → List ℕ) (may_leave : D → List ℕ → Ty
       by c (inr (inl forming)) = subst (λ (e : ServerDisk). HoldsReplicas chunk block slots c e) (sym (closed_holds chunk block slots (seen old) d forming.0 holds)) (forming_holds chunk block slots c forming.1)
       by c (inr (inr so)) = holds_stored chunk block slots c d (so d holds)
 
-module _ {D : Type 0} (seen : D → List ℕ) (may_leave : D → List ℕ → Type 0) (store : Store D) (d : ServerDisk) (is : IsOpen seen may_leave store d) where
+module _ {D : Type 0} (seen : D → List ℕ) (may_leave : D → List ℕ → Type 0) (store : StoreState D) (d : ServerDisk) (is : IsOpen seen may_leave store d) where
   -- an open store's disk holds what it says
   pub held : HoldsReplicas store.layout.chunk store.layout.block store.layout.slots (seen store.disk) d
   held = holds_stored store.layout.chunk store.layout.block store.layout.slots (seen store.disk) d (store.index, is.says)

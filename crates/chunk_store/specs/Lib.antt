@@ -5,3 +5,4 @@ pub mod Opening
 pub mod Stores
 pub mod Stops
 pub mod Reopening
+pub mod Volumes

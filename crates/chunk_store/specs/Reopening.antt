@@ -4,8 +4,7 @@ use Rattle.disk_redo.specs.Redo.{stands_for}
 use Rattle.replica_store.specs.Replicas.{ServerDisk}
 use Rattle.store_changes.specs.Areas.{area_of}
 use Rattle.store_disk.specs.Stored.{IsStored}
-use Rattle.chunk_store.specs.Stores.{IsOpen}
-use Rattle.chunk_store.specs.declared.store.Store.{Store}
+use Rattle.chunk_store.specs.Stores.{IsOpen, StoreState}
 
 -- the disk's bytes say this
 abbrev pub IsSaid : ℕ → ℕ → ℕ → List ℕ → ServerDisk → Type 0
@@ -16,7 +15,7 @@ abbrev pub StillSays : ℕ → ℕ → ℕ → List ℕ → List ℕ → Type 0
 StillSays chunk block slots old new = (d : ServerDisk) → IsSaid chunk block slots old d → IsSaid chunk block slots new d
 
 -- The store is open on what one of the disks said that a stop might have left.
-pub record IsReopened {D : Type 0} (seen : D → List ℕ) (may_leave : D → List ℕ → Type 0) (left_by : List ℕ → Type 0) (store : Store D) : Type 0 where
+pub record IsReopened {D : Type 0} (seen : D → List ℕ) (may_leave : D → List ℕ → Type 0) (left_by : List ℕ → Type 0) (store : StoreState D) : Type 0 where
   pub bytes : List ℕ
   pub left : left_by bytes
   pub opens : (d : ServerDisk) → IsSaid store.layout.chunk store.layout.block store.layout.slots bytes d → IsOpen seen may_leave store d

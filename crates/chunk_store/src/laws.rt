@@ -9,8 +9,7 @@ ghost use Rattle.store_changes.specs.Writing.{IsNoticedAt, LeavesWritten};
 ghost use Rattle.store_disk.specs.Formats.{is_head_open};
 ghost use Rattle.chunk_store.specs.Opening.{HoldsReplicas, IsOpening};
 ghost use Rattle.chunk_store.specs.Stops.{ReopensEither};
-ghost use Rattle.chunk_store.specs.Stores.{IsOpen, LeavesChange};
-ghost use Rattle.chunk_store.specs.declared.store.Store.{Store as StoreState};
+ghost use Rattle.chunk_store.specs.Stores.{IsOpen, LeavesChange, StoreState};
 
 use disk::Disk;
 

@@ -19,6 +19,7 @@ mod reopening;
 mod rotting;
 mod slots_reading;
 mod store;
+mod volume;
 
 pub use fault::OpenFault;
 pub use store::Store;

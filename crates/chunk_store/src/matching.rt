@@ -1,6 +1,6 @@
 //! Blocks that are looked at.
 
-ghost use Rattle.std.specs.Prelude.{◌≡◌, ◌<◌, ◌≤◌, ◌+◌, ◌%◌, ◌↔◌, ℕ, length, slice_set, IfOk, IsTrue, Some};
+ghost use Rattle.std.specs.Prelude.{◌≡◌, ◌<◌, ◌≤◌, ◌+◌, ◌%◌, ◌↔◌, ℕ, length, slice_set, false, IfOk, IsTrue, None, Some};
 ghost use Rattle.disk.specs.Bytes.{range_at};
 ghost use Rattle.disk.specs.Device.{HasCause};
 ghost use Rattle.disk_redo.specs.GateMoments.{OnlyReads};
@@ -9,9 +9,9 @@ ghost use Rattle.store_disk.specs.Digests.{digests_of};
 ghost use Rattle.store_disk.specs.Places.{disk_size};
 ghost use Rattle.store_disk.specs.Stored.{Holds};
 ghost use Rattle.chunk_store.specs.Matching.{HasItsDigest};
-ghost use Rattle.chunk_store.specs.Stores.{IsOpen};
+ghost use Rattle.chunk_store.specs.Volumes.{IsOpen, IsReady};
 
-use crate::store::Store;
+use crate::volume::StoreVolume;
 use disk::{Disk, DiskFault};
 use disk_redo::step::read;
 use gfs_types::ids::Handle;
@@ -80,24 +80,24 @@ fn block_would_match<D: Disk>(
     Ok(has_digest(alloc, bytes, place % size, byte, &digest)?)
 }
 
-impl<D: Disk> Store<D> {
-    /// Whether the range from `offset` to before `end` of a replica can be written over: its first and last block match their digests, where a part of them is.
-    pub fn is_writable(
+impl<D: Disk> StoreVolume<D> {
+    pub(crate) fn is_writable(
         &mut self,
         alloc: Global,
         handle: Handle,
         offset: u64,
         end: u64,
     ) -> Result<bool, DiskFault>
-        requires is_open { (d : ServerDisk) × IsOpen D.seen D.may_leave self.old d }
+        requires ready { IsReady D.seen D.may_leave self.old }
         requires within { end ≤ self.old.layout.chunk }
         ensures value { (d : ServerDisk) → IsOpen D.seen D.may_leave self.old d → IfOk result (λ b. b ≡ is_writable_at d handle.0 offset end) }
         ensures still_open { (d : ServerDisk) → IsOpen D.seen D.may_leave self.old d → IsOpen D.seen D.may_leave self.new d }
         ensures unchanged { self.new ≡ record self.old { disk = self.new.disk } }
+        ensures ready { IsReady D.seen D.may_leave self.new }
         ensures reads { OnlyReads D.seen D.may_leave D.moment D.left_since self.old.disk self.new.disk }
         ensures cause { HasCause (D.failed self.old.disk) (D.failed self.new.disk) result }
     {
-        let Some(found) = self.index.get(handle) else {
+        let Some(found) = self.held_within(handle) else {
             return Ok(true);
         };
         if end <= offset {
@@ -116,24 +116,25 @@ impl<D: Disk> Store<D> {
         Ok(edges.is_some())
     }
 
-    /// Whether the block of a place of a replica would have its stored digest, were this byte there. Not so where there is no such replica. The simulator's alone.
-    pub fn would_match(
+    pub(crate) fn would_match(
         &mut self,
         alloc: Global,
         handle: Handle,
         place: u64,
         byte: u8,
     ) -> Result<bool, DiskFault>
-        requires is_open { (d : ServerDisk) × IsOpen D.seen D.may_leave self.old d }
+        requires ready { IsReady D.seen D.may_leave self.old }
         requires place { place < self.old.layout.chunk }
         ensures value { (d : ServerDisk) (r : Replica) → IsOpen D.seen D.may_leave self.old d → replica_of d handle.0 ≡ Some r
             → IfOk result (λ b. IsTrue b ↔ HasItsDigest self.old.layout.chunk d.block r place byte) }
+        ensures none { (d : ServerDisk) → IsOpen D.seen D.may_leave self.old d → replica_of d handle.0 ≡ None → IfOk result (λ b. b ≡ false) }
         ensures still_open { (d : ServerDisk) → IsOpen D.seen D.may_leave self.old d → IsOpen D.seen D.may_leave self.new d }
         ensures unchanged { self.new ≡ record self.old { disk = self.new.disk } }
+        ensures ready { IsReady D.seen D.may_leave self.new }
         ensures reads { OnlyReads D.seen D.may_leave D.moment D.left_since self.old.disk self.new.disk }
         ensures cause { HasCause (D.failed self.old.disk) (D.failed self.new.disk) result }
     {
-        let Some(found) = self.index.get(handle) else {
+        let Some(found) = self.held_within(handle) else {
             return Ok(false);
         };
         let layout = self.layout;

@@ -4,21 +4,21 @@ ghost use Rattle.std.specs.Prelude.{◌≡◌, ◌≢◌, ◌↔◌, IfOk, IsErr
 ghost use Rattle.disk_redo.specs.GateMoments.{OnlyReads};
 ghost use Rattle.replica_store.specs.declared.row.Row.{Row};
 ghost use Rattle.replica_store.specs.Replicas.{ServerDisk, read_at, row_at};
+ghost use Rattle.store_changes.specs.Changing.{Says};
 ghost use Rattle.store_changes.specs.Faults.{MayFail};
 ghost use Rattle.store_changes.specs.Images.{image_at};
-ghost use Rattle.chunk_store.specs.Stores.{IsOpen};
+ghost use Rattle.chunk_store.specs.Volumes.{IsOpen, IsReady};
 ghost use Rattle.store_changes.specs.declared.fault.StoreFault.TheVariants as faults;
 
-use crate::store::Store;
+use crate::volume::StoreVolume;
 use bytes::Bytes;
 use disk::Disk;
 use gfs_types::ids::{Handle, Version};
 use std::alloc::Global;
 use store_changes::{StoreFault, read_replica};
 
-impl<D: Disk> Store<D> {
-    /// The bytes of a replica of exactly this version from `offset` on, at most `count`; those past its end aren't there. Bytes of a block that doesn't match its digest are never answered.
-    pub fn read(
+impl<D: Disk> StoreVolume<D> {
+    pub(crate) fn read(
         &mut self,
         alloc: Global,
         handle: Handle,
@@ -26,8 +26,8 @@ impl<D: Disk> Store<D> {
         offset: u64,
         count: u64,
     ) -> Result<Bytes, StoreFault>
-        requires is_open { (d : ServerDisk) × IsOpen D.seen D.may_leave self.old d }
-        ensures ok { (d : ServerDisk) → IsOpen D.seen D.may_leave self.old d → IfOk result (λ bytes. Some bytes ≡ read_at d handle.0 offset count) }
+        requires ready { IsReady D.seen D.may_leave self.old }
+        ensures ok { (d : ServerDisk) → Says self.old.layout.chunk self.old.layout.block self.old.layout.slots self.old.index (D.seen self.old.disk) d → IfOk result (λ bytes. Some bytes ≡ read_at d handle.0 offset count) }
         ensures still_open { (d : ServerDisk) → IsOpen D.seen D.may_leave self.old d → IsOpen D.seen D.may_leave self.new d }
         ensures no_chunk { (d : ServerDisk) → IsOpen D.seen D.may_leave self.old d → (IsErrOf result faults.NoChunk ↔ row_at d handle.0 ≡ None) }
         ensures version { (d : ServerDisk) → IsOpen D.seen D.may_leave self.old d → (IsErrOf result faults.Version ↔ (row : Row) × (row_at d handle.0 ≡ Some row) × (row.version ≢ version)) }
@@ -35,6 +35,7 @@ impl<D: Disk> Store<D> {
         ensures no_room { IsErrOf result faults.NoRoom → ⊥ }
         ensures no_serial { IsErrOf result faults.OldSerial → ⊥ }
         ensures unchanged { self.new ≡ record self.old { disk = self.new.disk } }
+        ensures ready { IsReady D.seen D.may_leave self.new }
         ensures reads { OnlyReads D.seen D.may_leave D.moment D.left_since self.old.disk self.new.disk }
         ensures cause { MayFail (D.failed self.old.disk) (D.failed self.new.disk) result }
     {
@@ -57,15 +58,14 @@ impl<D: Disk> Store<D> {
         }
     }
 
-    /// All bytes of a replica of exactly this version. Nothing is answered where one of its blocks doesn't match its digest.
-    pub fn image(
+    pub(crate) fn image(
         &mut self,
         alloc: Global,
         handle: Handle,
         version: Version,
     ) -> Result<Bytes, StoreFault>
-        requires is_open { (d : ServerDisk) × IsOpen D.seen D.may_leave self.old d }
-        ensures ok { (d : ServerDisk) → IsOpen D.seen D.may_leave self.old d → IfOk result (λ bytes. Some bytes ≡ image_at d handle.0) }
+        requires ready { IsReady D.seen D.may_leave self.old }
+        ensures ok { (d : ServerDisk) → Says self.old.layout.chunk self.old.layout.block self.old.layout.slots self.old.index (D.seen self.old.disk) d → IfOk result (λ bytes. Some bytes ≡ image_at d handle.0) }
         ensures still_open { (d : ServerDisk) → IsOpen D.seen D.may_leave self.old d → IsOpen D.seen D.may_leave self.new d }
         ensures no_chunk { (d : ServerDisk) → IsOpen D.seen D.may_leave self.old d → (IsErrOf result faults.NoChunk ↔ row_at d handle.0 ≡ None) }
         ensures version { (d : ServerDisk) → IsOpen D.seen D.may_leave self.old d → (IsErrOf result faults.Version ↔ (row : Row) × (row_at d handle.0 ≡ Some row) × (row.version ≢ version)) }
@@ -73,6 +73,7 @@ impl<D: Disk> Store<D> {
         ensures no_room { IsErrOf result faults.NoRoom → ⊥ }
         ensures no_serial { IsErrOf result faults.OldSerial → ⊥ }
         ensures unchanged { self.new ≡ record self.old { disk = self.new.disk } }
+        ensures ready { IsReady D.seen D.may_leave self.new }
         ensures reads { OnlyReads D.seen D.may_leave D.moment D.left_since self.old.disk self.new.disk }
         ensures cause { MayFail (D.failed self.old.disk) (D.failed self.new.disk) result }
     {

@@ -6,12 +6,13 @@ ghost use Rattle.disk_redo.specs.Redo.{IsAtRest};
 ghost use Rattle.store_changes.specs.Areas.{area_of};
 ghost use Rattle.store_disk.specs.Places.{disk_size};
 ghost use Rattle.chunk_store.specs.Finding.{IsFoundAmong};
-ghost use Rattle.chunk_store.specs.Reopening.{IsReopened, StillSays};
+ghost use Rattle.chunk_store.specs.Reopening.{StillSays};
+ghost use Rattle.chunk_store.specs.Volumes.{IsReady, IsReopened};
 
 use crate::disk_opening::open_disk;
 use crate::fault::OpenFault;
 use crate::found::FoundReplicas;
-use crate::store::Store;
+use crate::volume::StoreVolume;
 use disk::StoppableDisk;
 use gfs_types::torn::Torn;
 use std::alloc::Global;
@@ -38,9 +39,8 @@ fn find<D: StoppableDisk>(
     }
 }
 
-impl<D: StoppableDisk> Store<D> {
-    /// Lets so many calls of the disk pass and fails each later one until it begins again, which then finds what was under way as `torn` says. Changes no byte.
-    pub fn stop_after(&mut self, calls: u64, torn: Torn)
+impl<D: StoppableDisk> StoreVolume<D> {
+    pub(crate) fn stop_after(&mut self, calls: u64, torn: Torn)
         ensures unchanged { self.new ≡ record self.old { disk = self.new.disk } }
         ensures seen { D.seen self.new.disk ≡ D.seen self.old.disk }
         ensures crash { NoMore (D.may_leave self.old.disk) (D.may_leave self.new.disk) }
@@ -48,8 +48,7 @@ impl<D: StoppableDisk> Store<D> {
         self.disk.stop_after(calls, torn);
     }
 
-    /// The same, once it has begun again. Of several the last one counts.
-    pub fn stop_after_restart(&mut self, calls: u64, torn: Torn)
+    pub(crate) fn stop_after_restart(&mut self, calls: u64, torn: Torn)
         ensures unchanged { self.new ≡ record self.old { disk = self.new.disk } }
         ensures seen { D.seen self.new.disk ≡ D.seen self.old.disk }
         ensures crash { NoMore (D.may_leave self.old.disk) (D.may_leave self.new.disk) }
@@ -57,10 +56,10 @@ impl<D: StoppableDisk> Store<D> {
         self.disk.stop_after_restart(calls, torn);
     }
 
-    /// Has the disk begin again, and opens the store that stands there: it says what one of the disks said that a stop might have left. After an error the store is not open, and its disk still says what it said.
-    pub fn reopen(&mut self, alloc: Global) -> Result<(), OpenFault>
+    pub(crate) fn reopen(&mut self, alloc: Global) -> Result<(), OpenFault>
         requires whole { self.old.layout.chunk % self.old.layout.block ≡ 0 }
         ensures reopened { OnOk result (IsReopened D.seen D.may_leave (D.may_leave self.old.disk) self.new) }
+        ensures ready { OnOk result (IsReady D.seen D.may_leave self.new) }
         ensures layout { self.new.layout ≡ self.old.layout }
         ensures stops { Follows (StillSays self.old.layout.chunk self.old.layout.block self.old.layout.slots) (D.may_leave self.old.disk) (D.may_leave self.new.disk) }
     {

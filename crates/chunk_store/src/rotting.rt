@@ -4,25 +4,24 @@ ghost use Rattle.std.specs.Prelude.{◌≡◌, ◌<◌, ◌↔◌, OnOk, IsErrOf
 ghost use Rattle.replica_store.specs.Replicas.{ServerDisk, row_at};
 ghost use Rattle.store_changes.specs.Rotting.{LeavesRotten, disk_rotten};
 ghost use Rattle.store_changes.specs.Faults.{IsRefused, MayFail};
-ghost use Rattle.chunk_store.specs.Stores.{IsOpen};
+ghost use Rattle.chunk_store.specs.Volumes.{IsOpen, IsReady};
 ghost use Rattle.store_changes.specs.declared.fault.StoreFault.TheVariants as faults;
 
-use crate::store::Store;
+use crate::volume::StoreVolume;
 use disk::Disk;
 use gfs_types::ids::Handle;
 use std::alloc::Global;
 use store_changes::{StoreFault, rot};
 
-impl<D: Disk> Store<D> {
-    /// A byte of a replica becomes another on the disk, past its digest, as a failing disk might do. The simulator's alone.
-    pub fn rot(
+impl<D: Disk> StoreVolume<D> {
+    pub(crate) fn rot(
         &mut self,
         alloc: Global,
         handle: Handle,
         place: u64,
         byte: u8,
     ) -> Result<(), StoreFault>
-        requires is_open { (d : ServerDisk) × IsOpen D.seen D.may_leave self.old d }
+        requires ready { IsReady D.seen D.may_leave self.old }
         requires place { place < self.old.layout.chunk }
         ensures ok { (d : ServerDisk) → IsOpen D.seen D.may_leave self.old d → OnOk result (IsOpen D.seen D.may_leave self.new (disk_rotten d handle.0 place byte)) }
         ensures no_chunk { (d : ServerDisk) → IsOpen D.seen D.may_leave self.old d → (IsErrOf result faults.NoChunk ↔ row_at d handle.0 ≡ None) }
@@ -30,9 +29,11 @@ impl<D: Disk> Store<D> {
         ensures refused { (d : ServerDisk) → IsOpen D.seen D.may_leave self.old d → IsRefused result → IsOpen D.seen D.may_leave self.new d }
         ensures any_moment { LeavesRotten D.seen D.moment D.left_since self.old.layout.chunk self.old.layout.block self.old.layout.slots self.old.disk self.new.disk self.old.index handle.0 place byte }
         ensures layout { self.new.layout ≡ self.old.layout }
+        ensures ready { OnOk result (IsReady D.seen D.may_leave self.new) }
+        ensures kept { IsRefused result → IsReady D.seen D.may_leave self.new }
         ensures cause { MayFail (D.failed self.old.disk) (D.failed self.new.disk) result }
     {
-        let Some(found) = self.index.get(handle) else {
+        let Some(found) = self.held_within(handle) else {
             return Err(StoreFault::NoChunk);
         };
         rot(

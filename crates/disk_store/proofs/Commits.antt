@@ -5,9 +5,8 @@ use Rattle.gfs_types.specs.declared.ids.OrderNo.{OrderNo}
 use Rattle.replica_store.specs.Replicas.{ServerDisk, disk_changed}
 use Rattle.replica_store.specs.declared.change.StoreChange.{StoreChange}
 use Rattle.store_disk.specs.declared.places.Layout.{Layout}
-use Rattle.chunk_store.specs.Stores.{IsOpen}
-use Rattle.chunk_store.specs.declared.store.Store.{Store}
-use Rattle.chunk_store.proofs.StillOpen.{read_open}
+use Rattle.chunk_store.specs.Stores.{IsOpen, StoreState}
+use Rattle.chunk_store.proofs.States.{looked_open}
 use Rattle.disk_store.specs.Known.{IsKnownOf, Rows, can_be_told}
 use Rattle.disk_store.specs.Noticed.{IsCareful}
 use Rattle.chunk_store.specs.Reopening.{IsSaid}
@@ -19,19 +18,19 @@ use Rattle.disk_store.proofs.Saying.{open_leaves}
 use Rattle.disk_store.proofs.Keeping.{after_change, all_noticed_kept, changing_kept, failed_leaves, read_kept, refused_kept}
 
 -- where the standing says so, the store is open
-pub open_as : {D : Type 0} (seen : D → List ℕ) (may_leave : D → List ℕ → Type 0) (store : Store D) (order : OrderNo) (rows : Rows) (d : ServerDisk) (standing : DiskStoreState) → IsKept seen may_leave store order rows d standing → standing ≡ Open → IsOpen seen may_leave store d
+pub open_as : {D : Type 0} (seen : D → List ℕ) (may_leave : D → List ℕ → Type 0) (store : StoreState D) (order : OrderNo) (rows : Rows) (d : ServerDisk) (standing : DiskStoreState) → IsKept seen may_leave store order rows d standing → standing ≡ Open → IsOpen seen may_leave store d
 open_as seen may_leave store order rows d standing kept is = (subst (IsKept seen may_leave store order rows d) is kept).stands
 
-module _ {D : Type 0} (seen : D → List ℕ) (may_leave : D → List ℕ → Type 0) (store : Store D) (order : OrderNo) (rows : Rows) (d : ServerDisk) (standing : DiskStoreState) (kept : IsKept seen may_leave store order rows d standing)
-    (mid : Store D) (unchanged : mid ≡ record store { disk = mid.disk }) (still : (e : ServerDisk) → IsOpen seen may_leave store e → IsOpen seen may_leave mid e) (is : standing ≡ Open) where
+module _ {D : Type 0} (seen : D → List ℕ) (may_leave : D → List ℕ → Type 0) (store : StoreState D) (order : OrderNo) (rows : Rows) (d : ServerDisk) (standing : DiskStoreState) (kept : IsKept seen may_leave store order rows d standing)
+    (mid : StoreState D) (unchanged : mid ≡ record store { disk = mid.disk }) (still : (e : ServerDisk) → IsOpen seen may_leave store e → IsOpen seen may_leave mid e) (is : standing ≡ Open) where
   pub mid_kept : IsKept seen may_leave mid order rows d Open
-  mid_kept = let open_kept = subst (IsKept seen may_leave store order rows d) is kept in read_kept seen may_leave store order rows d mid (ap (λ (s : Store D). s.layout) unchanged) (still d open_kept.stands) open_kept
+  mid_kept = let open_kept = subst (IsKept seen may_leave store order rows d) is kept in read_kept seen may_leave store order rows d mid (ap (λ (s : StoreState D). s.layout) unchanged) (still d open_kept.stands) open_kept
 
   -- the disk was read
   pub looked_kept : IsKept seen may_leave mid order rows d standing
   looked_kept = subst (IsKept seen may_leave mid order rows d) (sym is) mid_kept
 
-module _ {D : Type 0} (seen : D → List ℕ) (may_leave : D → List ℕ → Type 0) (store : Store D) (order : OrderNo) (rows : Rows) (d : ServerDisk) (standing : DiskStoreState) (kept : IsKept seen may_leave store order rows d standing) (is : standing ≡ Open) where
+module _ {D : Type 0} (seen : D → List ℕ) (may_leave : D → List ℕ → Type 0) (store : StoreState D) (order : OrderNo) (rows : Rows) (d : ServerDisk) (standing : DiskStoreState) (kept : IsKept seen may_leave store order rows d standing) (is : standing ≡ Open) where
   open_kept : IsKept seen may_leave store order rows d Open
   open_kept = subst (IsKept seen may_leave store order rows d) is kept
 
@@ -39,7 +38,7 @@ module _ {D : Type 0} (seen : D → List ℕ) (may_leave : D → List ℕ → Ty
   pub open_all_noticed : AllNoticed d
   open_all_noticed = all_noticed_kept seen may_leave store order rows d open_kept open_kept.stands
 
-  module _ (change : StoreChange) (new : Store D) (laid : new.layout ≡ store.layout) where
+  module _ (change : StoreChange) (new : StoreState D) (laid : new.layout ≡ store.layout) where
     -- it wasn't begun
     pub unbegun_after : IsOpen seen may_leave new d → IsKept seen may_leave new order rows d (Unread (Some change) None)
     unbegun_after still = refused_kept seen may_leave new order rows d Open change refl (read_kept seen may_leave store order rows d new laid still open_kept)
@@ -76,7 +75,7 @@ module _ {D : Type 0} (seen : D → List ℕ) (may_leave : D → List ℕ → Ty
             | inr says ↦ inr (careful, says)
           ]
           by (inr uncareful) c left =
-              let read = read_open seen may_leave store d open_kept.stands moment left_since new.disk (untouched uncareful) in
+              let read = looked_open seen may_leave store d open_kept.stands moment left_since new.disk (untouched uncareful) in
               elim (open_leaves seen may_leave (record store { disk = new.disk }) d read c left) [
                 | inl says ↦ inl says
                 | inr says ↦ inl says

@@ -6,8 +6,7 @@ use Rattle.replica_store.specs.Replicas.{ServerDisk, disk_changed, disk_changed_
 use Rattle.replica_store.specs.declared.change.StoreChange.{StoreChange}
 use Rattle.store_disk.specs.declared.places.Layout.{Layout}
 use Rattle.chunk_store.specs.Reopening.{StillSays}
-use Rattle.chunk_store.specs.Stores.{IsOpen}
-use Rattle.chunk_store.specs.declared.store.Store.{Store}
+use Rattle.chunk_store.specs.Stores.{IsOpen, StoreState}
 use Rattle.disk_store.specs.Known.{IsKnownOf, Rows, can_be_told, is_made}
 use Rattle.disk_store.specs.Noticed.{AreNoticed, IsCareful}
 use Rattle.disk_store.proofs.Changes.{changed_noticed}
@@ -17,7 +16,7 @@ use Rattle.disk_store.specs.declared.standing.DiskStoreState.{DiskStoreState}
 use Rattle.disk_store.specs.declared.standing.DiskStoreState.TheVariants.{Open, Unread, Changing}
 use Rattle.disk_store.proofs.Saying.{changed_block, open_leaves, open_noticed}
 
-module _ {D : Type 0} (seen : D → List ℕ) (may_leave : D → List ℕ → Type 0) (store : Store D) (order : OrderNo) (rows : Rows) (d : ServerDisk) where
+module _ {D : Type 0} (seen : D → List ℕ) (may_leave : D → List ℕ → Type 0) (store : StoreState D) (order : OrderNo) (rows : Rows) (d : ServerDisk) where
   abbrev Kept : DiskStoreState → Type 0
   Kept = IsKept seen may_leave store order rows d
 
@@ -54,7 +53,7 @@ module _ {D : Type 0} (seen : D → List ℕ) (may_leave : D → List ℕ → Ty
   refused_kept (Changing other) change none kept = absurd cc
 
   -- in a store of the same layout
-  pub in_layout : (one two : DiskStoreState) (new : Store D) → new.layout ≡ store.layout → Kept one → IsStandingTrue seen may_leave new rows d two → IsKept seen may_leave new order rows d two
+  pub in_layout : (one two : DiskStoreState) (new : StoreState D) → new.layout ≡ store.layout → Kept one → IsStandingTrue seen may_leave new rows d two → IsKept seen may_leave new order rows d two
   in_layout one two new same kept stands = record {
     block_is = kept.block_is ∙ sym (ap (λ (l : Layout). l.block) same);
     whole = ap (λ (l : Layout). l.chunk % l.block) same ∙ kept.whole;
@@ -64,17 +63,17 @@ module _ {D : Type 0} (seen : D → List ℕ) (may_leave : D → List ℕ → Ty
   }
 
   -- the disk was read
-  pub read_kept : (new : Store D) → new.layout ≡ store.layout → IsOpen seen may_leave new d → Kept Open → IsKept seen may_leave new order rows d Open
+  pub read_kept : (new : StoreState D) → new.layout ≡ store.layout → IsOpen seen may_leave new d → Kept Open → IsKept seen may_leave new order rows d Open
   read_kept new same is kept = in_layout Open Open new same kept is
 
   -- a change failed on its way
-  pub changing_kept : (new : Store D) (change : StoreChange) → new.layout ≡ store.layout → Kept Open → can_be_told store.layout.chunk rows change ≡ true → LeavesCareful may_leave (record store { disk = new.disk }) d change
+  pub changing_kept : (new : StoreState D) (change : StoreChange) → new.layout ≡ store.layout → Kept Open → can_be_told store.layout.chunk rows change ≡ true → LeavesCareful may_leave (record store { disk = new.disk }) d change
       → IsKept seen may_leave new order rows d (Changing change)
   changing_kept new change same kept told leaves = in_layout Open (Changing change) new same kept
-      (subst (λ (l : Layout). (can_be_told l.chunk rows change ≡ true) × LeavesCareful may_leave (record { disk = new.disk; layout = l; order = new.order; index = new.index; hashed = tt }) d change) (sym same) (told, leaves))
+      (subst (λ (l : Layout). (can_be_told l.chunk rows change ≡ true) × LeavesCareful may_leave (record { disk = new.disk; layout = l; order = new.order; index = new.index; is_open = new.is_open }) d change) (sym same) (told, leaves))
 
   -- a change was made, or found made
-  pub after_change : (new : Store D) (after : OrderNo) (found : Rows) (change : StoreChange) {standing : DiskStoreState} → new.layout ≡ store.layout → Kept standing → IsCareful store.layout.chunk d change → IsKnownOf after found (disk_changed d change)
+  pub after_change : (new : StoreState D) (after : OrderNo) (found : Rows) (change : StoreChange) {standing : DiskStoreState} → new.layout ≡ store.layout → Kept standing → IsCareful store.layout.chunk d change → IsKnownOf after found (disk_changed d change)
       → IsOpen seen may_leave new (disk_changed d change) → IsKept seen may_leave new after found (disk_changed d change) Open
   after_change new after found change same kept careful known is =
       let positive : 1 ≤ d.block = (let size = kept.block_is in omega (arith, size, store.layout.block_range)) in
@@ -93,14 +92,14 @@ module _ {D : Type 0} (seen : D → List ℕ) (may_leave : D → List ℕ → Ty
       open_noticed seen may_leave store d positive (ap (λ (n : ℕ). store.layout.chunk % n) kept.block_is ∙ kept.whole) is kept.noticed
 
   -- what a failed change leaves
-  pub failed_leaves : (moment : D → ℕ) (left_since : D → ℕ → List ℕ → Type 0) (counts_now : (disk : D) (t : ℕ) (c : List ℕ) → t ≤ moment disk → may_leave disk c → left_since disk t c) (new : Store D) (change : StoreChange)
+  pub failed_leaves : (moment : D → ℕ) (left_since : D → ℕ → List ℕ → Type 0) (counts_now : (disk : D) (t : ℕ) (c : List ℕ) → t ≤ moment disk → may_leave disk c → left_since disk t c) (new : StoreState D) (change : StoreChange)
       → Kept Open → LeavesMade seen may_leave moment left_since store new change → Leaves may_leave (record store { disk = new.disk }) d (disk_changed d change)
   failed_leaves moment left_since counts_now new change kept made c left =
       let stands = made d kept.stands (all_noticed_kept kept kept.stands) in
       stands.stop.each c (counts_now new.disk (moment store.disk) c stands.stop.later left)
 
   -- the disk began again and was read, whatever came of it
-  pub reopened_as : (standing : DiskStoreState) (new : Store D) → new.layout ≡ store.layout → (standing ≡ Open → ⊥) → Follows (StillSays store.layout.chunk store.layout.block store.layout.slots) (may_leave store.disk) (may_leave new.disk) → Kept standing
+  pub reopened_as : (standing : DiskStoreState) (new : StoreState D) → new.layout ≡ store.layout → (standing ≡ Open → ⊥) → Follows (StillSays store.layout.chunk store.layout.block store.layout.slots) (may_leave store.disk) (may_leave new.disk) → Kept standing
       → IsKept seen may_leave new order rows d standing
   reopened_as Open new same other stops kept = absurd (other refl)
   reopened_as (Unread change byte) new same other stops kept =
@@ -108,12 +107,12 @@ module _ {D : Type 0} (seen : D → List ℕ) (may_leave : D → List ℕ → Ty
         kept.stands.0,
         subst (λ (l : Layout). IsRotWithin l.chunk byte) (sym same) kept.stands.1,
         kept.stands.2,
-        subst (λ (l : Layout). Leaves may_leave (record { disk = new.disk; layout = l; order = new.order; index = new.index; hashed = tt }) kept.stands.0 d) (sym same) (still_leaves new.disk stops kept.stands.0 d kept.stands.3),
+        subst (λ (l : Layout). Leaves may_leave (record { disk = new.disk; layout = l; order = new.order; index = new.index; is_open = new.is_open }) kept.stands.0 d) (sym same) (still_leaves new.disk stops kept.stands.0 d kept.stands.3),
       )
   reopened_as (Changing change) new same other stops kept =
       in_layout (Changing change) (Changing change) new same kept (
         subst (λ (l : Layout). can_be_told l.chunk rows change ≡ true) (sym same) kept.stands.0,
-        subst (λ (l : Layout). LeavesCareful may_leave (record { disk = new.disk; layout = l; order = new.order; index = new.index; hashed = tt }) d change) (sym same) (still_careful new.disk stops change kept.stands.1),
+        subst (λ (l : Layout). LeavesCareful may_leave (record { disk = new.disk; layout = l; order = new.order; index = new.index; is_open = new.is_open }) d change) (sym same) (still_careful new.disk stops change kept.stands.1),
       )
 
 -- what is under way in another standing
@@ -134,7 +133,7 @@ closed_not_open (Unread change byte) e = cc
 closed_not_open (Changing change) e = cc
 
 -- of the same disk, in the same standing
-pub as_said : {D : Type 0} (seen : D → List ℕ) (may_leave : D → List ℕ → Type 0) (store : Store D) (order : OrderNo) (rows : Rows) (d e : ServerDisk) (one two : DiskStoreState) → e ≡ d → two ≡ one → IsKept seen may_leave store order rows d one → IsKept seen may_leave store order rows e two
+pub as_said : {D : Type 0} (seen : D → List ℕ) (may_leave : D → List ℕ → Type 0) (store : StoreState D) (order : OrderNo) (rows : Rows) (d e : ServerDisk) (one two : DiskStoreState) → e ≡ d → two ≡ one → IsKept seen may_leave store order rows d one → IsKept seen may_leave store order rows e two
 as_said seen may_leave store order rows d e one two said standing kept =
     subst (λ (s : DiskStoreState). IsKept seen may_leave store order rows e s) (sym standing) (subst (λ (x : ServerDisk). IsKept seen may_leave store order rows x one) (sym said) kept)
 

@@ -9,9 +9,8 @@ use Rattle.replica_store.specs.Replicas.{Replica, ServerDisk, new_server_disk, r
 use Rattle.store_changes.specs.Areas.{area_of}
 use Rattle.store_changes.specs.Changing.{Says}
 use Rattle.store_disk.specs.declared.places.Layout.{Layout}
-use Rattle.chunk_store.specs.Stores.{IsOpen}
-use Rattle.chunk_store.specs.declared.store.Store.{Store}
-use Rattle.chunk_store.proofs.StillOpen.{still_open}
+use Rattle.chunk_store.specs.Stores.{IsOpen, StoreState}
+use Rattle.chunk_store.proofs.States.{still_open}
 use Rattle.disk_store.specs.Known.{IsKnownOf, Rows}
 use Rattle.disk_store.specs.Noticed.{AreNoticed}
 use Rattle.disk_store.specs.Standing.{IsKept, Leaves}
@@ -19,7 +18,7 @@ use Rattle.disk_store.specs.declared.standing.DiskStoreState.{DiskStoreState}
 use Rattle.disk_store.specs.declared.standing.DiskStoreState.TheVariants.{Open, Unread, Changing}
 use Rattle.disk_store.proofs.Keeping.{in_layout}
 
-module _ {D : Type 0} (seen : D → List ℕ) (may_leave : D → List ℕ → Type 0) (store : Store D) (order : OrderNo) (rows : Rows) (d : ServerDisk) (disk : D) (same : seen disk ≡ seen store.disk) (less : NoMore (may_leave store.disk) (may_leave disk)) where
+module _ {D : Type 0} (seen : D → List ℕ) (may_leave : D → List ℕ → Type 0) (store : StoreState D) (order : OrderNo) (rows : Rows) (d : ServerDisk) (disk : D) (same : seen disk ≡ seen store.disk) (less : NoMore (may_leave store.disk) (may_leave disk)) where
   quiet_leaves : (e f : ServerDisk) → Leaves may_leave store e f → Leaves may_leave (record store { disk = disk }) e f
   quiet_leaves e f leaves c left = leaves c (less c left)
 
@@ -49,7 +48,7 @@ new_noticed chunk block = record {
 }
 
 -- a new store
-pub new_kept : {D : Type 0} (seen : D → List ℕ) (may_leave : D → List ℕ → Type 0) (store : Store D) (order : OrderNo) (rows : Rows) (d : ServerDisk) (layout : Layout) → store.layout ≡ layout → layout.chunk % layout.block ≡ 0 → d ≡ new_server_disk layout.block
+pub new_kept : {D : Type 0} (seen : D → List ℕ) (may_leave : D → List ℕ → Type 0) (store : StoreState D) (order : OrderNo) (rows : Rows) (d : ServerDisk) (layout : Layout) → store.layout ≡ layout → layout.chunk % layout.block ≡ 0 → d ≡ new_server_disk layout.block
     → IsKnownOf order rows (new_server_disk layout.block) → IsOpen seen may_leave store (new_server_disk layout.block) → IsKept seen may_leave store order rows d Open
 new_kept seen may_leave store order rows d layout laid whole new known is =
     subst (λ (x : ServerDisk). IsKept seen may_leave store order rows x Open) (sym new) (record {

@@ -5,8 +5,7 @@ use Rattle.gfs_types.specs.declared.ids.OrderNo.{OrderNo}
 use Rattle.replica_store.specs.Replicas.{ServerDisk}
 use Rattle.replica_store.specs.declared.change.StoreChange.{StoreChange}
 use Rattle.chunk_store.specs.Reopening.{IsReopened, StillSays}
-use Rattle.chunk_store.specs.Stores.{IsOpen}
-use Rattle.chunk_store.specs.declared.store.Store.{Store}
+use Rattle.chunk_store.specs.Stores.{IsOpen, StoreState}
 use Rattle.disk_store.specs.Known.{IsKnownOf, Rows, is_made}
 use Rattle.disk_store.specs.Standing.{IsKept, IsRotWithin, Leaves, found_made, rotten_by, rotting_in, with_made}
 use Rattle.disk_store.specs.declared.standing.RottingByte.{RottingByte}
@@ -16,7 +15,7 @@ use Rattle.store_disk.specs.declared.places.Layout.{Layout}
 use Rattle.disk_store.proofs.Keeping.{reopened_as}
 use Rattle.disk_store.proofs.Settling.{IsOneOf, found_one, rot_within, settled_unread, settled_with, settled_without, unrotten_kept}
 
-module _ {D : Type 0} (seen : D → List ℕ) (may_leave : D → List ℕ → Type 0) (store : Store D) (order : OrderNo) (rows : Rows) (d : ServerDisk) (standing : DiskStoreState) (kept : IsKept seen may_leave store order rows d standing) (mid : Store D) (laid : mid.layout ≡ store.layout) where
+module _ {D : Type 0} (seen : D → List ℕ) (may_leave : D → List ℕ → Type 0) (store : StoreState D) (order : OrderNo) (rows : Rows) (d : ServerDisk) (standing : DiskStoreState) (kept : IsKept seen may_leave store order rows d standing) (mid : StoreState D) (laid : mid.layout ≡ store.layout) where
   -- the byte that is to rot lies in the chunk
   pub its_within : (rotting : Option RottingByte) → rotting ≡ rotting_in standing → IsRotWithin mid.layout.chunk rotting
   its_within rotting at = subst (IsRotWithin mid.layout.chunk) (sym at) (subst (λ (l : Layout). IsRotWithin l.chunk (rotting_in standing)) (sym laid) (rot_within seen may_leave store order rows d standing kept))
@@ -33,7 +32,7 @@ module _ {D : Type 0} (seen : D → List ℕ) (may_leave : D → List ℕ → Ty
       pub opened : (x : ServerDisk) × IsOpen seen may_leave mid x
       opened = (one.0, one.1)
 
-      module _ (new : Store D) (rotting : Option RottingByte) (at : rotting ≡ rotting_in standing) (rotted : new.layout ≡ mid.layout) where
+      module _ (new : StoreState D) (rotting : Option RottingByte) (at : rotting ≡ rotting_in standing) (rotted : new.layout ≡ mid.layout) where
         same : new.layout ≡ store.layout
         same = rotted ∙ laid
 

@@ -6,8 +6,7 @@ use Rattle.replica_store.specs.Replicas.{Replica, ServerDisk, disk_changed, repl
 use Rattle.replica_store.specs.declared.change.StoreChange.{StoreChange}
 use Rattle.replica_store.specs.declared.change.StoreChange.TheVariants.{SetOrder, Put, Write, Zero, Raise, Copy, Remove}
 use Rattle.store_changes.specs.Areas.{area_of}
-use Rattle.chunk_store.specs.Stores.{IsOpen}
-use Rattle.chunk_store.specs.declared.store.Store.{Store}
+use Rattle.chunk_store.specs.Stores.{IsOpen, StoreState}
 use Rattle.disk_store.specs.Noticed.{AreNoticed}
 use Rattle.disk_store.proofs.NoticedBlocks.{all_noticed}
 use Rattle.chunk_store.specs.Reopening.{IsSaid}
@@ -36,7 +35,7 @@ changed_block d (Raise handle version) = becomes_block _ d handle.0 (replica_of 
 changed_block d (Copy handle copy version) = becomes_block _ d copy.0 (replica_of d handle.0)
 changed_block d (Remove handle) = refl
 
-module _ {D : Type 0} (seen : D → List ℕ) (may_leave : D → List ℕ → Type 0) (store : Store D) where
+module _ {D : Type 0} (seen : D → List ℕ) (may_leave : D → List ℕ → Type 0) (store : StoreState D) where
   -- a stop leaves what an open store says
   pub open_leaves : (d : ServerDisk) → IsOpen seen may_leave store d → Leaves may_leave store d d
   open_leaves d is c left =

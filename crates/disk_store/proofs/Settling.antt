@@ -6,8 +6,7 @@ use Rattle.replica_store.specs.declared.change.StoreChange.{StoreChange}
 use Rattle.server_store.specs.Stores.{disk_rotten}
 use Rattle.store_disk.specs.declared.places.Layout.{Layout}
 use Rattle.chunk_store.specs.Reopening.{IsReopened, IsSaid}
-use Rattle.chunk_store.specs.Stores.{IsOpen}
-use Rattle.chunk_store.specs.declared.store.Store.{Store}
+use Rattle.chunk_store.specs.Stores.{IsOpen, StoreState}
 use Rattle.disk_store.specs.Known.{IsKnownOf, Rows, can_be_told, is_made}
 use Rattle.disk_store.proofs.KnownRotten.{rotten_known}
 use Rattle.disk_store.proofs.Told.{is_made_after, not_made}
@@ -34,7 +33,7 @@ by_known : (order : OrderNo) (rows : Rows) (x : ServerDisk) (byte : Option Rotti
 by_known order rows x None known = known
 by_known order rows x (Some b) known = rotten_known x b.handle.0 b.place b.byte order rows known
 
-module _ {D : Type 0} (seen : D → List ℕ) (may_leave : D → List ℕ → Type 0) (store : Store D) (order : OrderNo) (rows : Rows) (d : ServerDisk) where
+module _ {D : Type 0} (seen : D → List ℕ) (may_leave : D → List ℕ → Type 0) (store : StoreState D) (order : OrderNo) (rows : Rows) (d : ServerDisk) where
   abbrev chunk : ℕ
   chunk = store.layout.chunk
 
@@ -43,7 +42,7 @@ module _ {D : Type 0} (seen : D → List ℕ) (may_leave : D → List ℕ → Ty
   rot_within (Unread change byte) kept = kept.stands.1
   rot_within (Changing change) kept = tt
 
-  module _ (mid : Store D) (same : mid.layout ≡ store.layout) (among : IsReopened seen may_leave (may_leave store.disk) mid) where
+  module _ (mid : StoreState D) (same : mid.layout ≡ store.layout) (among : IsReopened seen may_leave (may_leave store.disk) mid) where
     opens : (e : ServerDisk) → IsSaid store.layout.chunk store.layout.block store.layout.slots among.bytes e → IsOpen seen may_leave mid e
     opens e says = among.opens e (subst (λ (l : Layout). IsSaid l.chunk l.block l.slots among.bytes e) (sym same) says)
 
@@ -62,7 +61,7 @@ module _ {D : Type 0} (seen : D → List ℕ) (may_leave : D → List ℕ → Ty
     ]
 
   -- the byte that was to rot didn't
-  pub unrotten_kept : (standing : DiskStoreState) (new : Store D) (x : ServerDisk) → new.layout ≡ store.layout → IsOneOf store.layout.chunk d standing x → Leaves may_leave new x (rotten_by x (rotting_in standing)) → IsKept seen may_leave store order rows d standing
+  pub unrotten_kept : (standing : DiskStoreState) (new : StoreState D) (x : ServerDisk) → new.layout ≡ store.layout → IsOneOf store.layout.chunk d standing x → Leaves may_leave new x (rotten_by x (rotting_in standing)) → IsKept seen may_leave store order rows d standing
       → IsKept seen may_leave new order rows d standing
   unrotten_kept Open new x same one leaves kept = absurd one
   unrotten_kept (Unread change byte) new x same one leaves kept =
@@ -90,7 +89,7 @@ module _ {D : Type 0} (seen : D → List ℕ) (may_leave : D → List ℕ → Ty
             | inr says ↦ inr (careful, subst (IsSaid new.layout.chunk new.layout.block new.layout.slots c) is.1 says)
           ]
 
-  module _ (new : Store D) (last : OrderNo) (got : Rows) (x : ServerDisk) (same : new.layout ≡ store.layout) (known : IsKnownOf last got x) where
+  module _ (new : StoreState D) (last : OrderNo) (got : Rows) (x : ServerDisk) (same : new.layout ≡ store.layout) (known : IsKnownOf last got x) where
     open_as : (standing : DiskStoreState) (e : ServerDisk) → IsKept seen may_leave store order rows d standing → IsKnownOf last got d → IsOpen seen may_leave new d → IsKept seen may_leave new last got d Open
     open_as standing e kept is now = record {
       block_is = kept.block_is ∙ sym (ap (λ (l : Layout). l.block) same);

@@ -14,8 +14,7 @@ use Rattle.chunk_store.specs.Matching.{HasItsDigest}
 use Rattle.chunk_store.specs.Reopening.{IsSaid}
 use Rattle.store_changes.specs.Writing.{IsNoticedAt}
 use Rattle.store_disk.specs.Stored.{IsStored}
-use Rattle.chunk_store.specs.Stores.{IsOpen}
-use Rattle.chunk_store.specs.declared.store.Store.{Store}
+use Rattle.chunk_store.specs.Stores.{IsOpen, StoreState}
 use Rattle.disk_store.specs.Known.{IsKnownOf, Rows, can_be_told, is_made}
 use Rattle.disk_store.specs.Noticed.{AreNoticed, IsCareful}
 use Rattle.disk_store.specs.declared.standing.RottingByte.{RottingByte}
@@ -51,13 +50,13 @@ writes (Copy handle copy version) = false
 writes (Remove handle) = false
 
 -- a stop leaves a disk that says one of these
-abbrev pub Leaves : {D : Type 0} → (D → List ℕ → Type 0) → Store D → ServerDisk → ServerDisk → Type 0
+abbrev pub Leaves : {D : Type 0} → (D → List ℕ → Type 0) → StoreState D → ServerDisk → ServerDisk → Type 0
 Leaves may_leave store d e =
     (c : List ℕ) → may_leave store.disk c
     → IsSaid store.layout.chunk store.layout.block store.layout.slots c d ⊎ IsSaid store.layout.chunk store.layout.block store.layout.slots c e
 
 -- A stop leaves a disk that says d, or that says it with the change made, which then is careful.
-abbrev pub LeavesCareful : {D : Type 0} → (D → List ℕ → Type 0) → Store D → ServerDisk → StoreChange → Type 0
+abbrev pub LeavesCareful : {D : Type 0} → (D → List ℕ → Type 0) → StoreState D → ServerDisk → StoreChange → Type 0
 LeavesCareful may_leave store d change =
     (c : List ℕ) → may_leave store.disk c
     → IsSaid store.layout.chunk store.layout.block store.layout.slots c d
@@ -98,13 +97,13 @@ with_made d None = d
 with_made d (Some change) = disk_changed d change
 
 -- An open store says d. Of another one a stop leaves d, with the change under way or without it, or before the byte was rotten.
-abbrev pub IsStandingTrue : {D : Type 0} → (D → List ℕ) → (D → List ℕ → Type 0) → Store D → Rows → ServerDisk → DiskStoreState → Type 0
+abbrev pub IsStandingTrue : {D : Type 0} → (D → List ℕ) → (D → List ℕ → Type 0) → StoreState D → Rows → ServerDisk → DiskStoreState → Type 0
 IsStandingTrue seen may_leave store rows d Open = IsOpen seen may_leave store d
 IsStandingTrue seen may_leave store rows d (Unread change byte) = (e : ServerDisk) × IsRotWithin store.layout.chunk byte × (rotten_by e byte ≡ d) × Leaves may_leave store e d
 IsStandingTrue seen may_leave store rows d (Changing change) = (can_be_told store.layout.chunk rows change ≡ true) × LeavesCareful may_leave store d change
 
 -- What is kept in memory is of the disk.
-pub record IsKept {D : Type 0} (seen : D → List ℕ) (may_leave : D → List ℕ → Type 0) (store : Store D) (order : OrderNo) (rows : Rows) (d : ServerDisk) (standing : DiskStoreState) : Type 0 where
+pub record IsKept {D : Type 0} (seen : D → List ℕ) (may_leave : D → List ℕ → Type 0) (store : StoreState D) (order : OrderNo) (rows : Rows) (d : ServerDisk) (standing : DiskStoreState) : Type 0 where
   pub block_is : d.block ≡ store.layout.block
   pub whole : store.layout.chunk % store.layout.block ≡ 0
   pub known : IsKnownOf order rows d
@@ -116,7 +115,7 @@ abbrev pub AllNoticed : ServerDisk → Type 0
 AllNoticed d = (handle : ℕ) → IsNoticedAt d handle
 
 -- What is read, and what a stop at any moment leaves, says what the disk said before the change or after it.
-abbrev pub LeavesMade : {D : Type 0} → (D → List ℕ) → (D → List ℕ → Type 0) → (D → ℕ) → (D → ℕ → List ℕ → Type 0) → Store D → Store D → StoreChange → Type 0
+abbrev pub LeavesMade : {D : Type 0} → (D → List ℕ) → (D → List ℕ → Type 0) → (D → ℕ) → (D → ℕ → List ℕ → Type 0) → StoreState D → StoreState D → StoreChange → Type 0
 LeavesMade seen may_leave moment left_since old new change =
     (d : ServerDisk) → IsOpen seen may_leave old d → AllNoticed d
     → StandsOnly seen moment left_since (area_of old.layout.chunk old.layout.block) old.disk new.disk

@@ -25,7 +25,7 @@ pub fn is_writable<D: Disk>(
     offset: u64,
     end: u64,
 ) -> Result<bool, ReplicaStoreFault>
-    requires is_open { (d : ServerDisk) × IsOpen D.seen D.may_leave store.old d }
+    requires is_open { store.old.is_open ≡ true }
     ensures value { (d : ServerDisk) → IsOpen D.seen D.may_leave store.old d → IfOk result (λ b. b ≡ is_writable_at d handle.0 offset end) }
     ensures still_open { (d : ServerDisk) → IsOpen D.seen D.may_leave store.old d → IsOpen D.seen D.may_leave store.new d }
     ensures unchanged { store.new ≡ record store.old { disk = store.new.disk } }
@@ -57,7 +57,7 @@ pub fn is_copyable<D: Disk>(
     handle: Handle,
     version: Version,
 ) -> Result<bool, ReplicaStoreFault>
-    requires is_open { (d : ServerDisk) × IsOpen D.seen D.may_leave store.old d }
+    requires is_open { store.old.is_open ≡ true }
     ensures value { (d : ServerDisk) → IsOpen D.seen D.may_leave store.old d → IfOk result (λ b. b ≡ is_copyable_at d handle.0) }
     ensures still_open { (d : ServerDisk) → IsOpen D.seen D.may_leave store.old d → IsOpen D.seen D.may_leave store.new d }
     ensures unchanged { store.new ≡ record store.old { disk = store.new.disk } }
@@ -84,7 +84,7 @@ pub fn read<D: Disk>(
     offset: u64,
     count: u64,
 ) -> Result<Option<Bytes>, ReplicaStoreFault>
-    requires is_open { (d : ServerDisk) × IsOpen D.seen D.may_leave store.old d }
+    requires is_open { store.old.is_open ≡ true }
     ensures value { (d : ServerDisk) → IsOpen D.seen D.may_leave store.old d → IfOk result (λ o. o ≡ read_at d handle.0 offset count) }
     ensures still_open { (d : ServerDisk) → IsOpen D.seen D.may_leave store.old d → IsOpen D.seen D.may_leave store.new d }
     ensures unchanged { store.new ≡ record store.old { disk = store.new.disk } }

@@ -55,7 +55,7 @@ pub(crate) fn make<D: Disk>(
     known: &Known,
     change: &StoreChange,
 ) -> Result<(), MakeFault>
-    requires is_open { (d : ServerDisk) × IsOpen D.seen D.may_leave store.old d }
+    requires is_open { store.old.is_open ≡ true }
     requires told { can_be_told store.old.layout.chunk known.now.rows change.now ≡ true }
     ensures ok { (d : ServerDisk) → IsOpen D.seen D.may_leave store.old d → AllNoticed d → OnOk result (IsOpen D.seen D.may_leave store.new (disk_changed d change.now)) }
     ensures careful { (d : ServerDisk) → IsOpen D.seen D.may_leave store.old d → OnOk result (IsCareful store.old.layout.chunk d change.now) }
@@ -108,7 +108,7 @@ fn write<D: Disk>(
     offset: u64,
     bytes: &Bytes,
 ) -> Result<(), MakeFault>
-    requires is_open { (d : ServerDisk) × IsOpen D.seen D.may_leave store.old d }
+    requires is_open { store.old.is_open ≡ true }
     requires within { offset + length bytes.now ≤ store.old.layout.chunk }
     ensures ok { (d : ServerDisk) → IsOpen D.seen D.may_leave store.old d → AllNoticed d → OnOk result (IsOpen D.seen D.may_leave store.new (disk_changed d (Write handle serial offset bytes.now))) }
     ensures writable { (d : ServerDisk) → IsOpen D.seen D.may_leave store.old d → OnOk result (is_writable_at d handle.0 offset (offset + length bytes.now) ≡ true) }
@@ -138,7 +138,7 @@ fn zero<D: Disk>(
     offset: u64,
     count: u64,
 ) -> Result<(), MakeFault>
-    requires is_open { (d : ServerDisk) × IsOpen D.seen D.may_leave store.old d }
+    requires is_open { store.old.is_open ≡ true }
     requires within { offset + count ≤ store.old.layout.chunk }
     ensures ok { (d : ServerDisk) → IsOpen D.seen D.may_leave store.old d → AllNoticed d → OnOk result (IsOpen D.seen D.may_leave store.new (disk_changed d (Zero handle serial offset count))) }
     ensures writable { (d : ServerDisk) → IsOpen D.seen D.may_leave store.old d → OnOk result (is_writable_at d handle.0 offset (offset + count) ≡ true) }
@@ -166,7 +166,7 @@ fn raise<D: Disk>(
     handle: Handle,
     version: Version,
 ) -> Result<(), MakeFault>
-    requires is_open { (d : ServerDisk) × IsOpen D.seen D.may_leave store.old d }
+    requires is_open { store.old.is_open ≡ true }
     ensures ok { (d : ServerDisk) → IsOpen D.seen D.may_leave store.old d → AllNoticed d → OnOk result (IsOpen D.seen D.may_leave store.new (disk_changed d (Raise handle version))) }
     ensures any_moment { LeavesMade D.seen D.may_leave D.moment D.left_since store.old store.new (Raise handle version) }
     ensures layout { store.new.layout ≡ store.old.layout }
@@ -188,7 +188,7 @@ fn copy<D: Disk>(
     other: Handle,
     version: Version,
 ) -> Result<(), MakeFault>
-    requires is_open { (d : ServerDisk) × IsOpen D.seen D.may_leave store.old d }
+    requires is_open { store.old.is_open ≡ true }
     ensures ok { (d : ServerDisk) → IsOpen D.seen D.may_leave store.old d → AllNoticed d → OnOk result (IsOpen D.seen D.may_leave store.new (disk_changed d (Copy handle other version))) }
     ensures any_moment { LeavesMade D.seen D.may_leave D.moment D.left_since store.old store.new (Copy handle other version) }
     ensures layout { store.new.layout ≡ store.old.layout }

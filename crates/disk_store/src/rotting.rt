@@ -28,7 +28,7 @@ fn would_match<D: Disk>(
     place: u64,
     byte: u8,
 ) -> Result<bool, ReplicaStoreFault>
-    requires is_open { (d : ServerDisk) × IsOpen D.seen D.may_leave store.old d }
+    requires is_open { store.old.is_open ≡ true }
     requires place { place < store.old.layout.chunk }
     ensures value { (d : ServerDisk) (r : Replica) → IsOpen D.seen D.may_leave store.old d → replica_of d handle.0 ≡ Some r
         → IfOk result (λ b. IsTrue b ↔ HasItsDigest store.old.layout.chunk d.block r place byte) }
@@ -92,7 +92,7 @@ pub(crate) fn rots<D: Disk>(
     store: &mut Store<D>,
     rotting: Option<RottingByte>,
 ) -> Result<(), ReplicaStoreFault>
-    requires is_open { (d : ServerDisk) × IsOpen D.seen D.may_leave store.old d }
+    requires is_open { store.old.is_open ≡ true }
     requires place { IsRotWithin store.old.layout.chunk rotting }
     ensures ok { (d : ServerDisk) → IsOpen D.seen D.may_leave store.old d → OnOk result (IsOpen D.seen D.may_leave store.new (rotten_by d rotting)) }
     ensures any_moment { (d : ServerDisk) → IsOpen D.seen D.may_leave store.old d → OnErr result (Leaves D.may_leave store.new d (rotten_by d rotting)) }

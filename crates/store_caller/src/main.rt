@@ -1,7 +1,7 @@
 //! Stores a replica on a disk in memory, stops the disk, and prints how many of its bytes a store on what is left reads.
 #![tactic(auto)]
 
-ghost use Rattle.std.specs.Prelude.{◌≡◌, ◌≤◌, ◌%◌, List, ℕ, false, length, IfOk, Some};
+ghost use Rattle.std.specs.Prelude.{◌≡◌, ◌≤◌, ◌%◌, List, ℕ, false, true, length, IfOk, Some};
 ghost use Rattle.chunk_store.specs.Opening.{HoldsReplicas};
 ghost use Rattle.chunk_store.specs.Stores.{IsOpen};
 ghost use Rattle.replica_store.specs.Replicas.{ServerDisk, read_at};
@@ -25,6 +25,7 @@ const SIZE: usize = 960;
 fn open<D: Disk + Drop>(disk: D, alloc: Global, layout: Layout) -> Result<Store<D>>
     requires { layout.chunk % layout.block ≡ 0 }
     ensures open { IfOk result (λ store. (d : ServerDisk) → HoldsReplicas layout.chunk layout.block layout.slots (D.seen disk) d → IsOpen D.seen D.may_leave store d) }
+    ensures is_open { IfOk result (λ store. store.is_open ≡ true) }
     ensures layout { IfOk result (λ store. store.layout ≡ layout) }
 {
     match Store::open(disk, alloc, layout) {
@@ -48,8 +49,7 @@ fn put_one<D: Disk + Drop>(disk: D, alloc: Global, layout: Layout, bytes: &[u8])
 
 /// The bytes of that replica, of a disk that holds it.
 fn read_one<D: Disk + Drop>(disk: D, alloc: Global, layout: Layout) -> Result<Bytes>
-    requires whole { layout.chunk % layout.block ≡ 0 }
-    requires held { (d : ServerDisk) × HoldsReplicas layout.chunk layout.block layout.slots (D.seen disk) d }
+    requires { layout.chunk % layout.block ≡ 0 }
     ensures { (d : ServerDisk) → HoldsReplicas layout.chunk layout.block layout.slots (D.seen disk) d → IfOk result (λ bytes. Some bytes ≡ read_at d 5 0 layout.chunk) }
 {
     let mut store = open(disk, alloc, layout)?;

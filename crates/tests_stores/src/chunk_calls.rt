@@ -55,7 +55,7 @@ pub(crate) fn fused(alloc: Global, calls: u64) -> Result<FuseDisk, AllocError>
 /// Opens a store on a new disk.
 pub(crate) fn open_new<D: Disk>(disk: D, alloc: Global) -> Result<Store<D>, (D, OpenFault)>
     requires { is_head_open (D.seen disk) ≡ false }
-    ensures { IfOk result (λ store. IsUsable D.seen D.may_leave store) }
+    ensures { IfOk result (λ store. IsUsable store) }
 {
     match Store::open(disk, alloc, layout()) {
         Ok(store) => Ok(store),
@@ -65,8 +65,8 @@ pub(crate) fn open_new<D: Disk>(disk: D, alloc: Global) -> Result<Store<D>, (D, 
 
 // A replica is read whole.
 fn look<D: Disk>(store: &mut Store<D>, alloc: Global) -> Result<(), StoreFault>
-    requires { IsUsable D.seen D.may_leave store.old }
-    ensures { OnOk result (IsUsable D.seen D.may_leave store.new) }
+    requires { IsUsable store.old }
+    ensures { OnOk result (IsUsable store.new) }
 {
     let _bytes = store.image(alloc, Handle(5), Version(4))?;
     Ok(())
@@ -74,8 +74,8 @@ fn look<D: Disk>(store: &mut Store<D>, alloc: Global) -> Result<(), StoreFault>
 
 // One of the steps.
 fn step<D: Disk>(store: &mut Store<D>, alloc: Global, number: usize) -> Result<(), StoreFault>
-    requires { IsUsable D.seen D.may_leave store.old }
-    ensures { OnOk result (IsUsable D.seen D.may_leave store.new) }
+    requires { IsUsable store.old }
+    ensures { OnOk result (IsUsable store.new) }
 {
     match number {
         0 => store.install(alloc, Handle(5), Version(2), Serial(9), b"abc"),
@@ -91,7 +91,7 @@ fn step<D: Disk>(store: &mut Store<D>, alloc: Global, number: usize) -> Result<(
 
 // A mutation that is the last call.
 fn mutate<D: Disk>(store: &mut Store<D>, alloc: Global) -> Result<(), StoreFault>
-    requires { IsUsable D.seen D.may_leave store.old }
+    requires { IsUsable store.old }
 {
     let bytes = Bytes::copy_from_slice(alloc, b"0123456789")?;
     let mutation = Mutation::Write(20, bytes);
@@ -107,7 +107,7 @@ fn failed_at(done: usize, fault: StoreFault) -> Ran {
 
 // Does so many steps.
 fn go<D: Disk>(store: &mut Store<D>, alloc: Global, steps: usize) -> Ran
-    requires { IsUsable D.seen D.may_leave store.old }
+    requires { IsUsable store.old }
 {
     for number in 0..STEPS {
         if number >= steps {

@@ -1,6 +1,6 @@
 //! A store whose disk stops at each of its calls.
 
-ghost use Rattle.std.specs.Prelude.{◌≡◌, ◌⊎◌, false, IfOk};
+ghost use Rattle.std.specs.Prelude.{◌≡◌, ◌⊎◌, false, IfOk, true};
 ghost use Rattle.chunk_store.specs.Stores.{IsOpen};
 ghost use Rattle.replica_store.specs.declared.change.StoreChange.TheVariants.{SetOrder};
 ghost use Rattle.replica_store.specs.Replicas.{ServerDisk, disk_changed};
@@ -143,7 +143,7 @@ fn keep_order<D: StoppableDisk>(
     alloc: Global,
     order: OrderNo,
 ) -> Result<Store<D>, (D, OpenFault)>
-    requires { (d : ServerDisk) × IsOpen D.seen D.may_leave store d }
+    requires { store.is_open ≡ true }
     ensures { (d : ServerDisk) → IsOpen D.seen D.may_leave store d
         → IfOk result (λ s. IsOpen D.seen D.may_leave s d ⊎ IsOpen D.seen D.may_leave s (disk_changed d (SetOrder order))) }
 {

@@ -14,8 +14,8 @@ use std::test::Fail;
 
 // Stores a replica of 36 bytes, of which the one in place 17 rots.
 fn prepare<D: Disk>(store: &mut Store<D>, alloc: Global) -> Result<(), StoreFault>
-    requires { IsUsable D.seen D.may_leave store.old }
-    ensures { OnOk result (IsUsable D.seen D.may_leave store.new) }
+    requires { IsUsable store.old }
+    ensures { OnOk result (IsUsable store.new) }
 {
     store.install(
         alloc,
@@ -29,8 +29,8 @@ fn prepare<D: Disk>(store: &mut Store<D>, alloc: Global) -> Result<(), StoreFaul
 
 // Whether a range is answered.
 fn answers<D: Disk>(store: &mut Store<D>, alloc: Global, offset: u64, count: u64) -> bool
-    requires { IsUsable D.seen D.may_leave store.old }
-    ensures { IsUsable D.seen D.may_leave store.new }
+    requires { IsUsable store.old }
+    ensures { IsUsable store.new }
 {
     store
         .read(alloc, Handle(7), Version(1), offset, count)
@@ -43,7 +43,7 @@ fn write<D: Disk>(
     offset: u64,
     text: &[u8; 10],
 ) -> Result<(), StoreFault>
-    requires usable { IsUsable D.seen D.may_leave store.old }
+    requires usable { IsUsable store.old }
     requires offset { offset ≤ 20 }
 {
     let bytes = Bytes::copy_from_slice(alloc, text)?;
@@ -53,7 +53,7 @@ fn write<D: Disk>(
 
 // What becomes of it: four reads, and a write over a part of the block.
 fn tried<D: Disk>(store: &mut Store<D>, alloc: Global) -> Result<[bool; 4], StoreFault>
-    requires { IsUsable D.seen D.may_leave store.old }
+    requires { IsUsable store.old }
 {
     prepare(store, alloc)?;
     let first = answers(store, alloc, 0, 16);

@@ -5,9 +5,6 @@ use Rattle.store_caller.specs.Stored.{with_one}
 use Rattle.store_caller.proofs.ReadBack.{read_back}
 use Rattle.store_caller.proofs.keep_over_a_stop.Goals as goal
 
-pub read_one-requires-clause-held : goal.read_one-requires-clause-held
-read_one-requires-clause-held c = (with_one c.args.layout.block c.args.bytes.now, c.in_ok-stored.ensures c.stop.result.bytes c.stop.ensures.lawful)
-
 pub returns : goal.returns
 returns c =
     let l = c.args.layout in

@@ -5,11 +5,6 @@ use Rattle.store_disk.specs.declared.places.Layout.{Layout}
 use Rattle.store_caller.specs.Stored.{with_one}
 use Rattle.store_caller.proofs.put_one.Goals as goal
 
-pub install-requires-clause-is_open : goal.install-requires-clause-is_open
-install-requires-clause-is_open g c =
-    let d = new_server_disk c.args.layout.block in
-    (d, c.in_ok-store.ensures.open d (inl (c.requires.new, refl)))
-
 pub install-requires-clause-within : goal.install-requires-clause-within
 install-requires-clause-within g c = omega (arith, c.requires.short, ap (λ (l : Layout). l.chunk) c.in_ok-store.ensures.layout)
 

@@ -1,10 +1,8 @@
-use Rattle.std.proofs.Common.{◌≡◌, ◌==◌, ℕ, Bool, true, false, List, take, sym, ap, ◌∙◌, subst, arith}
-use Rattle.std.specs.Prelude.{slice_index}
+use Rattle.std.proofs.Common.{ℕ, true, false, List, sym, ap, ◌∙◌, subst, arith}
 use Rattle.std.proofs.lemmas.Result.{IfOk-weaker, on_ok_weaker}
 use Rattle.disk_redo.specs.Redo.{stands_for}
 use Rattle.replica_store.specs.Replicas.{ServerDisk, new_server_disk}
 use Rattle.store_changes.specs.Areas.{area_of}
-use Rattle.store_disk.specs.Formats.{is_head_open}
 use Rattle.chunk_store.specs.Opening.{HoldsReplicas, IsFound}
 use Rattle.store_disk.specs.Stored.{IsStored}
 use Rattle.chunk_store.proofs.Fronts.{gate_read, head_read}

@@ -1,4 +1,4 @@
-use Rattle.std.proofs.Common.{◌≡◌, ◌+◌, sym, ◌∙◌, subst}
+use Rattle.std.proofs.Common.{◌+◌, sym, ◌∙◌, subst}
 use Rattle.store_disk.specs.Index.{IndexState}
 use Rattle.chunk_store.specs.Finding.{KnowsFirst}
 use Rattle.chunk_store.proofs.SlotsFound.{one_found, one_skipped, unused_from}

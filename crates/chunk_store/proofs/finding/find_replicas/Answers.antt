@@ -1,4 +1,4 @@
-use Rattle.std.proofs.Common.{◌≡◌, ℕ, ◌+◌, ◌<◌, ◌≤◌, List, refl, sym, ◌∙◌, subst, arith}
+use Rattle.std.proofs.Common.{◌≡◌, ℕ, ◌+◌, List, refl, sym, ◌∙◌, subst, arith}
 use Rattle.disk_redo.proofs.Moments.{reads_both, reads_nothing}
 use Rattle.store_disk.specs.Index.{IndexState}
 use Rattle.store_disk.specs.Stored.{IsDiskOf}

@@ -1,4 +1,4 @@
-use Rattle.std.proofs.Common.{◌≡◌, ◌≤◌, length}
+use Rattle.std.proofs.Common.{◌≡◌, ◌≤◌}
 use Rattle.disk_redo.specs.GateMoments.{OnlyReads}
 use Rattle.replica_store.specs.Replicas.{ServerDisk}
 use Rattle.store_disk.specs.Index.{IndexState}

@@ -1,4 +1,4 @@
-use Rattle.std.proofs.Common.{◌≡◌, ℕ, List, sym, subst, ◌∙◌}
+use Rattle.std.proofs.Common.{ℕ, List, sym, subst, ◌∙◌}
 use Rattle.store_disk.specs.Stored.{IsDiskOf}
 use Rattle.chunk_store.proofs.slots_reading.read_found.Goals as goal
 

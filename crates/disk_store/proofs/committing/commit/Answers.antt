@@ -30,7 +30,7 @@ make-requires-clause-is_open g c =
     let disk = g.D.Disk in
     let n = c.args.known.now in
     let some = c.requires.kept in
-    (some.0, open_as disk.seen disk.may_leave c.args.store.now n.order n.rows some.0 c.args.standing some.1 c.in-Ok.ensures.open)
+    (open_as disk.seen disk.may_leave c.args.store.now n.order n.rows some.0 c.args.standing some.1 c.in-Ok.ensures.open).is_open
 
 pub make-requires-clause-told : goal.make-requires-clause-told
 make-requires-clause-told g c = subst (λ (n : ℕ). can_be_told n c.args.known.now.rows c.args.change ≡ true) c.chunk-chunk.ensures c.in-Ok.ensures.told

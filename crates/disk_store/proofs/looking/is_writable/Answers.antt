@@ -1,8 +1,8 @@
 use Rattle.std.proofs.Common.{refl, sym, ◌∙◌, arith}
 use Rattle.replica_store.specs.Replicas.{row_at}
 use Rattle.store_disk.proofs.Looked.{no_row}
-use Rattle.chunk_store.proofs.Looked.{none_writable, nothing_over}
-use Rattle.chunk_store.proofs.StillOpen.{none_held, row_held}
+use Rattle.chunk_store.proofs.Looked.{nothing_over}
+use Rattle.chunk_store.proofs.States.{none_held, none_writable, row_held}
 use Rattle.disk_store.proofs.Causes.{disk_cause, disk_has_room}
 use Rattle.disk_store.proofs.looking.is_writable.Goals as goal
 

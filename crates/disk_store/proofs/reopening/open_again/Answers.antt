@@ -3,9 +3,6 @@ use Rattle.disk_store.proofs.Reopened.{its_within, opened, settled, unfound, unr
 use Rattle.disk_store.proofs.Saying.{on_err}
 use Rattle.disk_store.proofs.reopening.open_again.Goals as goal
 
-pub reopen-requires : goal.reopen-requires
-reopen-requires g c = record { whole = c.requires.kept.3.whole }
-
 pub returns-in-Err-clause-err : goal.returns-in-Err-clause-err
 returns-in-Err-clause-err g c order rows d kept =
     let disk = g.D.Disk in
@@ -26,7 +23,7 @@ rots-requires-clause-is_open g c =
     let disk = g.D.Disk in
     let s = c.args.store.now in
     let some = c.requires.kept in
-    opened disk.seen disk.may_leave s some.0 some.1 some.2 c.args.standing.now some.3 c.reopen.new.self c.reopen.ensures.layout c.requires.not_open c.in-Ok.ensures.reopened
+    (opened disk.seen disk.may_leave s some.0 some.1 some.2 c.args.standing.now some.3 c.reopen.new.self c.reopen.ensures.layout c.requires.not_open c.in-Ok.ensures.reopened).1.is_open
 
 pub rots-requires-clause-place : goal.rots-requires-clause-place
 rots-requires-clause-place g c =

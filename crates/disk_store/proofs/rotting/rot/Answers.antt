@@ -1,6 +1,6 @@
 use Rattle.std.proofs.Common.{◌≡◌, inl, inr, true, false, refl, sym, ◌∙◌, arith}
 use Rattle.disk_store.proofs.Commits.{mid_kept}
-use Rattle.chunk_store.proofs.Looked.{its_slot}
+use Rattle.chunk_store.proofs.States.{its_slot}
 use Rattle.disk_store.proofs.Rots.{low_in, none_cant, none_kept, rot_failed, rot_made}
 use Rattle.disk_store.proofs.Saying.{on_err}
 use Rattle.disk_store.proofs.rotting.rot.Goals as goal
@@ -10,7 +10,7 @@ pub returns-in_default-clause-ok : goal.returns-in_default-clause-ok
 returns-in_default-clause-ok g c order rows d kept = none_kept g.D.Disk.seen g.D.Disk.may_leave c.args.store.now order rows d kept c.args.handle.0 c.args.place c.args.byte (sym c.held.ensures ∙ c.in_default.is)
 
 pub would_match-requires-clause-is_open : goal.would_match-requires-clause-is_open
-would_match-requires-clause-is_open g c = (c.requires.kept.2, c.requires.kept.3.stands)
+would_match-requires-clause-is_open g c = c.requires.kept.3.stands.is_open
 
 pub would_match-requires-clause-place : goal.would_match-requires-clause-place
 would_match-requires-clause-place g c = omega (arith, c.if-place-from.false, c.from.ensures, c.chunk.ensures)
@@ -27,7 +27,7 @@ pub rot-requires-clause-is_open : goal.rot-requires-clause-is_open
 rot-requires-clause-is_open g c =
     let some = c.requires.kept in
     let mid = mid_kept g.D.Disk.seen g.D.Disk.may_leave c.args.store.now some.0 some.1 some.2 Open some.3 c.would_match.new.store c.would_match.ensures.unchanged c.would_match.ensures.still_open refl in
-    (some.2, mid.stands)
+    mid.stands.is_open
 
 pub rot-requires-clause-place : goal.rot-requires-clause-place
 rot-requires-clause-place g c = low_in c.args.store.now c.would_match.new.store c.would_match.ensures.unchanged c.args.place (omega (arith, c.if-place-from.false, c.from.ensures, c.chunk.ensures))

@@ -1,15 +1,28 @@
-use Rattle.disk_redo.proofs.Moments.{reads_one}
-use Rattle.chunk_store.proofs.StillOpen.{read_open}
+use Rattle.std.proofs.Common.{◌≡◌, true, sym, subst}
+use Rattle.chunk_store.specs.Volumes.{IsReady}
+use Rattle.chunk_store.proofs.Ready.{read_ready}
+use Rattle.chunk_store.proofs.States.{as_volume, read_open, read_sound, read_unchanged}
 use Rattle.chunk_store.proofs.store.Store.arm.Goals as goal
+
+pub invariant_of-self : goal.invariant_of-self
+invariant_of-self g c =
+    let was = c.self.inside in
+    let disk = g.D.Disk in
+    let call = c.arm in
+    let ready = λ (opened : was.is_open ≡ true).
+        let still = read_ready disk.seen disk.may_leave was.volume (c.self.invariant.ready opened) disk.moment disk.left_since call.new.self.disk call.ensures.reads in
+        subst (IsReady disk.seen disk.may_leave) (sym call.ensures.unchanged) still in
+    read_sound disk.seen disk.may_leave was.volume call.new.self was.is_open call.ensures.unchanged ready c.self.invariant
 
 pub returns-clause-still_open : goal.returns-clause-still_open
 returns-clause-still_open g c d is =
+    let was = c.self.inside in
     let disk = g.D.Disk in
-    let store = c.args.self.now in
-    read_open disk.seen disk.may_leave store d is disk.moment disk.left_since c.arm.new.self
-    (reads_one disk.seen disk.may_leave disk.moment disk.left_since store.disk c.arm.new.self (g.met.D.Disk.only_now store.disk) c.arm.ensures.seen c.arm.ensures.crash c.arm.ensures.time)
+    let told = as_volume disk.seen disk.may_leave was.volume was.is_open _ c.self.view_is d is in
+    read_open disk.seen disk.may_leave was.volume was.is_open _ c.self.view_is c.arm.new.self d is (c.arm.ensures.still_open d told)
 
-pub returns-clause-reads : goal.returns-clause-reads
-returns-clause-reads g c =
+pub returns-clause-unchanged : goal.returns-clause-unchanged
+returns-clause-unchanged g c =
+    let was = c.self.inside in
     let disk = g.D.Disk in
-    reads_one disk.seen disk.may_leave disk.moment disk.left_since c.args.self.now.disk c.arm.new.self (g.met.D.Disk.only_now c.args.self.now.disk) c.arm.ensures.seen c.arm.ensures.crash c.arm.ensures.time
+    read_unchanged disk.seen disk.may_leave was.volume was.is_open _ c.self.view_is c.arm.new.self c.arm.ensures.unchanged

@@ -1,34 +1,50 @@
-use Rattle.std.proofs.Common.{refl, sym, ◌∙◌}
-use Rattle.replica_store.specs.declared.change.StoreChange.TheVariants.{Remove}
-use Rattle.replica_store.specs.Replicas.{disk_changed}
-use Rattle.store_changes.specs.Faults.{fault_of}
-use Rattle.store_changes.proofs.Answered.{disk_never, not_refused}
-use Rattle.chunk_store.proofs.StillOpen.{chunk_there, held_within, leaves_all, none_held, still_open}
+use Rattle.chunk_store.proofs.States.{as_volume, changed_sound, is_ready, made_open, refused_open}
 use Rattle.chunk_store.proofs.store.Store.drop_replica.Goals as goal
 
-pub returns-in_default-clause-no_chunk : goal.returns-in_default-clause-no_chunk
-returns-in_default-clause-no_chunk g c d is =
-    let none = none_held g.D.Disk.seen g.D.Disk.may_leave c.args.self.now d is c.args.handle.0 (sym c.get.ensures ∙ c.in_default.is) in
-    (λ e. none, λ e. refl)
-
-pub returns-in_default-clause-any_moment : goal.returns-in_default-clause-any_moment
-returns-in_default-clause-any_moment g c =
+pub drop_replica-done-requires : goal.drop_replica-done-requires
+drop_replica-done-requires g c =
+    let was = c.self.inside in
     let disk = g.D.Disk in
-    leaves_all disk.seen disk.may_leave c.args.self.now c.requires.is_open.0 c.requires.is_open.1 disk.moment disk.left_since (g.met.D.Disk.only_now c.args.self.now.disk) (Remove c.args.handle)
+    record { ready = is_ready disk.seen disk.may_leave was.volume was.is_open _ c.self.view_is c.self.invariant c.requires.is_open }
+
+pub invariant_of-self : goal.invariant_of-self
+invariant_of-self g c =
+    let was = c.self.inside in
+    let disk = g.D.Disk in
+    let call = c.drop_replica-done in
+    let after = c.stays_open-self-inside in
+    changed_sound disk.seen disk.may_leave call.new.self after.result was.volume call.result after.ensures call.ensures.layout call.ensures.ready call.ensures.kept c.self.invariant.whole
 
 pub returns-clause-ok : goal.returns-clause-ok
 returns-clause-ok g c d is =
-    let store = c.args.self.now in
-    still_open g.D.Disk.seen g.D.Disk.may_leave store d is c.remove.new.disk c.remove.new.index store.order (disk_changed d (Remove c.args.handle)) c.remove.ensures.size is.order c.in_ok-remove.ensures.rest (c.in_ok-remove.ensures.made d is.says)
+    let was = c.self.inside in
+    let disk = g.D.Disk in
+    let told = as_volume disk.seen disk.may_leave was.volume was.is_open _ c.self.view_is d is in
+    made_open disk.seen disk.may_leave c.drop_replica-done.new.self c.stays_open-self-inside.result c.drop_replica-done.result _ c.stays_open-self-inside.ensures (c.drop_replica-done.ensures.ok d told)
 
 pub returns-clause-no_chunk : goal.returns-clause-no_chunk
-returns-clause-no_chunk g c d is = chunk_there g.D.Disk.seen g.D.Disk.may_leave c.args.self.now d is c.args.handle.0 c.in-Some.found (sym c.get.ensures ∙ c.in-Some.is) (λ e. absurd cc)
+returns-clause-no_chunk g c d is =
+    let was = c.self.inside in
+    let disk = g.D.Disk in
+    let told = as_volume disk.seen disk.may_leave was.volume was.is_open _ c.self.view_is d is in
+    c.drop_replica-done.ensures.no_chunk d told
 
-pub returns-in_err-remove-clause-refused : goal.returns-in_err-remove-clause-refused
-returns-in_err-remove-clause-refused g c d is e = absurd (not_refused c.from_residual.result (fault_of c.in_err-remove.field-0.0) c.from_residual.ensures.1 (disk_never c.in_err-remove.field-0.0) e)
+pub returns-clause-refused : goal.returns-clause-refused
+returns-clause-refused g c d is refused =
+    let was = c.self.inside in
+    let disk = g.D.Disk in
+    let after = c.stays_open-self-inside in
+    let told = as_volume disk.seen disk.may_leave was.volume was.is_open _ c.self.view_is d is in
+    refused_open disk.seen disk.may_leave c.drop_replica-done.new.self after.result c.drop_replica-done.result d after.ensures (c.drop_replica-done.ensures.refused d told) refused
 
-pub returns-in_err-remove-clause-only : goal.returns-in_err-remove-clause-only
-returns-in_err-remove-clause-only g c e = absurd (not_refused c.from_residual.result (fault_of c.in_err-remove.field-0.0) c.from_residual.ensures.1 (disk_never c.in_err-remove.field-0.0) e)
+pub returns-clause-any_moment : goal.returns-clause-any_moment
+returns-clause-any_moment g c = rw (← c.self.view_is) c.drop_replica-done.ensures.any_moment
 
-pub remove-requires-clause-slot : goal.remove-requires-clause-slot
-remove-requires-clause-slot g c = (held_within g.D.Disk.seen g.D.Disk.may_leave c.args.self.now c.requires.is_open.0 c.requires.is_open.1 c.args.handle.0 c.in-Some.found (sym c.get.ensures ∙ c.in-Some.is)).0
+pub returns-clause-layout : goal.returns-clause-layout
+returns-clause-layout g c = rw (← c.self.view_is) c.drop_replica-done.ensures.layout
+
+pub returns-clause-open : goal.returns-clause-open
+returns-clause-open g c = c.stays_open-self-inside.ensures
+
+pub returns-clause-cause : goal.returns-clause-cause
+returns-clause-cause g c = rw (← c.self.view_is) c.drop_replica-done.ensures.cause

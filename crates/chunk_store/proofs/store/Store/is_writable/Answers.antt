@@ -1,27 +1,44 @@
-use Rattle.std.proofs.Common.{sym, ◌∙◌}
-use Rattle.chunk_store.proofs.Looked.{edges_tell, its_slot, none_writable, nothing_over}
-use Rattle.chunk_store.proofs.StillOpen.{read_open}
+use Rattle.chunk_store.proofs.States.{as_volume, is_ready, read_open, read_sound, read_unchanged}
 use Rattle.chunk_store.proofs.store.Store.is_writable.Goals as goal
 
-pub returns-in_default-clause-value : goal.returns-in_default-clause-value
-returns-in_default-clause-value g c d is = none_writable g.D.Disk.seen g.D.Disk.may_leave c.args.self.now d is c.args.handle.0 c.args.offset c.args.end (sym c.get.ensures ∙ c.in_default.is)
+pub is_writable-requires-clause-ready : goal.is_writable-requires-clause-ready
+is_writable-requires-clause-ready g c =
+    let was = c.self.inside in
+    let disk = g.D.Disk in
+    is_ready disk.seen disk.may_leave was.volume was.is_open _ c.self.view_is c.self.invariant c.requires.is_open
 
-pub returns-then-end-offset-clause-value : goal.returns-then-end-offset-clause-value
-returns-then-end-offset-clause-value g c d is = nothing_over d c.args.handle.0 c.args.offset c.args.end c.if-end-offset.true
+pub is_writable-requires-clause-within : goal.is_writable-requires-clause-within
+is_writable-requires-clause-within g c = rw (← c.self.view_is) at c.requires.within
 
-pub read_edges-requires-clause-slot : goal.read_edges-requires-clause-slot
-read_edges-requires-clause-slot g c =
-    let open' = c.requires.is_open in
-    let its = its_slot g.D.Disk.seen g.D.Disk.may_leave c.args.self.now open'.0 open'.1 c.args.handle.0 c.in-Some.found (sym c.get.ensures ∙ c.in-Some.is) in
-    its.2
-
-pub returns-in_err-edges-clause-still_open : goal.returns-in_err-edges-clause-still_open
-returns-in_err-edges-clause-still_open g c d is = (let disk = g.D.Disk in read_open disk.seen disk.may_leave c.args.self.now d is disk.moment disk.left_since c.read_edges.new.disk c.read_edges.ensures.reads)
+pub invariant_of-self : goal.invariant_of-self
+invariant_of-self g c =
+    let was = c.self.inside in
+    let disk = g.D.Disk in
+    let call = c.is_writable in
+    read_sound disk.seen disk.may_leave was.volume call.new.self was.is_open call.ensures.unchanged (λ _. call.ensures.ready) c.self.invariant
 
 pub returns-clause-value : goal.returns-clause-value
 returns-clause-value g c d is =
-    c.is_some.ensures
-    ∙ edges_tell g.D.Disk.seen g.D.Disk.may_leave c.args.self.now d is c.args.handle.0 c.in-Some.found (sym c.get.ensures ∙ c.in-Some.is) c.args.offset c.args.end c.in_ok-edges.edges c.in_ok-edges.ensures.edges
+    let was = c.self.inside in
+    let disk = g.D.Disk in
+    let told = as_volume disk.seen disk.may_leave was.volume was.is_open _ c.self.view_is d is in
+    c.is_writable.ensures.value d told
 
 pub returns-clause-still_open : goal.returns-clause-still_open
-returns-clause-still_open g c d is = (let disk = g.D.Disk in read_open disk.seen disk.may_leave c.args.self.now d is disk.moment disk.left_since c.read_edges.new.disk c.read_edges.ensures.reads)
+returns-clause-still_open g c d is =
+    let was = c.self.inside in
+    let disk = g.D.Disk in
+    let told = as_volume disk.seen disk.may_leave was.volume was.is_open _ c.self.view_is d is in
+    read_open disk.seen disk.may_leave was.volume was.is_open _ c.self.view_is c.is_writable.new.self d is (c.is_writable.ensures.still_open d told)
+
+pub returns-clause-unchanged : goal.returns-clause-unchanged
+returns-clause-unchanged g c =
+    let was = c.self.inside in
+    let disk = g.D.Disk in
+    read_unchanged disk.seen disk.may_leave was.volume was.is_open _ c.self.view_is c.is_writable.new.self c.is_writable.ensures.unchanged
+
+pub returns-clause-reads : goal.returns-clause-reads
+returns-clause-reads g c = rw (← c.self.view_is) c.is_writable.ensures.reads
+
+pub returns-clause-cause : goal.returns-clause-cause
+returns-clause-cause g c = rw (← c.self.view_is) c.is_writable.ensures.cause

@@ -1,7 +1,9 @@
-use Rattle.std.proofs.Common.{Option, sym, ap, ◌∙◌}
-use Rattle.std.specs.Option.{option_map}
-use Rattle.replica_store.specs.declared.row.Row.{Row}
+use Rattle.chunk_store.proofs.States.{as_volume}
 use Rattle.chunk_store.proofs.store.Store.length.Goals as goal
 
 pub returns : goal.returns
-returns g c d is = ap (λ (o : Option Row). option_map (λ (row : Row). row.count) o) (sym c.in_ok-row.was ∙ c.row.ensures d is)
+returns g c d is =
+    let was = c.self.inside in
+    let disk = g.D.Disk in
+    let told = as_volume disk.seen disk.may_leave was.volume was.is_open _ c.self.view_is d is in
+    c.length.ensures d told.says

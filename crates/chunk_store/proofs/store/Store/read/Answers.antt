@@ -1,70 +1,62 @@
-use Rattle.std.proofs.Common.{refl, sym, ◌∙◌}
-use Rattle.store_changes.specs.Faults.{fault_of}
-use Rattle.store_changes.specs.declared.fault.StoreFault.TheVariants as faults
-use Rattle.store_changes.proofs.Answered.{disk_never, handed_over, never, not_corrupt, not_full, not_old}
-use Rattle.chunk_store.proofs.StillOpen.{chunk_there, held_within, read_open, version_there}
+use Rattle.chunk_store.proofs.States.{as_volume, is_ready, read_open, read_sound, read_unchanged}
 use Rattle.chunk_store.proofs.store.Store.read.Goals as goal
 
-pub returns-in-Err-clause-version : goal.returns-in-Err-clause-version
-returns-in-Err-clause-version g c d is = handed_over c.in-Err.fault faults.Version (c.in-Err.ensures.version d is)
+pub read-requires : goal.read-requires
+read-requires g c =
+    let was = c.self.inside in
+    let disk = g.D.Disk in
+    record { ready = is_ready disk.seen disk.may_leave was.volume was.is_open _ c.self.view_is c.self.invariant c.requires.is_open }
 
-pub returns-in-Err-clause-corrupt : goal.returns-in-Err-clause-corrupt
-returns-in-Err-clause-corrupt g c d is e = absurd (not_corrupt c.in-Err.fault c.in-Err.ensures.no_other e)
+pub invariant_of-self : goal.invariant_of-self
+invariant_of-self g c =
+    let was = c.self.inside in
+    let disk = g.D.Disk in
+    let call = c.read in
+    read_sound disk.seen disk.may_leave was.volume call.new.self was.is_open call.ensures.unchanged (λ _. call.ensures.ready) c.self.invariant
 
-pub read_replica-requires-clause-slot : goal.read_replica-requires-clause-slot
-read_replica-requires-clause-slot g c = (held_within g.D.Disk.seen g.D.Disk.may_leave c.args.self.now c.requires.is_open.0 c.requires.is_open.1 c.args.handle.0 c.in-Ok.found c.in-Ok.ensures.found.0).0
+pub returns-clause-ok : goal.returns-clause-ok
+returns-clause-ok g c d is =
+    let was = c.self.inside in
+    let disk = g.D.Disk in
+    let told = as_volume disk.seen disk.may_leave was.volume was.is_open _ c.self.view_is d is in
+    c.read.ensures.ok d told.says
 
-pub read_replica-requires-clause-count : goal.read_replica-requires-clause-count
-read_replica-requires-clause-count g c = (held_within g.D.Disk.seen g.D.Disk.may_leave c.args.self.now c.requires.is_open.0 c.requires.is_open.1 c.args.handle.0 c.in-Ok.found c.in-Ok.ensures.found.0).1
+pub returns-clause-still_open : goal.returns-clause-still_open
+returns-clause-still_open g c d is =
+    let was = c.self.inside in
+    let disk = g.D.Disk in
+    let told = as_volume disk.seen disk.may_leave was.volume was.is_open _ c.self.view_is d is in
+    read_open disk.seen disk.may_leave was.volume was.is_open _ c.self.view_is c.read.new.self d is (c.read.ensures.still_open d told)
 
-pub returns-in_err-read-clause-still_open : goal.returns-in_err-read-clause-still_open
-returns-in_err-read-clause-still_open g c d is = let disk = g.D.Disk in read_open disk.seen disk.may_leave c.args.self.now d is disk.moment disk.left_since c.read_replica.new.disk c.read_replica.ensures.reads
+pub returns-clause-no_chunk : goal.returns-clause-no_chunk
+returns-clause-no_chunk g c d is =
+    let was = c.self.inside in
+    let disk = g.D.Disk in
+    let told = as_volume disk.seen disk.may_leave was.volume was.is_open _ c.self.view_is d is in
+    c.read.ensures.no_chunk d told
 
-pub returns-in_err-read-clause-no_chunk : goal.returns-in_err-read-clause-no_chunk
-returns-in_err-read-clause-no_chunk g c d is =
-    chunk_there g.D.Disk.seen g.D.Disk.may_leave c.args.self.now d is c.args.handle.0 c.in-Ok.found c.in-Ok.ensures.found.0
-    (λ e. never c.from_residual.result (fault_of c.in_err-read.field-0.0) faults.NoChunk c.from_residual.ensures.1 (disk_never c.in_err-read.field-0.0) refl e)
+pub returns-clause-version : goal.returns-clause-version
+returns-clause-version g c d is =
+    let was = c.self.inside in
+    let disk = g.D.Disk in
+    let told = as_volume disk.seen disk.may_leave was.volume was.is_open _ c.self.view_is d is in
+    c.read.ensures.version d told
 
-pub returns-in_err-read-clause-version : goal.returns-in_err-read-clause-version
-returns-in_err-read-clause-version g c d is =
-    version_there g.D.Disk.seen g.D.Disk.may_leave c.args.self.now d is c.args.handle.0 c.in-Ok.found c.args.version c.in-Ok.ensures.found.0 c.in-Ok.ensures.found.1
-    (λ e. never c.from_residual.result (fault_of c.in_err-read.field-0.0) faults.Version c.from_residual.ensures.1 (disk_never c.in_err-read.field-0.0) refl e)
+pub returns-clause-corrupt : goal.returns-clause-corrupt
+returns-clause-corrupt g c d is =
+    let was = c.self.inside in
+    let disk = g.D.Disk in
+    let told = as_volume disk.seen disk.may_leave was.volume was.is_open _ c.self.view_is d is in
+    c.read.ensures.corrupt d told
 
-pub returns-in_err-read-clause-corrupt : goal.returns-in_err-read-clause-corrupt
-returns-in_err-read-clause-corrupt g c d is e = absurd (never c.from_residual.result (fault_of c.in_err-read.field-0.0) faults.Corrupt c.from_residual.ensures.1 (disk_never c.in_err-read.field-0.0) refl e)
+pub returns-clause-unchanged : goal.returns-clause-unchanged
+returns-clause-unchanged g c =
+    let was = c.self.inside in
+    let disk = g.D.Disk in
+    read_unchanged disk.seen disk.may_leave was.volume was.is_open _ c.self.view_is c.read.new.self c.read.ensures.unchanged
 
-pub returns-in-Some-clause-ok : goal.returns-in-Some-clause-ok
-returns-in-Some-clause-ok g c d is = sym c.in-Some.is ∙ c.in_ok-read.ensures.read c.args.self.now.index d c.args.handle.0 is.says c.in-Ok.ensures.found.0
+pub returns-clause-reads : goal.returns-clause-reads
+returns-clause-reads g c = rw (← c.self.view_is) c.read.ensures.reads
 
-pub returns-in-Some-clause-still_open : goal.returns-in-Some-clause-still_open
-returns-in-Some-clause-still_open g c d is = let disk = g.D.Disk in read_open disk.seen disk.may_leave c.args.self.now d is disk.moment disk.left_since c.read_replica.new.disk c.read_replica.ensures.reads
-
-pub returns-in-Some-clause-no_chunk : goal.returns-in-Some-clause-no_chunk
-returns-in-Some-clause-no_chunk g c d is = chunk_there g.D.Disk.seen g.D.Disk.may_leave c.args.self.now d is c.args.handle.0 c.in-Ok.found c.in-Ok.ensures.found.0 (λ e. absurd cc)
-
-pub returns-in-Some-clause-version : goal.returns-in-Some-clause-version
-returns-in-Some-clause-version g c d is = version_there g.D.Disk.seen g.D.Disk.may_leave c.args.self.now d is c.args.handle.0 c.in-Ok.found c.args.version c.in-Ok.ensures.found.0 c.in-Ok.ensures.found.1 (λ e. absurd cc)
-
-pub returns-in-None-clause-still_open : goal.returns-in-None-clause-still_open
-returns-in-None-clause-still_open g c d is = let disk = g.D.Disk in read_open disk.seen disk.may_leave c.args.self.now d is disk.moment disk.left_since c.read_replica.new.disk c.read_replica.ensures.reads
-
-pub returns-in-None-clause-no_chunk : goal.returns-in-None-clause-no_chunk
-returns-in-None-clause-no_chunk g c d is = chunk_there g.D.Disk.seen g.D.Disk.may_leave c.args.self.now d is c.args.handle.0 c.in-Ok.found c.in-Ok.ensures.found.0 (λ e. absurd cc)
-
-pub returns-in-None-clause-version : goal.returns-in-None-clause-version
-returns-in-None-clause-version g c d is = version_there g.D.Disk.seen g.D.Disk.may_leave c.args.self.now d is c.args.handle.0 c.in-Ok.found c.args.version c.in-Ok.ensures.found.0 c.in-Ok.ensures.found.1 (λ e. absurd cc)
-
-pub returns-in-None-clause-corrupt : goal.returns-in-None-clause-corrupt
-returns-in-None-clause-corrupt g c d is e = sym (c.in_ok-read.ensures.read c.args.self.now.index d c.args.handle.0 is.says c.in-Ok.ensures.found.0) ∙ c.in-None.is
-
-pub returns-in-Err-clause-no_room : goal.returns-in-Err-clause-no_room
-returns-in-Err-clause-no_room g c e = absurd (not_full c.in-Err.fault c.in-Err.ensures.no_other e)
-
-pub returns-in_err-read-clause-no_room : goal.returns-in_err-read-clause-no_room
-returns-in_err-read-clause-no_room g c e = absurd (never c.from_residual.result (fault_of c.in_err-read.field-0.0) faults.NoRoom c.from_residual.ensures.1 (disk_never c.in_err-read.field-0.0) refl e)
-
-pub returns-in-Err-clause-no_serial : goal.returns-in-Err-clause-no_serial
-returns-in-Err-clause-no_serial g c e = not_old c.in-Err.fault c.in-Err.ensures.no_other e
-
-pub returns-in_err-read-clause-no_serial : goal.returns-in_err-read-clause-no_serial
-returns-in_err-read-clause-no_serial g c e = never c.from_residual.result (fault_of c.in_err-read.field-0.0) faults.OldSerial c.from_residual.ensures.1 (disk_never c.in_err-read.field-0.0) refl e
+pub returns-clause-cause : goal.returns-clause-cause
+returns-clause-cause g c = rw (← c.self.view_is) c.read.ensures.cause

@@ -1,42 +1,53 @@
-use Rattle.std.proofs.Common.{refl, sym, ◌∙◌}
-use Rattle.replica_store.specs.Replicas.{replica_of, rotten_replica}
-use Rattle.store_changes.specs.Rotting.{disk_rotten}
-use Rattle.store_changes.proofs.Rotten.{nothing_rots}
-use Rattle.store_disk.proofs.Looked.{order_stays}
-use Rattle.store_changes.specs.Faults.{fault_of}
-use Rattle.store_changes.proofs.Answered.{disk_never, not_refused}
-use Rattle.chunk_store.proofs.StillOpen.{chunk_there, held_within, none_held, still_open}
+use Rattle.chunk_store.proofs.States.{as_volume, changed_sound, is_ready, made_open, refused_open}
 use Rattle.chunk_store.proofs.store.Store.rot.Goals as goal
 
-pub returns-in_default-clause-no_chunk : goal.returns-in_default-clause-no_chunk
-returns-in_default-clause-no_chunk g c d is =
-    let none = none_held g.D.Disk.seen g.D.Disk.may_leave c.args.self.now d is c.args.handle.0 (sym c.get.ensures ∙ c.in_default.is) in
-    (λ e. none, λ e. refl)
-
-pub returns-in_default-clause-any_moment : goal.returns-in_default-clause-any_moment
-returns-in_default-clause-any_moment g c =
+pub rot-done-requires-clause-ready : goal.rot-done-requires-clause-ready
+rot-done-requires-clause-ready g c =
+    let was = c.self.inside in
     let disk = g.D.Disk in
-    let store = c.args.self.now in
-    let l = store.layout in
-    nothing_rots disk.seen disk.may_leave disk.moment disk.left_since l.chunk l.block l.slots store.index c.args.handle.0 c.args.place c.args.byte store.disk store.disk c.requires.is_open.1.rest.durable (g.met.D.Disk.only_now store.disk)
+    is_ready disk.seen disk.may_leave was.volume was.is_open _ c.self.view_is c.self.invariant c.requires.is_open
 
-pub rot-requires-clause-found : goal.rot-requires-clause-found
-rot-requires-clause-found g c = sym c.get.ensures ∙ c.in-Some.is
+pub rot-done-requires-clause-place : goal.rot-done-requires-clause-place
+rot-done-requires-clause-place g c = rw (← c.self.view_is) at c.requires.place
 
-pub rot-requires-clause-slot : goal.rot-requires-clause-slot
-rot-requires-clause-slot g c = (held_within g.D.Disk.seen g.D.Disk.may_leave c.args.self.now c.requires.is_open.0 c.requires.is_open.1 c.args.handle.0 c.in-Some.found (sym c.get.ensures ∙ c.in-Some.is)).0
+pub invariant_of-self : goal.invariant_of-self
+invariant_of-self g c =
+    let was = c.self.inside in
+    let disk = g.D.Disk in
+    let call = c.rot-done in
+    let after = c.stays_open-self-inside in
+    changed_sound disk.seen disk.may_leave call.new.self after.result was.volume call.result after.ensures call.ensures.layout call.ensures.ready call.ensures.kept c.self.invariant.whole
 
 pub returns-clause-ok : goal.returns-clause-ok
 returns-clause-ok g c d is =
-    let store = c.args.self.now in
-    still_open g.D.Disk.seen g.D.Disk.may_leave store d is c.rot.new.disk store.index store.order (disk_rotten d c.args.handle.0 c.args.place c.args.byte) c.rot.ensures.size
-    (is.order ∙ order_stays (λ r. rotten_replica r c.args.place c.args.byte) d c.args.handle.0 (replica_of d c.args.handle.0)) c.in_ok-rot.ensures.rest (c.in_ok-rot.ensures.made d is.says)
+    let was = c.self.inside in
+    let disk = g.D.Disk in
+    let told = as_volume disk.seen disk.may_leave was.volume was.is_open _ c.self.view_is d is in
+    made_open disk.seen disk.may_leave c.rot-done.new.self c.stays_open-self-inside.result c.rot-done.result _ c.stays_open-self-inside.ensures (c.rot-done.ensures.ok d told)
 
 pub returns-clause-no_chunk : goal.returns-clause-no_chunk
-returns-clause-no_chunk g c d is = chunk_there g.D.Disk.seen g.D.Disk.may_leave c.args.self.now d is c.args.handle.0 c.in-Some.found (sym c.get.ensures ∙ c.in-Some.is) (λ e. absurd cc)
+returns-clause-no_chunk g c d is =
+    let was = c.self.inside in
+    let disk = g.D.Disk in
+    let told = as_volume disk.seen disk.may_leave was.volume was.is_open _ c.self.view_is d is in
+    c.rot-done.ensures.no_chunk d told
 
-pub returns-in_err-rot-clause-refused : goal.returns-in_err-rot-clause-refused
-returns-in_err-rot-clause-refused g c d is e = absurd (not_refused c.from_residual.result (fault_of c.in_err-rot.field-0.0) c.from_residual.ensures.1 (disk_never c.in_err-rot.field-0.0) e)
+pub returns-clause-refused : goal.returns-clause-refused
+returns-clause-refused g c d is refused =
+    let was = c.self.inside in
+    let disk = g.D.Disk in
+    let after = c.stays_open-self-inside in
+    let told = as_volume disk.seen disk.may_leave was.volume was.is_open _ c.self.view_is d is in
+    refused_open disk.seen disk.may_leave c.rot-done.new.self after.result c.rot-done.result d after.ensures (c.rot-done.ensures.refused d told) refused
 
-pub returns-in_err-rot-clause-only : goal.returns-in_err-rot-clause-only
-returns-in_err-rot-clause-only g c e = absurd (not_refused c.from_residual.result (fault_of c.in_err-rot.field-0.0) c.from_residual.ensures.1 (disk_never c.in_err-rot.field-0.0) e)
+pub returns-clause-any_moment : goal.returns-clause-any_moment
+returns-clause-any_moment g c = rw (← c.self.view_is) c.rot-done.ensures.any_moment
+
+pub returns-clause-layout : goal.returns-clause-layout
+returns-clause-layout g c = rw (← c.self.view_is) c.rot-done.ensures.layout
+
+pub returns-clause-open : goal.returns-clause-open
+returns-clause-open g c = c.stays_open-self-inside.ensures
+
+pub returns-clause-cause : goal.returns-clause-cause
+returns-clause-cause g c = rw (← c.self.view_is) c.rot-done.ensures.cause

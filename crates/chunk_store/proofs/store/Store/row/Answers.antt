@@ -1,10 +1,9 @@
-use Rattle.std.proofs.Common.{sym, ap, ◌∙◌}
-use Rattle.store_disk.proofs.Listed.{row_found}
-use Rattle.chunk_store.proofs.StillOpen.{its_row}
+use Rattle.chunk_store.proofs.States.{as_volume}
 use Rattle.chunk_store.proofs.store.Store.row.Goals as goal
 
-pub returns-in_default : goal.returns-in_default
-returns-in_default g c d is = sym (its_row g.D.Disk.seen g.D.Disk.may_leave c.args.self.now d is c.args.handle.0 ∙ ap row_found (sym c.get.ensures ∙ c.in_default.is))
-
 pub returns : goal.returns
-returns g c d is = sym (its_row g.D.Disk.seen g.D.Disk.may_leave c.args.self.now d is c.args.handle.0 ∙ ap row_found (sym c.get.ensures ∙ c.in-Some.is))
+returns g c d is =
+    let was = c.self.inside in
+    let disk = g.D.Disk in
+    let told = as_volume disk.seen disk.may_leave was.volume was.is_open _ c.self.view_is d is in
+    c.row.ensures d told.says

@@ -1,21 +1,35 @@
-use Rattle.std.proofs.Common.{refl}
-use Rattle.replica_store.specs.declared.change.StoreChange.TheVariants.{SetOrder}
-use Rattle.replica_store.specs.Replicas.{disk_changed}
-use Rattle.store_changes.specs.Faults.{fault_of}
-use Rattle.store_changes.proofs.Answered.{disk_never, not_refused}
-use Rattle.chunk_store.proofs.StillOpen.{still_open}
+use Rattle.chunk_store.proofs.States.{as_volume, changed_sound, is_ready, made_open}
 use Rattle.chunk_store.proofs.store.Store.set_order.Goals as goal
 
-pub returns-in_err-set_order-clause-any_moment : goal.returns-in_err-set_order-clause-any_moment
-returns-in_err-set_order-clause-any_moment g c d says = c.set_order.ensures.any_moment c.args.self.now.index d says
+pub set_order-done-requires : goal.set_order-done-requires
+set_order-done-requires g c =
+    let was = c.self.inside in
+    let disk = g.D.Disk in
+    record { ready = is_ready disk.seen disk.may_leave was.volume was.is_open _ c.self.view_is c.self.invariant c.requires.is_open }
+
+pub invariant_of-self : goal.invariant_of-self
+invariant_of-self g c =
+    let was = c.self.inside in
+    let disk = g.D.Disk in
+    let call = c.set_order-done in
+    let after = c.stays_open-self-inside in
+    changed_sound disk.seen disk.may_leave call.new.self after.result was.volume call.result after.ensures call.ensures.layout call.ensures.ready call.ensures.kept c.self.invariant.whole
 
 pub returns-clause-ok : goal.returns-clause-ok
 returns-clause-ok g c d is =
-    let store = c.args.self.now in
-    still_open g.D.Disk.seen g.D.Disk.may_leave store d is c.set_order.new.disk store.index c.args.order (disk_changed d (SetOrder c.args.order)) c.set_order.ensures.size refl c.in_ok-set_order.ensures.rest (c.in_ok-set_order.ensures.made store.index d is.says)
+    let was = c.self.inside in
+    let disk = g.D.Disk in
+    let told = as_volume disk.seen disk.may_leave was.volume was.is_open _ c.self.view_is d is in
+    made_open disk.seen disk.may_leave c.set_order-done.new.self c.stays_open-self-inside.result c.set_order-done.result _ c.stays_open-self-inside.ensures (c.set_order-done.ensures.ok d told)
 
 pub returns-clause-any_moment : goal.returns-clause-any_moment
-returns-clause-any_moment g c d says = c.set_order.ensures.any_moment c.args.self.now.index d says
+returns-clause-any_moment g c = rw (← c.self.view_is) c.set_order-done.ensures.any_moment
 
-pub returns-in_err-set_order-clause-unrefused : goal.returns-in_err-set_order-clause-unrefused
-returns-in_err-set_order-clause-unrefused g c e = not_refused c.from_residual.result (fault_of c.in_err-set_order.field-0.0) c.from_residual.ensures.1 (disk_never c.in_err-set_order.field-0.0) e
+pub returns-clause-layout : goal.returns-clause-layout
+returns-clause-layout g c = rw (← c.self.view_is) c.set_order-done.ensures.layout
+
+pub returns-clause-open : goal.returns-clause-open
+returns-clause-open g c = c.stays_open-self-inside.ensures
+
+pub returns-clause-cause : goal.returns-clause-cause
+returns-clause-cause g c = rw (← c.self.view_is) c.set_order-done.ensures.cause

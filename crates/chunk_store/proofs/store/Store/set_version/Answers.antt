@@ -1,50 +1,57 @@
-use Rattle.std.proofs.Common.{inl, inr, refl, ap, ◌∙◌, Err}
-use Rattle.replica_store.specs.declared.change.StoreChange.TheVariants.{Raise}
-use Rattle.replica_store.specs.Replicas.{disk_changed, raised_replica, replica_of}
-use Rattle.store_changes.specs.declared.fault.StoreFault.{StoreFault}
-use Rattle.store_changes.specs.declared.fault.StoreFault.TheVariants as faults
-use Rattle.store_changes.specs.Faults.{fault_of}
-use Rattle.store_changes.proofs.Answered.{disk_never, handed_over, never, not_refused}
-use Rattle.store_disk.proofs.Looked.{order_stays}
-use Rattle.chunk_store.proofs.StillOpen.{chunk_there, held_within, leaves_all, still_open, version_there}
+use Rattle.chunk_store.proofs.States.{as_volume, changed_sound, is_ready, made_open, refused_open}
 use Rattle.chunk_store.proofs.store.Store.set_version.Goals as goal
 
-pub returns-in-Err-clause-version : goal.returns-in-Err-clause-version
-returns-in-Err-clause-version g c d is = handed_over c.in-Err.fault faults.Version (c.in-Err.ensures.version d is)
-
-pub returns-in-Err-clause-any_moment : goal.returns-in-Err-clause-any_moment
-returns-in-Err-clause-any_moment g c =
+pub set_version-done-requires : goal.set_version-done-requires
+set_version-done-requires g c =
+    let was = c.self.inside in
     let disk = g.D.Disk in
-    leaves_all disk.seen disk.may_leave c.args.self.now c.requires.is_open.0 c.requires.is_open.1 disk.moment disk.left_since (g.met.D.Disk.only_now c.args.self.now.disk) (Raise c.args.handle c.args.version)
+    record { ready = is_ready disk.seen disk.may_leave was.volume was.is_open _ c.self.view_is c.self.invariant c.requires.is_open }
+
+pub invariant_of-self : goal.invariant_of-self
+invariant_of-self g c =
+    let was = c.self.inside in
+    let disk = g.D.Disk in
+    let call = c.set_version-done in
+    let after = c.stays_open-self-inside in
+    changed_sound disk.seen disk.may_leave call.new.self after.result was.volume call.result after.ensures call.ensures.layout call.ensures.ready call.ensures.kept c.self.invariant.whole
 
 pub returns-clause-ok : goal.returns-clause-ok
 returns-clause-ok g c d is =
-    let store = c.args.self.now in
-    still_open g.D.Disk.seen g.D.Disk.may_leave store d is c.raise.new.disk c.raise.new.index store.order (disk_changed d (Raise c.args.handle c.args.version)) c.raise.ensures.size
-    (is.order ∙ order_stays (λ r. raised_replica r c.args.version.0) d c.args.handle.0 (replica_of d c.args.handle.0)) c.in_ok-raise.ensures.rest (c.in_ok-raise.ensures.made d is.says)
+    let was = c.self.inside in
+    let disk = g.D.Disk in
+    let told = as_volume disk.seen disk.may_leave was.volume was.is_open _ c.self.view_is d is in
+    made_open disk.seen disk.may_leave c.set_version-done.new.self c.stays_open-self-inside.result c.set_version-done.result _ c.stays_open-self-inside.ensures (c.set_version-done.ensures.ok d told)
 
 pub returns-clause-no_chunk : goal.returns-clause-no_chunk
-returns-clause-no_chunk g c d is = chunk_there g.D.Disk.seen g.D.Disk.may_leave c.args.self.now d is c.args.handle.0 c.in-Ok.found c.in-Ok.ensures.found.0 (λ e. absurd cc)
+returns-clause-no_chunk g c d is =
+    let was = c.self.inside in
+    let disk = g.D.Disk in
+    let told = as_volume disk.seen disk.may_leave was.volume was.is_open _ c.self.view_is d is in
+    c.set_version-done.ensures.no_chunk d told
 
 pub returns-clause-version : goal.returns-clause-version
-returns-clause-version g c d is = version_there g.D.Disk.seen g.D.Disk.may_leave c.args.self.now d is c.args.handle.0 c.in-Ok.found c.args.base c.in-Ok.ensures.found.0 c.in-Ok.ensures.found.1 (λ e. absurd cc)
+returns-clause-version g c d is =
+    let was = c.self.inside in
+    let disk = g.D.Disk in
+    let told = as_volume disk.seen disk.may_leave was.volume was.is_open _ c.self.view_is d is in
+    c.set_version-done.ensures.version d told
 
-pub returns-in_err-raise-clause-version : goal.returns-in_err-raise-clause-version
-returns-in_err-raise-clause-version g c d is =
-    version_there g.D.Disk.seen g.D.Disk.may_leave c.args.self.now d is c.args.handle.0 c.in-Ok.found c.args.base c.in-Ok.ensures.found.0 c.in-Ok.ensures.found.1
-    (λ e. never c.from_residual.result (fault_of c.in_err-raise.field-0.0) faults.Version c.from_residual.ensures.1 (disk_never c.in_err-raise.field-0.0) refl e)
+pub returns-clause-refused : goal.returns-clause-refused
+returns-clause-refused g c d is refused =
+    let was = c.self.inside in
+    let disk = g.D.Disk in
+    let after = c.stays_open-self-inside in
+    let told = as_volume disk.seen disk.may_leave was.volume was.is_open _ c.self.view_is d is in
+    refused_open disk.seen disk.may_leave c.set_version-done.new.self after.result c.set_version-done.result d after.ensures (c.set_version-done.ensures.refused d told) refused
 
-pub returns-in_err-raise-clause-refused : goal.returns-in_err-raise-clause-refused
-returns-in_err-raise-clause-refused g c d is e = absurd (not_refused c.from_residual.result (fault_of c.in_err-raise.field-0.0) c.from_residual.ensures.1 (disk_never c.in_err-raise.field-0.0) e)
+pub returns-clause-any_moment : goal.returns-clause-any_moment
+returns-clause-any_moment g c = rw (← c.self.view_is) c.set_version-done.ensures.any_moment
 
-pub returns-in-Err-clause-only : goal.returns-in-Err-clause-only
-returns-in-Err-clause-only g c refused = elim c.in-Err.ensures.no_other [
-  | inl none ↦ inl (ap (λ (x : StoreFault). Err x) none)
-  | inr wrong ↦ inr (ap (λ (x : StoreFault). Err x) wrong)
-]
+pub returns-clause-layout : goal.returns-clause-layout
+returns-clause-layout g c = rw (← c.self.view_is) c.set_version-done.ensures.layout
 
-pub returns-in_err-raise-clause-only : goal.returns-in_err-raise-clause-only
-returns-in_err-raise-clause-only g c e = absurd (not_refused c.from_residual.result (fault_of c.in_err-raise.field-0.0) c.from_residual.ensures.1 (disk_never c.in_err-raise.field-0.0) e)
+pub returns-clause-open : goal.returns-clause-open
+returns-clause-open g c = c.stays_open-self-inside.ensures
 
-pub raise-requires-clause-slot : goal.raise-requires-clause-slot
-raise-requires-clause-slot g c = (held_within g.D.Disk.seen g.D.Disk.may_leave c.args.self.now c.requires.is_open.0 c.requires.is_open.1 c.args.handle.0 c.in-Ok.found c.in-Ok.ensures.found.0).0
+pub returns-clause-cause : goal.returns-clause-cause
+returns-clause-cause g c = rw (← c.self.view_is) c.set_version-done.ensures.cause

@@ -15,7 +15,7 @@ returns-in_default-clause-value g c =
 pub is_copyable-requires : goal.is_copyable-requires
 is_copyable-requires g c =
     let was = c.self.inside in
-    record { is_open = (was.said, open_as g.D.Disk.seen g.D.Disk.may_leave was.store was.known.order was.known.rows was.said was.standing c.self.invariant c.in-Open.is) }
+    record { is_open = (open_as g.D.Disk.seen g.D.Disk.may_leave was.store was.known.order was.known.rows was.said was.standing c.self.invariant c.in-Open.is).is_open }
 
 pub invariant_of-self : goal.invariant_of-self
 invariant_of-self g c =

@@ -1,7 +1,7 @@
 use Rattle.std.proofs.Common.{List, sym, ap, subst}
 use Rattle.replica_store.specs.Replicas.{ServerDisk}
 use Rattle.replica_store.specs.declared.change.StoreChange.{StoreChange}
-use Rattle.chunk_store.specs.declared.store.Store.{Store}
+use Rattle.chunk_store.specs.Stores.{StoreState}
 use Rattle.disk_store.specs.Standing.{IsKept}
 use Rattle.disk_store.proofs.Quiet.{quiet_kept}
 use Rattle.disk_store.proofs.disk_store.DiskStoreStoppableStore.stop_after_restart.Goals as goal
@@ -10,7 +10,7 @@ pub invariant_of-self : goal.invariant_of-self
 invariant_of-self g c =
     let was = c.self.inside in
     let disk = g.D.Disk in
-    subst (λ (s : Store _). IsKept disk.seen disk.may_leave s was.known.order was.known.rows was.said was.standing) (sym c.stop_after_restart.ensures.unchanged)
+    subst (λ (s : StoreState _). IsKept disk.seen disk.may_leave s was.known.order was.known.rows was.said was.standing) (sym c.stop_after_restart.ensures.unchanged)
     (quiet_kept disk.seen disk.may_leave was.store was.known.order was.known.rows was.said c.stop_after_restart.new.self.disk c.stop_after_restart.ensures.seen c.stop_after_restart.ensures.crash was.standing c.self.invariant)
 
 pub returns-clause-disk : goal.returns-clause-disk
