@@ -26,3 +26,9 @@ returns-clause-unchanged g c =
     let was = c.self.inside in
     let disk = g.D.Disk in
     read_unchanged disk.seen disk.may_leave was.volume was.is_open _ c.self.view_is c.arm.new.self c.arm.ensures.unchanged
+
+pub returns-clause-reads : goal.returns-clause-reads
+returns-clause-reads g c = rw (← c.self.view_is) c.arm.ensures.reads
+
+pub returns-clause-failed : goal.returns-clause-failed
+returns-clause-failed g c = rw (← c.self.view_is) c.arm.ensures.failed

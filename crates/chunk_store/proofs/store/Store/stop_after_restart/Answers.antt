@@ -13,3 +13,9 @@ returns-clause-unchanged g c =
     let was = c.self.inside in
     let disk = g.D.Disk in
     read_unchanged disk.seen disk.may_leave was.volume was.is_open _ c.self.view_is c.stop_after_restart.new.self c.stop_after_restart.ensures.unchanged
+
+pub returns-clause-seen : goal.returns-clause-seen
+returns-clause-seen g c = rw (← c.self.view_is) c.stop_after_restart.ensures.seen
+
+pub returns-clause-crash : goal.returns-clause-crash
+returns-clause-crash g c = rw (← c.self.view_is) c.stop_after_restart.ensures.crash
