@@ -10,8 +10,8 @@ invariant_of-self g c =
     let disk = g.D.Disk in
     let call = c.arm in
     let ready = λ (opened : was.is_open ≡ true).
-        let still = read_ready disk.seen disk.may_leave was.volume (c.self.invariant.ready opened) disk.moment disk.left_since call.new.self.disk call.ensures.reads in
-        subst (IsReady disk.seen disk.may_leave) (sym call.ensures.unchanged) still in
+    let still = read_ready disk.seen disk.may_leave was.volume (c.self.invariant.ready opened) disk.moment disk.left_since call.new.self.disk call.ensures.reads in
+    subst (IsReady disk.seen disk.may_leave) (sym call.ensures.unchanged) still in
     read_sound disk.seen disk.may_leave was.volume call.new.self was.is_open call.ensures.unchanged ready c.self.invariant
 
 pub returns-clause-still_open : goal.returns-clause-still_open
