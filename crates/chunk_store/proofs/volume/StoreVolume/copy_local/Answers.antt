@@ -90,18 +90,18 @@ install-requires-clause-within g c =
     let same = ap (λ s. s.layout.chunk) c.image.ensures.unchanged in
     omega (arith, c.if-count-chunk.false, same, ap length c.deref.ensures, c.len-count.ensures.value)
 
-pub returns-in-Ok-image-clause-ok : goal.returns-in-Ok-image-clause-ok
-returns-in-Ok-image-clause-ok g c d is =
+pub returns-else-count-chunk-clause-ok : goal.returns-else-count-chunk-clause-ok
+returns-else-count-chunk-clause-ok g c d is =
     let read = ap (λ (l : List ℕ). Some l) c.deref.ensures ∙ c.in-Ok-image.ensures.ok d is.says in
     on_ok_weaker c.install.result
     (λ made. subst (λ (e : ServerDisk). IsOpen g.D.Disk.seen g.D.Disk.may_leave c.install.new.self e) (put_copies d c.args.handle c.args.copy c.args.copy_version c.deref.result.now read) made)
     (c.install.ensures.ok d (c.image.ensures.still_open d is))
 
-pub returns-in-Ok-image-clause-no_chunk : goal.returns-in-Ok-image-clause-no_chunk
-returns-in-Ok-image-clause-no_chunk g c d is = chunk_there g.D.Disk.seen g.D.Disk.may_leave c.args.self.now d is c.args.handle.0 c.in-Ok.field-0 c.in-Ok.ensures.found.0 c.install.ensures.no_chunk
+pub returns-else-count-chunk-clause-no_chunk : goal.returns-else-count-chunk-clause-no_chunk
+returns-else-count-chunk-clause-no_chunk g c d is = chunk_there g.D.Disk.seen g.D.Disk.may_leave c.args.self.now d is c.args.handle.0 c.in-Ok.field-0 c.in-Ok.ensures.found.0 c.install.ensures.no_chunk
 
-pub returns-in-Ok-image-clause-version : goal.returns-in-Ok-image-clause-version
-returns-in-Ok-image-clause-version g c d is =
+pub returns-else-count-chunk-clause-version : goal.returns-else-count-chunk-clause-version
+returns-else-count-chunk-clause-version g c d is =
     let there = row_held g.D.Disk.seen g.D.Disk.may_leave c.args.self.now d is c.args.handle.0 c.in-Ok.field-0 c.in-Ok.ensures.found.0 in
     let known = c.install.ensures.version d (c.image.ensures.still_open d is) in (
       λ e. (c.in-Ok.field-0.row, there, inr (known.0 e)),
@@ -111,20 +111,20 @@ returns-in-Ok-image-clause-version g c d is =
       ],
     )
 
-pub returns-in-Ok-image-clause-corrupt : goal.returns-in-Ok-image-clause-corrupt
-returns-in-Ok-image-clause-corrupt g c d is e = absurd (c.install.ensures.intact e)
+pub returns-else-count-chunk-clause-corrupt : goal.returns-else-count-chunk-clause-corrupt
+returns-else-count-chunk-clause-corrupt g c d is e = absurd (c.install.ensures.intact e)
 
-pub returns-in-Ok-image-clause-no_room : goal.returns-in-Ok-image-clause-no_room
-returns-in-Ok-image-clause-no_room g c d is =
+pub returns-else-count-chunk-clause-no_room : goal.returns-else-count-chunk-clause-no_room
+returns-else-count-chunk-clause-no_room g c d is =
     let store = c.args.self.now in
     let room : is_disk_full store.layout.slots d ≡ true → ⊥ = λ full. some_free store.index.free (sym c.is_full.ensures ∙ c.if-is_full.false) ((full_open g.D.Disk.seen g.D.Disk.may_leave store d is).1 full) in
     (λ e. absurd (room (ap (λ s. is_disk_full s.layout.slots d) (sym c.image.ensures.unchanged) ∙ ((c.install.ensures.no_room d (c.image.ensures.still_open d is)).0 e).1)), λ p. absurd (room p.4))
 
-pub returns-in-Ok-image-clause-refused : goal.returns-in-Ok-image-clause-refused
-returns-in-Ok-image-clause-refused g c d is refused = c.install.ensures.refused d (c.image.ensures.still_open d is) refused
+pub returns-else-count-chunk-clause-refused : goal.returns-else-count-chunk-clause-refused
+returns-else-count-chunk-clause-refused g c d is refused = c.install.ensures.refused d (c.image.ensures.still_open d is) refused
 
-pub returns-in-Ok-image-clause-any_moment : goal.returns-in-Ok-image-clause-any_moment
-returns-in-Ok-image-clause-any_moment g c =
+pub returns-else-count-chunk-clause-any_moment : goal.returns-else-count-chunk-clause-any_moment
+returns-else-count-chunk-clause-any_moment g c =
     let disk = g.D.Disk in
     change_leaves disk.seen disk.may_leave c.args.self.now c.requires.ready disk.moment disk.left_since c.image.new.self c.image.ensures.reads (Copy c.args.handle c.args.copy c.args.copy_version) c.install.new.self
     (Put c.args.copy c.args.copy_version (record { 0 = 0 }) c.deref.result.now) c.image.ensures.unchanged
