@@ -151,13 +151,13 @@ module _ (k : ChunkSides) (n : Machine) (h : IsWhole k n) where
       let took = name_actions_are_taken k.machine n action h.names is may ready in
       let j : ChunkSides = record k { log = l; machine = after k.machine action } in
       let next_is : k.log.next_file ≡ suc k.machine.file_count = named.1 ∙ ap (λ (count : ℕ). suc count) h.names.count in
-      let made : ChunkSides = record k {
+      let with_file : ChunkSides = record k {
         log = record k.log { table = add_file k.log.table k.log.next_file told; next_file = suc k.log.next_file };
         machine = record k.machine { file_count = suc k.machine.file_count; files = put (suc k.machine.file_count) (new_file made) k.machine.files };
       } in
-      let one : KeepsChunks NoneEnds k made = new_files_have_no_chunk k told made h.chunks next_is in
-      let two : KeepsChunks NoneEnds made j =
-      other_changes_keep_chunks made j one.alike
+      let one : KeepsChunks NoneEnds k with_file = new_files_have_no_chunk k told made h.chunks next_is in
+      let two : KeepsChunks NoneEnds with_file j =
+      other_changes_keep_chunks with_file j one.alike
       (record {
         lists = ap (λ (t : ChunkTable). t.files) table_is;
         grants = λ handle. ap (λ (t : ChunkTable). granted_of (chunk_of t handle)) (sym table_is);
@@ -166,7 +166,7 @@ module _ (k : ChunkSides) (n : Machine) (h : IsWhole k n) where
         orders = refl;
         files = files;
       }) in
-      let kept : KeepsChunks NoneEnds k j = keeps_both NoneEnds NoneEnds NoneEnds k made j (λ handle none. none) (λ handle none. none) one two in
+      let kept : KeepsChunks NoneEnds k j = keeps_both NoneEnds NoneEnds NoneEnds k with_file j (λ handle none. none) (λ handle none. none) one two in
       record {
         actions = action ∷ [];
         lawful = (took.0, tt);
