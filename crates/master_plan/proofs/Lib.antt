@@ -6,7 +6,7 @@ pub mod Empty
 pub mod Reported
 pub mod FirstReports
 pub mod StillWhole
-pub mod Granted
+pub mod GrantedRows
 pub mod Watching
 pub mod Locked
 pub mod Due

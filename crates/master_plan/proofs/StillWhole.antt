@@ -20,7 +20,7 @@ use Rattle.master_plan.specs.Plans.{known, started}
 use Rattle.master_plan.specs.Watched.{servers_in, IsWhole, IsWholeAt, AllStay}
 use Rattle.rereplicate.specs.Doubts.{held_in}
 use Rattle.master_plan.specs.Granted.{granted_chunk, with_granted}
-use Rattle.master_plan.proofs.Granted.{IsOfRow, kept, ended, all_removed}
+use Rattle.master_plan.proofs.GrantedRows.{IsOfRow, kept, ended, all_removed}
 
 -- whether a chunk lacks replicas
 abbrev lacks_of : MasterState → ℕ → Option ChunkRow → Bool

@@ -1,5 +1,5 @@
 pub mod Trials
 pub mod Removed
 pub mod Ends
-pub mod Snapshots
+pub mod SharedFiles
 pub mod Extended

@@ -20,7 +20,7 @@ use std::alloc::Allocator;
 
 impl<A: Allocator + Clone> State<A> {
     /// What a snapshot of `from` at `to` is about. Damaged: the name of a copy would be too long.
-    #[tactic(auto, using(crate::proofs::Snapshots::same_files, crate::proofs::Snapshots::same_chunks))]
+    #[tactic(auto, using(crate::proofs::SharedFiles::same_files, crate::proofs::SharedFiles::same_chunks))]
     pub fn plan_snapshot(&self, from: &Path, to: &Path) -> Result<SnapshotPlan, ReplayFault>
         ensures copies { IfOk result (λ p. p.copies ≡ copied_entries self.now.names from.now to.now) }
         ensures files { IfOk result (λ p. p.files ≡ files_copied self.now from.now to.now) }
@@ -37,7 +37,7 @@ impl<A: Allocator + Clone> State<A> {
 
     /// A snapshot is taken: its names are put, and its files' chunks are shared. Damaged: the lease of one of these has not ended, a
     /// file isn't there, or a counter is at its limit. No lease is held at the last moment.
-    #[tactic(auto, using(crate::proofs::Snapshots::shared_is))]
+    #[tactic(auto, using(crate::proofs::SharedFiles::shared_is))]
     pub fn commit_snapshot(&mut self, plan: &SnapshotPlan, now: Moment) -> Result<(), ReplayFault>
         ensures ok { OnOk result (self.new ≡ snapshot_logged self.old plan.now.copies) }
         ensures closed { OnOk result (IsTrue (are_all_closed self.old.table now.0 plan.now.copies)) }
