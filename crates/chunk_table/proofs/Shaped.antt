@@ -1,11 +1,12 @@
 -- Each file has a shape and nothing else has, after one change of the files.
-use Rattle.std.proofs.Common.{◌≡◌, ℕ, Bool, true, false, cond, List, refl, sym, ap, ◌∙◌, subst, Some, None, Option, OnSome, MutBor, is_some}
+use Rattle.std.proofs.Common.{◌≡◌, ℕ, Bool, true, false, cond, List, [], refl, sym, ap, ◌∙◌, subst, Some, None, Option, OnSome, MutBor, is_some}
+use Rattle.std.specs.Prelude.{unwrap_or}
 use Rattle.std.specs.Ordering.{nat_cmp, eq_by_cmp}
 use Rattle.std.specs.Cmp.{nat_cmp_total}
-use Rattle.std.specs.FinMap.{get, insert, remove, get-insert, get-remove}
+use Rattle.std.specs.FinMap.{get, insert, remove, get-insert, get-remove, same_map, nat_cmp-IsAntisymmetric}
 use Rattle.gfs_types.specs.declared.shape.Shape.{Shape}
-use Rattle.chunk_table.specs.ChunkTable.{NumberTable, known_by, known_at, known_shape}
-use Rattle.chunk_table.proofs.Lookups.{at_key}
+use Rattle.chunk_table.specs.ChunkTable.{NumberTable, ChunkTable, known_by, known_at, known_shape, drop_file, leave_all}
+use Rattle.chunk_table.proofs.Lookups.{at_key, same_key}
 
 abbrev pub HaveShapes : NumberTable (List ℕ) → NumberTable Shape → Type 0
 HaveShapes files shapes = (file : ℕ) → is_some (get shapes file) ≡ is_some (get files file)
@@ -52,6 +53,21 @@ none_of (Some x) e = cc
 -- where no file is, no shape is
 pub none_there : (files : NumberTable (List ℕ)) (shapes : NumberTable Shape) (k : ℕ) → HaveShapes files shapes → get files k ≡ None → get shapes k ≡ None
 none_there files shapes k have none = none_of (get shapes k) (have k ∙ ap is_some none)
+
+none_at : {X : Type 0} (m : NumberTable X) (k q : ℕ) (b : Bool) → eq_by_cmp nat_cmp q k ≡ b → get m k ≡ None → cond b None (get m q) ≡ get m q
+none_at m k q true e none = sym (ap (get m) (same_key q k e) ∙ none)
+none_at m k q false e none = refl
+
+-- what isn't there can be removed
+pub absent : {X : Type 0} (m : NumberTable X) (k : ℕ) → get m k ≡ None → remove m k ≡ m
+absent m k none = same_map nat_cmp_total nat_cmp-IsAntisymmetric _ _ (λ q. get-remove nat_cmp_total m k q ∙ none_at m k q (eq_by_cmp nat_cmp q k) refl none)
+
+-- a file that isn't there can be dropped
+pub none_dropped : (t : ChunkTable) (file : ℕ) → HaveShapes t.files t.shapes → get t.files file ≡ None → drop_file t file ≡ t
+none_dropped t file have none =
+    ap (λ (m : NumberTable (List ℕ)). record t { files = m; shapes = remove t.shapes file; chunks = leave_all t.chunks (unwrap_or (get t.files file) []) }) (absent t.files file none)
+    ∙ ap (λ (m : NumberTable Shape). record t { shapes = m; chunks = leave_all t.chunks (unwrap_or (get t.files file) []) }) (absent t.shapes file (none_there t.files t.shapes file have none))
+    ∙ ap (λ (o : Option (List ℕ)). record t { chunks = leave_all t.chunks (unwrap_or o []) }) none
 
 -- a shape that was lent and changed
 pub known_lent : (old : NumberTable Shape) (k : ℕ) (usual : Shape) (r : Option (MutBor Shape)) (b : MutBor Shape) (new : NumberTable Shape) (w : Shape)

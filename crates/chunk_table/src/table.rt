@@ -398,10 +398,12 @@ impl Table {
     }
 
     /// Takes a file out. Each of its chunks loses an owner, and goes where that was its last. Refused: NoFile. Takes no memory.
+    #[tactic(auto, using(crate::proofs::Shaped::none_dropped))]
     pub fn drop_file(&mut self, file: FileId) -> Result<(), TableFault>
         ensures refusal { RefusedExactly result (drop_refusal self.old file.0) }
         ensures ok { OnOk result (self.new ≡ without_file self.old file.0) }
         ensures err { OnErr result (self.new ≡ self.old) }
+        ensures absent { OnErr result (without_file self.old file.0 ≡ self.old) }
     {
         let Some(handles) = self.files.remove(file.0) else {
             return Err(TableFault::NoFile);

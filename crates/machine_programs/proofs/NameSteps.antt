@@ -1,13 +1,17 @@
 -- A snapshot's copies one after another, and a name step by its parts.
-use Rattle.std.proofs.Common.{◌≡◌, ℕ, suc, ◌-◌, Bool, true, false, cond, List, [], ◌∷◌, Some, None, refl, sym, ap, subst, ◌∙◌, arith}
+use Rattle.std.proofs.Common.{◌≡◌, ℕ, suc, ◌-◌, Bool, true, false, not, cond, List, [], ◌∷◌, Some, None, Option, refl, sym, ap, subst, ◌∙◌, arith}
 use Rattle.gfs_types.specs.declared.call.Call.{Call}
 use Rattle.gfs_types.specs.declared.call.Call.TheVariants as call
+use Rattle.gfs_types.specs.declared.config.Config.{Config}
 use Rattle.gfs_types.specs.declared.refusal.Refusal.{Refusal}
+use Rattle.gfs_types.specs.declared.refusal.Refusal.TheVariants.{BadPath, BadSize, Reserved}
+use Rattle.gfs_types.specs.declared.shape.Shape.{Shape}
+use Rattle.gfs_types.specs.Shapes.{may_have}
 use Rattle.gfs_types.specs.declared.answer.Answer.TheVariants as answer
-use Rattle.gfs_types.specs.Paths.{Path}
-use Rattle.relaxed_file.specs.Names.{Node, Dir, File, node_at, copied_entries, with_copies, id_after_all}
+use Rattle.gfs_types.specs.Paths.{Path, is_path}
+use Rattle.relaxed_file.specs.Names.{Names, Node, Dir, File, node_at, copied_entries, with_copies, id_after_all}
 use Rattle.relaxed_file.specs.Machine.{Machine, Outcome, Replies}
-use Rattle.relaxed_file.specs.NameStep.{refusal_of, done_outcome, outcome_by, opened, is_refused, performed}
+use Rattle.relaxed_file.specs.NameStep.{refusal_of, first_refusal, name_tests, is_in_trash, done_outcome, outcome_by, opened, is_refused, performed}
 use Rattle.machine_programs.specs.NameTables.{NameTable, HasTable, Performs, IsNameStep, with_copy, with_all_copies}
 
 all_names : (es : List (Path × Node)) (t : NameTable) → with_copies t.names (suc t.file_count) es ≡ (with_all_copies t es).names
@@ -56,3 +60,21 @@ done_step old new c moment o none is h =
 
 pub refused_step : (t : NameTable) (c : Call) (moment : ℕ) (refusal : Refusal) → refusal_of t.config t.names c ≡ Some refusal → IsNameStep t c moment (Replies (answer.Refused refusal)) t
 refused_step t c moment refusal is = (ap (outcome_by t.names c) (sym is), λ m has. has)
+
+-- a refusal that no settings change, of the call whose path was looked at
+pub refused_as : (r : Option Refusal) (inside now : NameTable) (c : Call) (of : Path → Call) (looked named : Path)
+    → ((config : Config) → r ≡ refusal_of config inside.names (of looked)) → looked ≡ named → c ≡ of named → inside ≡ now → r ≡ refusal_of now.config now.names c
+refused_as r inside now c of looked named is same called view =
+    is inside.config ∙ ap (λ p. refusal_of inside.config inside.names (of p)) same ∙ ap (refusal_of inside.config inside.names) (sym called)
+    ∙ ap (λ (t : NameTable). refusal_of t.config t.names c) view
+
+pub refused_as_both : (r : Option Refusal) (inside now : NameTable) (c : Call) (of : Path → Path → Call) (looked named to named_to : Path)
+    → ((config : Config) → r ≡ refusal_of config inside.names (of looked to)) → looked ≡ named → to ≡ named_to → c ≡ of named named_to → inside ≡ now
+    → r ≡ refusal_of now.config now.names c
+refused_as_both r inside now c of looked named to named_to is same same_to called view =
+    refused_as r inside now c (of named) to named_to (λ config. is config ∙ ap (λ p. refusal_of config inside.names (of p to)) same) same_to called view
+
+-- a Create whose shape may be had is refused as one that asks for none
+pub refused_as_plain : (config : Config) (names : Names) (path : Path) (shape : Option Shape) → true ≡ may_have config shape
+    → refusal_of config names (call.Create path None) ≡ refusal_of config names (call.Create path shape)
+refused_as_plain config names path shape may = ap (λ b. first_refusal ((not (is_path path), BadPath) ∷ (not b, BadSize) ∷ (is_in_trash path, Reserved) ∷ name_tests names (call.Create path shape))) may

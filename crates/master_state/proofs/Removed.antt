@@ -8,14 +8,6 @@ use Rattle.chunk_table.specs.ChunkTable.{NumberTable, ChunkRow}
 use Rattle.chunk_table.proofs.Lookups.{same_key}
 use Rattle.master_state.specs.Follows.{is_unowned}
 
-none_at : {X : Type 0} (m : NumberTable X) (k q : ℕ) (b : Bool) → eq_by_cmp nat_cmp q k ≡ b → get m k ≡ None → cond b None (get m q) ≡ get m q
-none_at m k q true e none = sym (ap (get m) (same_key q k e) ∙ none)
-none_at m k q false e none = refl
-
--- what isn't there can be removed
-pub absent : {X : Type 0} (m : NumberTable X) (k : ℕ) → get m k ≡ None → remove m k ≡ m
-absent m k none = same_map nat_cmp_total nat_cmp-IsAntisymmetric _ _ (λ q. get-remove nat_cmp_total m k q ∙ none_at m k q (eq_by_cmp nat_cmp q k) refl none)
-
 some_at : {X : Type 0} (m : NumberTable X) (k q : ℕ) (v : X) (b : Bool) → eq_by_cmp nat_cmp q k ≡ b → get m k ≡ Some v → cond b (Some v) (get m q) ≡ get m q
 some_at m k q v true e is = sym (ap (get m) (same_key q k e) ∙ is)
 some_at m k q v false e is = refl

@@ -105,7 +105,7 @@ impl<A: Allocator + Clone> State<A> {
     }
 
     // A chunk goes that no file owns.
-    #[tactic(auto, using(crate::proofs::Removed::absent))]
+    #[tactic(auto, using(chunk_table::proofs::Shaped::absent))]
     fn remove_unowned(&mut self, handle: Handle) -> Result<(), ReplayFault>
         ensures ok { OnOk result (self.new ≡ record self.old { table = record self.old.table { chunks = finite.remove self.old.table.chunks handle.0 } }) }
         ensures unowned { OnOk result (IsTrue (is_unowned (chunk_of self.old.table handle.0))) }

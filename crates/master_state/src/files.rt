@@ -28,13 +28,9 @@ impl<A: Allocator + Clone> State<A> {
     }
 
     /// A file goes, and each chunk that no other one owns. Nothing changes where there is no such file. Takes no memory.
-    #[tactic(auto, using(crate::proofs::Removed::absent))]
     pub fn drop_file(&mut self, file: FileId)
         ensures { self.new ≡ record self.old { table = drop_file self.old.table file.0 } }
     {
-        if self.table.file(file).is_none() {
-            return;
-        }
         let _dropped = self.table.drop_file(file);
     }
 }
