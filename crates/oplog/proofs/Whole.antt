@@ -2,7 +2,7 @@
 use Rattle.std.proofs.Common.{◌≡◌, ◌⊎◌, ⊎_elim, ℕ, ◌≤◌, Bool, true, false, ◌==◌, List, [], ◌++◌, length, take, Option, None, refl, sym, ap, subst, ◌∙◌, arith, inl, inr}
 use Rattle.std.specs.Prelude.{Err, IfOk, Ok, OnOk, Result}
 use Rattle.std.proofs.lemmas.List.{get_or-take}
-use Rattle.disk.specs.Device.{ChangesOnly, Only}
+use Rattle.disk.specs.Device.{ChangesOnly, Follows, Only}
 use Rattle.disk_redo.specs.GateMoments.{LeavesOnly, OnlyReads}
 use Rattle.disk_redo.proofs.Moments.{joined, weaker}
 use Rattle.log_records.specs.declared.record.Record.{Record}
@@ -20,6 +20,7 @@ use Rattle.oplog.specs.Writing.{area_with}
 use Rattle.oplog.specs.Formats.{HasLogOfFormat1, IsUpgrading}
 use Rattle.oplog.specs.NewLogs.{IsLogOf}
 use Rattle.oplog.specs.declared.walk.Walk.{Walk}
+use Rattle.oplog.specs.Reopening.{IsReopened}
 use Rattle.oplog.specs.Opening.{area_found, IsFound, IsOpening, WalksThrough}
 use Rattle.oplog.specs.declared.found.FoundArea.{FoundArea}
 
@@ -153,3 +154,10 @@ pub current_bytes : {D : Type 0} (seen : D → List ℕ) (may_leave : D → List
 current_bytes seen may_leave log area is_open bytes is =
     let d = seen log.disk in
     is ∙ ap (λ (k : ℕ). range_at d k log.room) is_open.start ∙ ap (λ (k : ℕ). range_at d (area_at log.size log.which) k) is_open.room
+
+-- what a stop leaves once a disk that has begun again was opened
+pub begun_again : {D : Type 0} (seen : D → List ℕ) (may_leave : D → List ℕ → Type 0) (moment : D → ℕ) (left_since : D → ℕ → List ℕ → Type 0) (left : List ℕ → Type 0) (begun new : D)
+    → left (seen begun) → Only (seen begun) (may_leave begun) → ((t : ℕ) (c : List ℕ) → t ≤ moment new → may_leave new c → left_since new t c)
+    → LeavesOnly moment left_since begun new (IsOpening (seen begun) (may_leave begun)) → Follows IsReopened left (may_leave new)
+begun_again seen may_leave moment left_since left begun new lawful durable counts opening c leaves =
+    (seen begun, lawful, ⊎_elim (λ same. inl (durable c same)) (λ other. inr other) (opening.each c (counts (moment begun) c opening.later leaves)))

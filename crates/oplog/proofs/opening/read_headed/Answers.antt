@@ -74,14 +74,14 @@ returns-then-is_format_2-clause-any_moment g c =
     let disk = g.D.Disk in
     reads_open disk.seen disk.may_leave disk.moment disk.left_since c.args.disk.now c.read_log.new.disk c.read_log.ensures.reads
 
-pub returns-clause-same : goal.returns-clause-same
-returns-clause-same g c = old_logs c.upgrade.result (g.D.Disk.seen c.args.disk.now) c.upgrade.ensures.same
+pub returns-else-is_format_2-clause-same : goal.returns-else-is_format_2-clause-same
+returns-else-is_format_2-clause-same g c = old_logs c.upgrade.result (g.D.Disk.seen c.args.disk.now) c.upgrade.ensures.same
 
-pub returns-clause-undamaged : goal.returns-clause-undamaged
-returns-clause-undamaged g c items records log damaged =
+pub returns-else-is_format_2-clause-undamaged : goal.returns-else-is_format_2-clause-undamaged
+returns-else-is_format_2-clause-undamaged g c items records log damaged =
     let d = g.D.Disk.seen c.args.disk.now in
     let first = sym (second_read d) ∙ ap is_format_2 (sym c.requires.front) ∙ sym c.is_format_2.ensures ∙ c.if-is_format_2.false in
     c.upgrade.ensures.undamaged items records (opened_old_log items records d c.requires.headed first log) damaged
 
-pub returns-clause-read : goal.returns-clause-read
-returns-clause-read g c = ⊎_elim (λ same. inl same) (λ upgrading. inr (inr upgrading)) c.upgrade.ensures.read
+pub returns-else-is_format_2-clause-read : goal.returns-else-is_format_2-clause-read
+returns-else-is_format_2-clause-read g c = ⊎_elim (λ same. inl same) (λ upgrading. inr (inr upgrading)) c.upgrade.ensures.read

@@ -1,6 +1,7 @@
 use Rattle.std.proofs.Common.{◌≡◌, ℕ, ◌≤◌, List, false, length, inl, inr, sym, ap, subst, ◌∙◌, arith}
 use Rattle.std.specs.Prelude.{Err}
 use Rattle.disk.specs.Device.{ChangesOnly}
+use Rattle.oplog.specs.Areas.{AreaState}
 use Rattle.oplog.specs.Disks.{DiskSays}
 use Rattle.oplog.specs.Formats.{upgraded}
 use Rattle.oplog.specs.Opening.{IsFound}
@@ -14,8 +15,9 @@ pub returns-in_err-found-clause-undamaged : goal.returns-in_err-found-clause-und
 returns-in_err-found-clause-undamaged g c items records was damaged =
     let d = g.D.Disk.seen c.args.disk.now in
     let fault = handed_on c.from_residual.result c.in_err-found.field-0.0 Damaged c.from_residual.ensures.1 damaged in
-    let says = subst (λ (k : ℕ). DiskSays k was.log.which _ (upgraded d)) (same_size d c.requires.large) was.log.says in
-    c.in_err-found.ensures.undamaged was.log.which _ says (ap Err fault)
+    let area : AreaState = record { number = was.log.number; items = items; records = records } in
+    let says = subst (λ (k : ℕ). DiskSays k was.log.which area (upgraded d)) (same_size d c.requires.large) was.log.says in
+    c.in_err-found.ensures.undamaged was.log.which area says (ap Err fault)
 
 pub returns-in_err-found-clause-read : goal.returns-in_err-found-clause-read
 returns-in_err-found-clause-read g c = inl c.read_log.ensures.reads.seen_same

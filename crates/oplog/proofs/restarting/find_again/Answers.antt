@@ -1,0 +1,8 @@
+use Rattle.oplog.proofs.Whole.{begun_again}
+use Rattle.oplog.proofs.restarting.find_again.Goals as goal
+
+pub returns-clause-stops : goal.returns-clause-stops
+returns-clause-stops g c =
+    let disk = g.D.Disk in
+    begun_again disk.seen disk.may_leave disk.moment disk.left_since (disk.may_leave c.args.disk.now) c.restart.new.self c.open_disk.new.disk
+    c.in_ok-restart.ensures.lawful c.in_ok-restart.ensures.durable (g.met.D.Disk.counts_now c.open_disk.new.disk) c.open_disk.ensures.any_moment
