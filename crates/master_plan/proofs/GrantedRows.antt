@@ -8,6 +8,7 @@ use Rattle.relaxed_file.specs.Names.{Node, Dir, File, id_after, copied_entries}
 use Rattle.log_records.specs.declared.record.Record.{Record}
 use Rattle.log_records.specs.declared.record.Record.TheVariants as log
 use Rattle.gfs_types.specs.declared.shape.Shape.{Shape}
+use Rattle.gfs_types.specs.Shapes.{shape_or}
 use Rattle.chunk_table.specs.ChunkTable.{NumberTable, ChunkRow, ChunkTable, changed_at, row_shared, row_left, row_issued, row_granted, row_ended, share_one, share_all, leave_one, leave_all, owned_row, own_one, with_owned, handles_of, grant, no_shape, added_row, copied_row}
 use Rattle.chunk_table.proofs.Lookups.{at_key, get_changed, get_left, row_after}
 use Rattle.protocol.specs.Tables.{removed_all}
@@ -122,7 +123,7 @@ module _ (P : Shape → ℕ → Type 0) (zero_is : (shape : Shape) → P shape 0
   kept l (log.CopyStart file index handle copy copy_version) apart h = put_at l.table.chunks copy.0 (copied_row l.table handle.0 copy_version.0) (λ _. zero_is (copied_row l.table handle.0 copy_version.0).shape) h
   kept l (log.Counters next_file next_handle epoch) apart h = h
   kept l (log.DirItem path) apart h = h
-  kept l (log.FileItem path file shape handles) apart h = all_owned shape l.table.chunks handles h
+  kept l (log.FileItem path file shape handles) apart h = all_owned (shape_or no_shape shape) l.table.chunks handles h
   kept l (log.ChunkItem handle granted issued primary members) apart h =
       changed_elsewhere l.table.chunks handle.0 (λ row. record row { granted = granted.0; issued = issued.0; primary = primary.0; members = members }) (λ is. apart (ap Some (sym is))) h
   kept l (log.ClientItem client n refusal) apart h = h

@@ -1,6 +1,8 @@
 -- The taken sets are the locks of the snapshots that wait, as these come and go.
 use Rattle.std.proofs.Common.{◌≡◌, ◌≢◌, ℕ, zero, suc, ◌+◌, ◌-◌, ◌<◌, ◌==◌, Bool, true, false, not, cond, ◌&&◌, ◌||◌, List, [], ◌∷◌, ◌++◌, length, length-append, filter_map, filter, take, drop, Option, Some, None, is_some, slice_index_or, refl, sym, ap, ◌∙◌, subst, arith}
 use Rattle.std.specs.Option.{option_or}
+use Rattle.std.specs.Prelude.{Result, Ok, Err, OnOk, OnErr}
+use Rattle.std.specs.Result.{is_ok, is_err}
 use Rattle.std.proofs.lemmas.List.{take_at}
 use Rattle.std.specs.List.{list_any, list_all, remove}
 use Rattle.std.proofs.lemmas.Bool.{and_parts}
@@ -296,3 +298,16 @@ conflicts_are ss ts table wanted h =
     alike (has_conflict table wanted) (list_any (λ s. P (locks_of_snapshot s)) ss)
     (λ e. let found = some_held P table e in under_any P ss ts found.ticket found.locks (sym (h.taken found.ticket) ∙ found.holds) found.passes)
     (λ e. let found = any_under P ss ts h.each h.distinct e in held_some P table found.ticket found.locks (h.taken found.ticket ∙ found.holds) found.passes)
+
+-- What a call answered.
+pub if_no_err : {T E P : Type 0} (r : Result T E) → is_err r ≡ false → OnOk r P → P
+if_no_err (Ok x) e h = h
+if_no_err (Err x) e h = absurd (let both : true ≡ false = e in cc)
+
+pub if_err : {T E P : Type 0} (r : Result T E) → is_err r ≡ true → OnErr r P → P
+if_err (Ok x) e h = absurd (let both : false ≡ true = e in cc)
+if_err (Err x) e h = h
+
+pub is_ok_there : {T E : Type 0} (r : Result T E) → is_err r ≡ false → is_ok r ≡ true
+is_ok_there (Ok x) e = refl
+is_ok_there (Err x) e = absurd (let both : true ≡ false = e in cc)
