@@ -1,13 +1,17 @@
 -- Whether a conflict is told doesn't matter where a call's texts are no paths: that is refused before.
-use Rattle.std.proofs.Common.{◌≡◌, Bool, true, false, not, cond, ◌&&◌, List, [], ◌∷◌, ◌++◌, Option, Some, refl, ap}
+use Rattle.std.proofs.Common.{◌≡◌, Bool, true, false, not, cond, ◌&&◌, List, [], ◌∷◌, ◌++◌, Option, Some, refl, sym, ap, ◌∙◌}
+use Rattle.std.specs.Prelude.{Result, Ok, Err, IfOk}
+use Rattle.messages.specs.declared.message.NameReply.{NameReply}
+use Rattle.gfs_types.specs.declared.config.Config.{Config}
 use Rattle.gfs_types.specs.declared.call.Call.{Call}
 use Rattle.gfs_types.specs.declared.call.Call.TheVariants as call
 use Rattle.gfs_types.specs.declared.refusal.Refusal.{Refusal}
 use Rattle.gfs_types.specs.declared.refusal.Refusal.TheVariants.{BadPath, Busy}
 use Rattle.gfs_types.specs.Paths.{Path, is_path}
-use Rattle.relaxed_file.specs.NameStep.{first_refusal, path_tests, name_tests}
+use Rattle.relaxed_file.specs.Names.{Names}
+use Rattle.relaxed_file.specs.NameStep.{first_refusal, path_tests, name_tests, outcome_by}
 use Rattle.protocol.specs.Master.{MasterState}
-use Rattle.protocol.specs.MasterNames.{is_busy, master_refusal}
+use Rattle.protocol.specs.MasterNames.{is_busy, master_refusal, reply_by}
 use Rattle.master_state.specs.Refusals.{refusal_by}
 use Rattle.master_plan.specs.CallLocks.{are_paths}
 
@@ -55,3 +59,29 @@ refusal_alike m c b h = by_paths (are_paths c) refl
     by_paths : (x : Bool) → are_paths c ≡ x → refusal_by m.config m.logged.names b c ≡ master_refusal m c
     by_paths true e = lawful e
     by_paths false e = unlawful m c b e
+
+-- what a state of these names refuses, of a call that was taken apart
+pub refused_so : {E : Type 0} (result : Result (Option Refusal) E) (m : MasterState) (c told : Call) (b : Bool) (names : Names)
+    → IfOk result (λ r. (config : Config) → r ≡ refusal_by config names b told) → names ≡ m.logged.names → c ≡ told → (are_paths c ≡ true → b ≡ is_busy m c)
+    → IfOk result (λ r. r ≡ master_refusal m c)
+refused_so (Ok r) m c told b names h same is busy =
+    h m.config ∙ ap (λ n. refusal_by m.config n b told) same ∙ ap (refusal_by m.config m.logged.names b) (sym is) ∙ refusal_alike m c b busy
+refused_so (Err e) m c told b names h same is busy = tt
+
+-- the same of a call whose settings matter
+pub refused_with : {E : Type 0} (result : Result (Option Refusal) E) (m : MasterState) (c told : Call) (b : Bool) (names : Names) (config : Config)
+    → IfOk result (λ r. r ≡ refusal_by config names b told) → config ≡ m.config → names ≡ m.logged.names → c ≡ told → (are_paths c ≡ true → b ≡ is_busy m c)
+    → IfOk result (λ r. r ≡ master_refusal m c)
+refused_with (Ok r) m c told b names config h settings same is busy =
+    h ∙ ap (λ x. refusal_by x names b told) settings ∙ ap (λ n. refusal_by m.config n b told) same ∙ ap (refusal_by m.config m.logged.names b) (sym is) ∙ refusal_alike m c b busy
+refused_with (Err e) m c told b names config h settings same is busy = tt
+
+-- what a state of these names tells
+pub told_so : {E : Type 0} (result : Result NameReply E) (m : MasterState) (c told : Call) (b : Bool) (names : Names)
+    → IfOk result (λ r. (config : Config) → r ≡ reply_by (outcome_by names told (refusal_by config names b told))) → names ≡ m.logged.names → c ≡ told
+    → (are_paths c ≡ true → b ≡ is_busy m c) → IfOk result (λ r. r ≡ reply_by (outcome_by m.logged.names c (master_refusal m c)))
+told_so (Ok r) m c told b names h same is busy =
+    h m.config ∙ ap (λ n. reply_by (outcome_by n told (refusal_by m.config n b told))) same
+    ∙ ap (λ x. reply_by (outcome_by m.logged.names x (refusal_by m.config m.logged.names b x))) (sym is)
+    ∙ ap (λ x. reply_by (outcome_by m.logged.names c x)) (refusal_alike m c b busy)
+told_so (Err e) m c told b names h same is busy = tt
