@@ -1,6 +1,6 @@
 //! Bytes that rot.
 
-ghost use Rattle.std.specs.Prelude.{◌≡◌, ◌<◌, ◌↔◌, [], IfOk, IsErrOf, IsTrue, OnErr, OnOk, Some};
+ghost use Rattle.std.specs.Prelude.{◌≡◌, ◌<◌, ◌↔◌, [], IfOk, IsErrOf, IsTrue, OnErr, OnOk, Some, true};
 ghost use Rattle.gfs_types.specs.declared.ids.OrderNo.{OrderNo};
 ghost use Rattle.disk_store.specs.Known.{Rows};
 ghost use Rattle.replica_store.specs.Replicas.{Replica, ServerDisk, replica_of};

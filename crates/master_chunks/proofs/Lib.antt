@@ -6,3 +6,4 @@ pub mod Issues
 pub mod Copies
 pub mod Handles
 pub mod Owned
+pub mod Listed
