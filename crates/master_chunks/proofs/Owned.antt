@@ -71,3 +71,11 @@ planned s file index handle row listed stands shared =
     ap (copy_of_handle s file index) (same_place (handles_of s.table file) index ∙ listed)
     ∙ ap (copy_of_row s file index handle) stands
     ∙ ap (λ b. cond b (Some (record { file = file_id file; index = index; source = handle_id handle; copy = handle_id s.next_handle; version = version_id (suc row.issued) })) None) shared
+
+-- the row that was found is the one that is known
+pub found_row : (found known : ChunkRow) → Some found ≡ Some known → found ≡ known
+found_row found known e = cc
+
+-- a lease that has ended, by the step's moment
+pub has_ended_at : (end now moment : ℕ) → leb end now ≡ true → moment ≡ now → end ≤ moment
+has_ended_at end now moment e is = let ended : end ≤ now = grind (arith, nat_tests) in omega (arith, ended, is)
