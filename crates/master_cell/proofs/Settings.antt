@@ -1,5 +1,5 @@
 -- A step of the master leaves its settings and the number of servers as they were.
-use Rattle.std.proofs.Common.{◌≡◌, ℕ, Bool, true, false, cond, List, [], ◌∷◌, Option, Some, None, refl, ◌∙◌}
+use Rattle.std.proofs.Common.{◌≡◌, ℕ, suc, Bool, true, false, cond, List, [], ◌∷◌, Option, Some, None, refl, ◌∙◌}
 use Rattle.gfs_types.specs.declared.config.Config.{Config}
 use Rattle.gfs_types.specs.declared.call.Call.{Call}
 use Rattle.gfs_types.specs.declared.call.Call.TheVariants as call
@@ -22,7 +22,7 @@ use Rattle.protocol.specs.Logged.{KeptCall, checkpoint_of}
 use Rattle.protocol.specs.Master.{MasterState, MasterDoing, PendingSnapshot, master_begins, appends, fits, writes_checkpoint, logs, without_attempts, gives_up_copies, has_lease}
 use Rattle.protocol.specs.MasterSnapshots.{answers_name, revokes_row, revokes, revokes_all, takes_locks, snapshot_handles, snapshot_files, copies_for_files, begins_snapshot, settles_name, first_is_true, all_but_first, changes_names, is_ready, lets_go, takes_snapshot, takes_ready}
 use Rattle.protocol.specs.MasterNames.{master_refusal, performs, names_by, is_waiting_call, names_anew, names_kept, told_shape}
-use Rattle.protocol.specs.MasterStep.{master_takes, master_does, master_at, master_goes}
+use Rattle.protocol.specs.MasterStep.{master_takes, master_does, master_at, master_goes, opening}
 use Rattle.master_cell.proofs.Steady.{settings_of, asks_keep, recorded_keep, revoked_keep, report_keep, ticks_keep}
 
 -- a part of a step leaves the settings as they were
@@ -113,3 +113,7 @@ pub settings_stay : (m : MasterState) (moment : ℕ) (i : NodeInput) (refused : 
 settings_stay m moment i refused =
     let begun : MasterDoing = master_begins (master_at m moment) refused in
     (first_then (master_does begun i) (does_stay begun i) (takes_ready_stay (master_does begun i) (master_does begun i).master.snapshots)).same
+
+-- so does its opening
+pub opening_stays : (m : MasterState) → settings_of (opening m) ≡ (m.config, m.server_count)
+opening_stays m = (logs_stay (master_begins m []) (log.Epoch (suc m.logged.epoch)) (λ e. e) (λ _. record { same = refl })).same

@@ -1,4 +1,5 @@
-use Rattle.std.proofs.Common.{true, false, sym, ◌∙◌, subst}
+use Rattle.std.proofs.Common.{ℕ, true, false, sym, ap, ◌∙◌, subst}
+use Rattle.gfs_types.specs.declared.config.Config.{Config}
 use Rattle.protocol.specs.Logged.{LogDisk}
 use Rattle.protocol.specs.Seen.{no_output, down_output}
 use Rattle.master_plan.specs.Plans.{PlanState}
@@ -6,6 +7,9 @@ use Rattle.master_cell.specs.Commits.{IsStopped}
 use Rattle.master_cell.specs.Ends.{AllMade}
 use Rattle.master_cell.specs.Opens.{Opens}
 use Rattle.master_cell.specs.Standing.{standing}
+use Rattle.protocol.specs.MasterStep.{started_master}
+use Rattle.master_cell.proofs.Steady.{settings_of}
+use Rattle.master_cell.proofs.Settings.{opening_stays}
 use Rattle.master_cell.proofs.Steps.{is_down_as}
 use Rattle.master_cell.proofs.Restarts.{as_made, given_up, cut_off, no_room, is_up}
 use Rattle.master_cell.proofs.master.Master.opens.Goals as goal
@@ -72,3 +76,15 @@ returns-clause-opens g c =
     as_made c.args.self.now (standing false disk under_way config count q0) c.no_output.result no_output c.args.now.0 (standing true new_disk new_under_way config count c.makes.new.plan) old c.no_output.ensures
     (subst (λ (x : PlanState). Opens (standing false disk under_way config count q0) c.args.now.0 no_output (standing true new_disk new_under_way config count x)) (sym c.if-not-makes.ensures.rest)
     (is_up config count disk under_way q0 c.args.now.0 p c.in-Ok-opened.ensures.plan new_disk new_under_way (sym c.in-Ok-opened.ensures.logged ∙ c.if-not-opening.false) made))
+
+pub invariant_of-self-2 : goal.invariant_of-self-2
+invariant_of-self-2 g c =
+    let i = c.self.inside in
+    let disk = g.L.OperationLog.disk i.log in
+    let same = ap settings_of (sym c.in-Ok-opened.ensures.plan) ∙ opening_stays (started_master i.config i.server_count disk c.args.now.0) in
+    let rest = c.if-not-makes.ensures.rest in
+    (c.self.invariant.0, c.self.invariant.1, λ _. record {
+      none = c.if-not-makes.ensures.made.none;
+      config_is = ap (λ (q : PlanState). q.config) rest ∙ ap (λ (s : Config × ℕ). s.0) same;
+      count_is = ap (λ (q : PlanState). q.server_count) rest ∙ ap (λ (s : Config × ℕ). s.1) same;
+    })
