@@ -16,7 +16,7 @@ use disk::NodeDisk;
 use disk_store::disk_store::DiskStore;
 use gfs_types::config::Config;
 use gfs_types::path::Path;
-use master_state::node::{NameNode, Namespace};
+use namespace::node::{NameNode, Namespace};
 use path_trie::trie::Trie;
 use std::alloc::{Allocator, Global};
 use store_disk::Layout;
