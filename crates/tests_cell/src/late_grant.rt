@@ -23,11 +23,18 @@ const PRIMARY: ServerId = ServerId(1);
 /// The moment of all these events.
 const NOW: Moment = Moment(0);
 
+/// A kind of message to the primary.
+#[derive(Clone, Copy)]
+enum Wanted {
+    Grant,
+    Mutate,
+}
+
 /// The number of the first message of a kind to the primary; 0 where there is none.
-fn first_number(recorded: &Recorded, is_it: fn(&Body) -> bool) -> u64 {
+fn first_number(recorded: &Recorded, wanted: Wanted) -> u64 {
     for number in 1..=recorded.message_count() {
         if let Some(message) = recorded.message(number) {
-            if message.receiver == Node::Server(PRIMARY) && is_it(&message.body) {
+            if message.receiver == Node::Server(PRIMARY) && is_wanted(wanted, &message.body) {
                 return number;
             }
         }
@@ -35,12 +42,11 @@ fn first_number(recorded: &Recorded, is_it: fn(&Body) -> bool) -> u64 {
     0
 }
 
-fn is_grant(body: &Body) -> bool {
-    matches!(body, Body::Grant { .. })
-}
-
-fn is_mutate(body: &Body) -> bool {
-    matches!(body, Body::Mutate { .. })
+fn is_wanted(wanted: Wanted, body: &Body) -> bool {
+    match wanted {
+        Wanted::Grant => matches!(body, Body::Grant { .. }),
+        Wanted::Mutate => matches!(body, Body::Mutate { .. }),
+    }
 }
 
 /// Whether the message that was sent last is a refusal for want of a lease.
@@ -75,8 +81,8 @@ fn is_lost_for_good(alloc: Global) -> Result<bool, ScriptFault> {
         return Ok(false);
     };
     let mut cell = recorded;
-    let grant = first_number(&cell, is_grant);
-    let mutate = first_number(&cell, is_mutate);
+    let grant = first_number(&cell, Wanted::Grant);
+    let mutate = first_number(&cell, Wanted::Mutate);
     let repeat = Event::Deliver {
         number: mutate,
         now: NOW,

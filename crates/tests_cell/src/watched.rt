@@ -115,7 +115,7 @@ impl Watched {
         if number > self.cell.world.message_count() {
             return Ok(());
         }
-        while (self.came.len() as u64) <= number {
+        for _ in self.came.len() as u64..=number {
             self.came.push(false)?;
         }
         if let Some(came) = self.came.get_mut(number as usize) {
@@ -178,8 +178,11 @@ impl Watched {
 
     /// Each message that didn't come yet comes, the lowest number first.
     fn deliver(&mut self) -> Result<(), NoMemory> {
-        while self.next <= self.cell.world.message_count() {
+        for _ in 0..u64::MAX {
             let number = self.next;
+            if number > self.cell.world.message_count() {
+                return Ok(());
+            }
             self.next = number.saturating_add(1);
             if !self.has_come(number) {
                 let now = self.clock;

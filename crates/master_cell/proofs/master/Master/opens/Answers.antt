@@ -82,9 +82,12 @@ invariant_of-self-2 g c =
     let i = c.self.inside in
     let disk = g.L.OperationLog.disk i.log in
     let same = ap settings_of (sym c.in-Ok-opened.ensures.plan) ∙ opening_stays (started_master i.config i.server_count disk c.args.now.0) in
-    let rest = c.if-not-makes.ensures.rest in
-    (c.self.invariant.0, c.self.invariant.1, λ _. record {
-      none = c.if-not-makes.ensures.made.none;
-      config_is = ap (λ (q : PlanState). q.config) rest ∙ ap (λ (s : Config × ℕ). s.0) same;
-      count_is = ap (λ (q : PlanState). q.server_count) rest ∙ ap (λ (s : Config × ℕ). s.1) same;
-    })
+    let rest = c.if-not-makes.ensures.rest in (
+      c.self.invariant.0,
+      c.self.invariant.1,
+      λ _. record {
+        none = c.if-not-makes.ensures.made.none;
+        config_is = ap (λ (q : PlanState). q.config) rest ∙ ap (λ (s : Config × ℕ). s.0) same;
+        count_is = ap (λ (q : PlanState). q.server_count) rest ∙ ap (λ (s : Config × ℕ). s.1) same;
+      },
+    )
