@@ -36,6 +36,8 @@ def call_shown(call):
         if isinstance(argument, bytes):
             text = argument.decode()
             arguments[place] = f'b"{text}"' if name in ('write', 'append') else f'Text {{ text: "{text}" }}'
+    if name == 'create' and len(arguments) == 1:
+        arguments.append('None')
     return f'{name.capitalize()}({", ".join(map(str, arguments))})'
 
 

@@ -130,6 +130,7 @@ fn cause(refusal: Refusal) -> &'static str {
         Refusal::Inside => "9 Inside",
         Refusal::TooLong => "11 TooLong",
         Refusal::BadFd => "12 BadFd",
+        Refusal::BadSize => "22 BadSize",
         _ => "none",
     }
 }
