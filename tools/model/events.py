@@ -291,7 +291,7 @@ class Explorer:
                 counts['second rounds'] += handle in self.granted
                 self.granted.add(handle)
             counts['clones'] += message.kind == 'Cloned'
-            counts['pads'] += message.kind == 'Forward' and message.body[5][0] == 'Pad'
+            counts['pads'] += message.kind == 'Forward' and message.body[6][0] == 'Pad'
         if event[0] in ('Deliver', 'Tick', 'Call'):
             nodes = [state.master, *[lambda w, i=i: state.servers(w)[i] for i in range(self.cell.server_count)]]
             counts['stops'] += any(state.is_up(node(before)) and not state.is_up(node(self.cell.world)) for node in nodes)

@@ -47,6 +47,8 @@ class Facts:
         # by (handle, version): the members; by (server, handle, version): the ends that the master told
         self.grants = {}
         self.ends = {}
+        # by (handle, version): the size of the chunk that its Grant told
+        self.sizes_granted = {}
         # the shape of each file, and of each chunk, also of those that are gone
         self.shapes = {}
         self.chunk_shapes = {}
@@ -71,6 +73,8 @@ class Facts:
             self.check_settled(event, before)
         self.check_log(before)
         self.check_shapes(event, before)
+        self.check_told_shapes(new)
+        self.check_open_files()
         self.check_chunks()
         self.check_expired(event, before)
         self.check_clones(new)
@@ -229,6 +233,25 @@ class Facts:
             if self.chunk_shapes.setdefault(handle, shapes[file]) != shapes[file]:
                 raise Broken(f'the shape of chunk {handle} changes')
 
+    def check_told_shapes(self, new):
+        """Named and Told tell the shape of their file, Grant and Forward the size of their chunk; also where the file is collected since."""
+        for message in new:
+            body = message.body
+            if message.kind == 'Named' and body[2][0] == 'Opened' and body[2][2] != self.shapes[state.number(body[2][1])]:
+                raise Broken('Named tells another shape than that of its file')
+            if message.kind == 'Told' and body[2][0] == 'Some' and body[2][1]['shape'] != self.chunk_shapes[state.number(body[2][1]['handle'])]:
+                raise Broken('Told tells another shape than that of its chunk')
+            if message.kind == 'Grant' and body[5] != self.chunk_shapes[state.number(body[2])]['chunk']:
+                raise Broken('Grant tells another size than that of its chunk')
+            if message.kind == 'Forward' and body[5] != self.chunk_shapes[state.number(body[1])]['chunk']:
+                raise Broken('Forward tells another size than that of its chunk')
+
+    def check_open_files(self):
+        """A client's open file has its file's shape."""
+        for client in state.clients(self.world()):
+            if any(shape != self.shapes[file] for file, shape in state.open_shapes(client).items()):
+                raise Broken('a client has an open file of another shape')
+
     # ------------------------------------------------------------ the master's state
 
     def check_log(self, before):
@@ -317,7 +340,8 @@ class Facts:
                     raise Broken(f'two orders have the number {order}')
                 self.order_numbers.add(order)
             if message.kind == 'Grant':
-                self.check_grant(message.receiver, state.numbers(body[2:4]), state.numbers(body[5]))
+                self.check_grant(message.receiver, state.numbers(body[2:4]), state.numbers(body[6]))
+                self.sizes_granted.setdefault(tuple(state.numbers(body[2:4])), body[5])
             if message.kind in ('Grant', 'Extend'):
                 handle, version, end = state.numbers(body[2:5] if message.kind == 'Grant' else body[1:4])
                 self.ends.setdefault((message.receiver, handle, version), set()).add(end)
@@ -384,11 +408,12 @@ class Facts:
             raise Broken('two leases of a chunk may count')
 
     def check_told_leases(self):
-        """A lease is of a Grant to its server, with these members, and ends as that or an Extend of its version tells."""
+        """A lease is of a Grant to its server, with these members and this size of the chunk, and ends as that or an Extend of its version tells."""
         for server in state.servers(self.world()):
             for handle, lease in state.leases(server).items():
                 ends = self.ends.get((f's{state.server_number(server)}', handle, lease.version), ())
-                if self.grants.get((handle, lease.version)) != lease.members or lease.until not in ends:
+                is_sized = self.sizes_granted.get((handle, lease.version)) == lease.chunk
+                if self.grants.get((handle, lease.version)) != lease.members or lease.until not in ends or not is_sized:
                     raise Broken(f'chunk {handle}: a lease that the master did not tell')
 
     def check_lapsed(self, before):

@@ -153,7 +153,7 @@ class StoreDisk(StoppedDisk):
                     yield self.edges(cell, server, state.number(body[2]), *range_of(seen[5], seen[5][2:]))
         elif body[0] == 'Forward' and kinds & {'Write', 'Zero', 'Remove'}:
             pushed = apply(cell.program.function('data_push', 'Buffers', 'data_of'), server['pushed'], body[4])
-            yield self.edges(cell, server, state.number(body[1]), *range_of(body[5], pushed[1:]))
+            yield self.edges(cell, server, state.number(body[1]), *range_of(body[6], pushed[1:]))
         elif body[0] == 'Read' and kinds & {'Bytes', 'Remove'}:
             yield self.reads(server, state.number(body[2]), body[4], body[5])
         elif body[0] == 'CopyAsk' and kinds & {'Image', 'Remove'}:

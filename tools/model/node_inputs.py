@@ -4,7 +4,7 @@ from cell import GOES
 from words import FiniteMap, apply
 
 # what messages are made of has its fields in the order in which they are declared; all else in the order of their names
-DECLARED = [('client', 'seq'), ('epoch', 'count'), ('index', 'handle', 'round', 'holders', 'group'), ('server', 'version'), ('primary', 'members'),
+DECLARED = [('client', 'seq'), ('epoch', 'count'), ('index', 'handle', 'round', 'shape', 'holders', 'group'), ('server', 'version'), ('primary', 'members'),
             ('handle', 'version'), ('handle', 'version', 'was_used_since_report')]
 ORDERS = {frozenset(names): names for names in DECLARED}
 COUNTED = ('entries', 'live', 'snapshots', 'under_way')

@@ -13,7 +13,7 @@ REBASE = 'laws_rebase'
 
 Entry = namedtuple('Entry', 'client call attempt round serial kind offset content is_settled')
 Row = namedtuple('Row', 'granted issued references primary members lease_end shape')
-Lease = namedtuple('Lease', 'version until members')
+Lease = namedtuple('Lease', 'version until members chunk')
 Replica = namedtuple('Replica', 'version serial bytes changed')
 Snapshot = namedtuple('Snapshot', 'client deadline')
 
@@ -39,6 +39,10 @@ def servers(world):
 def server(world, name):
     """The server s1, s2, .."""
     return world['servers'][int(name[1:]) - 1]
+
+
+def clients(world):
+    return world['clients']
 
 
 def client(world, count):
@@ -201,7 +205,12 @@ def leases(node):
 
 def lease_of(primary):
     held = primary['held']
-    return Lease(held['version'], held['until'], numbers(held['members']))
+    return Lease(held['version'], held['until'], numbers(held['members']), primary['chunk'])
+
+
+def open_shapes(node):
+    """By file that is open at a client, the shape that it was told."""
+    return {file: open_file['shape'] for file, open_file in node['files'].items.items()}
 
 
 def is_in_call(node):

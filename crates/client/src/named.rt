@@ -37,7 +37,7 @@ fn takes_reply(client: &mut Client, reply: &NameReply) -> Result<ClientEffects, 
     ensures { IfOk result (λ e. takes_reply (client_begins client.old) reply.now ≡ doing client.new e) }
 {
     match reply {
-        NameReply::Opened(file) => client.opens(*file),
+        NameReply::Opened(file, shape) => client.opens(*file, *shape),
         NameReply::Answered(answer) => {
             let answer = answer.copy(client.alloc())?;
             Ok(client.answers(answer))

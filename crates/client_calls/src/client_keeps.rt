@@ -18,6 +18,7 @@ use gfs_types::answer::Answer;
 use gfs_types::config::Config;
 use gfs_types::ids::{DataId, Fd, FileId, Moment};
 use gfs_types::no_memory::NoMemory;
+use gfs_types::shape::Shape;
 use messages::message::Location;
 use std::alloc::Global;
 
@@ -82,12 +83,12 @@ impl Client {
     }
 
     /// A file is opened, under the next descriptor.
-    pub fn opens(&mut self, file: FileId) -> Result<ClientEffects, NoMemory>
-        ensures { IfOk result (λ e. opens (client_begins self.old) file.0 ≡ doing self.new e) }
+    pub fn opens(&mut self, file: FileId, shape: Shape) -> Result<ClientEffects, NoMemory>
+        ensures { IfOk result (λ e. opens (client_begins self.old) file.0 shape ≡ doing self.new e) }
     {
         let fd = sum(self.fd_count, 1)?;
         self.descriptors.insert(fd, file.0)?;
-        self.files.open(file.0, fd)?;
+        self.files.open(file.0, shape, fd)?;
         self.fd_count = fd;
         Ok(self.answers(Answer::Fd(Fd(fd))))
     }

@@ -9,6 +9,7 @@ ghost use Rattle.protocol.specs.ClientFiles.{files_after_open, files_after_close
 use client_state::kept::OpenFile;
 use gfs_types::ids::Fd;
 use gfs_types::no_memory::NoMemory;
+use gfs_types::shape::Shape;
 use ordered_map::number_map::NumberMap;
 use std::alloc::Global;
 use std::marker::Model;
@@ -68,21 +69,22 @@ impl OpenFiles {
         }
     }
 
-    /// A file is opened, under a new descriptor. At an error nothing has changed.
-    pub fn open(&mut self, file: u64, fd: u64) -> Result<(), NoMemory>
-        ensures ok { OnOk result (self.new ≡ files_after_open self.old file fd) }
+    /// A file of this shape is opened, under a new descriptor; one that is open already keeps the shape that it has. At an error nothing has changed.
+    pub fn open(&mut self, file: u64, shape: Shape, fd: u64) -> Result<(), NoMemory>
+        ensures ok { OnOk result (self.new ≡ files_after_open self.old file shape fd) }
         ensures err { OnErr result (self.new ≡ self.old) }
     {
         let open = match self.get(file) {
             None => OpenFile {
                 descriptors: 1,
                 last_opened: Fd(fd),
+                shape,
                 last_append: None,
             },
             Some(open) => OpenFile {
                 descriptors: open.descriptors.checked_add(1).ok_or(NoMemory)?,
                 last_opened: Fd(fd),
-                last_append: open.last_append,
+                ..open
             },
         };
         self.files.insert(file, open)?;

@@ -1,6 +1,7 @@
 //! The locations that a client keeps, and the files that it has open.
 
 use gfs_types::ids::{Fd, Moment};
+use gfs_types::shape::Shape;
 use messages::message::Location;
 
 /// A chunk of a file, by the file's number and the chunk's place in it.
@@ -26,6 +27,8 @@ pub struct OpenFile {
     pub descriptors: u64,
     /// The one of its last Open.
     pub last_opened: Fd,
+    /// How its chunks are, as Open was told it.
+    pub shape: Shape,
     /// The index at which the last append to it succeeded.
     pub last_append: Option<u64>,
 }

@@ -235,7 +235,7 @@ module _ (start : Logged) (file : ℕ) (what : Wanted) where
 
     located : (d : MasterDoing) (a : Asker) (handle : ℕ) (row : ChunkRow) (holders : List Holder) → Here a.index handle row d → Fine (tells_location d a handle row holders)
     located d a handle row holders h =
-        let l : Location = record { index = a.index; handle = handle_of handle; round = version_of row.granted; holders = holders; group = group_of d.master row } in
+        let l : Location = record { index = a.index; handle = handle_of handle; round = version_of row.granted; shape = row.shape; holders = holders; group = group_of d.master row } in
         ends d a.client (body.Told a.number (Some l))
         (record {
           numbered = (let more = h.2.0 in omega (arith, numbered, more));

@@ -7,6 +7,7 @@ use Rattle.std.proofs.lemmas.Bool.{and_parts, true≢false}
 use Rattle.std.proofs.Math.Nat.{le-max_left, le-max_right, max-le}
 use Rattle.gfs_types.specs.declared.config.Config.{Config}
 use Rattle.gfs_types.specs.declared.call.Call.{Call}
+use Rattle.gfs_types.specs.declared.shape.Shape.{Shape}
 use Rattle.gfs_types.specs.declared.ids.FileId.{FileId}
 use Rattle.gfs_types.specs.declared.answer.Answer.TheVariants as answer
 use Rattle.gfs_types.specs.declared.refusal.Refusal.TheVariants.{NoMemory}
@@ -723,10 +724,10 @@ module _ (config : Config) (servers clients : ℕ) (w : WorldState) (r : world.I
       name_there = ap is_name_call waiting_here.2 ∙ waiting_here.3
 
       told_allows : (j : NodeInput) → ComesTo w.sent client j → (q : NameReply) → Tells j x.number q
-          → ((reply : Answer) → q ≡ replies.Answered reply → Allows p.names (Return client reply)) × ((file : FileId) → q ≡ replies.Opened file → Allows p.names (ReturnFd client (suc (p.names.clients client).fd_count) file.0))
+          → ((reply : Answer) → q ≡ replies.Answered reply → Allows p.names (Return client reply)) × ((file : FileId) (shape : Shape) → q ≡ replies.Opened file shape → Allows p.names (ReturnFd client (suc (p.names.clients client).fd_count) file.0))
       told_allows (input.Deliver y) to q told =
           let given_now = told_answers_are_allowed p.names h.requests y client x.number waiting_here.0 ((p.named).told y to.0) (ap client_number to.1) waiting_here.1 name_there in
-          (λ reply same. given_now.0 reply (told ∙ ap (λ (z : NameReply). body.Named x.number z) same), λ file same. given_now.1 file (told ∙ ap (λ (z : NameReply). body.Named x.number z) same))
+          (λ reply same. given_now.0 reply (told ∙ ap (λ (z : NameReply). body.Named x.number z) same), λ file shape same. given_now.1 file shape (told ∙ ap (λ (z : NameReply). body.Named x.number z) same))
       told_allows input.Tick to q told = absurd told
 
       over_returns : (over : waits.IsOver s moment i doing x) → IsFileClient (after p.whole (Return client over.reply)) client doing.client → Allows p.names (Return client over.reply) → GoesOn
@@ -759,7 +760,7 @@ module _ (config : Config) (servers clients : ℕ) (w : WorldState) (r : world.I
       over_any over files =
           elim (files) [
             | inl plain ↦ over_returns over plain (returns_by over plain)
-            | inr opened ↦ over_opens over opened.0 opened.2 opened.3 ((told_allows i came (replies.Opened opened.0) opened.1).1 opened.0 refl)
+            | inr opened ↦ over_opens over opened.0 opened.2 opened.3 ((told_allows i came (replies.Opened opened.0 (opened.1).0) (opened.1).1).1 opened.0 (opened.1).0 refl)
           ]
 
       step_goes : GoesOn

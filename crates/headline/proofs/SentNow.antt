@@ -186,7 +186,7 @@ module _ (s : ClientState) where
         left = λ c chunk rest number now at h. tt;
         answered = λ d c reply h. silent d h (answers d reply) refl refl h.3 none_open;
         name_answered = λ d c reply h. silent d h (answers d reply) refl refl h.3 none_open;
-        opened = λ c number file now at came h. silent (client_begins s) (refl, refl, refl, refl) _ refl refl refl none_open;
+        opened = λ c number file shape now at came h. silent (client_begins s) (refl, refl, refl, refl) _ refl refl refl none_open;
         waits = λ d c idle h. silent d h _ refl refl h.3 (unpushed (Some c) c refl (idle_data c.stage idle));
         waits_again = λ d c h. silent d h (committed d c (again_planned d.client)) refl refl refl (unpushed (Some (record c { stage = MustAskAgain })) (record c { stage = MustAskAgain }) refl refl);
         asking = λ d c h.

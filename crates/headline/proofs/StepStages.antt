@@ -58,7 +58,7 @@ module _ (s : ClientState) where
         left = λ c chunk rest number now at h. tt;
         answered = λ d c reply h. inr (h.0, tt);
         name_answered = λ d c reply h. inr (h.0, tt);
-        opened = λ c number file now at came h. inr (h.0, tt);
+        opened = λ c number file shape now at came h. inr (h.0, tt);
         waits = λ d c idle h. inr (h.0, idle_new s c.stage idle);
         waits_again = λ d c h. inr (h.0, tt);
         asking = λ d c h. inr (h.0, later d c h);

@@ -115,7 +115,7 @@ module _ (asker : Node) (asked file : ℕ) where
       all_joined (IsSaid d.master.logged) d.sent (message node.Master a.client (body.Told a.number (Some this)) ∷ []) (post_of d h) (one, tt)
     where
       this : Location
-      this = record { index = a.index; handle = handle_of handle; round = version_of row.granted; holders = holders; group = group_of d.master row }
+      this = record { index = a.index; handle = handle_of handle; round = version_of row.granted; shape = row.shape; holders = holders; group = group_of d.master row }
 
       number_in : Body → ℕ
       number_in (body.Told number o) = number

@@ -146,7 +146,7 @@ next_quiet d c h = attempts_quiet d (record c { index = suc c.index; left = d.cl
 -- messages
 
 reply_quiet : (d : ClientDoing) (r : NameReply) → Quiet d → Quiet (takes_reply d r)
-reply_quiet d (Opened file) h = h
+reply_quiet d (Opened file shape) h = h
 reply_quiet d (Answered reply) h = h
 
 named_quiet : (d : ClientDoing) (c : CurrentCall) (s : Stage) (number : ℕ) (r : NameReply) → Quiet d → Quiet (takes_named d c s number r)

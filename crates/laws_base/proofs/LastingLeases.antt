@@ -25,7 +25,7 @@ use Rattle.laws_base.proofs.ScenesReached.{Scene, scene_of, scene_reached}
 
 -- a lease that a server holds, and that ends after the greatest moment
 module _ (x : Scene) (h : IsOfTimes x) (index handle : ℕ) (s : ServerState) (p : SerialOrder) (at : element_at x.servers index ≡ Some s) (is : table.get s.leases handle ≡ Some p) (lasts : x.greatest < p.held.until) where
-  told_lease : IsToldLease x.sent (suc index) s.disk handle p.held
+  told_lease : IsToldLease x.sent (suc index) s.disk handle p.chunk p.held
   told_lease = (h.base.told index s at).told handle p is
 
   end_told : IsEndTold x.sent handle p.held.version p.held.until
@@ -33,7 +33,7 @@ module _ (x : Scene) (h : IsOfTimes x) (index handle : ℕ) (s : ServerState) (p
 
   version_granted : IsVersionGranted x.sent handle p.held.version
   version_granted =
-      let told : IsToldLease x.sent (suc index) s.disk handle p.held = told_lease in
+      let told : IsToldLease x.sent (suc index) s.disk handle p.chunk p.held = told_lease in
       (told.grant, (told.place, told.at), granting told.order handle p.held.version told.end_moment p.held.members (told.grant).body told.is)
 
   not_past : IsPast x.greatest x.sent handle p.held.version p.held.until → ⊥
@@ -41,7 +41,7 @@ module _ (x : Scene) (h : IsOfTimes x) (index handle : ℕ) (s : ServerState) (p
       elim (past) [
         | inl early ↦ omega (arith, early, lasts)
         | inr said ↦
-            let told : IsToldLease x.sent (suc index) s.disk handle p.held = told_lease in
+            let told : IsToldLease x.sent (suc index) s.disk handle p.chunk p.held = told_lease in
             let was : WasRevoked x.sent x.servers handle p.held.version = h.base.revoked said.0 said.1 (handle_of handle) (version_of p.held.version) said.2 in
             let pair = paired x.sent x.master h.base.sent told.grant (was.word).revoke (told.place, told.at) (was.word).is_sent told.order was.order (handle_of handle) (version_of p.held.version) told.end_moment p.held.members told.is (was.word).is in
             let same : index ≡ was.index = server_numbers index was.index (sym told.receiver ∙ pair.0 ∙ (was.word).receiver) in
@@ -51,7 +51,7 @@ module _ (x : Scene) (h : IsOfTimes x) (index handle : ℕ) (s : ServerState) (p
   -- the primary of a row of this version
   primary_is : (l : Logged) (row : ChunkRow) → Agrees x.sent l → table.get (rows_of l) handle ≡ Some row → p.held.version ≡ row.granted → suc index ≡ row.primary
   primary_is l row agrees there same =
-      let told : IsToldLease x.sent (suc index) s.disk handle p.held = told_lease in
+      let told : IsToldLease x.sent (suc index) s.disk handle p.chunk p.held = told_lease in
       let fits = (agrees.rows handle row there told.grant (told.place, told.at)).0 told.order (version_of p.held.version) told.end_moment p.held.members told.is in
       ap number_of (sym told.receiver ∙ fits.1 same)
     where

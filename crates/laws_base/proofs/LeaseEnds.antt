@@ -18,11 +18,11 @@ use Rattle.protocol.specs.Logged.{Logged, LogDisk, LogChange, AppendRecord, Writ
 use Rattle.laws_base.specs.Laws.{is_grant, tells_end}
 use Rattle.laws_base.proofs.Steps.{none_some, same_some, put_cases}
 use Rattle.laws_base.proofs.Words.{is_of_lease, true_false, quiet_nothing}
-use Rattle.laws_base.proofs.LeaseOrders.{grant_parts, grant_ends, ExtendsNothing, nothing_ends, grant_order}
+use Rattle.laws_base.proofs.LeaseOrders.{grant_parts, grant_ends, ExtendsNothing, nothing_ends}
 use Rattle.laws_base.proofs.ChunkRows.{Rows, rows_of, OwnedFrom, removed_owned, all_copied_owned, swapped_owned, expired_owned}
 use Rattle.laws_base.proofs.VersionsAhead.{changed_cases}
 use Rattle.laws_base.proofs.LeasesEnded.{HasEnded, after_grant}
-use Rattle.laws_base.proofs.MasterMoves.{Core, IsDue, IsNoGrantRecord, IsPlainOrder, plain_nothing, IsLeft, IsLeaseFrom, core_changed, core_appended, core_ended, core_granted, core_extended, grant_record}
+use Rattle.laws_base.proofs.MasterMoves.{Core, IsDue, IsNoGrantRecord, IsPlainOrder, plain_nothing, IsLeft, IsLeaseFrom, core_changed, core_appended, core_ended, core_granted, core_extended, grant_record, granted_order}
 use Rattle.laws_base.proofs.MessagesSent.{IsSent}
 use Rattle.laws_base.proofs.OrderNumbers.{state_of, state-appended, AllStops, stops_push}
 use Rattle.laws_base.proofs.LoggedParts.{Parts, checkpoint_parts}
@@ -485,7 +485,7 @@ module _ (before : List Message) (greatest lease_ms : ℕ) (start : LogDisk) whe
       two = core_ended (core_appended c r) chunk until
 
       m : Message
-      m = message node.Master (the_server primary) (grant_order chunk number until members (record { epoch = two.logged.epoch; count = suc two.order_count }))
+      m = message node.Master (the_server primary) (granted_order c chunk number until primary members (record { epoch = two.logged.epoch; count = suc two.order_count }))
 
       told : List Message
       told = before ++ c.sent

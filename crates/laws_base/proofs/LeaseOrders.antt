@@ -13,49 +13,54 @@ use Rattle.messages.specs.declared.message.Message.{Message}
 use Rattle.chunk_table.specs.ChunkTable.{ChunkRow}
 use Rattle.protocol.specs.Tables.{element_at}
 use Rattle.protocol.specs.Sending.{the_server, handle_of, version_of, moment_of, order_number}
-use Rattle.laws_base.specs.Laws.{is_grant, tells_end, WasGranted}
+use Rattle.laws_base.specs.Laws.{IsGrantBody, is_grant, tells_end, WasGranted}
 use Rattle.laws_base.proofs.Steps.{none_some}
 use Rattle.laws_base.proofs.Entries.{same_number}
 
 -- a Grant, as a case
-pattern abbrev pub grant_body : OrderNo → Handle → Version → Moment → List ℕ → Body
-grant_body order handle version end_moment members = body.Grant order handle version end_moment members
+pattern abbrev pub grant_body : OrderNo → Handle → Version → Moment → ℕ → List ℕ → Body
+grant_body order handle version end_moment chunk members = body.Grant order handle version end_moment chunk members
 
 -- a Revoke
 pattern abbrev pub revoke_body : OrderNo → Handle → Version → Body
 revoke_body order handle version = body.Revoke order handle version
 
--- a message is this Grant
+-- a message is this Grant, with a size of the chunk
 pub record SaysGrant (order : OrderNo) (handle : Handle) (version : Version) (end_moment : Moment) (members : List ℕ) (b : Body) : Type 0 where
-  pub says : b ≡ body.Grant order handle version end_moment members
+  pub chunk : ℕ
+  pub says : b ≡ body.Grant order handle version end_moment chunk members
 
-pub says_grant : {order : OrderNo} {handle : Handle} {version : Version} {end_moment : Moment} {members : List ℕ} {b : Body} → b ≡ body.Grant order handle version end_moment members
+abbrev pub says_grant : {order : OrderNo} {handle : Handle} {version : Version} {end_moment : Moment} {members : List ℕ} {b : Body} → IsGrantBody order handle version end_moment members b
     → SaysGrant order handle version end_moment members b
-says_grant is = record { says = is }
+says_grant is = record { chunk = is.0; says = is.1 }
 
 -- as a law states it
 pub stated_grant : {order : OrderNo} {handle : Handle} {version : Version} {end_moment : Moment} {members : List ℕ} {b : Body} → SaysGrant order handle version end_moment members b
-    → b ≡ body.Grant order handle version end_moment members
-stated_grant is = is.says
+    → IsGrantBody order handle version end_moment members b
+stated_grant is = (is.chunk, is.says)
 
 -- so is the same message
-pub moved_grant : {order : OrderNo} {handle : Handle} {version : Version} {end_moment : Moment} {members : List ℕ} {a b : Body} → a ≡ b → SaysGrant order handle version end_moment members b
+abbrev pub moved_grant : {order : OrderNo} {handle : Handle} {version : Version} {end_moment : Moment} {members : List ℕ} {a b : Body} → a ≡ b → SaysGrant order handle version end_moment members b
     → SaysGrant order handle version end_moment members a
-moved_grant same is = record { says = same ∙ is.says }
+moved_grant same is = record { chunk = is.chunk; says = same ∙ is.says }
 
 -- a Grant of a chunk and a version by their numbers
 pub named_grant : {b : Body} {order : OrderNo} {q : Handle} {v : Version} {end_moment : Moment} {members : List ℕ} {handle version : ℕ} → SaysGrant order q v end_moment members b → q.0 ≡ handle → v.0 ≡ version
     → SaysGrant order (handle_of handle) (version_of version) end_moment members b
 named_grant {b} {order} {q} {v} {end_moment} {members} {handle} {version} is key number =
-    record { says = is.says ∙ (ap (λ (k : ℕ). body.Grant order (handle_of k) v end_moment members) key ∙ ap (λ (k : ℕ). body.Grant order (handle_of handle) (version_of k) end_moment members) number) }
+    record {
+      chunk = is.chunk;
+      says = is.says ∙ (ap (λ (k : ℕ). body.Grant order (handle_of k) v end_moment is.chunk members) key ∙ ap (λ (k : ℕ). body.Grant order (handle_of handle) (version_of k) end_moment is.chunk members) number);
+    }
 
 -- the one by which a lease was granted
-pub lease_grant : (sent : List Message) (server handle : ℕ) (held : LeaseHeld) (g : WasGranted sent server handle held) → SaysGrant g.4 (handle_of handle) (version_of held.version) g.5 held.members (g.1).body
-lease_grant sent server handle held g = says_grant g.6
+pub lease_grant : (sent : List Message) (server handle chunk : ℕ) (held : LeaseHeld) (g : WasGranted sent server handle chunk held) → SaysGrant g.4 (handle_of handle) (version_of held.version) g.5 held.members (g.1).body
+lease_grant sent server handle chunk held g = says_grant (chunk, g.6)
 
-pub was_granted : (sent : List Message) (server handle : ℕ) (held : LeaseHeld) (place : ℕ) (grant : Message) → element_at sent place ≡ Some grant → grant.receiver ≡ the_server server → (order : OrderNo) (end_moment : Moment)
-    → SaysGrant order (handle_of handle) (version_of held.version) end_moment held.members grant.body → WasGranted sent server handle held
-was_granted sent server handle held place grant at to order end_moment is = (place, grant, at, to, order, end_moment, is.says)
+pub was_granted : (sent : List Message) (server handle chunk : ℕ) (held : LeaseHeld) (place : ℕ) (grant : Message) → element_at sent place ≡ Some grant → grant.receiver ≡ the_server server → (order : OrderNo) (end_moment : Moment)
+    → (is : SaysGrant order (handle_of handle) (version_of held.version) end_moment held.members grant.body) → is.chunk ≡ chunk → WasGranted sent server handle chunk held
+was_granted sent server handle chunk held place grant at to order end_moment is same =
+    (place, grant, at, to, order, end_moment, is.says ∙ ap (λ (n : ℕ). body.Grant order (handle_of handle) (version_of held.version) end_moment n held.members) same)
 
 -- such a Grant is of those messages
 abbrev pub HasGrant : (Body → Type 0) → OrderNo → Handle → Version → Moment → List ℕ → Type 0
@@ -63,15 +68,15 @@ HasGrant Came order handle version end_moment members = (b : Body) × Came b × 
 
 -- what a Grant says, and other messages don't
 abbrev pub grant_handle : Body → ℕ
-grant_handle (body.Grant order handle version end_moment members) = handle.0
+grant_handle (body.Grant order handle version end_moment chunk members) = handle.0
 grant_handle other = 0
 
 abbrev pub grant_version : Body → ℕ
-grant_version (body.Grant order handle version end_moment members) = version.0
+grant_version (body.Grant order handle version end_moment chunk members) = version.0
 grant_version other = 0
 
 abbrev pub grant_members : Body → List ℕ
-grant_members (body.Grant order handle version end_moment members) = members
+grant_members (body.Grant order handle version end_moment chunk members) = members
 grant_members other = []
 
 pub grant_number : {order : OrderNo} {handle : Handle} {version : Version} {end_moment : Moment} {members : List ℕ} {b : Body} → SaysGrant order handle version end_moment members b → order_number b ≡ Some order
@@ -90,15 +95,15 @@ grant_ends {order} {handle} {version} {end_moment} {members} {b} is =
 
 -- what counts as a Grant is one
 pub grant_parts : (handle version : ℕ) (b : Body) → is_grant handle version b ≡ true → (order : OrderNo) × (end_moment : Moment) × (members : List ℕ) × SaysGrant order (handle_of handle) (version_of version) end_moment members b
-grant_parts handle version (body.Grant order q v end_moment members) is =
+grant_parts handle version (body.Grant order q v end_moment chunk members) is =
     let parts = and_parts (q.0 == handle) (v.0 == version) is in
-    let says : SaysGrant order q v end_moment members (body.Grant order q v end_moment members) = says_grant refl in
+    let says : SaysGrant order q v end_moment members (body.Grant order q v end_moment chunk members) = says_grant (chunk, refl) in
     (order, end_moment, members, named_grant says (eqb-true q.0 handle parts.0) (eqb-true v.0 version parts.1))
 grant_parts handle version other is = absurd (let no : false ≡ true = is in cc)
 
 -- what holds of a message, if it is a Grant
 abbrev pub OfGrant : (OrderNo → Handle → Version → Moment → List ℕ → Type 0) → Body → Type 0
-OfGrant P (body.Grant order handle version end_moment members) = P order handle version end_moment members
+OfGrant P (body.Grant order handle version end_moment chunk members) = P order handle version end_moment members
 OfGrant P other = Unit {0}
 
 pub of_grant : (P : OrderNo → Handle → Version → Moment → List ℕ → Type 0) {order : OrderNo} {handle : Handle} {version : Version} {end_moment : Moment} {members : List ℕ} {b : Body}
@@ -107,27 +112,27 @@ of_grant P is h = subst (λ (x : Body). OfGrant P x) is.says h
 
 pub to_grant : (P : OrderNo → Handle → Version → Moment → List ℕ → Type 0) (b : Body)
     → ((order : OrderNo) (handle : Handle) (version : Version) (end_moment : Moment) (members : List ℕ) → SaysGrant order handle version end_moment members b → P order handle version end_moment members) → OfGrant P b
-to_grant P (body.Grant order handle version end_moment members) f = f order handle version end_moment members (says_grant refl)
+to_grant P (body.Grant order handle version end_moment chunk members) f = f order handle version end_moment members (says_grant (chunk, refl))
 to_grant P other f = tt
 
 -- a message that grants nothing
 abbrev pub GrantsNothing : Body → Type 0
-GrantsNothing (body.Grant order handle version end_moment members) = ⊥
+GrantsNothing (body.Grant order handle version end_moment chunk members) = ⊥
 GrantsNothing other = Unit {0}
 
 pub of_nothing : (P : OrderNo → Handle → Version → Moment → List ℕ → Type 0) (b : Body) → GrantsNothing b → OfGrant P b
-of_nothing P (body.Grant order handle version end_moment members) none = absurd none
+of_nothing P (body.Grant order handle version end_moment chunk members) none = absurd none
 of_nothing P other none = tt
 
 pub not_said : {A : Type 0} {order : OrderNo} {handle : Handle} {version : Version} {end_moment : Moment} {members : List ℕ} {b : Body} → SaysGrant order handle version end_moment members b → GrantsNothing b → A
 not_said is none = absurd (subst (λ (x : Body). GrantsNothing x) is.says none)
 
 pub nothing_counts : (handle version : ℕ) (b : Body) → GrantsNothing b → is_grant handle version b ≡ false
-nothing_counts handle version (body.Grant order q v end_moment members) none = absurd none
+nothing_counts handle version (body.Grant order q v end_moment chunk members) none = absurd none
 nothing_counts handle version other none = refl
 
 pub unordered_nothing : (b : Body) → order_number b ≡ None → GrantsNothing b
-unordered_nothing (body.Grant order handle version end_moment members) none = none_some order (sym none)
+unordered_nothing (body.Grant order handle version end_moment chunk members) none = none_some order (sym none)
 unordered_nothing other none = tt
 
 -- one that extends nothing tells no end then
@@ -136,21 +141,21 @@ ExtendsNothing (body.Extend handle version end_moment) = ⊥
 ExtendsNothing other = Unit {0}
 
 pub nothing_ends : (b : Body) → GrantsNothing b → ExtendsNothing b → (handle version until : ℕ) → tells_end handle version until b ≡ false
-nothing_ends (body.Grant order q v end_moment members) none also handle version until = absurd none
+nothing_ends (body.Grant order q v end_moment chunk members) none also handle version until = absurd none
 nothing_ends (body.Extend q v end_moment) none also handle version until = absurd also
 nothing_ends other none also handle version until = refl
 
 -- nor does one that tells no end grant anything
 pub untold_nothing : (b : Body) → ((handle version until : ℕ) → tells_end handle version until b ≡ false) → GrantsNothing b
-untold_nothing (body.Grant order q v end_moment members) none =
-    let says : SaysGrant order q v end_moment members (body.Grant order q v end_moment members) = says_grant refl in
+untold_nothing (body.Grant order q v end_moment chunk members) none =
+    let says : SaysGrant order q v end_moment members (body.Grant order q v end_moment chunk members) = says_grant (chunk, refl) in
     let both : true ≡ false = sym (grant_ends says) ∙ none q.0 v.0 end_moment.0 in
     absurd (cc)
 untold_nothing other none = tt
 
 -- the master's Grant
-abbrev pub grant_order : ℕ → ℕ → ℕ → List ℕ → OrderNo → Body
-grant_order handle version until members order = body.Grant order (handle_of handle) (version_of version) (moment_of until) members
+abbrev pub grant_order : ℕ → ℕ → ℕ → ℕ → List ℕ → OrderNo → Body
+grant_order handle version until chunk members order = body.Grant order (handle_of handle) (version_of version) (moment_of until) chunk members
 
 -- a message is this Revoke
 pub record SaysRevoke (order : OrderNo) (handle : Handle) (version : Version) (b : Body) : Type 0 where

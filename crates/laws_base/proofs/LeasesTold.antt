@@ -65,8 +65,8 @@ replica_later d (Raise handle version) is = risen_later d (Raise handle version)
 replica_later d (Copy handle copy version) is = risen_later d (Copy handle copy version) tt
 replica_later d (Remove handle) is = risen_later d (Remove handle) tt
 
--- a lease that was granted to this server by an order that was taken, and whose end was told
-pub record IsToldLease (sent : List Message) (n : ℕ) (d : ServerDisk) (handle : ℕ) (held : LeaseHeld) : Type 0 where
+-- a lease that was granted to this server with this size of the chunk, by an order that was taken, and whose end was told
+pub record IsToldLease (sent : List Message) (n : ℕ) (d : ServerDisk) (handle chunk : ℕ) (held : LeaseHeld) : Type 0 where
   pub place : ℕ
   pub grant : Message
   pub at : element_at sent place ≡ Some grant
@@ -74,18 +74,19 @@ pub record IsToldLease (sent : List Message) (n : ℕ) (d : ServerDisk) (handle 
   pub order : OrderNo
   pub end_moment : Moment
   pub is : SaysGrant order (handle_of handle) (version_of held.version) end_moment held.members grant.body
+  pub chunk_is : is.chunk ≡ chunk
   pub taken : IsStaleAt d order
   pub told : WasEndTold sent handle held.version held.until
 
 abbrev pub AreToldLeases : List Message → ℕ → ServerDisk → Table SerialOrder → Type 0
-AreToldLeases sent n d leases = (handle : ℕ) (p : SerialOrder) → table.get leases handle ≡ Some p → IsToldLease sent n d handle p.held
+AreToldLeases sent n d leases = (handle : ℕ) (p : SerialOrder) → table.get leases handle ≡ Some p → IsToldLease sent n d handle p.chunk p.held
 
-told_later : (sent : List Message) (n : ℕ) (d e : ServerDisk) (handle : ℕ) (held : LeaseHeld) → Later d e → IsToldLease sent n d handle held → IsToldLease sent n e handle held
-told_later sent n d e handle held later h =
-    record { place = h.place; grant = h.grant; at = h.at; receiver = h.receiver; order = h.order; end_moment = h.end_moment; is = h.is; taken = stale_later d e h.order later h.taken; told = h.told }
+told_later : (sent : List Message) (n : ℕ) (d e : ServerDisk) (handle chunk : ℕ) (held : LeaseHeld) → Later d e → IsToldLease sent n d handle chunk held → IsToldLease sent n e handle chunk held
+told_later sent n d e handle chunk held later h =
+    record { place = h.place; grant = h.grant; at = h.at; receiver = h.receiver; order = h.order; end_moment = h.end_moment; is = h.is; chunk_is = h.chunk_is; taken = stale_later d e h.order later h.taken; told = h.told }
 
-told_more : (sent ms : List Message) (n : ℕ) (d : ServerDisk) (handle : ℕ) (held : LeaseHeld) → IsToldLease sent n d handle held → IsToldLease (sent ++ ms) n d handle held
-told_more sent ms n d handle held h =
+told_more : (sent ms : List Message) (n : ℕ) (d : ServerDisk) (handle chunk : ℕ) (held : LeaseHeld) → IsToldLease sent n d handle chunk held → IsToldLease (sent ++ ms) n d handle chunk held
+told_more sent ms n d handle chunk held h =
     record {
       place = h.place;
       grant = h.grant;
@@ -94,6 +95,7 @@ told_more sent ms n d handle held h =
       order = h.order;
       end_moment = h.end_moment;
       is = h.is;
+      chunk_is = h.chunk_is;
       taken = h.taken;
       told = (h.told.0, h.told.1, kept_place sent ms h.told.0 h.told.1 h.told.2, h.told.3);
     }
@@ -113,15 +115,17 @@ module _ (sent : List Message) (n : ℕ) where
   came_in input.Tick is = tt
 
   told_from : (d : ServerDisk) (before after : Table SerialOrder) → AreHeldFrom before after → AreToldLeases sent n d before → AreToldLeases sent n d after
-  told_from d before after from h handle p is = let was = from handle p is in subst (λ (held : LeaseHeld). IsToldLease sent n d handle held) was.2 (h handle was.0 was.1)
+  told_from d before after from h handle p is =
+      let was = from handle p is in
+      subst (λ (k : ℕ). IsToldLease sent n d handle k p.held) was.3 (subst (λ (held : LeaseHeld). IsToldLease sent n d handle (was.0).chunk held) was.2 (h handle was.0 was.1))
 
   all_later : (d e : ServerDisk) (leases : Table SerialOrder) → Later d e → AreToldLeases sent n d leases → AreToldLeases sent n e leases
-  all_later d e leases later h handle p is = told_later sent n d e handle p.held later (h handle p is)
+  all_later d e leases later h handle p is = told_later sent n d e handle p.chunk p.held later (h handle p is)
 
-  put_told : (d : ServerDisk) (leases : Table SerialOrder) (handle : ℕ) (new : SerialOrder) → IsToldLease sent n d handle new.held → AreToldLeases sent n d leases → AreToldLeases sent n d (table.insert leases handle new)
+  put_told : (d : ServerDisk) (leases : Table SerialOrder) (handle : ℕ) (new : SerialOrder) → IsToldLease sent n d handle new.chunk new.held → AreToldLeases sent n d leases → AreToldLeases sent n d (table.insert leases handle new)
   put_told d leases handle new told h q p is =
       elim (put_cases leases handle new q p is) [
-        | inl same ↦ subst (λ (k : ℕ). IsToldLease sent n d k p.held) (sym same.0) (subst (λ (x : SerialOrder). IsToldLease sent n d handle x.held) same.1 told)
+        | inl same ↦ subst (λ (k : ℕ). IsToldLease sent n d k p.chunk p.held) (sym same.0) (subst (λ (x : SerialOrder). IsToldLease sent n d handle x.chunk x.held) same.1 told)
         | inr before ↦ h q p before
       ]
 
@@ -130,7 +134,7 @@ module _ (sent : List Message) (n : ℕ) where
   GrantCameTo order handle version end_moment members =
       (place : ℕ) × (m : Message) × (element_at sent place ≡ Some m) × (m.receiver ≡ the_server n) × SaysGrant order handle version end_moment members m.body
 
-  pub grant_came : (order : OrderNo) (handle : Handle) (version : Version) (end_moment : Moment) (members : List ℕ) → HasGrant CameTo order handle version end_moment members → GrantCameTo order handle version end_moment members
+  abbrev pub grant_came : (order : OrderNo) (handle : Handle) (version : Version) (end_moment : Moment) (members : List ℕ) → HasGrant CameTo order handle version end_moment members → GrantCameTo order handle version end_moment members
   grant_came order handle version end_moment members g = ((g.1).0, (g.1).1, (g.1).2, (g.1).3, moved_grant (g.1).4 g.2)
 
   end_of_extend : (handle : Handle) (version : Version) (end_moment : Moment) (m : Message) → m.body ≡ body.Extend handle version end_moment → tells_end handle.0 version.0 end_moment.0 m.body ≡ true
@@ -149,7 +153,7 @@ module _ (sent : List Message) (n : ℕ) where
             let came : GrantCameTo order handle version end_moment members = grant_came order handle version end_moment members has in
             let after : ServerDisk = disk_changed c.disk (SetOrder order) in (
               h.0,
-              put_told after c.leases handle.0 (lease_of version end_moment members)
+              put_told after c.leases handle.0 (lease_of version end_moment has.2.chunk members)
                   (record {
                     place = came.0;
                     grant = came.1;
@@ -158,13 +162,14 @@ module _ (sent : List Message) (n : ℕ) where
                     order = order;
                     end_moment = end_moment;
                     is = came.4;
+                    chunk_is = refl;
                     taken = inr (refl, omega arith);
                     told = (came.0, came.1, came.2, grant_ends came.4);
                   })
                   (all_later c.disk after c.leases (risen_later c.disk (SetOrder order) new) h.1),
             );
         extends = λ c handle version end_moment p came at same h.
-            let old : IsToldLease sent n c.disk handle.0 p.held = h.1 handle.0 p at in (
+            let old : IsToldLease sent n c.disk handle.0 p.chunk p.held = h.1 handle.0 p at in (
               h.0,
               put_told c.disk c.leases handle.0 (until_moment p end_moment)
                   (record {
@@ -175,6 +180,7 @@ module _ (sent : List Message) (n : ℕ) where
                     order = old.order;
                     end_moment = old.end_moment;
                     is = old.is;
+                    chunk_is = old.chunk_is;
                     taken = old.taken;
                     told = (came.0, came.1, came.2, subst (λ (v : ℕ). tells_end handle.0 v end_moment.0 (came.1).body ≡ true) (sym same) (end_of_extend handle version end_moment came.1 came.4));
                   }) h.1,
@@ -218,7 +224,7 @@ abbrev pub AreTold : Scene → Type 0
 AreTold x = (index : ℕ) (s : ServerState) → element_at x.servers index ≡ Some s → IsToldServer x.sent index s
 
 more_told : (sent ms : List Message) (index : ℕ) (s : ServerState) → IsToldServer sent index s → IsToldServer (sent ++ ms) index s
-more_told sent ms index s h = record { id = h.id; sound = h.sound; told = λ handle p is. told_more sent ms (suc index) s.disk handle p.held (h.told handle p is) }
+more_told sent ms index s h = record { id = h.id; sound = h.sound; told = λ handle p is. told_more sent ms (suc index) s.disk handle p.chunk p.held (h.told handle p is) }
 
 one_told : (x : Scene) (ms : List Message) (index : ℕ) (t : ServerState) → IsToldServer x.sent index t → AreTold x → AreTold (record x { sent = x.sent ++ ms; servers = with_at x.servers index t })
 one_told x ms index t told h other u is =
@@ -279,7 +285,7 @@ told_kept =
 pub leases_are_told : LeasesAreTold
 leases_are_told config servers clients w r index s at handle p is =
     let told = (scene_reached AreTold told_kept config servers clients w r index s at).told handle p is in
-    (was_granted w.sent (suc index) handle p.held told.place told.grant told.at told.receiver told.order told.end_moment told.is, told.told)
+    (was_granted w.sent (suc index) handle p.chunk p.held told.place told.grant told.at told.receiver told.order told.end_moment told.is told.chunk_is, told.told)
 
 -- two grants of one version are one
 

@@ -105,7 +105,7 @@ module _ (Asks : Type 0) (Told : ℕ → ℕ → ℕ → Type 0) (Ended : ℕ �
 
   location_keeps : (d : MasterDoing) (a : Asker) (handle : ℕ) (row : ChunkRow) (holders : List Holder) → At Asks Told Ended P k d → At Asks Told Ended P k (tells_location d a handle row holders)
   location_keeps d a handle row holders h =
-      tells_keeps Asks Told Ended P k d a.client (body.Told a.number (Some (record { index = a.index; handle = handle_of handle; round = version_of row.granted; holders = holders; group = group_of d.master row }))) refl h
+      tells_keeps Asks Told Ended P k d a.client (body.Told a.number (Some (record { index = a.index; handle = handle_of handle; round = version_of row.granted; shape = row.shape; holders = holders; group = group_of d.master row }))) refl h
 
   holders_keeps : (d : MasterDoing) (a : Asker) (handle : ℕ) (row : ChunkRow) → At Asks Told Ended P k d → At Asks Told Ended P k (tells_holders d a handle row)
   holders_keeps d a handle row h = location_keeps d a handle row (map holder_line (current_holders d.master handle row)) h

@@ -22,6 +22,7 @@ use Rattle.protocol.specs.Logged.{Logged, Copy, LogDisk, LogChange, AppendRecord
 use Rattle.protocol.specs.Master.{MasterDoing, VersionAttempt, PendingSnapshot, tells, ends_at, fits, appends, writes_checkpoint, logs, logs_after_checkpoint, is_of_copy}
 use Rattle.laws_base.proofs.Steps.{on_cond, none_some, put_cases, removed_cases}
 use Rattle.laws_base.proofs.Words.{is_of_lease, no_order}
+use Rattle.protocol.specs.MasterVersions.{chunk_size_of}
 use Rattle.laws_base.proofs.LeaseOrders.{revoke_body, revoke_order, grant_body, grant_order, GrantsNothing}
 use Rattle.laws_base.proofs.CopiesUnderWay.{IsUncopied, AreCopied, AreSoundCopies}
 use Rattle.relaxed_file.specs.Names.{Names, copied_entries}
@@ -90,16 +91,16 @@ core_ended c handle moment = record c { logged = record c.logged { table = set_e
 
 -- no Grant and no Revoke
 abbrev pub IsPlainOrder : Body → Type 0
-IsPlainOrder (grant_body order handle version end_moment members) = ⊥
+IsPlainOrder (grant_body order handle version end_moment chunk members) = ⊥
 IsPlainOrder (revoke_body order handle version) = ⊥
 IsPlainOrder other = Unit {0}
 
 pub plain_nothing : (b : Body) → IsPlainOrder b → GrantsNothing b
-plain_nothing (grant_body order handle version end_moment members) plain = plain
+plain_nothing (grant_body order handle version end_moment chunk members) plain = plain
 plain_nothing other plain = tt
 
 pub unordered_plain : (b : Body) → order_number b ≡ None → IsPlainOrder b
-unordered_plain (grant_body order handle version end_moment members) none = none_some order (sym none)
+unordered_plain (grant_body order handle version end_moment chunk members) none = none_some order (sym none)
 unordered_plain (revoke_body order handle version) none = none_some order (sym none)
 unordered_plain other none = tt
 
@@ -113,10 +114,15 @@ core_ordered c server b =
 abbrev pub grant_record : ℕ → ℕ → ℕ → List ℕ → Record
 grant_record handle version primary members = log.Grant (handle_of handle) (version_of version) (server_id primary) members
 
+-- the order of a grant whose record is logged, with the size of the chunk
+abbrev pub granted_order : Core → ℕ → ℕ → ℕ → ℕ → List ℕ → OrderNo → Body
+granted_order c handle version until primary members =
+    grant_order handle version until (chunk_size_of (core_appended c (grant_record handle version primary members)).logged.table handle) members
+
 -- a grant: its record, then the end of its lease, then the order
 abbrev pub core_granted : Core → ℕ → ℕ → ℕ → ℕ → List ℕ → Core
 core_granted c handle version until primary members =
-    core_ordered (core_ended (core_appended c (grant_record handle version primary members)) handle until) primary (grant_order handle version until members)
+    core_ordered (core_ended (core_appended c (grant_record handle version primary members)) handle until) primary (granted_order c handle version until primary members)
 
 -- a lease that the master lets last longer: its end, and the word to its primary
 abbrev pub core_extended : Core → ℕ → ℕ → ℕ → ℕ → Core

@@ -118,7 +118,7 @@ module _ (Asks : Type 0) (Told : ℕ → ℕ → ℕ → Type 0) (Ended : ℕ �
   ready_keeps d h = ready_in d d.master.snapshots (λ asks. all_among d.master.snapshots) (λ asks. (h.2 asks).apart) h
 
   pub look_keeps : (d : MasterDoing) (client : Node) (number : ℕ) (c : Call) → At Asks Told Ended P k d → At Asks Told Ended P k (takes_look d client number c)
-  look_keeps d client number c h = tells_keeps d client (body.Named number (reply_by (outcome_by d.master.logged.names c (master_refusal d.master c)))) refl h
+  look_keeps d client number c h = tells_keeps d client (body.Named number (reply_by d.master.logged.table (outcome_by d.master.logged.names c (master_refusal d.master c)))) refl h
 
   -- what a call finds that meets no refusal: its refusal, that it doesn't wait already, and room for ids
   performs_keeps : (d : MasterDoing) (client number deadline : ℕ) (c : Call) → master_refusal d.master c ≡ None → is_waiting_call d.master client number ≡ false → (Asks → d.master.logged.next_file ≤ counter_limit)

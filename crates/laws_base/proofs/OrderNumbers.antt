@@ -19,10 +19,10 @@ use Rattle.chunk_table.specs.ChunkTable.{ChunkRow, ChunkTable}
 use Rattle.protocol.specs.Logged.{Logged, KeptCall, Copy, copies_given_up, LogDisk, LogChange, AppendRecord, WriteCheckpoint, first_logged, log_changed, log_changed_by_all, after_record, after_records, checkpoint_of, name_item, node_item, chunk_item, client_item, swapped_in}
 use Rattle.laws_base.specs.Laws.{is_number, orders_under}
 use Rattle.laws_base.proofs.Steps.{tally, count-append}
-use Rattle.laws_base.proofs.MasterMoves.{Core, IsDue, Nothing, NoneEnded, Keeps, core_changed, core_appended, core_ended, grant_record}
+use Rattle.laws_base.proofs.MasterMoves.{Core, IsDue, Nothing, NoneEnded, Keeps, core_changed, core_appended, core_ended, grant_record, granted_order}
 use Rattle.laws_base.proofs.ClientMoves.{one_more}
 use Rattle.laws_base.proofs.Words.{no_order}
-use Rattle.laws_base.proofs.LeaseOrders.{revoke_order, grant_order}
+use Rattle.laws_base.proofs.LeaseOrders.{revoke_order}
 
 -- the state that a log leads to, before copies are given up
 abbrev pub state_of : LogDisk → Logged
@@ -174,7 +174,7 @@ numbers_keep start epoch before =
       revokes = λ c handle row is h. ordered c row.primary (revoke_order handle row) (λ o. refl) h;
       grants = λ c handle version until primary members told due names from idle h.
           let r : Record = grant_record handle version primary members in
-          ordered (core_ended (core_appended c r) handle until) primary (grant_order handle version until members) (λ o. refl) (ended (core_appended c r) handle until (appended c r due h));
+          ordered (core_ended (core_appended c r) handle until) primary (granted_order c handle version until primary members) (λ o. refl) (ended (core_appended c r) handle until (appended c r due h));
       appends = λ c r due plain names h. appended c r due h;
       checkpoint = λ c tree h. checkpointed c h;
       sound = λ asks. absurd asks;

@@ -98,14 +98,14 @@ module _ (sent : List Message) (n : ℕ) (pairs : ArePaired sent) (disk : Server
       }
 
   -- a Grant that is taken is of a lease that is not over
-  over_granted : (c : ServerCore) (order : OrderNo) (handle : Handle) (version : Version) (end_moment : Moment) (members : List ℕ) → GrantCameTo sent n order handle version end_moment members → is_new_order c.disk order.epoch order.count ≡ true
-      → (q v : ℕ) (earlier : OrderNo) → IsOver sent n c.disk c.leases q v earlier → IsOver sent n (disk_changed c.disk (SetOrder order)) (table.insert c.leases handle.0 (lease_of version end_moment members)) q v earlier
-  over_granted c order handle version end_moment members came new q v earlier h =
+  over_granted : (c : ServerCore) (order : OrderNo) (handle : Handle) (version : Version) (end_moment : Moment) (chunk : ℕ) (members : List ℕ) → GrantCameTo sent n order handle version end_moment members → is_new_order c.disk order.epoch order.count ≡ true
+      → (q v : ℕ) (earlier : OrderNo) → IsOver sent n c.disk c.leases q v earlier → IsOver sent n (disk_changed c.disk (SetOrder order)) (table.insert c.leases handle.0 (lease_of version end_moment chunk members)) q v earlier
+  over_granted c order handle version end_moment chunk members came new q v earlier h =
       record {
         word = h.word;
         taken = stale_later c.disk (disk_changed c.disk (SetOrder order)) earlier (risen_later c.disk (SetOrder order) new) h.taken;
         none = λ p at same.
-            elim (put_cases c.leases handle.0 (lease_of version end_moment members) q p at) [
+            elim (put_cases c.leases handle.0 (lease_of version end_moment chunk members) q p at) [
               | inl now ↦ refused now.0 (ap (λ (x : SerialOrder). x.held.version) now.1 ∙ same)
               | inr before ↦ h.none p before same
             ];
@@ -142,7 +142,7 @@ module _ (sent : List Message) (n : ℕ) (pairs : ArePaired sent) (disk : Server
         stores = λ c x is h. stays c _ refl refl (λ q v o. over_from sent n c.disk (disk_changed c.disk x) c.leases c.leases q v o (replica_later c.disk x is) (same_held c.leases)) h;
         takes = λ c order new h. stays c _ refl refl (λ q v o. over_from sent n c.disk (disk_changed c.disk (SetOrder order)) c.leases c.leases q v o (risen_later c.disk (SetOrder order) new) (same_held c.leases)) h;
         holds = λ c after from h. stays c _ refl refl (λ q v o. over_from sent n c.disk c.disk c.leases after q v o (same_later c.disk) from) h;
-        grants = λ c order handle version end_moment members came new h. stays c _ refl refl (over_granted c order handle version end_moment members (grant_came sent n order handle version end_moment members came) new) h;
+        grants = λ c order handle version end_moment members came new h. stays c _ refl refl (over_granted c order handle version end_moment came.2.chunk members (grant_came sent n order handle version end_moment members came) new) h;
         extends = λ c handle version end_moment p came at same h. stays c _ refl refl (over_extended c handle end_moment p at) h;
         revokes = λ c order handle version after has new from none h.
             let came : CameTo sent n has.0 = has.1 in

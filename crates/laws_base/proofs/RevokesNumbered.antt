@@ -25,10 +25,10 @@ use Rattle.protocol.specs.MasterStep.{master_at, master_goes, master_ends, maste
 use Rattle.protocol.specs.World.{WorldState, stamped, IsReached}
 use Rattle.laws_base.specs.Laws.{IsSameOrLater}
 use Rattle.laws_base.proofs.Steps.{on_cond, same_some}
-use Rattle.laws_base.proofs.LeaseOrders.{revoke_order, SaysRevoke, moved_revoke, named_revoke, revoke_handle, revoke_version, not_revoked, SaysGrant, moved_grant, named_grant, grant_handle, grant_version, grant_number, not_said, grant_order}
+use Rattle.laws_base.proofs.LeaseOrders.{revoke_order, SaysRevoke, moved_revoke, named_revoke, revoke_handle, revoke_version, not_revoked, SaysGrant, moved_grant, named_grant, grant_handle, grant_version, grant_number, not_said}
 use Rattle.laws_base.proofs.ChunkRows.{Rows, rows_of, From, removed_from, changed_from, swapped_from}
 use Rattle.laws_base.proofs.VersionsAhead.{changed_cases}
-use Rattle.laws_base.proofs.MasterMoves.{Core, core_of, IsDue, IsPlainOrder, plain_nothing, unordered_plain, quiet_plain, Nothing, NoneEnded, Keeps, core_changed, core_appended, core_ended, core_granted, core_revoked, grant_record, logs_alone}
+use Rattle.laws_base.proofs.MasterMoves.{Core, core_of, IsDue, IsPlainOrder, plain_nothing, unordered_plain, quiet_plain, Nothing, NoneEnded, Keeps, core_changed, core_appended, core_ended, core_granted, core_revoked, grant_record, logs_alone, granted_order}
 use Rattle.laws_base.proofs.MasterSteps.{no_input, goes_named}
 use Rattle.laws_base.proofs.MembersRecorded.{all_at}
 use Rattle.laws_base.proofs.MessagesSent.{IsSent, IsSameMessage, sent_before, sent_after, sent_cases, none_sent, sent_last, numbered_sent, step_sent, order_counted}
@@ -309,7 +309,7 @@ granted before start c handle version until primary members due n h =
     order = record { epoch = two.logged.epoch; count = suc two.order_count }
 
     m : Message
-    m = message node.Master (the_server primary) (grant_order handle version until members order)
+    m = message node.Master (the_server primary) (granted_order c handle version until primary members order)
 
     ms : List Message
     ms = before ++ c.sent

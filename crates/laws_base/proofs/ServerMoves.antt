@@ -82,14 +82,14 @@ store_changed c x = record c { disk = disk_changed c.disk x; changes = c.changes
 
 -- each lease was there, with the same version, end and members
 abbrev pub AreHeldFrom : Table SerialOrder → Table SerialOrder → Type 0
-AreHeldFrom before after = (handle : ℕ) (p : SerialOrder) → table.get after handle ≡ Some p → (old : SerialOrder) × (table.get before handle ≡ Some old) × (old.held ≡ p.held)
+AreHeldFrom before after = (handle : ℕ) (p : SerialOrder) → table.get after handle ≡ Some p → (old : SerialOrder) × (table.get before handle ≡ Some old) × (old.held ≡ p.held) × (old.chunk ≡ p.chunk)
 
 -- none is of this version of the chunk
 abbrev pub HasNoLease : Table SerialOrder → ℕ → ℕ → Type 0
 HasNoLease leases handle version = (p : SerialOrder) → table.get leases handle ≡ Some p → p.held.version ≡ version → ⊥
 
-abbrev pub lease_of : VersionId → Moment → List ℕ → SerialOrder
-lease_of version end_moment members = new_order (record { version = version.0; until = end_moment.0; members = members })
+abbrev pub lease_of : VersionId → Moment → ℕ → List ℕ → SerialOrder
+lease_of version end_moment chunk members = new_order chunk (record { version = version.0; until = end_moment.0; members = members })
 
 abbrev pub until_moment : SerialOrder → Moment → SerialOrder
 until_moment p end_moment = record p { held = record p.held { until = end_moment.0 } }
@@ -105,8 +105,8 @@ pub record KeepsServer (Came : Body → Type 0) (P : ServerCore → Type 0) : Ty
   -- leases that were there
   pub holds : (c : ServerCore) (leases : Table SerialOrder) → AreHeldFrom c.leases leases → P c → P (record c { leases = leases })
   -- a lease that was granted
-  pub grants : (c : ServerCore) (order : OrderNo) (handle : Handle) (version : VersionId) (end_moment : Moment) (members : List ℕ) → HasGrant Came order handle version end_moment members
-      → is_new_order c.disk order.epoch order.count ≡ true → P c → P (record (store_changed c (SetOrder order)) { leases = table.insert c.leases handle.0 (lease_of version end_moment members) })
+  pub grants : (c : ServerCore) (order : OrderNo) (handle : Handle) (version : VersionId) (end_moment : Moment) (members : List ℕ) → (is : HasGrant Came order handle version end_moment members)
+      → is_new_order c.disk order.epoch order.count ≡ true → P c → P (record (store_changed c (SetOrder order)) { leases = table.insert c.leases handle.0 (lease_of version end_moment is.2.chunk members) })
   -- a later end of a lease
   pub extends : (c : ServerCore) (handle : Handle) (version : VersionId) (end_moment : Moment) (p : SerialOrder) → Came (body.Extend handle version end_moment) → table.get c.leases handle.0 ≡ Some p → p.held.version ≡ version.0 → P c
       → P (record c { leases = table.insert c.leases handle.0 (until_moment p end_moment) })
@@ -120,20 +120,20 @@ IsCameIn Came (input.Deliver m) = Came m.body
 IsCameIn Came input.Tick = Unit {0}
 
 pub same_held : (leases : Table SerialOrder) → AreHeldFrom leases leases
-same_held leases handle p is = (p, is, refl)
+same_held leases handle p is = (p, is, refl, refl)
 
 removed_held : (leases : Table SerialOrder) (handle : ℕ) → AreHeldFrom leases (table.remove leases handle)
-removed_held leases handle q p is = (p, kept_cases leases handle q p is, refl)
+removed_held leases handle q p is = (p, kept_cases leases handle q p is, refl, refl)
 
--- a lease of this handle has this version, end and members
-abbrev IsHeld : Table SerialOrder → ℕ → LeaseHeld → Type 0
-IsHeld leases handle held = (old : SerialOrder) × (table.get leases handle ≡ Some old) × (old.held ≡ held)
+-- a lease of this handle has this one's version, end, members and size of the chunk
+abbrev IsHeld : Table SerialOrder → ℕ → SerialOrder → Type 0
+IsHeld leases handle p = (old : SerialOrder) × (table.get leases handle ≡ Some old) × (old.held ≡ p.held) × (old.chunk ≡ p.chunk)
 
-put_held : (leases : Table SerialOrder) (handle : ℕ) (p : SerialOrder) → IsHeld leases handle p.held → AreHeldFrom leases (table.insert leases handle p)
+put_held : (leases : Table SerialOrder) (handle : ℕ) (p : SerialOrder) → IsHeld leases handle p → AreHeldFrom leases (table.insert leases handle p)
 put_held leases handle p at q r is =
     elim (put_cases leases handle p q r is) [
-      | inl same ↦ (at.0, ap (λ (n : ℕ). table.get leases n) same.0 ∙ at.1, at.2 ∙ ap (λ (x : SerialOrder). x.held) same.1)
-      | inr before ↦ (r, before, refl)
+      | inl same ↦ (at.0, ap (λ (n : ℕ). table.get leases n) same.0 ∙ at.1, at.2 ∙ ap (λ (x : SerialOrder). x.held) same.1, at.3 ∙ ap (λ (x : SerialOrder). x.chunk) same.1)
+      | inr before ↦ (r, before, refl, refl)
     ]
 
 there_held : (leases : Table SerialOrder) (handle : ℕ) (p : SerialOrder) → table.get (table.insert leases handle p) handle ≡ Some p
@@ -161,13 +161,13 @@ module _ (Came : Body → Type 0) (P : ServerCore → Type 0) (k : KeepsServer C
   abbrev pub Holds : ServerDoing → Type 0
   Holds d = P (server_core d)
 
-  abbrev IsHere : ServerDoing → ℕ → LeaseHeld → Type 0
-  IsHere d handle held = IsHeld d.server.leases handle held
+  abbrev IsHere : ServerDoing → ℕ → SerialOrder → Type 0
+  IsHere d handle p = IsHeld d.server.leases handle p
 
-  primary_here : (d : ServerDoing) (handle version : ℕ) (p : SerialOrder) → primary_of d.server handle version ≡ Some p → IsHere d handle p.held
-  primary_here d handle version p is = (p, (primary_there d.server version (table.get d.server.leases handle) p is).0, refl)
+  primary_here : (d : ServerDoing) (handle version : ℕ) (p : SerialOrder) → primary_of d.server handle version ≡ Some p → IsHere d handle p
+  primary_here d handle version p is = (p, (primary_there d.server version (table.get d.server.leases handle) p is).0, refl, refl)
 
-  with_holds_primary : (d : ServerDoing) (handle : ℕ) (p : SerialOrder) → IsHere d handle p.held → Holds d → Holds (with_primary d handle p)
+  with_holds_primary : (d : ServerDoing) (handle : ℕ) (p : SerialOrder) → IsHere d handle p → Holds d → Holds (with_primary d handle p)
   with_holds_primary d handle p at h = k.holds (server_core d) (table.insert d.server.leases handle p) (put_held d.server.leases handle p at) h
 
   less_holds : (d : ServerDoing) (handle : ℕ) → Holds d → Holds (without_lease d handle)
@@ -193,34 +193,34 @@ module _ (Came : Body → Type 0) (P : ServerCore → Type 0) (k : KeepsServer C
   settled_holds d id None h = attempt_holds d id ChunkFull h
   settled_holds d id (Some place) h = says_holds d (the_client id.client.0) (body.Done id place) refl h
 
-  denies_holds : (d : ServerDoing) (handle : ℕ) (p : SerialOrder) (id : DataId) (refusal : Refusal) → IsHere d handle p.held → Holds d → Holds (denies d handle p id refusal)
+  denies_holds : (d : ServerDoing) (handle : ℕ) (p : SerialOrder) (id : DataId) (refusal : Refusal) → IsHere d handle p → Holds d → Holds (denies d handle p id refusal)
   denies_holds d handle p id refusal at h =
       let denying : SerialOrder = denied p id.client id.seq refusal in
       attempt_holds (takes_data (with_primary d handle denying) id) id refusal (with_holds_primary d handle denying at h)
 
-  forwards_holds : (d : ServerDoing) (members : List ℕ) (handle version serial : ℕ) (id : DataId) (c : Change) → Holds d → Holds (forwards d members handle version serial id c)
-  forwards_holds d [] handle version serial id c h = subst (λ (sent : List Message). P (record (server_core d) { sent = sent })) (sym (append-[] d.sent)) h
-  forwards_holds d (m ∷ rest) handle version serial id c h =
-      let said : Body = body.Forward (handle_of handle) (version_of version) (serial_of serial) id c in
-      subst (λ (sent : List Message). P (record (server_core d) { sent = sent })) (append-two d.sent (message (the_server d.server.id) (the_server m) said) (map (forward_to d.server.id handle version serial id c) rest))
-      (forwards_holds (sends d (the_server m) said) rest handle version serial id c (says_holds d (the_server m) said refl h))
+  forwards_holds : (d : ServerDoing) (members : List ℕ) (handle version serial : ℕ) (id : DataId) (chunk : ℕ) (c : Change) → Holds d → Holds (forwards d members handle version serial id chunk c)
+  forwards_holds d [] handle version serial id chunk c h = subst (λ (sent : List Message). P (record (server_core d) { sent = sent })) (sym (append-[] d.sent)) h
+  forwards_holds d (m ∷ rest) handle version serial id chunk c h =
+      let said : Body = body.Forward (handle_of handle) (version_of version) (serial_of serial) id chunk c in
+      subst (λ (sent : List Message). P (record (server_core d) { sent = sent })) (append-two d.sent (message (the_server d.server.id) (the_server m) said) (map (forward_to d.server.id handle version serial id chunk c) rest))
+      (forwards_holds (sends d (the_server m) said) rest handle version serial id chunk c (says_holds d (the_server m) said refl h))
 
   settles_holds : (d : ServerDoing) (handle version serial : ℕ) (o : Option Settled) → Holds d → Holds (settles d handle version serial o)
   settles_holds d handle version serial None h = h
   settles_holds d handle version serial (Some s) h =
       settled_holds (shows d (BecameSettled (handle_of handle) (version_of version) (serial_of serial))) (record { client = s.client; seq = s.seq }) s.place h
 
-  acks_holds : (d : ServerDoing) (handle : ℕ) (p : SerialOrder) (server serial : ℕ) → IsHere d handle p.held → Holds d → Holds (acknowledges d handle p server serial)
+  acks_holds : (d : ServerDoing) (handle : ℕ) (p : SerialOrder) (server serial : ℕ) → IsHere d handle p → Holds d → Holds (acknowledges d handle p server serial)
   acks_holds d handle p server serial at h =
       let new : SerialOrder = acknowledged p server serial in
       settles_holds (with_primary d handle new) handle p.held.version serial (settled p server serial) (with_holds_primary d handle new at h)
 
-  primary_holds : (d : ServerDoing) (handle : ℕ) (p : SerialOrder) (id : DataId) (m : Mutation) → IsHere d handle p.held → Holds d → Holds (primary_applies d handle p id m)
+  primary_holds : (d : ServerDoing) (handle : ℕ) (p : SerialOrder) (id : DataId) (m : Mutation) → IsHere d handle p → Holds d → Holds (primary_applies d handle p id m)
   primary_holds d handle p id m at h =
       let serial : ℕ = p.serial + 1 in
       let x : StoreChange = stored_as handle serial m in
-      acks_holds (forwards (stores d x) (without p.held.members d.server.id) handle p.held.version serial id (change_of m)) handle (numbered p id.client id.seq (place_of m)) d.server.id serial at
-      (forwards_holds (stores d x) (without p.held.members d.server.id) handle p.held.version serial id (change_of m) (stores_holds d x (stored_is_of_replica handle serial m) h))
+      acks_holds (forwards (stores d x) (without p.held.members d.server.id) handle p.held.version serial id p.chunk (change_of m)) handle (numbered p id.client id.seq (place_of m)) d.server.id serial at
+      (forwards_holds (stores d x) (without p.held.members d.server.id) handle p.held.version serial id p.chunk (change_of m) (stores_holds d x (stored_is_of_replica handle serial m) h))
 
   nacks_holds : (d : ServerDoing) (primary : Node) (handle version serial : ℕ) (refusal : Refusal) → Holds d → Holds (nacks d primary handle version serial refusal)
   nacks_holds d primary handle version serial refusal h = says_holds d primary (body.Nacked (handle_of handle) (version_of version) (serial_of serial) refusal) refl h
@@ -237,7 +237,7 @@ module _ (Came : Body → Type 0) (P : ServerCore → Type 0) (k : KeepsServer C
       let left : Table SerialOrder = counting_leases d.server in
       let report : Body = body.Report (map replica_line (table.entries d.server.disk.replicas)) (map lease_line (table.entries left)) in
       k.holds (server_core (sends d Master report)) (map_values asks_no_more left)
-      (λ handle p is. let was = mapped_cases asks_no_more left handle p is in (was.0, kept_where_cases (λ e. counts_at d.server.config.skew_ms e.1.held d.server.now) d.server.leases handle was.0 was.1, ap (λ (x : SerialOrder). x.held) was.2))
+      (λ handle p is. let was = mapped_cases asks_no_more left handle p is in (was.0, kept_where_cases (λ e. counts_at d.server.config.skew_ms e.1.held d.server.now) d.server.leases handle was.0 was.1, ap (λ (x : SerialOrder). x.held) was.2, ap (λ (x : SerialOrder). x.chunk) was.2))
       (says_holds d Master report refl h)
 
   written_is_of_replica : (handle serial : ℕ) (kept : Option (List ℕ)) (named : Change) (x : StoreChange) (from end_place : ℕ) → IsStoredAs handle serial kept named x from end_place → IsOfReplica x
@@ -255,7 +255,7 @@ module _ (Came : Body → Type 0) (P : ServerCore → Type 0) (k : KeepsServer C
     ordered : (order : OrderNo) → IsNewOrder s order → Holds (with_order s order)
     ordered order new = k.takes (server_core (server_begins s)) order new h
 
-    here : (handle version : ℕ) (p : SerialOrder) → primary_of s handle version ≡ Some p → IsHere (server_begins s) handle p.held
+    here : (handle version : ℕ) (p : SerialOrder) → primary_of s handle version ≡ Some p → IsHere (server_begins s) handle p
     here handle version p is = primary_here (server_begins s) handle version p is
 
     denies_here : (a : Attempting s i) (refusal : Refusal) → Holds (denies (server_begins s) a.c.handle.0 a.p a.c.id refusal)
@@ -267,7 +267,7 @@ module _ (Came : Body → Type 0) (P : ServerCore → Type 0) (k : KeepsServer C
     applied_holds : (n : Numbering s i) → Holds (primary_applies (number_of s i n) n.a.c.handle.0 n.a.p n.a.c.id n.placed)
     applied_holds n =
         let new : SerialOrder = numbered n.a.p n.a.c.id.client n.a.c.id.seq (place_of n.placed) in
-        primary_holds (number_of s i n) n.a.c.handle.0 n.a.p n.a.c.id n.placed (new, there_held s.leases n.a.c.handle.0 new, refl) (number_holds n)
+        primary_holds (number_of s i n) n.a.c.handle.0 n.a.p n.a.c.id n.placed (new, there_held s.leases n.a.c.handle.0 new, refl, refl) (number_holds n)
 
     stored_holds : (t : Storing s i) → Holds (stores (takes_data (server_begins s) t.f.c.id) t.x)
     stored_holds t =
@@ -280,7 +280,7 @@ module _ (Came : Body → Type 0) (P : ServerCore → Type 0) (k : KeepsServer C
         on_cond (λ (held : LeaseHeld). Holds (with_primary Begun c.handle.0 (record q.p { held = held }))) (counts_at skew q.p.held s.now && nat_lt q.p.held.until c.end_moment.0)
         (record q.p.held { until = c.end_moment.0 }) q.p.held
         (λ _. k.extends (server_core (server_begins s)) c.handle c.version c.end_moment q.p (subst Came c.is (came_now c.m c.came)) q.there same h)
-        (λ _. with_holds_primary Begun c.handle.0 q.p (q.p, q.there, refl) h)
+        (λ _. with_holds_primary Begun c.handle.0 q.p (q.p, q.there, refl, refl) h)
 
     ended_holds : (c : Revoking i) (leases : Table SerialOrder) → IsNewOrder s c.order → AreHeldFrom s.leases leases → HasNoLease leases c.handle.0 c.version.0
         → P (record (store_changed (server_core (server_begins s)) (SetOrder c.order)) { leases = leases; sent = [] ++ message (the_server s.id) Master (body.Revoked c.handle c.version) ∷ [] })

@@ -109,8 +109,9 @@ pub record Forwarding (i : NodeInput) : Type 0 where
   pub version : VersionId
   pub serial : Serial
   pub id : DataId
+  pub chunk : ℕ
   pub named : Change
-  pub is : m.body ≡ body.Forward handle version serial id named
+  pub is : m.body ≡ body.Forward handle version serial id chunk named
 
 pub record Acking (i : NodeInput) : Type 0 where
   pub m : Message
@@ -388,7 +389,7 @@ pub record Outcomes (s : ServerState) (i : NodeInput) (P : ServerDoing → Type 
   pub raised : (c : Raising i) (r : Row) → IsNewOrder s c.order → row_at s.disk c.handle.0 ≡ Some r → r.version.0 ≡ c.base.0
       → P (records (without_lease (stores (with_order s c.order) (Raise (handle_of c.handle.0) (version_of c.version.0))) c.handle.0) c.handle.0 c.version.0)
   pub grants : (c : Granting i) → IsNewOrder s c.order → holds_version c.version.0 (row_at s.disk c.handle.0) ≡ true
-      → P (with_primary (with_order s c.order) c.handle.0 (new_order (record { version = c.version.0; until = c.end_moment.0; members = c.members })))
+      → P (with_primary (with_order s c.order) c.handle.0 (new_order c.is.chunk (record { version = c.version.0; until = c.end_moment.0; members = c.members })))
   pub revokes : (c : Revoking i) (h : Held s c.handle.0) → IsNewOrder s c.order → h.p.held.version ≡ c.version.0
       → P (sends (without_lease (with_order s c.order) c.handle.0) Master (body.Revoked (handle_of c.handle.0) (version_of c.version.0)))
   pub revoked : (c : Revoking i) → IsNewOrder s c.order → ((p : SerialOrder) → table.get s.leases c.handle.0 ≡ Some p → p.held.version ≡ c.version.0 → ⊥)
@@ -610,7 +611,7 @@ module _ (s : ServerState) (i : NodeInput) (P : ServerDoing → Type 0) (k : Out
   raise_comes c (Some r) found new =
       on_cond P (r.version.0 == c.base.0) _ (with_order s c.order) (λ same. k.raised c r new found (eqb-true r.version.0 c.base.0 same)) (λ _. alone c.m c.order c.came (ap order_number c.is) new)
 
-  grant_comes : (c : Granting i) → IsNewOrder s c.order → P (takes_grant (with_order s c.order) c.handle.0 c.version.0 c.end_moment.0 c.members)
+  grant_comes : (c : Granting i) → IsNewOrder s c.order → P (takes_grant (with_order s c.order) c.handle.0 c.version.0 c.end_moment.0 c.is.chunk c.members)
   grant_comes c new =
       on_cond P (holds_version c.version.0 (row_at s.disk c.handle.0)) _ (with_order s c.order) (λ holds. k.grants c new holds) (λ _. alone c.m c.order c.came (grant_number c.is) new)
 
@@ -664,8 +665,8 @@ module _ (s : ServerState) (i : NodeInput) (P : ServerDoing → Type 0) (k : Out
   takes_comes m (body.Read number handle version offset count) came is =
       read_comes (record { m = m; came = came; number = number; handle = handle; version = version; offset = offset; count = count; is = is }) (row_at s.disk handle.0) refl
   takes_comes m (body.Len number handle version) came is = length_comes (record { m = m; came = came; number = number; handle = handle; version = version; is = is }) (row_at s.disk handle.0) refl
-  takes_comes m (body.Forward handle version serial id named) came is =
-      forward_comes (record { m = m; came = came; handle = handle; version = version; serial = serial; id = id; named = named; is = is }) (row_at s.disk handle.0) refl
+  takes_comes m (body.Forward handle version serial id chunk named) came is =
+      forward_comes (record { m = m; came = came; handle = handle; version = version; serial = serial; id = id; chunk = chunk; named = named; is = is }) (row_at s.disk handle.0) refl
   takes_comes m (body.Acked handle version serial) came is =
       acked_comes (record { m = m; came = came; handle = handle; version = version; serial = serial; is = is }) (primary_of s handle.0 version.0) refl
   takes_comes m (body.Nacked handle version serial refusal) came is =
@@ -675,9 +676,9 @@ module _ (s : ServerState) (i : NodeInput) (P : ServerDoing → Type 0) (k : Out
   takes_comes m (body.SetVersion order handle version base) came is =
       order_comes order (λ e. takes_set_version e handle.0 version.0 base.0)
       (raise_comes (record { m = m; came = came; order = order; handle = handle; version = version; base = base; is = is }) (row_at s.disk handle.0) refl)
-  takes_comes m (grant_body order handle version end_moment members) came is =
-      order_comes order (λ e. takes_grant e handle.0 version.0 end_moment.0 members)
-      (grant_comes (record { m = m; came = came; order = order; handle = handle; version = version; end_moment = end_moment; members = members; is = says_grant is }))
+  takes_comes m (grant_body order handle version end_moment chunk members) came is =
+      order_comes order (λ e. takes_grant e handle.0 version.0 end_moment.0 chunk members)
+      (grant_comes (record { m = m; came = came; order = order; handle = handle; version = version; end_moment = end_moment; members = members; is = says_grant (chunk, is) }))
   takes_comes m (revoke_body order handle version) came is =
       order_comes order (λ e. takes_revoke e handle.0 version.0)
       (end_comes (record { m = m; came = came; order = order; handle = handle; version = version; is = says_revoke is }) (table.get s.leases handle.0) refl)

@@ -10,7 +10,7 @@ use Rattle.laws_base.proofs.Entries.{AllOf}
 abbrev pub is_of_lease : Body → Bool
 is_of_lease (body.Create order handle version) = true
 is_of_lease (body.SetVersion order handle version base) = true
-is_of_lease (grant_body order handle version end_moment members) = true
+is_of_lease (grant_body order handle version end_moment chunk members) = true
 is_of_lease (body.Extend handle version end_moment) = true
 is_of_lease (revoke_body order handle version) = true
 is_of_lease (body.Revoked handle version) = true
@@ -28,7 +28,7 @@ true_false h = absurd (let both : true ≡ false = h in cc)
 pub no_order : (b : Body) → is_of_lease b ≡ false → order_number b ≡ None
 no_order (body.Create order handle version) h = true_false h
 no_order (body.SetVersion order handle version base) h = true_false h
-no_order (grant_body order handle version end_moment members) h = true_false h
+no_order (grant_body order handle version end_moment chunk members) h = true_false h
 no_order (revoke_body order handle version) h = true_false h
 no_order (body.Drop order handle version) h = true_false h
 no_order (body.Clone order handle version source) h = true_false h
@@ -37,5 +37,5 @@ no_order other h = refl
 
 -- one that doesn't grants nothing
 pub quiet_nothing : (b : Body) → is_of_lease b ≡ false → GrantsNothing b
-quiet_nothing (grant_body order handle version end_moment members) h = true_false h
+quiet_nothing (grant_body order handle version end_moment chunk members) h = true_false h
 quiet_nothing other h = tt

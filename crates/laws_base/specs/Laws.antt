@@ -29,6 +29,10 @@ use Rattle.protocol.specs.ServerStep.{server_at}
 use Rattle.protocol.specs.Observer.{observed_moment}
 use Rattle.protocol.specs.World.{WorldState, after_events, IsReached}
 
+-- a message is this Grant, whatever size of the chunk it tells
+abbrev pub IsGrantBody : OrderNo → Handle → Version → Moment → List ℕ → Body → Type 0
+IsGrantBody order handle version end_moment members b = (chunk : ℕ) × (b ≡ body.Grant order handle version end_moment chunk members)
+
 abbrev pub is_number : ℕ → ℕ → Option OrderNo → Bool
 is_number epoch count None = false
 is_number epoch count (Some order) = (order.epoch == epoch) && (order.count == count)
@@ -76,12 +80,12 @@ abbrev pub MembersRecordedWhatIsGranted : Type 0
 MembersRecordedWhatIsGranted =
     (config : Config) (servers clients : ℕ) (w : WorldState) → IsReached config servers clients w
     → (place : ℕ) (grant : Message) (order : OrderNo) (handle : Handle) (version : Version) (end_moment : Moment) (members : List ℕ)
-    → element_at w.sent place ≡ Some grant → grant.body ≡ body.Grant order handle version end_moment members
+    → element_at w.sent place ≡ Some grant → IsGrantBody order handle version end_moment members grant.body
     → (member : ℕ) → IsTrue (has_number members member) → WasTold w.sent place member handle.0 version.0
 
 -- whether a message is a grant of this version of a chunk
 abbrev pub is_grant : ℕ → ℕ → Body → Bool
-is_grant handle version (body.Grant order h v end_moment members) = (h.0 == handle) && (v.0 == version)
+is_grant handle version (body.Grant order h v end_moment chunk members) = (h.0 == handle) && (v.0 == version)
 is_grant handle version other = false
 
 -- how many grants of this version of a chunk were sent
@@ -93,15 +97,15 @@ abbrev pub VersionsAreGrantedOnce : Type 0
 VersionsAreGrantedOnce =
     (config : Config) (servers clients : ℕ) (w : WorldState) → IsReached config servers clients w → (handle version : ℕ) → grants_of handle version w.sent ≤ 1
 
--- one of the messages is the grant of this lease to this server
-abbrev pub WasGranted : List Message → ℕ → ℕ → LeaseHeld → Type 0
-WasGranted sent server handle held =
+-- one of the messages is the grant of this lease to this server, with this size of the chunk
+abbrev pub WasGranted : List Message → ℕ → ℕ → ℕ → LeaseHeld → Type 0
+WasGranted sent server handle chunk held =
     (place : ℕ) × (grant : Message) × (element_at sent place ≡ Some grant) × (grant.receiver ≡ the_server server) × (order : OrderNo) × (end_moment : Moment)
-    × (grant.body ≡ body.Grant order (handle_of handle) (version_of held.version) end_moment held.members)
+    × (grant.body ≡ body.Grant order (handle_of handle) (version_of held.version) end_moment chunk held.members)
 
 -- whether a message tells that the lease of this version of a chunk ends at this moment
 abbrev pub tells_end : ℕ → ℕ → ℕ → Body → Bool
-tells_end handle version until (body.Grant order h v end_moment members) = (h.0 == handle) && (v.0 == version) && (end_moment.0 == until)
+tells_end handle version until (body.Grant order h v end_moment chunk members) = (h.0 == handle) && (v.0 == version) && (end_moment.0 == until)
 tells_end handle version until (body.Extend h v end_moment) = (h.0 == handle) && (v.0 == version) && (end_moment.0 == until)
 tells_end handle version until other = false
 
@@ -109,12 +113,12 @@ tells_end handle version until other = false
 abbrev pub WasEndTold : List Message → ℕ → ℕ → ℕ → Type 0
 WasEndTold sent handle version until = (place : ℕ) × (word : Message) × (element_at sent place ≡ Some word) × IsTrue (tells_end handle version until word.body)
 
--- A lease that a server holds was granted to it, with its members, and ends as the master told (section 3.1).
+-- A lease that a server holds was granted to it, with its members and the size of the chunk, and ends as the master told (section 3.1).
 abbrev pub LeasesAreTold : Type 0
 LeasesAreTold =
     (config : Config) (servers clients : ℕ) (w : WorldState) → IsReached config servers clients w
     → (index : ℕ) (s : ServerState) → element_at w.servers index ≡ Some s → (handle : ℕ) (p : SerialOrder) → table.get s.leases handle ≡ Some p
-    → WasGranted w.sent (suc index) handle p.held × WasEndTold w.sent handle p.held.version p.held.until
+    → WasGranted w.sent (suc index) handle p.chunk p.held × WasEndTold w.sent handle p.held.version p.held.until
 
 -- The lease of a version of a chunk is held by one server at most (section 3.1).
 abbrev pub VersionsHaveOnePrimary : Type 0

@@ -332,7 +332,7 @@ module _ (s : ClientState) (Came : Body → Type 0) (P : Place × Cached → Typ
   named_reply c reply plain h = ends c reply h (k.replies c.asked reply plain) (λ mutates. absurd (true≢false (sym mutates ∙ plain)))
 
   reply_calm : (d : ClientDoing) (c : CurrentCall) (reply : NameReply) → IsReady P s d → is_mutation c.asked ≡ false → H c → Calm (takes_reply d reply)
-  reply_calm d c (Opened file) r plain h = record { kept = (r.0, r.1); silent = none_silent d.sent r.4; asks = none_asked d.sent None r.4; stands = named_reply c _ plain h }
+  reply_calm d c (Opened file shape) r plain h = record { kept = (r.0, r.1); silent = none_silent d.sent r.4; asks = none_asked d.sent None r.4; stands = named_reply c _ plain h }
   reply_calm d c (Answered reply) r plain h = replied d reply r (named_reply c reply plain h)
 
   takes_named_calm : (d : ClientDoing) (c : CurrentCall) (st : Stage) (number : ℕ) (reply : NameReply) → IsReady P s d → At None c st → Calm d → Calm (takes_named d c st number reply)

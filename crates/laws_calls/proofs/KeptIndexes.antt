@@ -141,7 +141,7 @@ module _ (sent : List Message) (k client : ℕ) (s : ClientState) where
           left = λ c chunk rest number now at h. tt;
           answered = λ d c reply h. answered d reply h.2;
           name_answered = λ d c reply h. answered d reply h.2;
-          opened = λ c number file now at came h. rests (opens (client_begins s) file.0) h.2 (λ e is. none_some e is);
+          opened = λ c number file shape now at came h. rests (opens (client_begins s) file.0 shape) h.2 (λ e is. none_some e is);
           waits = λ d c idle h. stays (with_current d c) c refl (idle_stands sent client c c.stage idle) h.2;
           waits_again = λ d c h. stays (committed d c (again_planned d.client)) (record c { stage = MustAskAgain }) refl tt h.2;
           asking = λ d c h. asking d c h;

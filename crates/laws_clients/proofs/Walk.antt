@@ -123,7 +123,7 @@ takes_told_one d c (AskedWhere asked) number o h p = on_cond One (asked == numbe
 takes_told_one d c other number o h p = p
 
 reply_one : (d : ClientDoing) (r : NameReply) → One (takes_reply d r)
-reply_one d (Opened file) = refl
+reply_one d (Opened file shape) = refl
 reply_one d (Answered reply) = refl
 
 takes_named_one : (d : ClientDoing) (c : CurrentCall) (st : Stage) (number : ℕ) (r : NameReply) → One d → One (takes_named d c st number r)

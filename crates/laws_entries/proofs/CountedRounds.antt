@@ -352,7 +352,7 @@ module _ (config : Config) (servers clients : ℕ) (w : WorldState) (r : IsReach
         number : (by.lease).held.version ≡ version
         number = sym by.version_is ∙ one.number
 
-        lease : IsToldLease w.sent (suc index) s.disk handle (by.lease).held
+        lease : IsToldLease w.sent (suc index) s.disk handle (by.lease).chunk (by.lease).held
         lease = (told_server index s at).told handle by.lease held
 
         next : (one.serial).0 ≡ suc (h handle version).count

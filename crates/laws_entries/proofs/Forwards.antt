@@ -112,15 +112,15 @@ numbered_named trace orders (x ∷ xs) (suc place) handle version serial id m of
 -- worlds
 
 abbrev Names : Table (List Placed) → Body → Type 0
-Names orders (body.Forward handle version serial id c) = IsNamedIn (placed_in orders handle.0) version serial id c
+Names orders (body.Forward handle version serial id chunk c) = IsNamedIn (placed_in orders handle.0) version serial id c
 Names orders other = Unit {0}
 
 abbrev IsNoForward : Body → Type 0
-IsNoForward (body.Forward handle version serial id c) = ⊥
+IsNoForward (body.Forward handle version serial id chunk c) = ⊥
 IsNoForward other = Unit {0}
 
 no_names : (orders : Table (List Placed)) (b : Body) → IsNoForward b → Names orders b
-no_names orders (body.Forward handle version serial id c) none = absurd none
+no_names orders (body.Forward handle version serial id chunk c) none = absurd none
 no_names orders other none = tt
 
 abbrev AllNamed : WorldState → Type 0
@@ -128,12 +128,12 @@ AllNamed w = (m : Message) → IsSent w.sent m → Names w.observer.orders m.bod
 
 names_on : (orders later : Table (List Placed)) → ((handle : Handle) (version : Version) (serial : Serial) (id : DataId) (c : Change) → IsNamedIn (placed_in orders handle.0) version serial id c → IsNamedIn (placed_in later handle.0) version serial id c)
     → (b : Body) → Names orders b → Names later b
-names_on orders later go (body.Forward handle version serial id c) h = go handle version serial id c h
+names_on orders later go (body.Forward handle version serial id chunk c) h = go handle version serial id c h
 names_on orders later go other h = tt
 
 -- the master says no Forward
 no_masters : (b : Body) → is_masters b ≡ true → IsNoForward b
-no_masters (body.Forward handle version serial id c) is = absurd (let both : false ≡ true = is in cc)
+no_masters (body.Forward handle version serial id chunk c) is = absurd (let both : false ≡ true = is in cc)
 no_masters other is = tt
 
 no_option : (o : Option Message) → ((m : Message) → o ≡ Some m → IsNoForward m.body) → AllOf (λ m. IsNoForward m.body) (option_to_list o)
@@ -142,7 +142,7 @@ no_option (Some m) f = (f m refl, tt)
 
 -- nor does a client
 said_none : (s t : ClientState) (b : Body) → IsSaid s t b → IsNoForward b
-said_none s t (body.Forward handle version serial id c) is = absurd is
+said_none s t (body.Forward handle version serial id chunk c) is = absurd is
 said_none s t other is = tt
 
 restarted_silent : (P : Message → Type 0) (s : ServerState) (moment : ℕ) (choice : Choice) (e : Ending) → AllOf P (server_restarts s moment choice e).out.sent
@@ -189,7 +189,7 @@ module _ (config : Config) (servers clients : ℕ) (w : WorldState) (r : IsReach
       orders = orders_after_all trace w.observer.orders (server_step s moment i choice).seen
 
       one : (changes : List StoreChange) (b : Body) → IsCaused s.disk changes (server_step s moment i choice).seen b → Names (orders_after_all trace w.observer.orders (server_step s moment i choice).seen) b
-      one changes (body.Forward handle version serial id c) cause =
+      one changes (body.Forward handle version serial id chunk c) cause =
           subst (λ (x : Change). IsNamedIn (placed_in (orders_after_all trace w.observer.orders (server_step s moment i choice).seen) handle.0) version serial id x) cause.3
           (numbered_named trace w.observer.orders (server_step s moment i choice).seen cause.0 handle version serial id cause.1 (server_shown s moment i choice) cause.2)
       one changes other cause = tt
@@ -243,7 +243,7 @@ module _ (config : Config) (servers clients : ℕ) (w : WorldState) (r : IsReach
       }
 
 pub forwards_name_entries : ForwardsNameEntries
-forwards_name_entries config servers clients w r place m at handle version serial id c is =
+forwards_name_entries config servers clients w r place m at handle version serial id chunk c is =
     subst (λ (b : Body). Names w.observer.orders b) is (held_reached AllNamed each_named config servers clients (λ x sent. none_sent x sent) w r m (place, at))
 
 -- a step alone

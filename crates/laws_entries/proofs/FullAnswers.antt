@@ -87,13 +87,13 @@ module _ (F : DataId → Type 0) where
   answered d id None cause h = attempt_refused d id ChunkFull (λ tells. cause refl) h
   answered d id (Some place) cause h = said d (the_client id.client.0) (body.Done id place) tt h
 
-  all_forwards : (me : ℕ) (members : List ℕ) (q v serial : ℕ) (id : DataId) (c : Change) → AllOf (Causes F) (map (forward_to me q v serial id c) members)
-  all_forwards me [] q v serial id c = tt
-  all_forwards me (m ∷ rest) q v serial id c = (tt, all_forwards me rest q v serial id c)
+  all_forwards : (me : ℕ) (members : List ℕ) (q v serial : ℕ) (id : DataId) (chunk : ℕ) (c : Change) → AllOf (Causes F) (map (forward_to me q v serial id chunk c) members)
+  all_forwards me [] q v serial id chunk c = tt
+  all_forwards me (m ∷ rest) q v serial id chunk c = (tt, all_forwards me rest q v serial id chunk c)
 
-  forwards_fine : (d : ServerDoing) (members : List ℕ) (q v serial : ℕ) (id : DataId) (c : Change) → Fine d → Fine (forwards d members q v serial id c)
-  forwards_fine d members q v serial id c h =
-      (h.0, all_joined (Causes F) d.sent (map (forward_to d.server.id q v serial id c) members) h.1 (all_forwards d.server.id members q v serial id c))
+  forwards_fine : (d : ServerDoing) (members : List ℕ) (q v serial : ℕ) (id : DataId) (chunk : ℕ) (c : Change) → Fine d → Fine (forwards d members q v serial id chunk c)
+  forwards_fine d members q v serial id chunk c h =
+      (h.0, all_joined (Causes F) d.sent (map (forward_to d.server.id q v serial id chunk c) members) h.1 (all_forwards d.server.id members q v serial id chunk c))
 
   acknowledged_fine : (d : ServerDoing) (q : ℕ) (p : SerialOrder) (server serial : ℕ) → IsRight F p → Fine d → Fine (acknowledges d q p server serial)
   acknowledged_fine d q p server serial right h = by_settled (settled_by server (table.get p.waiting serial)) refl
@@ -186,8 +186,8 @@ module _ (F : DataId → Type 0) where
           let q : ℕ = n.a.c.handle.0 in
           let serial : ℕ = n.a.p.serial + 1 in
           let stored : ServerDoing = stores (number_of s i n) (stored_as q serial n.placed) in
-          acknowledged_fine (forwards stored (without n.a.p.held.members s.id) q n.a.p.held.version serial n.a.c.id (change_of n.placed)) q (numbered n.a.p n.a.c.id.client n.a.c.id.seq (place_of n.placed)) s.id serial
-          (number_right n full) (forwards_fine stored (without n.a.p.held.members s.id) q n.a.p.held.version serial n.a.c.id (change_of n.placed) (number_fine n full))
+          acknowledged_fine (forwards stored (without n.a.p.held.members s.id) q n.a.p.held.version serial n.a.c.id n.a.p.chunk (change_of n.placed)) q (numbered n.a.p n.a.c.id.client n.a.c.id.seq (place_of n.placed)) s.id serial
+          (number_right n full) (forwards_fine stored (without n.a.p.held.members s.id) q n.a.p.held.version serial n.a.c.id n.a.p.chunk (change_of n.placed) (number_fine n full))
 
       outcomes : Outcomes s i (λ d. server_does (server_begins s) i ≡ d → Fine d)
       outcomes =
@@ -234,7 +234,7 @@ module _ (F : DataId → Type 0) where
             raised = λ c r new found same e. (gone s.leases c.handle.0 h.0, (tt, tt));
             grants = λ c new holds e.
                 let held : LeaseHeld = record { version = c.version.0; until = c.end_moment.0; members = c.members } in
-                (put s.leases c.handle.0 (new_order held) (right_new F held) h.0, tt);
+                (put s.leases c.handle.0 (new_order c.is.chunk held) (right_new F c.is.chunk held) h.0, tt);
             revokes = λ c q new same e. (gone s.leases c.handle.0 h.0, (tt, tt));
             revoked = λ c new apart e. (h.0, (tt, tt));
             drops = λ c r new found old e. lost D c.handle.0 h;

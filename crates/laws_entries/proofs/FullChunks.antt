@@ -149,7 +149,7 @@ module _ (S : Seen → Type 0) (quiet : (handle version serial : ℕ) → S (Bec
       taken = shows (takes_data (with_primary d handle (numbered p id.client id.seq (place_of m))) id) (Numbered (handle_of handle) (version_of p.held.version) (serial_of (p.serial + 1)) id m)
 
       forwarded : ServerDoing
-      forwarded = forwards (stores taken (stored_as handle (p.serial + 1) m)) (without p.held.members d.server.id) handle p.held.version (p.serial + 1) id (change_of m)
+      forwarded = forwards (stores taken (stored_as handle (p.serial + 1) m)) (without p.held.members d.server.id) handle p.held.version (p.serial + 1) id p.chunk (change_of m)
 
       more : AllOf S (d.seen ++ Numbered (handle_of handle) (version_of p.held.version) (serial_of (p.serial + 1)) id m ∷ [])
       more = all_joined S d.seen (Numbered (handle_of handle) (version_of p.held.version) (serial_of (p.serial + 1)) id m ∷ []) h (one, tt)

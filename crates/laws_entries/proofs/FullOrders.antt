@@ -150,8 +150,8 @@ module _ (F : DataId → Type 0) where
   pub right_reported : (p : SerialOrder) → IsRight F p → IsRight F (asks_no_more p)
   right_reported p h = record { waits = h.waits; keeps = h.keeps }
 
-  pub right_new : (held : LeaseHeld) → IsRight F (new_order held)
-  right_new held =
+  pub right_new : (chunk : ℕ) (held : LeaseHeld) → IsRight F (new_order chunk held)
+  right_new chunk held =
       record {
         waits = λ n w at none. none_some w (sym (table.get-empty nat_cmp n) ∙ at);
         keeps = λ c k at tells. none_some k (sym (table.get-empty nat_cmp c) ∙ at);

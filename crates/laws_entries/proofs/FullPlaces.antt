@@ -71,7 +71,7 @@ module _ (s : ServerState) (handle : ℕ) (p : SerialOrder) (id : DataId) where
   taken m = shows (takes_data (with_primary (server_begins s) handle (numbered p id.client id.seq (place_of m))) id) (Numbered (handle_of handle) (version_of p.held.version) (serial_of (p.serial + 1)) id m)
 
   abbrev forwarded : Mutation → ServerDoing
-  forwarded m = forwards (stores (taken m) (stored_as handle (p.serial + 1) m)) (without p.held.members s.id) handle p.held.version (p.serial + 1) id (change_of m)
+  forwarded m = forwards (stores (taken m) (stored_as handle (p.serial + 1) m)) (without p.held.members s.id) handle p.held.version (p.serial + 1) id p.chunk (change_of m)
 
   pub placed_first : (m : Mutation) → nat_le counter_limit p.serial ≡ false → element_at (places (server_begins s) handle p id m).seen 0 ≡ Some (Numbered (handle_of handle) (version_of p.held.version) (serial_of (p.serial + 1)) id m)
   placed_first m room =

@@ -98,13 +98,13 @@ module _ (K : Seen → Type 0) where
   answered d id None cause h = attempt_refused d id ChunkFull h
   answered d id (Some place) cause h = said d (the_client id.client.0) (body.Done id place) cause h
 
-  all_forwards : (L : Seen → Type 0) (me : ℕ) (members : List ℕ) (q v serial : ℕ) (id : DataId) (c : Change) → AllOf (λ m. IsCaused L m.body) (map (forward_to me q v serial id c) members)
-  all_forwards L me [] q v serial id c = tt
-  all_forwards L me (m ∷ rest) q v serial id c = (tt, all_forwards L me rest q v serial id c)
+  all_forwards : (L : Seen → Type 0) (me : ℕ) (members : List ℕ) (q v serial : ℕ) (id : DataId) (chunk : ℕ) (c : Change) → AllOf (λ m. IsCaused L m.body) (map (forward_to me q v serial id chunk c) members)
+  all_forwards L me [] q v serial id chunk c = tt
+  all_forwards L me (m ∷ rest) q v serial id chunk c = (tt, all_forwards L me rest q v serial id chunk c)
 
-  forwards_fine : (d : ServerDoing) (members : List ℕ) (q v serial : ℕ) (id : DataId) (c : Change) → Fine d → Fine (forwards d members q v serial id c)
-  forwards_fine d members q v serial id c h =
-      (h.0, all_joined (λ m. IsCaused (Since K d.seen) m.body) d.sent (map (forward_to d.server.id q v serial id c) members) h.1 (all_forwards (Since K d.seen) d.server.id members q v serial id c))
+  forwards_fine : (d : ServerDoing) (members : List ℕ) (q v serial : ℕ) (id : DataId) (chunk : ℕ) (c : Change) → Fine d → Fine (forwards d members q v serial id chunk c)
+  forwards_fine d members q v serial id chunk c h =
+      (h.0, all_joined (λ m. IsCaused (Since K d.seen) m.body) d.sent (map (forward_to d.server.id q v serial id chunk c) members) h.1 (all_forwards (Since K d.seen) d.server.id members q v serial id chunk c))
 
   acknowledged_fine : (d : ServerDoing) (q : ℕ) (p : SerialOrder) (server serial : ℕ) → IsRight (Since K d.seen) q p → Fine d → Fine (acknowledges d q p server serial)
   acknowledged_fine d q p server serial right h = by_settled (settled_by server (table.get p.waiting serial)) refl
@@ -193,8 +193,8 @@ module _ (K : Seen → Type 0) where
         let q : ℕ = n.a.c.handle.0 in
         let serial : ℕ = n.a.p.serial + 1 in
         let stored : ServerDoing = stores (number_of s i n) (stored_as q serial n.placed) in
-        acknowledged_fine (forwards stored (without n.a.p.held.members s.id) q n.a.p.held.version serial n.a.c.id (change_of n.placed)) q (numbered n.a.p n.a.c.id.client n.a.c.id.seq (place_of n.placed)) s.id serial
-        (number_right n) (forwards_fine stored (without n.a.p.held.members s.id) q n.a.p.held.version serial n.a.c.id (change_of n.placed) (number_fine n))
+        acknowledged_fine (forwards stored (without n.a.p.held.members s.id) q n.a.p.held.version serial n.a.c.id n.a.p.chunk (change_of n.placed)) q (numbered n.a.p n.a.c.id.client n.a.c.id.seq (place_of n.placed)) s.id serial
+        (number_right n) (forwards_fine stored (without n.a.p.held.members s.id) q n.a.p.held.version serial n.a.c.id n.a.p.chunk (change_of n.placed) (number_fine n))
 
     outcomes : Outcomes s i Fine
     outcomes =
@@ -236,7 +236,7 @@ module _ (K : Seen → Type 0) where
           raised = λ c r new found same. (gone (Since K []) s.leases c.handle.0 h, (tt, tt));
           grants = λ c new holds.
               let held : LeaseHeld = record { version = c.version.0; until = c.end_moment.0; members = c.members } in
-              (put (Since K []) s.leases c.handle.0 (new_order held) (right_new (Since K []) c.handle.0 held) h, tt);
+              (put (Since K []) s.leases c.handle.0 (new_order c.is.chunk held) (right_new (Since K []) c.handle.0 c.is.chunk held) h, tt);
           revokes = λ c q new same. (gone (Since K []) s.leases c.handle.0 h, (tt, tt));
           revoked = λ c new apart. (h, (tt, tt));
           drops = λ c r new found old. lost D c.handle.0 (h, tt);

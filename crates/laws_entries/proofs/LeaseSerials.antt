@@ -166,7 +166,7 @@ module _ (handle version base : ℕ) where
           let q : ℕ = n.a.c.handle.0 in
           let serial : ℕ = n.a.p.serial + 1 in
           let both = numbers_fine n in
-          acknowledged_fine (forwards (stores (number_of s i n) (stored_as q serial n.placed)) (without n.a.p.held.members s.id) q n.a.p.held.version serial n.a.c.id (change_of n.placed)) q
+          acknowledged_fine (forwards (stores (number_of s i n) (stored_as q serial n.placed)) (without n.a.p.held.members s.id) q n.a.p.held.version serial n.a.c.id n.a.p.chunk (change_of n.placed)) q
           (numbered n.a.p n.a.c.id.client n.a.c.id.seq (place_of n.placed)) s.id serial both.1 both.0
 
       ticks_fine : Fine (server_ticks (server_begins s))
@@ -175,9 +175,9 @@ module _ (handle version base : ℕ) where
           let there = kept_where_cases (λ e. counts_at s.config.skew_ms e.1.held s.now) s.leases handle old.0 old.1 in
           ap (λ (x : SerialOrder). x.serial) (sym old.2) ∙ h old.0 there (ap (λ (x : SerialOrder). x.held.version) old.2 ∙ same)
 
-      granted : (c : Granting i) → IsNewOrder s c.order → Fine (with_primary (server_begins s) c.handle.0 (new_order (record { version = c.version.0; until = c.end_moment.0; members = c.members })))
+      granted : (c : Granting i) → IsNewOrder s c.order → Fine (with_primary (server_begins s) c.handle.0 (new_order c.is.chunk (record { version = c.version.0; until = c.end_moment.0; members = c.members })))
       granted c new =
-          put (server_begins s) c.handle.0 (new_order (record { version = c.version.0; until = c.end_moment.0; members = c.members }))
+          put (server_begins s) c.handle.0 (new_order c.is.chunk (record { version = c.version.0; until = c.end_moment.0; members = c.members }))
           (λ same is.
           let low = none c.m c.order c.handle c.version c.end_moment c.members c.came c.is new same is in
           let count : numbered_in handle version [] ≡ 0 = refl in

@@ -60,7 +60,7 @@ module _ (s : ServerState) (i : NodeInput) where
       let q : ℕ = n.a.c.handle.0 in
       let serial : ℕ = n.a.p.serial + 1 in
       let new : SerialOrder = numbered n.a.p n.a.c.id.client n.a.c.id.seq (place_of n.placed) in
-      let forwarded : ServerDoing = forwards (stores (number_of s i n) (stored_as q serial n.placed)) (without n.a.p.held.members s.id) q n.a.p.held.version serial n.a.c.id (change_of n.placed) in
+      let forwarded : ServerDoing = forwards (stores (number_of s i n) (stored_as q serial n.placed)) (without n.a.p.held.members s.id) q n.a.p.held.version serial n.a.c.id n.a.p.chunk (change_of n.placed) in
       settles_once (with_primary forwarded q (acknowledged new s.id serial)) q n.a.p.held.version serial (settled new s.id serial) tt
 
   acked_once : (c : Acking i) (p : SerialOrder) → IsOnce (acknowledges (server_begins s) c.handle.0 p (server_number c.m.sender) c.serial.0)

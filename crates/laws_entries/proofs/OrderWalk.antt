@@ -104,7 +104,7 @@ module _ (P : SerialOrder → Type 0) (k : KeepsOrders P) (handle version : ℕ)
       applied_fine n =
           let q : ℕ = n.a.c.handle.0 in
           let serial : ℕ = n.a.p.serial + 1 in
-          acknowledged_fine (forwards (stores (number_of s i n) (stored_as q serial n.placed)) (without n.a.p.held.members s.id) q n.a.p.held.version serial n.a.c.id (change_of n.placed)) q
+          acknowledged_fine (forwards (stores (number_of s i n) (stored_as q serial n.placed)) (without n.a.p.held.members s.id) q n.a.p.held.version serial n.a.c.id n.a.p.chunk (change_of n.placed)) q
           (numbered n.a.p n.a.c.id.client n.a.c.id.seq (place_of n.placed)) s.id serial (numbers_fit n) (numbers_fine n)
 
       ticks_fine : AreFit P handle version (map_values asks_no_more (counting_leases s))
@@ -152,7 +152,7 @@ module _ (P : SerialOrder → Type 0) (k : KeepsOrders P) (handle version : ℕ)
             creates = λ c new free. h;
             raised = λ c r new found same. gone s.leases c.handle.0 h;
             grants = λ c new holds.
-                put s.leases c.handle.0 (new_order (record { version = c.version.0; until = c.end_moment.0; members = c.members }))
+                put s.leases c.handle.0 (new_order c.is.chunk (record { version = c.version.0; until = c.end_moment.0; members = c.members }))
                 (λ same is. absurd (none c.m c.order c.handle c.version c.end_moment c.members c.came c.is new same is)) h;
             revokes = λ c q new same. gone s.leases c.handle.0 h;
             revoked = λ c new apart. h;

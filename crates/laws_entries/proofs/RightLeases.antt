@@ -218,11 +218,11 @@ module _ (K : Seen → Type 0) where
   pub right_reported : (q : ℕ) (p : SerialOrder) → IsRight K q p → IsRight K q (asks_no_more p)
   right_reported q p h = record { waits = h.waits; keeps = h.keeps; well = well_reported p h.well; given = h.given }
 
-  pub right_new : (q : ℕ) (held : LeaseHeld) → IsRight K q (new_order held)
-  right_new q held =
+  pub right_new : (q chunk : ℕ) (held : LeaseHeld) → IsRight K q (new_order chunk held)
+  right_new q chunk held =
       record {
         waits = λ n w at. none_some w (sym (table.get-empty nat_cmp n) ∙ at);
         keeps = λ c k place at is. none_some k (sym (table.get-empty nat_cmp c) ∙ at);
-        well = well_new held;
+        well = well_new chunk held;
         given = λ n least most. absurd (omega (arith, least, most));
       }

@@ -83,7 +83,7 @@ leased_granted config servers clients w r index s at handle p is =
     let told = (leases_are_told config servers clients w r index s at handle p is).0 in (
       told.1,
       (told.0, told.2),
-      grant_counts (lease_grant w.sent (suc index) handle p.held told),
+      grant_counts (lease_grant w.sent (suc index) handle p.chunk p.held told),
     )
 
 -- what a server numbers it numbers under a lease that it holds and that counts

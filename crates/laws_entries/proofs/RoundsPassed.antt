@@ -126,7 +126,7 @@ leased_passed config servers clients w r index s at handle p is =
     let told = (leases_are_told config servers clients w r index s at handle p is).0 in
     let base : IsOfRevokes w.sent w.master = (sent_reached IsOfWaits waits_kept config servers clients w r).base in
     granted_passed w.sent w.master base handle p.held.version told.1 (told.0, told.2)
-    (granting told.4 handle p.held.version told.5 p.held.members (told.1).body (lease_grant w.sent (suc index) handle p.held told))
+    (granting told.4 handle p.held.version told.5 p.held.members (told.1).body (lease_grant w.sent (suc index) handle p.chunk p.held told))
 
 -- one event
 

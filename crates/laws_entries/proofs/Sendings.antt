@@ -200,7 +200,7 @@ module _ (A : Call) (F : ℕ → Type 0) (Size Own : ℕ) (Sent : List Message) 
   takes_told_good d c other number o same h = h
 
   reply_good : (d : ClientDoing) (reply : NameReply) → (is_append A ≡ true → ⊥) → Base d → Good (takes_reply d reply)
-  reply_good d (Opened file) never h = (h.0, tt, h.2, tt)
+  reply_good d (Opened file shape) never h = (h.0, tt, h.2, tt)
   reply_good d (Answered reply) never h = (h.0, any_reply reply never, h.2, tt)
 
   named_good : (d : ClientDoing) (c : CurrentCall) (st : Stage) (number : ℕ) (reply : NameReply) → FineStage None st → Good d → Good (takes_named d c st number reply)

@@ -41,7 +41,7 @@ IsWritten handle serial other = ⊥
 
 -- The cause of a word, by the disk as the step began, its changes, and what was shown.
 abbrev pub IsCaused : ServerDisk → List StoreChange → List Seen → Body → Type 0
-IsCaused disk changes seen (body.Forward handle version serial id c) = (place : ℕ) × (m : Mutation) × (element_at seen place ≡ Some (Numbered handle version serial id m)) × (change_of m ≡ c)
+IsCaused disk changes seen (body.Forward handle version serial id chunk c) = (place : ℕ) × (m : Mutation) × (element_at seen place ≡ Some (Numbered handle version serial id m)) × (change_of m ≡ c)
 IsCaused disk changes seen (body.Acked handle version serial) =
     (row : Row) × (x : StoreChange) × (row_at disk handle.0 ≡ Some row) × (row.version.0 ≡ version.0) × (changes ≡ x ∷ []) × IsWritten handle serial x
 IsCaused disk changes seen (body.Image handle version serial bytes) =
@@ -56,7 +56,7 @@ written handle serial kept (change.Append offset) x from end_place h = subst (Is
 written handle serial kept (change.Pad offset end) x from end_place h = subst (IsWritten (handle_of handle) (serial_of serial)) (sym h.0) (refl, refl)
 
 caused : (s : ServerState) (i : NodeInput) (d : ServerDoing) (receiver : Node) (b : Body) → IsSaid s i d receiver b → IsCaused s.disk d.changes d.seen b
-caused s i d receiver (body.Forward handle version serial id named) h = (h.1, h.0, h.2, h.3)
+caused s i d receiver (body.Forward handle version serial id chunk named) h = (h.1, h.0, h.2, h.3)
 caused s i d receiver (body.Acked handle version serial) h =
     let t = h.0 in
     let c = t.f.c in
@@ -86,7 +86,7 @@ disk_kept s moment i =
       puts = λ c handle version serial bytes none short h. h;
       raises = λ c handle version r there h. h;
       copies = λ c handle copy version none h. h;
-      grants = λ c handle version until members holds h. h;
+      grants = λ c handle version until chunk members holds h. h;
       holds = λ c leases from h. h;
       settles = λ c handle version serial h. h;
       numbers = λ c handle p id m n h. h;

@@ -90,7 +90,7 @@ module _ (P : SerialOrder → Type 0) (k : KeepsOrders P) (handle version : ℕ)
     taken = shows (takes_data (with_primary d handle (numbered p id.client id.seq (place_of m))) id) (Numbered (handle_of handle) (version_of p.held.version) (serial_of (p.serial + 1)) id m)
 
     abbrev forwarded : ServerDoing
-    forwarded = forwards (stores taken (stored_as handle (p.serial + 1) m)) (without p.held.members d.server.id) handle p.held.version (p.serial + 1) id (change_of m)
+    forwarded = forwards (stores taken (stored_as handle (p.serial + 1) m)) (without p.held.members d.server.id) handle p.held.version (p.serial + 1) id p.chunk (change_of m)
 
     abbrev after : SerialOrder
     after = acknowledged new d.server.id (p.serial + 1)
@@ -347,7 +347,7 @@ first_spent P config servers clients w r index moment s i choice is handle versi
     told : IsToldServer w.sent index s
     told = scene_reached AreTold told_kept config servers clients w r index s is
 
-    lease : IsToldLease w.sent (suc index) s.disk handle p.held
+    lease : IsToldLease w.sent (suc index) s.disk handle p.chunk p.held
     lease = told.told handle p there
 
 -- after a step in which a mutation is numbered

@@ -77,7 +77,7 @@ module _ (s : ClientState) where
         left = λ c chunk rest number now at h. tt;
         answered = λ d c reply h. none_waited s _ refl;
         name_answered = λ d c reply h. none_waited s _ refl;
-        opened = λ c number file now at came h. none_waited s _ refl;
+        opened = λ c number file shape now at came h. none_waited s _ refl;
         waits = λ d c idle h. none_waited s _ (idle_waits c.stage idle);
         waits_again = λ d c h. none_waited s _ refl;
         asking = λ d c h. none_waited s _ refl;

@@ -165,8 +165,8 @@ well_extended p skew until now h = record { low = h.low; kept = h.kept; pending 
 pub well_reported : (p : SerialOrder) → IsWellKept p → IsWellKept (asks_no_more p)
 well_reported p h = record { low = h.low; kept = h.kept; pending = h.pending }
 
-pub well_new : (held : LeaseHeld) → IsWellKept (new_order held)
-well_new held =
+pub well_new : (chunk : ℕ) (held : LeaseHeld) → IsWellKept (new_order chunk held)
+well_new chunk held =
     record {
       low = λ n w at. none_some w (sym (table.get-empty nat_cmp n) ∙ at);
       kept = λ n w at. none_some w (sym (table.get-empty nat_cmp n) ∙ at);

@@ -33,7 +33,7 @@ pub record IsNamedIn (order : List Placed) (version : Version) (serial : Serial)
 abbrev pub ForwardsNameEntries : Type 0
 ForwardsNameEntries =
     (config : Config) (servers clients : ℕ) (w : WorldState) → IsReached config servers clients w → (place : ℕ) (m : Message) → element_at w.sent place ≡ Some m
-    → (handle : Handle) (version : Version) (serial : Serial) (id : DataId) (c : Change) → m.body ≡ body.Forward handle version serial id c
+    → (handle : Handle) (version : Version) (serial : Serial) (id : DataId) (chunk : ℕ) (c : Change) → m.body ≡ body.Forward handle version serial id chunk c
     → IsNamedIn (order_of w.observer handle.0) version serial id c
 
 -- A server that sends an Acked has after its step a replica of that version with that serial (section 3.3).

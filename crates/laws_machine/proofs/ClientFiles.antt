@@ -51,7 +51,7 @@ module _ (s : ClientState) (h : Kept s) (moment : ℕ) where
   left : (d : ClientDoing) → After Always h.0 (client_at s moment) AnyCame (λ c number l now at came. tt) later d → Kept d.client
   left d after = elim (after) [
     | inl quiet ↦ (h.0, quiet.0)
-    | inr opened ↦ (h.0, subst (λ (t : ClientState). Keeps Always h.0 t) (sym opened.1) (keeps_opened Always Always h.0 (client_at s moment) opened.0 (λ other l clock apart told. tt) later))
+    | inr opened ↦ (h.0, subst (λ (t : ClientState). Keeps Always h.0 t) (sym opened.2) (keeps_opened Always Always h.0 (client_at s moment) opened.0 opened.1 (λ other l clock apart told. tt) later))
   ]
 
   stops : Kept (stopped_client s)

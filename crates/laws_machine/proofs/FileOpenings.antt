@@ -4,6 +4,7 @@ use Rattle.std.specs.Prelude.{◌==◌, nat_lt}
 use Rattle.std.specs.List.{AllByRecursion}
 use Rattle.std.specs.FinMap as table
 use Rattle.std.proofs.lemmas.Bool.{eqb-true, true≢false}
+use Rattle.gfs_types.specs.declared.shape.Shape.{Shape}
 use Rattle.gfs_types.specs.declared.call.Call.{Call}
 use Rattle.gfs_types.specs.declared.call.Call.TheVariants as call
 use Rattle.gfs_types.specs.declared.answer.Answer.{Answer}
@@ -66,14 +67,14 @@ module _ (m : Machine) (client : ℕ) (s : ClientState) (h : IsFileClient m clie
       now P g = subst P (sym (put_same client closed m.clients)) g
 
   -- a file is opened
-  pub opened : (file : ℕ) → IsFileClient (after m (ReturnFd client (suc (m.clients client).fd_count) file)) client (opens d0 file).client
-  opened file =
+  pub opened : (file : ℕ) (shape : Shape) → IsFileClient (after m (ReturnFd client (suc (m.clients client).fd_count) file)) client (opens d0 file shape).client
+  opened file shape =
       record {
         settings = h.settings;
         fds = now (λ c. suc s.fd_count ≡ c.fd_count) (ap (λ (k : ℕ). suc k) h.fds);
         descriptors = λ fd. now (λ c. table.get (table.insert s.descriptors (suc s.fd_count) file) fd ≡ c.descriptors fd) (described fd (same_or_not fd (suc s.fd_count)));
-        kept = now (λ c. AllByRecursion (IsKeptNote c.notes (files_after_open s.files file (suc s.fd_count)) (suc s.fd_count)) s.cache.entries)
-            (all_go (IsKeptNote (m.clients client).notes s.files s.fd_count) (IsKeptNote new.notes (files_after_open s.files file (suc s.fd_count)) (suc s.fd_count)) later s.cache.entries h.kept);
+        kept = now (λ c. AllByRecursion (IsKeptNote c.notes (files_after_open s.files file shape (suc s.fd_count)) (suc s.fd_count)) s.cache.entries)
+            (all_go (IsKeptNote (m.clients client).notes s.files s.fd_count) (IsKeptNote new.notes (files_after_open s.files file shape (suc s.fd_count)) (suc s.fd_count)) later s.cache.entries h.kept);
         places = h.places;
         call = now (λ c. c.open_call ≡ None) refl;
       }
@@ -94,13 +95,13 @@ module _ (m : Machine) (client : ℕ) (s : ClientState) (h : IsFileClient m clie
           ∙ sym (put_other (suc (m.clients client).fd_count) (Some file) (m.clients client).descriptors fd (λ same. other (same ∙ sym fd_is)))
 
       row : OpenFile
-      row = opened_again (table.get s.files file) (suc s.fd_count)
+      row = opened_again (table.get s.files file) shape (suc s.fd_count)
 
-      row_last : (o : Option OpenFile) → (opened_again o (suc s.fd_count)).last_opened.0 ≡ suc s.fd_count
+      row_last : (o : Option OpenFile) → (opened_again o shape (suc s.fd_count)).last_opened.0 ≡ suc s.fd_count
       row_last None = refl
       row_last (Some f) = refl
 
-      later : (e : Place × Cached) → IsKeptNote (m.clients client).notes s.files s.fd_count e → IsKeptNote new.notes (files_after_open s.files file (suc s.fd_count)) (suc s.fd_count) e
+      later : (e : Place × Cached) → IsKeptNote (m.clients client).notes s.files s.fd_count e → IsKeptNote new.notes (files_after_open s.files file shape (suc s.fd_count)) (suc s.fd_count) e
       later e k =
           record {
             opened = (let few = k.opened in omega (arith, few));
@@ -109,7 +110,7 @@ module _ (m : Machine) (client : ℕ) (s : ClientState) (h : IsFileClient m clie
           }
         where
           by_file : (e.0.file ≡ file) ⊎ (e.0.file ≡ file → ⊥)
-              → (new.notes e.0.file e.0.index ≡ Some e.1.location.round.0) ⊎ IsOpenedAgain (files_after_open s.files file (suc s.fd_count)) e.0.file e.1.opened.0
+              → (new.notes e.0.file e.0.index ≡ Some e.1.location.round.0) ⊎ IsOpenedAgain (files_after_open s.files file shape (suc s.fd_count)) e.0.file e.1.opened.0
           by_file (inl same) = inr (λ f is.
               let here : row ≡ f = same_some row f (sym (put_there s.files file row e.0.file same) ∙ is) in
               let last : f.last_opened.0 ≡ suc s.fd_count = ap (λ (g : OpenFile). g.last_opened.0) (sym here) ∙ row_last (table.get s.files file) in
@@ -196,8 +197,8 @@ module _ (m : Machine) (client : ℕ) (s : ClientState) (x : CurrentCall) (h : I
   again i y = record { settings = h.settings; fds = h.fds; descriptors = h.descriptors; kept = h.kept; places = h.places; call = inl refl }
 
   reply_ends : (y : Message) (number : ℕ) (r : NameReply) → x.number ≡ number → y.body ≡ body.Named number r → Ends (input.Deliver y) (takes_reply begin r)
-  reply_ends y number (Opened file) same at =
-      inr (file, at ∙ ap (λ (k : ℕ). body.Named k (Opened file)) (sym same), ap (λ (k : ℕ). answer.Fd (record { 0 = suc k })) h.fds, opened m client s h moment file.0)
+  reply_ends y number (Opened file shape) same at =
+      inr (file, (shape, at ∙ ap (λ (k : ℕ). body.Named k (Opened file shape)) (sym same)), ap (λ (k : ℕ). answer.Fd (record { 0 = suc k })) h.fds, opened m client s h moment file.0 shape)
   reply_ends y number (Answered reply) same at = inl (replied m client s h moment o is_open name reply)
 
   takes_ends : (y : Message) (b : Body) → y.body ≡ b → Ends (input.Deliver y) (client_takes begin waiting b)

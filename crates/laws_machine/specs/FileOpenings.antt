@@ -6,7 +6,6 @@ use Rattle.gfs_types.specs.declared.answer.Answer.TheVariants as answer
 use Rattle.gfs_types.specs.declared.ids.FileId.{FileId}
 use Rattle.gfs_types.specs.declared.refusal.Refusal.TheVariants.{NoMemory}
 use Rattle.messages.specs.declared.event.NodeInput.{NodeInput}
-use Rattle.messages.specs.declared.message.NameReply.TheVariants.{Opened}
 use Rattle.relaxed_file.specs.Machine.{Machine, OpenCall, IsOpen}
 use Rattle.relaxed_file.specs.NameStep.{is_name_call}
 use Rattle.relaxed_file.specs.Run.{Invoke, Return, ReturnFd, after}
@@ -14,7 +13,7 @@ use Rattle.client_state.specs.declared.call.CurrentCall.{CurrentCall}
 use Rattle.client_state.specs.declared.call.Stage.TheVariants.{AskedNames}
 use Rattle.protocol.specs.Client.{ClientState, ClientDoing, client_begins, answers}
 use Rattle.protocol.specs.ClientStep.{client_at, client_goes, client_call_goes}
-use Rattle.laws_names.specs.NameAnswers.{Tells}
+use Rattle.laws_names.specs.NameAnswers.{TellsFile}
 use Rattle.laws_machine.specs.FileClients.{IsFileClient}
 
 -- A name call begins, or memory is refused and it is answered so.
@@ -29,7 +28,7 @@ abbrev pub IsAnsweredAs : Machine → ℕ → ℕ → NodeInput → ClientDoing 
 IsAnsweredAs m client number i d None = IsFileClient m client d.client
 IsAnsweredAs m client number i d (Some reply) =
     IsFileClient (after m (Return client reply)) client d.client
-    ⊎ ((file : FileId) × Tells i number (Opened file) × (reply ≡ answer.Fd (record { 0 = suc (m.clients client).fd_count }))
+    ⊎ ((file : FileId) × TellsFile i number file × (reply ≡ answer.Fd (record { 0 = suc (m.clients client).fd_count }))
     × IsFileClient (after m (ReturnFd client (suc (m.clients client).fd_count) file.0)) client d.client)
 
 abbrev pub NameStepsKeepFiles : Type 0

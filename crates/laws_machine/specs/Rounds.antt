@@ -24,7 +24,7 @@ use Rattle.protocol.specs.Logged.{Logged, Copy, LogDisk, LogChange, AppendRecord
 use Rattle.protocol.specs.Master.{MasterState, VersionAttempt}
 use Rattle.protocol.specs.MasterStep.{master_goes, master_step}
 use Rattle.protocol.specs.World.{WorldState, numbered_from_1, happens, IsReached}
-use Rattle.laws_base.specs.Laws.{grants_of}
+use Rattle.laws_base.specs.Laws.{IsGrantBody, grants_of}
 use Rattle.laws_steps.specs.Versions.{IsLeaseOver, AreLeasesOver}
 use Rattle.protocol_invariant.specs.Actions.{Spot}
 use Rattle.laws_machine.specs.ChunksAlike.{ChunkSides, IsRoundOpen, AreChunksAlike, KeepsRounds, HasRounds}
@@ -106,7 +106,7 @@ EndedRoundsAreOver =
 abbrev pub SentGrantsAreOpen : WorldState → WorldState → ChunkSides → Type 0
 SentGrantsAreOpen w then_ j =
     (place : ℕ) (m : Message) (order : OrderNo) (handle : Handle) (version : Version) (end_moment : Moment) (members : List ℕ) → length w.sent ≤ place → element_at then_.sent place ≡ Some m
-    → m.body ≡ body.Grant order handle version end_moment members → (s : Spot) × IsRoundOpen j handle.0 version.0 s
+    → IsGrantBody order handle version end_moment members m.body → (s : Spot) × IsRoundOpen j handle.0 version.0 s
 
 -- So at each event, a step of the master or its restart too, the round of each lease that isn't over is open again, where rounds end only of chunks of which they may, and what is granted has its round open.
 abbrev pub EachEventKeepsRounds : Type 0

@@ -34,7 +34,7 @@ module _ (m : Machine) (client : ℕ) (current : OpenCall) where
 pub told_answers_are_allowed : ToldAnswersAreAllowed
 told_answers_are_allowed m requests x client number current told to w name = (
   λ reply is. (current, w.is_open, may_return m client current reply name (at (body.Named number (Answered reply)) is current w)),
-  λ file is. (current, w.is_open, (at (body.Named number (Opened file)) is current w, refl)),
+  λ file shape is. (current, w.is_open, (at (body.Named number (Opened file shape)) is current w, refl)),
 )
   where
     at : (b : Body) → x.body ≡ b → IsToldTo m requests client b

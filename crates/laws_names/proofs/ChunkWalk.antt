@@ -24,7 +24,7 @@ use Rattle.protocol.specs.LogSizes.{checkpoint_fits}
 use Rattle.protocol.specs.Logged.{Logged, LogDisk, LogChange, AppendRecord, WriteCheckpoint, log_changed, after_record, checkpoint_of, copies_given_up, all_copies_given_up}
 use Rattle.protocol.specs.Master.{MasterDoing, VersionAttempt, PendingSnapshot, HeldAt, tells, orders, ends_at, with_attempt, without_attempt, gives_up_copies, gives_up_copy, fits, appends, writes_checkpoint, logs, logs_after_checkpoint, is_of_copy, has_lease, holders_where, current_holders}
 use Rattle.protocol.specs.MasterSnapshots.{waits_for, revokes, revokes_row}
-use Rattle.protocol.specs.MasterVersions.{Asker, VersionTarget, holder_line, group_of, tells_location, tells_holders, tells_none, tells_to_wait, version_order, sends_versions, new_attempt, sends_issued, issues_to, targets_by, recorded_holders, issues_own, is_attempted, copy_order, sends_copies, copy_targets, sends_copy_started, copies_to, begins_copy, copy_for, is_copied, wants_own, wants_own_of, issues_copy, wants_copy, wants_by, wants_primary, holder_target, sends_grant, grants_to, is_complete, with_recorded, learns_attempt, learns}
+use Rattle.protocol.specs.MasterVersions.{Asker, VersionTarget, holder_line, group_of, tells_location, tells_holders, tells_none, tells_to_wait, version_order, sends_versions, new_attempt, sends_issued, issues_to, targets_by, recorded_holders, issues_own, is_attempted, copy_order, sends_copies, copy_targets, sends_copy_started, copies_to, begins_copy, copy_for, is_copied, wants_own, wants_own_of, issues_copy, wants_copy, wants_by, wants_primary, holder_target, sends_grant, grants_to, is_complete, with_recorded, learns_attempt, learns, chunk_size_of}
 use Rattle.protocol.specs.declared.seen.Seen.TheVariants.{CopyStarted}
 use Rattle.protocol.specs.MasterAsks.{looks_at_row, looks_at, mutates_row, mutates_at, adds_chunk, with_index, asks_to_write, asks_to_append, asks_for_last, asks_for, asks_of, takes_ask}
 use Rattle.protocol.specs.MasterReports.{revoked_row, is_useless, drops_useless, learns_all, may_extend, extends_row, extends_all, hears, takes_report}
@@ -88,7 +88,7 @@ module _ (P : List PendingSnapshot → Logged → LogDisk → List LogChange →
 
   location_here : (d : MasterDoing) (a : Asker) (handle : ℕ) (row : ChunkRow) (holders : List Holder) → Here d → Here (tells_location d a handle row holders)
   location_here d a handle row holders h =
-      tells_here d a.client (body.Told a.number (Some (record { index = a.index; handle = handle_of handle; round = version_of row.granted; holders = holders; group = group_of d.master row }))) tt h
+      tells_here d a.client (body.Told a.number (Some (record { index = a.index; handle = handle_of handle; round = version_of row.granted; shape = row.shape; holders = holders; group = group_of d.master row }))) tt h
 
   holders_here : (d : MasterDoing) (a : Asker) (handle : ℕ) (row : ChunkRow) → Here d → Here (tells_holders d a handle row)
   holders_here d a handle row h = location_here d a handle row (map holder_line (current_holders d.master handle row)) h
@@ -245,7 +245,7 @@ module _ (P : List PendingSnapshot → Logged → LogDisk → List LogChange →
   sends_grant_here : (d : MasterDoing) (handle version primary : ℕ) (members : List ℕ) → Here d → Here (sends_grant d handle version primary members)
   sends_grant_here d handle version primary members h =
       let until : ℕ = d.master.now + d.master.config.lease_ms in
-      orders_here (ends_at (without_attempt d handle) handle until) primary (grant_order handle version until members) (λ o. tt) (ends_here (without_attempt d handle) handle until h)
+      orders_here (ends_at (without_attempt d handle) handle until) primary (grant_order handle version until (chunk_size_of d.master.logged.table handle) members) (λ o. tt) (ends_here (without_attempt d handle) handle until h)
 
   grants_here : (d : MasterDoing) (handle : ℕ) (a : VersionAttempt) (servers : List ℕ) → Here d → Here (grants_to d handle a servers)
   grants_here d handle a [] h = h

@@ -349,7 +349,7 @@ module _ (config : Config) (trace : List Visible) (greatest : ℕ) (clients : Li
         pub why_over : (reply : Answer) → IsCaused s moment i d c reply → WhyOver
         why_over reply caused = ⊎_elim
             (λ told. inl (outcome_told (AnsweredWith reply), told_outcome i came (AnsweredWith reply) told.0))
-            (λ rest. ⊎_elim (λ opened. inl (outcome_told (Opened opened.0), told_outcome i came (Opened opened.0) opened.1)) (λ late. inr (is_late late.1)) rest)
+            (λ rest. ⊎_elim (λ opened. inl (outcome_told (Opened opened.0 (opened.1).0), told_outcome i came (Opened opened.0 (opened.1).0) (opened.1).1)) (λ late. inr (is_late late.1)) rest)
             caused
 
         nothing : (xs : List Outcome) (o : Outcome) → xs ≡ [] → Contains xs o → ⊥

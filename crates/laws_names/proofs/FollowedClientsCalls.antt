@@ -1,6 +1,7 @@
 -- A name call is made, and each step of its client while it is open.
 use Rattle.std.proofs.Common.{◌≡◌, ⊎_elim, ℕ, suc, true, false, List, [], ◌∷◌, Option, Some, None, refl, sym, ap, subst, ◌∙◌}
 use Rattle.std.specs.Prelude.{◌==◌, not, filter}
+use Rattle.gfs_types.specs.declared.shape.Shape.{Shape}
 use Rattle.gfs_types.specs.declared.ids.FileId.{FileId}
 use Rattle.gfs_types.specs.declared.call.Call.{Call}
 use Rattle.gfs_types.specs.declared.answer.Answer.{Answer}
@@ -120,10 +121,10 @@ module _ (l : Logged) (snapshots : List PendingSnapshot) (m : Machine) (requests
     called = ap is_name_call same ∙ name
 
     told_allows : (i : NodeInput) (r : NameReply) → IsInputTold m requests client i → Tells i c.number r
-        → ((reply : Answer) → r ≡ named.Answered reply → Allows m (Return client reply)) × ((file : FileId) → r ≡ named.Opened file → Allows m (ReturnFd client (suc (m.clients client).fd_count) file.0))
+        → ((reply : Answer) → r ≡ named.Answered reply → Allows m (Return client reply)) × ((file : FileId) (shape : Shape) → r ≡ named.Opened file shape → Allows m (ReturnFd client (suc (m.clients client).fd_count) file.0))
     told_allows (input.Deliver x) r came told =
         let allowed = told_answers_are_allowed m requests x client c.number current came.1 came.0 w called in
-        (λ reply is. allowed.0 reply (told ∙ ap (λ (y : NameReply). body.Named c.number y) is), λ file is. allowed.1 file (told ∙ ap (λ (y : NameReply). body.Named c.number y) is))
+        (λ reply is. allowed.0 reply (told ∙ ap (λ (y : NameReply). body.Named c.number y) is), λ file shape is. allowed.1 file shape (told ∙ ap (λ (y : NameReply). body.Named c.number y) is))
     told_allows input.Tick r came told = absurd told
 
     over_at : (i : NodeInput) (d : ClientDoing) → IsInputTold m requests client i → IsOver s moment i d c → Follows d
@@ -133,7 +134,7 @@ module _ (l : Logged) (snapshots : List PendingSnapshot) (m : Machine) (requests
         (λ opened.
         let fd : ℕ = suc (m.clients client).fd_count in
         let reply_is : over.reply ≡ answer.Fd (record { 0 = fd }) = opened.2 ∙ ap (λ (k : ℕ). answer.Fd (record { 0 = suc k })) (sym count) in
-        returns_fd d fd (opened.0).0 (over.answer_is ∙ ap (λ (a : Answer). Some a) reply_is) over.none_open (ap suc count ∙ sym opened.3) ((told_allows i (named.Opened opened.0) came opened.1).1 opened.0 refl))
+        returns_fd d fd (opened.0).0 (over.answer_is ∙ ap (λ (a : Answer). Some a) reply_is) over.none_open (ap suc count ∙ sym opened.3) ((told_allows i (named.Opened opened.0 (opened.1).0) came (opened.1).1).1 opened.0 (opened.1).0 refl))
         (λ late.
         let given : Allows m (Return client (answer.Refused Unknown)) = (name_calls_may_give_up m client current w.is_open called).0 in
         returns d (answer.Refused Unknown) (over.answer_is ∙ ap (λ (a : Answer). Some a) late.0) over.none_open (count ∙ sym late.2) given)

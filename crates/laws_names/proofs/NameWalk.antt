@@ -23,7 +23,7 @@ use Rattle.relaxed_file.specs.Machine.{Machine, OpenCall, Outcome, Replies, Open
 use Rattle.relaxed_file.specs.NameStep.{is_look, is_refused, needs_room, first_refusal, path_tests, refusal_of, outcome_of, outcome_by, performed, with_outcome, MayTakeEffect}
 use Rattle.relaxed_file.specs.Run.{Step, FindBusy, Lock, Allows, after}
 use Rattle.relaxed_file.proofs.Tables.{from_some}
-use Rattle.chunk_table.specs.ChunkTable.{ChunkRow, chunk_of}
+use Rattle.chunk_table.specs.ChunkTable.{ChunkRow, ChunkTable, chunk_of}
 use Rattle.protocol.specs.Sending.{message, the_client, client_id, client_number}
 use Rattle.protocol.specs.Logged.{Logged, KeptCall, LogDisk, LogChange}
 use Rattle.protocol.specs.Master.{MasterState, MasterDoing, PendingSnapshot, tells, orders, without_attempts, gives_up_copies, has_lease}
@@ -88,9 +88,9 @@ look_runs s m requests client c current h settings is same look = elim (refusals
       (run, (FindBusy client (found.0).client ∷ [], (allowed, tt, refl)))
 ]
 
-reply_tells : (o : Outcome) → outcome_told (reply_by o) ≡ o
-reply_tells (Opens file) = refl
-reply_tells (Replies reply) = refl
+reply_tells : (t : ChunkTable) (o : Outcome) → outcome_told (reply_by t o) ≡ o
+reply_tells t (Opens file) = refl
+reply_tells t (Replies reply) = refl
 
 module _ (requests : Requests) (P : Machine → Logged → LogDisk → List LogChange → List Message → List PendingSnapshot → Type 0) (k : Keeps requests P) where
   tells_at : (m : Machine) (d : MasterDoing) (receiver : Node) (b : _) → IsTold m requests (message node.Master receiver b) → At requests P k m d → At requests P k m (tells d receiver b)
@@ -230,8 +230,8 @@ module _ (requests : Requests) (P : Machine → Logged → LogDisk → List LogC
       let has : HasOutcome n client outcome = (looked d.master.logged d.master.snapshots m requests client current outcome a w.is_open reads).1 in (
         n,
         move.run,
-        tells_at n d sender (body.Named number (reply_by outcome))
-            (λ x y. subst (λ (o : Outcome). Contains x.outcomes o) (sym (reply_tells outcome)) (subst (λ (q : OpenCall). Contains q.outcomes outcome) (one_call n client has.0 x has.1 y.is_open) has.2))
+        tells_at n d sender (body.Named number (reply_by d.master.logged.table outcome))
+            (λ x y. subst (λ (o : Outcome). Contains x.outcomes o) (sym (reply_tells d.master.logged.table outcome)) (subst (λ (q : OpenCall). Contains q.outcomes outcome) (one_call n client has.0 x has.1 y.is_open) has.2))
             (k.moves m n d.master.logged d.master.disk d.changes d.sent d.master.snapshots d.master.snapshots move went.1 h),
       )
 

@@ -153,7 +153,7 @@ module _ (Asked : ℕ → ℕ → Type 0) where
 
   takes_at : (d : MasterDoing) (x : Message) (b : Body) → IsAsking (client_number x.sender) b → AreCopiesOfFiles d.master.logged → At d → At (master_takes d x b)
   takes_at d x (body.Name number deadline c) asked copied h = kept_at d (client_number x.sender) number deadline.0 c (table.get d.master.logged.kept (client_number x.sender)) asked h
-  takes_at d x (body.Look number c) asked copied h = (says_at d x.sender (body.Named number (reply_by (outcome_by d.master.logged.names c (master_refusal d.master c)))) asked h, h.1)
+  takes_at d x (body.Look number c) asked copied h = (says_at d x.sender (body.Named number (reply_by d.master.logged.table (outcome_by d.master.logged.names c (master_refusal d.master c)))) asked h, h.1)
   takes_at d x other asked copied h = (takes_here OfStep chunks_keep d x other tt (h, copied)).0
 
   expires_at : (d : MasterDoing) (files : List ℕ) → At d → At (expires_all d files)

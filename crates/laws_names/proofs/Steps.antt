@@ -52,7 +52,7 @@ module _ (s : ClientState) (moment : ℕ) (c : CurrentCall) (is_open : s.current
   waits i = inl (record { current = c; is_open = is_open; number_is = refl; asked_is = refl; stage_is = stage_is; unanswered = refl }, refl)
 
   replied : (m : Message) (reply : NameReply) → m.body ≡ body.Named c.number reply → Good (input.Deliver m) (takes_reply begun reply)
-  replied m (Opened file) told = inr (record { reply = answer.Fd (record { 0 = suc s.fd_count }); answer_is = refl; none_open = refl; caused = inr (inl (file, told, refl, refl)) })
+  replied m (Opened file shape) told = inr (record { reply = answer.Fd (record { 0 = suc s.fd_count }); answer_is = refl; none_open = refl; caused = inr (inl (file, (shape, told), refl, refl)) })
   replied m (Answered reply) told = inr (record { reply = reply; answer_is = refl; none_open = refl; caused = inl (told, refl) })
 
   -- a call that waits for the master takes a Named under its number, and nothing else

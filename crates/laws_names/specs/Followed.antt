@@ -24,7 +24,7 @@ RunsTo m n = (run : LeadsByNames m n) × (visible run.0 ≡ [])
 
 -- the outcome that a reply tells
 abbrev pub outcome_told : NameReply → Outcome
-outcome_told (Opened file) = Opens file.0
+outcome_told (Opened file shape) = Opens file.0
 outcome_told (Answered reply) = Replies reply
 
 -- what a client is told of a name call is an outcome of it, as long as the call is open

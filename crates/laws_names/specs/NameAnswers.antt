@@ -1,5 +1,6 @@
 -- A client's name call waits for the master from its first step on, and its answer is what the master told, or Unknown (sections 2.7.1 and 2.7.2).
 use Rattle.std.specs.Prelude.{◌≡◌, ◌⊎◌, ℕ, suc, ◌+◌, ◌≤◌, max, Some, None, IsTrue}
+use Rattle.gfs_types.specs.declared.shape.Shape.{Shape}
 use Rattle.gfs_types.specs.declared.ids.FileId.{FileId}
 use Rattle.gfs_types.specs.declared.call.Call.{Call}
 use Rattle.gfs_types.specs.declared.answer.Answer.{Answer}
@@ -30,11 +31,15 @@ abbrev pub Tells : NodeInput → ℕ → NameReply → Type 0
 Tells (input.Deliver m) number reply = m.body ≡ body.Named number reply
 Tells input.Tick number reply = ⊥
 
+-- it tells this file, with a shape
+abbrev pub TellsFile : NodeInput → ℕ → FileId → Type 0
+TellsFile i number file = (shape : Shape) × Tells i number (Opened file shape)
+
 -- Why an answer is given to the open call: the reply came, or the next descriptor for a file that it names, or it is past its last deadline by the clock bound.
 abbrev pub IsCaused : ClientState → ℕ → NodeInput → ClientDoing → CurrentCall → Answer → Type 0
 IsCaused s moment i d c reply =
     (Tells i c.number (Answered reply) × (d.client.fd_count ≡ s.fd_count))
-    ⊎ (((file : FileId) × Tells i c.number (Opened file) × (reply ≡ answer.Fd (record { 0 = suc s.fd_count })) × (d.client.fd_count ≡ suc s.fd_count))
+    ⊎ (((file : FileId) × TellsFile i c.number file × (reply ≡ answer.Fd (record { 0 = suc s.fd_count })) × (d.client.fd_count ≡ suc s.fd_count))
     ⊎ ((reply ≡ answer.Refused Unknown) × (c.deadline.0 + s.config.skew_ms ≤ max s.now moment) × (d.client.fd_count ≡ s.fd_count)))
 
 -- The call is over, and its answer has a cause.

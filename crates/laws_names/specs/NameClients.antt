@@ -1,6 +1,7 @@
 -- Where the master and the machine have the same names, they stay alike as clients call, are answered, and the clock goes on (sections 2.4 and 2.7.1).
 use Rattle.std.specs.Prelude.{◌≡◌, ℕ, suc, ◌==◌, not, filter, List, Option, Some, None, IsTrue, IsFalse}
 use Rattle.std.specs.FinMap as table
+use Rattle.gfs_types.specs.declared.shape.Shape.{Shape}
 use Rattle.gfs_types.specs.declared.ids.FileId.{FileId}
 use Rattle.gfs_types.specs.declared.call.Call.{Call}
 use Rattle.gfs_types.specs.declared.answer.Answer.{Answer}
@@ -64,7 +65,7 @@ ToldAnswersAreAllowed =
     (m : Machine) (requests : Requests) (x : Message) (client number : ℕ) (current : OpenCall)
     → IsTold m requests x → client_number x.receiver ≡ client → IsWaiting m requests client number current → IsTrue (is_name_call current.asked.call)
     → ((reply : Answer) → x.body ≡ body.Named number (Answered reply) → Allows m (Return client reply))
-    × ((file : FileId) → x.body ≡ body.Named number (Opened file) → Allows m (ReturnFd client (suc (m.clients client).fd_count) file.0))
+    × ((file : FileId) (shape : Shape) → x.body ≡ body.Named number (Opened file shape) → Allows m (ReturnFd client (suc (m.clients client).fd_count) file.0))
 
 -- A name call may be answered Unknown, and NoMemory before a step of it was taken.
 abbrev pub NameCallsMayGiveUp : Type 0

@@ -158,7 +158,7 @@ module _ (m : MasterState) (low : IsLow m) (apart : AreOwn m) where
 
   location_said : (d : MasterDoing) (a : Asker) (handle : ℕ) (row : ChunkRow) (holders : List Holder) → Fine d → Fine (tells_location d a handle row holders)
   location_said d a handle row holders h =
-      said d a.client (body.Told a.number (Some (record { index = a.index; handle = handle_of handle; round = version_of row.granted; holders = holders; group = group_of d.master row }))) tt h
+      said d a.client (body.Told a.number (Some (record { index = a.index; handle = handle_of handle; round = version_of row.granted; shape = row.shape; holders = holders; group = group_of d.master row }))) tt h
 
   holders_said : (d : MasterDoing) (a : Asker) (handle : ℕ) (row : ChunkRow) → Fine d → Fine (tells_holders d a handle row)
   holders_said d a handle row h = location_said d a handle row (map holder_line (current_holders d.master handle row)) h
@@ -514,7 +514,7 @@ unasked m n seen i none =
     record {
       plain = λ receiver b is. plain_higher n seen b is;
       extends = λ server line until due. tt;
-      grants = λ server order handle version until members told has. tt;
+      grants = λ server order handle version until chunk members told has. tt;
       creates = λ server order handle version ask due. absurd (none ask);
       raises = λ server order handle version base ask due. absurd (none ask);
       copies = λ server order handle version copy copy_version ask new. absurd (none ask);

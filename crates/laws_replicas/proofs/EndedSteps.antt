@@ -207,7 +207,7 @@ module _ (config : Config) (servers clients : ℕ) (w : WorldState) (r : IsReach
     forwarded : (e : ServerDisk) → e.replicas ≡ s.disk.replicas → (m : Message) → i ≡ input.Deliver m → (x : StoreChange) → IsForwarded (server_at s moment) m.body x → Good (disk_changed e x)
     forwarded e is m taken x f =
         let sent = came m taken in
-        forwarded_as e is f.handle f.version f.serial f.id f.c (forwards_name_entries config servers clients w r sent.0 m sent.1 f.handle f.version f.serial f.id f.c f.body_is) f.row f.there f.version_is x f.made
+        forwarded_as e is f.handle f.version f.serial f.id f.c (forwards_name_entries config servers clients w r sent.0 m sent.1 f.handle f.version f.serial f.id f.chunk f.c f.body_is) f.row f.there f.version_is x f.made
 
     -- the primary
 

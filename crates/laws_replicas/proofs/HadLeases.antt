@@ -72,7 +72,7 @@ module _ (handle version : ℕ) (Came : Body → Type 0) (s : ServerState) where
         holds = λ c leases from h. (h.0, from_known c.leases leases from h.1);
         grants = λ c order chunk number end_moment members came new h. (
           then_later s.disk c.disk (disk_changed c.disk (SetOrder order)) h.0 (risen_later c.disk (SetOrder order) new),
-          put_known c.leases chunk.0 (lease_of number end_moment members)
+          put_known c.leases chunk.0 (lease_of number end_moment came.2.chunk members)
               (λ key is. inr (record {
                 order = order;
                 chunk = chunk;

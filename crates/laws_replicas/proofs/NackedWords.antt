@@ -61,7 +61,7 @@ caused s moment i d m (body.Nacked handle version serial why) h =
     subst (λ (q : Handle). IsRefusal s (after d) i m q version serial why) (sym h.1)
     (subst (λ (v : VersionId). IsRefusal s (after d) i m c.handle v serial why) (sym h.2)
     (subst (λ (n : Serial). IsRefusal s (after d) i m c.handle c.version n why) (sym h.3)
-    (record { forward = c.m; id = c.id; named = c.named; input_is = c.came; body_is = c.is; sender_is = sym h.4; caused = reason })))
+    (record { forward = c.m; id = c.id; chunk = c.chunk; named = c.named; input_is = c.came; body_is = c.is; sender_is = sym h.4; caused = reason })))
 caused s moment i d m other h = tt
 
 all_caused : (s : ServerState) (moment : ℕ) (i : NodeInput) (d : ServerDoing) (ms : List Message) → AllOf (IsWord (server_at s moment) i d) ms → AllOf (λ m. IsCausedBy s d i m m.body) ms

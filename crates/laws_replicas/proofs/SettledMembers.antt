@@ -127,14 +127,14 @@ module _ (config : Config) (servers clients : ℕ) (w : WorldState) (r : IsReach
       entry_numbered version (order_of v.observer handle) number.0 serial
       (ap (λ (xs : List ℕ). element_at xs number.0) (ap (λ (n : ℕ). serials_of n (order_of v.observer handle)) (sym version_is) ∙ counted) ∙ number.1)
 
-  granted : WasGranted w.sent (suc index) handle acked.lease.held
+  granted : WasGranted w.sent (suc index) handle acked.lease.chunk acked.lease.held
   granted = (leases_are_told config servers clients w r index s at handle acked.lease leased.0).0
 
   is_member : (other : ℕ) (m : Message) → IsSent v.sent m → m.receiver ≡ the_server (suc other) → version_given m.body ≡ Some (handle, version) → IsTrue (has_number acked.lease.held.members (suc other))
   is_member other m sent receiver given =
       let one =
       members_alone_are_given_a_version config servers clients v later handle version granted.0 granted.1 granted.4 granted.5 acked.lease.held.members (kept_place w.sent more granted.0 granted.1 granted.2)
-      (stated_grant (named_grant {handle = handle} (lease_grant w.sent (suc index) handle acked.lease.held granted) refl leased.1)) sent.0 m sent.1 given in
+      (stated_grant (named_grant {handle = handle} (lease_grant w.sent (suc index) handle acked.lease.chunk acked.lease.held granted) refl leased.1)) sent.0 m sent.1 given in
       subst (λ (n : ℕ). IsTrue (has_number acked.lease.held.members n)) (ap server_number (sym one.1 ∙ receiver)) one.2
 
   -- What a replica of this version has applied, of which what is carried holds, has the entry.

@@ -60,8 +60,9 @@ pub record IsForwarded (s : ServerState) (b : Body) (x : StoreChange) : Type 0 w
   pub version : Version
   pub serial : Serial
   pub id : DataId
+  pub chunk : ℕ
   pub c : Change
-  pub body_is : b ≡ body.Forward handle version serial id c
+  pub body_is : b ≡ body.Forward handle version serial id chunk c
   pub row : Row
   pub there : row_at s.disk handle.0 ≡ Some row
   pub version_is : row.version.0 ≡ version.0
@@ -231,7 +232,7 @@ module _ (s : ServerState) (i : NodeInput) where
       let q : ℕ = n.a.c.handle.0 in
       let serial : ℕ = n.a.p.serial + 1 in
       made_by n.a.c.m n.a.c.m.body (primary_applies (number_of s i n) n.a.c.handle.0 n.a.p n.a.c.id n.placed) n.a.c.came refl
-      (acks_fine s n.a.c.m.body (forwards (stores (number_of s i n) (stored_as q serial n.placed)) (without n.a.p.held.members s.id) q n.a.p.held.version serial n.a.c.id (change_of n.placed)) q
+      (acks_fine s n.a.c.m.body (forwards (stores (number_of s i n) (stored_as q serial n.placed)) (without n.a.p.held.members s.id) q n.a.p.held.version serial n.a.c.id n.a.p.chunk (change_of n.placed)) q
       (numbered n.a.p n.a.c.id.client n.a.c.id.seq (place_of n.placed)) s.id serial (numbers_on n sound))
 
   stored_on : (t : Storing s i) → is_writable_at s.disk t.f.c.handle.0 t.from t.end_place ≡ true → AreMadeOn s i (t.x ∷ []) []
@@ -246,6 +247,7 @@ module _ (s : ServerState) (i : NodeInput) where
         version = c.version;
         serial = c.serial;
         id = c.id;
+        chunk = c.chunk;
         c = c.named;
         body_is = c.is;
         row = t.f.row;

@@ -104,8 +104,8 @@ module _ (A : ℕ → ℕ → ℕ → ℕ → Type 0) (me : ℕ) where
   abbrev pub IsCounting : ℕ → SerialOrder → Type 0
   IsCounting handle p = AreCounted handle p.held p.waiting × AreGiven p.serial p.waiting
 
-  pub counting_new : (handle : ℕ) (held : LeaseHeld) → IsCounting handle (new_order held)
-  counting_new handle held = (λ serial x at. none_some x (sym (table.get-empty nat_cmp serial) ∙ at), λ serial x at. none_some x (sym (table.get-empty nat_cmp serial) ∙ at))
+  pub counting_new : (handle chunk : ℕ) (held : LeaseHeld) → IsCounting handle (new_order chunk held)
+  counting_new handle chunk held = (λ serial x at. none_some x (sym (table.get-empty nat_cmp serial) ∙ at), λ serial x at. none_some x (sym (table.get-empty nat_cmp serial) ∙ at))
 
   pub counting_refused : (handle : ℕ) (p : SerialOrder) (refusal : Refusal) (o : Option Waiting) → IsCounting handle p → IsCounting handle (refused_by p refusal o)
   counting_refused handle p refusal None h = h

@@ -164,7 +164,7 @@ module _ (A : ℕ → ℕ → ℕ → ℕ → Type 0) (me : ℕ) where
         applied_done n =
             let q : ℕ = n.a.c.handle.0 in
             let serial : ℕ = n.a.p.serial + 1 in
-            acknowledged_fine (forwards (stores (number_of s i n) (stored_as q serial n.placed)) (without n.a.p.held.members s.id) q n.a.p.held.version serial n.a.c.id (change_of n.placed)) q
+            acknowledged_fine (forwards (stores (number_of s i n) (stored_as q serial n.placed)) (without n.a.p.held.members s.id) q n.a.p.held.version serial n.a.c.id n.a.p.chunk (change_of n.placed)) q
             (numbered n.a.p n.a.c.id.client n.a.c.id.seq (place_of n.placed)) s.id serial (number_counting n) (inl h.0.1) n.a.p (fit n.a.c.handle.0 n.a.c.version.0 n.a.p n.a.primary h).0.1 refl (number_begun n)
 
         denies_done : (a : Attempting s i) (refusal : Refusal) → Done (denies (server_begins s) a.c.handle.0 a.p a.c.id refusal)
@@ -216,7 +216,7 @@ module _ (A : ℕ → ℕ → ℕ → ℕ → Type 0) (me : ℕ) where
               raised = λ c r new found same. inl (lost D c.handle.0 h);
               grants = λ c new holds.
                   let held : LeaseHeld = record { version = c.version.0; until = c.end_moment.0; members = c.members } in
-                  inl (put_fine D c.handle.0 (new_order held) (counting_new A me c.handle.0 held) h);
+                  inl (put_fine D c.handle.0 (new_order c.is.chunk held) (counting_new A me c.handle.0 c.is.chunk held) h);
               revokes = λ c q new same. inl (lost D c.handle.0 h);
               revoked = λ c new apart. inl h;
               drops = λ c r new found old. inl (lost D c.handle.0 h);

@@ -17,6 +17,7 @@ use Rattle.protocol.specs.ServerStep.{found_disk}
 use Rattle.protocol.specs.World.{WorldState, IsReached, is_kept}
 use Rattle.laws_steps.specs.Given.{version_given}
 use Rattle.laws_steps.specs.Versions.{IsLeaseOver}
+use Rattle.laws_base.specs.Laws.{IsGrantBody}
 
 -- Nothing of the chunk is of a version after this one: no entry of its order, and no version that an order gives a server. So no replica is, on a disk or as a restart finds it; and each of this version stands at one of these members.
 pub record IsLastVersion (w : WorldState) (handle version : ℕ) (members : List ℕ) : Type 0 where
@@ -30,7 +31,7 @@ abbrev pub LeasesThatAreNotOverAreTheLast : Type 0
 LeasesThatAreNotOverAreTheLast =
     (config : Config) (servers clients : ℕ) (w : WorldState) → IsReached config servers clients w → IsTrue (is_kept w)
     → (handle version place : ℕ) (grant : Message) (order : OrderNo) (end_moment : Moment) (members : List ℕ)
-    → element_at w.sent place ≡ Some grant → grant.body ≡ body.Grant order (handle_of handle) (version_of version) end_moment members
+    → element_at w.sent place ≡ Some grant → IsGrantBody order (handle_of handle) (version_of version) end_moment members grant.body
     → (IsLeaseOver w handle version → ⊥) → IsLastVersion w handle version members
 
 -- Where clocks and disks are kept, a server that holds a lease which lasts has a replica of its version, whose last serial is the last one that was given under the lease (section 3.1).

@@ -32,9 +32,10 @@ IsRefusedFor before after handle version serial id other = ⊥
 pub record IsRefusal (before after : ServerState) (i : NodeInput) (m : Message) (handle : Handle) (version : Version) (serial : Serial) (cause : Refusal) : Type 0 where
   pub forward : Message
   pub id : DataId
+  pub chunk : ℕ
   pub named : Change
   pub input_is : i ≡ Deliver forward
-  pub body_is : forward.body ≡ body.Forward handle version serial id named
+  pub body_is : forward.body ≡ body.Forward handle version serial id chunk named
   pub sender_is : forward.sender ≡ m.receiver
   pub caused : IsRefusedFor before after handle.0 version.0 serial.0 id cause
 

@@ -145,7 +145,7 @@ module _ (start : LogDisk) (Ended : ℕ → ℕ → Type 0) (P : Core → Type 0
 
   location_acts : (d : MasterDoing) (a : Asker) (handle : ℕ) (row : ChunkRow) (holders : List Holder) → Now d → Now (tells_location d a handle row holders)
   location_acts d a handle row holders h =
-      tells_here start Ended P keeps rowing Q acts d a.client (body.Told a.number (Some (record { index = a.index; handle = handle_of handle; round = version_of row.granted; holders = holders; group = group_of d.master row }))) refl h
+      tells_here start Ended P keeps rowing Q acts d a.client (body.Told a.number (Some (record { index = a.index; handle = handle_of handle; round = version_of row.granted; shape = row.shape; holders = holders; group = group_of d.master row }))) refl h
 
   holders_acts : (d : MasterDoing) (a : Asker) (handle : ℕ) (row : ChunkRow) → Now d → Now (tells_holders d a handle row)
   holders_acts d a handle row h = location_acts d a handle row (map holder_line (current_holders d.master handle row)) h

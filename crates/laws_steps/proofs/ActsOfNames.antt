@@ -160,7 +160,7 @@ module _ (start : LogDisk) (Ended : ℕ → ℕ → Type 0) (P : Core → Type 0
   ready_acts d h = ready_in d d.master.snapshots (λ asks. all_among d.master.snapshots) (λ asks. (h.0.2 asks).apart) h
 
   pub look_acts : (d : MasterDoing) (client : Node) (number : ℕ) (c : Call) → Now d → Now (takes_look d client number c)
-  look_acts d client number c h = tells_here start Ended P keeps rowing Q acts d client (body.Named number (reply_by (outcome_by d.master.logged.names c (master_refusal d.master c)))) refl h
+  look_acts d client number c h = tells_here start Ended P keeps rowing Q acts d client (body.Named number (reply_by d.master.logged.table (outcome_by d.master.logged.names c (master_refusal d.master c)))) refl h
 
   -- what a call finds that meets no refusal: its refusal, that it doesn't wait already, and room for ids
   performs_acts : (d : MasterDoing) (client number deadline : ℕ) (c : Call) → master_refusal d.master c ≡ None → is_waiting_call d.master client number ≡ false → (Unit {0} → d.master.logged.next_file ≤ counter_limit)

@@ -101,7 +101,7 @@ module _ (s : ServerState) where
         puts = λ c handle version serial bytes none short h. silent (with_change c (Put (handle_of handle) (version_of version) (serial_of serial) bytes)) h.3;
         raises = λ c handle version r there h. silent (record (with_change c (Raise (handle_of handle) (version_of version))) { leases = table.remove c.leases handle }) h.3;
         copies = λ c handle copy version none h. silent (with_change c (Copy (handle_of handle) (handle_of copy) (version_of version))) h.3;
-        grants = λ c handle version until members holds h. silent (record c { leases = table.insert c.leases handle (new_order (record { version = version; until = until; members = members })) }) h.3;
+        grants = λ c handle version until chunk members holds h. silent (record c { leases = table.insert c.leases handle (new_order chunk (record { version = version; until = until; members = members })) }) h.3;
         holds = λ c leases from h. fewer c.leases leases (disk_changed_by_all c.disk c.changes) from c.seen h;
         settles = λ c handle version serial h. all_joined (IsShown c.leases (disk_changed_by_all c.disk c.changes)) c.seen (BecameSettled _ _ _ ∷ []) h (tt, tt);
         numbers = λ c handle p id m n h.

@@ -306,7 +306,7 @@ module _ (config : Config) (U : Option ℕ → ℕ → Type 0) where
   takes_told_fine d c other number o r h p = p
 
   reply_fine : (d : ClientDoing) (reply : NameReply) → Ready d → IsFine (takes_reply d reply)
-  reply_fine d (Opened file) r = record { config_is = r.0; silent = none_silent d.sent r.1; right = tt }
+  reply_fine d (Opened file shape) r = record { config_is = r.0; silent = none_silent d.sent r.1; right = tt }
   reply_fine d (Answered reply) r = answers_fine d reply r
 
   takes_named_fine : (d : ClientDoing) (c : CurrentCall) (st : Stage) (number : ℕ) (reply : NameReply) → Ready d → IsFine d → IsFine (takes_named d c st number reply)

@@ -210,7 +210,7 @@ module _ (s : ServerState) where
         raises = λ c handle version r there h. after_one c (Raise (handle_of handle) (version_of version)) (table.remove c.leases handle) c.seen h (λ d same. raised_changed c.seen c.disk d same handle version);
         copies = λ c handle copy version none h.
             after_one c (Copy (handle_of handle) (handle_of copy) (version_of version)) c.leases c.seen h (λ d same. copied_changed c.seen c.disk d same copy version (replica_of d handle) (no_row c.disk copy none));
-        grants = λ c handle version until members holds h. silent c (record c { leases = table.insert c.leases handle (new_order (record { version = version; until = until; members = members })) }) h refl refl;
+        grants = λ c handle version until chunk members holds h. silent c (record c { leases = table.insert c.leases handle (new_order chunk (record { version = version; until = until; members = members })) }) h refl refl;
         holds = λ c leases from h. h;
         settles = λ c handle version serial h.
             let x : Seen = BecameSettled (handle_of handle) (version_of version) (serial_of serial) in (

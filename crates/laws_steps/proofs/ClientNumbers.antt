@@ -129,7 +129,7 @@ module _ (s : ClientState) where
         left = λ c chunk rest number now at h. tt;
         answered = λ d c reply h. rests (answers d reply) refl (λ e is. none_some e is) (let same = h.5 in omega (arith, same)) (h.0, h.1, h.2, h.3, h.4, h.6);
         name_answered = λ d c reply h. rests (answers d reply) refl (λ e is. none_some e is) (let same = h.5 in omega (arith, same)) (h.0, h.1, h.2, h.3, h.4, h.6);
-        opened = λ c number file now at came h. rests (opens (client_begins s) file.0) refl (λ e is. none_some e is) (omega arith) (h.0, h.1, h.2, h.3, h.4, h.6);
+        opened = λ c number file shape now at came h. rests (opens (client_begins s) file.0 shape) refl (λ e is. none_some e is) (omega arith) (h.0, h.1, h.2, h.3, h.4, h.6);
         waits = λ d c idle h. rests (with_current d c) (idle_data c.stage idle) (λ e is. subst (λ (x : CurrentCall). x.number ≤ d.client.call_count) (same_some c e is) h.7) (let same = h.5 in omega (arith, same)) (h.0, h.1, h.2, h.3, h.4, h.6);
         waits_again = λ d c h. rests (committed d c (again_planned d.client)) refl (λ e is. subst (λ (x : CurrentCall). x.number ≤ d.client.call_count) (same_some _ e is) h.7) (let same = h.5 in omega (arith, same)) (h.0, h.1, h.2, h.3, h.4, refl);
         asking = λ d c h. asks_new d c (record c { lost_lease = false; stage = AskedWhere (suc d.client.number) }) (body.Ask (suc d.client.number) c.file (wanted_by c.index c.asked) c.deadline c.lost_lease) Master h refl (inl refl) (λ t is. (ap (λ (n : ℕ). suc n) h.3, is));

@@ -285,7 +285,7 @@ module _ (config : Config) (sent : List Message) (k client : ℕ) (s : ClientSta
               (reading.location, reading.told, reading.chunk_is, (reading.earlier ++ reading.holder ∷ [], reading.holders_are ∙ append-step reading.earlier reading.holder rest));
           answered = λ d c reply h. answered d reply h.0 h.4;
           name_answered = λ d c reply h. answered d reply h.0 h.4;
-          opened = λ c number file now at came h. rests (opens (client_begins s) file.0) h.0 h.4 (λ e is. none_some e is) (none_read (opens (client_begins s) file.0) refl);
+          opened = λ c number file shape now at came h. rests (opens (client_begins s) file.0 shape) h.0 h.4 (λ e is. none_some e is) (none_read (opens (client_begins s) file.0 shape) refl);
           waits = λ d c idle h.
               rests (with_current d c) h.0 h.4 (λ e is. subst (λ (x : CurrentCall). WasRequestSent sent client config.chunk x x.stage) (same_some c e is) (idle_stands sent client config.chunk c c.stage idle))
               (none_read (with_current d c) (idle_reading c.stage idle));

@@ -5,6 +5,7 @@ use Rattle.std.proofs.lemmas.Bool.{eqb-true}
 use Rattle.std.specs.Option.{option_to_list}
 use Rattle.std.specs.List.{list_any}
 use Rattle.std.specs.FinMap as table
+use Rattle.gfs_types.specs.declared.shape.Shape.{Shape}
 use Rattle.gfs_types.specs.declared.ids.ServerId.{ServerId}
 use Rattle.gfs_types.specs.declared.ids.DataId.{DataId}
 use Rattle.gfs_types.specs.declared.ids.FileId.{FileId}
@@ -99,7 +100,8 @@ pub record KeepsClient (s : ClientState) (Came : Body → Type 0) (N H : ClientD
   pub left : (c : CurrentCall) (chunk : ToldChunk) (rest : List Holder) (number : ℕ) → s.current ≡ Some c → c.stage ≡ SentRead chunk rest number → H (client_begins s) c → R (forgets (client_begins s) c chunk) c chunk rest
   pub answered : (d : ClientDoing) (c : CurrentCall) (reply : Answer) → H d c → P (answers d reply)
   pub name_answered : (d : ClientDoing) (c : CurrentCall) (reply : Answer) → N d c → P (answers d reply)
-  pub opened : (c : CurrentCall) (number : ℕ) (file : FileId) → s.current ≡ Some c → c.stage ≡ AskedNames → Came (body.Named number (Opened file)) → N (client_begins s) c → P (opens (client_begins s) file.0)
+  pub opened : (c : CurrentCall) (number : ℕ) (file : FileId) (shape : Shape) → s.current ≡ Some c → c.stage ≡ AskedNames → Came (body.Named number (Opened file shape)) → N (client_begins s) c
+      → P (opens (client_begins s) file.0 shape)
   pub waits : (d : ClientDoing) (c : CurrentCall) → IsIdle c.stage → H d c → P (with_current d c)
   pub waits_again : (d : ClientDoing) (c : CurrentCall) → H d c → P (committed d c (again_planned d.client))
   pub asking : (d : ClientDoing) (c : CurrentCall) → H d c → P (asks d c)
@@ -239,7 +241,7 @@ module _ (s : ClientState) (Came : Body → Type 0) (N H : ClientDoing → Curre
   takes_told_kept c other number o now at came h p = p
 
   reply_kept : (c : CurrentCall) (number : ℕ) (r : NameReply) → s.current ≡ Some c → c.stage ≡ AskedNames → Came (body.Named number r) → N d0 c → P (takes_reply d0 r)
-  reply_kept c number (Opened file) now at came h = k.opened c number file now at came h
+  reply_kept c number (Opened file shape) now at came h = k.opened c number file shape now at came h
   reply_kept c number (Answered reply) now at came h = k.name_answered d0 c reply h
 
   takes_named_kept : (c : CurrentCall) (st : Stage) (number : ℕ) (r : NameReply) → s.current ≡ Some c → c.stage ≡ st → Came (body.Named number r) → At c st → P d0 → P (takes_named d0 c st number r)

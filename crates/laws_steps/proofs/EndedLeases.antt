@@ -52,7 +52,7 @@ module _ (w : WorldState) (h : IsOfTimes (scene_of w)) (handle version : ℕ) wh
 
   none_held : WasSaidOver w.sent handle version → (index : ℕ) (s : ServerState) (p : SerialOrder) → element_at w.servers index ≡ Some s → table.get s.leases handle ≡ Some p → p.held.version ≡ version → ⊥
   none_held said index s p at is same =
-      let told : IsToldLease w.sent (suc index) s.disk handle p.held = (h.base.told index s at).told handle p is in
+      let told : IsToldLease w.sent (suc index) s.disk handle p.chunk p.held = (h.base.told index s at).told handle p is in
       let was : WasRevoked w.sent w.servers handle version = h.base.revoked said.0 said.1 (handle_of handle) (version_of version) said.2 in
       let granted : SaysGrant told.order (handle_of handle) (version_of version) told.end_moment p.held.members (told.grant).body = named_grant told.is refl same in
       let pair = paired w.sent w.master h.base.sent told.grant (was.word).revoke (told.place, told.at) (was.word).is_sent told.order was.order (handle_of handle) (version_of version) told.end_moment p.held.members granted (was.word).is in
@@ -63,7 +63,7 @@ module _ (w : WorldState) (h : IsOfTimes (scene_of w)) (handle version : ℕ) wh
   past_is_over past =
       record {
         held = λ index p holds same.
-            let told : IsToldLease w.sent (suc index) (holds.0).disk handle p.held = (h.base.told index holds.0 holds.1).told handle p holds.2 in
+            let told : IsToldLease w.sent (suc index) (holds.0).disk handle p.chunk p.held = (h.base.told index holds.0 holds.1).told handle p holds.2 in
             let word = told.told in
             elim (past p.held.until (word.1, (word.0, word.2), ap (λ (v : ℕ). tells_end handle v p.held.until (word.1).body) (sym same) ∙ word.3)) [
               | inl early ↦ let lasts = holds.3 in omega (arith, early, lasts)

@@ -164,7 +164,7 @@ module _ (s : ClientState) (moment : ℕ) where
         left = λ c chunk rest number now at h. tt;
         answered = λ d c reply h. answered_done d reply h;
         name_answered = λ d c reply h. absurd h;
-        opened = λ c number file now at came h. absurd h;
+        opened = λ c number file shape now at came h. absurd h;
         waits = λ d c idle h. waits_done d c (idle_of_file c.stage idle) h;
         waits_again = λ d c h. again_done d c h;
         asking = λ d c h. asks_done d c h;

@@ -160,10 +160,10 @@ acts_tied kept =
       copies = λ c handle copy version none h.
           after_one c _ c.leases h.1
           (λ d same. copied_tied c.leases d copy version (replica_of d handle) (ap (λ (t : Table Replica). table.get t copy) same ∙ no_row c.disk copy none) (same_tied c.leases c.disk d same h.0));
-      grants = λ c handle version until members holds h.
+      grants = λ c handle version until chunk members holds h.
           let quiet = numbers_quiet c.disk c.changes h.1 in
-          same_tied (table.insert c.leases handle (new_order (record { version = version; until = until; members = members }))) c.disk (disk_changed_by_all c.disk c.changes) quiet
-          (put_lease c.leases c.disk handle (new_order (record { version = version; until = until; members = members })) (held_there version c.disk handle holds) h.0);
+          same_tied (table.insert c.leases handle (new_order chunk (record { version = version; until = until; members = members }))) c.disk (disk_changed_by_all c.disk c.changes) quiet
+          (put_lease c.leases c.disk handle (new_order chunk (record { version = version; until = until; members = members })) (held_there version c.disk handle holds) h.0);
       holds = λ c leases from h handle p at.
           let was = from handle p at in
           subst (λ (n : ℕ). HasReplicaOf (disk_changed_by_all c.disk c.changes) handle n) (sym was.2) (h handle was.0 was.1);

@@ -6,6 +6,7 @@ use Rattle.std.proofs.Math.Nat.{le-max_left}
 use Rattle.std.specs.FinMap as table
 use Rattle.std.proofs.lemmas.Bool.{and_parts, eqb-true, ltb-true}
 use Rattle.gfs_types.specs.declared.config.Config.{Config}
+use Rattle.gfs_types.specs.declared.shape.Shape.{Shape}
 use Rattle.gfs_types.specs.declared.ids.FileId.{FileId}
 use Rattle.gfs_types.specs.declared.ids.Moment.{Moment}
 use Rattle.gfs_types.specs.declared.call.Call.{Call}
@@ -150,20 +151,20 @@ module _ (T : ℕ → Location → ℕ → Type 0) (config : Config) (s : Client
   keeps_later h = record { settings = h.settings; are_open = h.are_open; cache = h.cache; stands = λ c is. stands_later c c.stage (h.stands c is) }
 
 -- a file is opened: what was told of it before is found no more
-pub keeps_opened : (T U : ℕ → Location → ℕ → Type 0) (config : Config) (s : ClientState) (file : ℕ) → ((other : ℕ) (l : Location) (clock : ℕ) → (other ≡ file → ⊥) → T other l clock → U other l clock) → Keeps T config s → Keeps U config (opens (client_begins s) file).client
-keeps_opened T U config s file go h =
+pub keeps_opened : (T U : ℕ → Location → ℕ → Type 0) (config : Config) (s : ClientState) (file : ℕ) (shape : Shape) → ((other : ℕ) (l : Location) (clock : ℕ) → (other ≡ file → ⊥) → T other l clock → U other l clock) → Keeps T config s → Keeps U config (opens (client_begins s) file shape).client
+keeps_opened T U config s file shape go h =
     record {
       settings = h.settings;
-      are_open = open_again s.files s.descriptors s.fd_count h.are_open file;
+      are_open = open_again s.files s.descriptors s.fd_count h.are_open file shape;
       cache = all_on (IsKeptRight T s.files s.fd_count) (IsKeptRight U t.files t.fd_count) right s.cache.entries h.cache;
       stands = λ c is. none_some c is;
     }
   where
     t : ClientState
-    t = (opens (client_begins s) file).client
+    t = (opens (client_begins s) file shape).client
 
     new : OpenFile
-    new = opened_again (table.get s.files file) (suc s.fd_count)
+    new = opened_again (table.get s.files file) shape (suc s.fd_count)
 
     more : (n : ℕ) → n ≤ s.fd_count → n ≤ suc s.fd_count
     more n few = omega (arith, few)
@@ -175,7 +176,7 @@ keeps_opened T U config s file go h =
             more e.1.opened.0 x.0,
             inr (λ f is.
                 let one : new ≡ f = same_some new f (sym (put_there s.files file new e.0.file same) ∙ is) in
-                let last : f.last_opened.0 ≡ suc s.fd_count = sym (ap (λ (y : OpenFile). y.last_opened.0) one) ∙ last_is s.files s.descriptors s.fd_count h.are_open (table.get s.files file) (suc s.fd_count) in
+                let last : f.last_opened.0 ≡ suc s.fd_count = sym (ap (λ (y : OpenFile). y.last_opened.0) one) ∙ last_is s.files s.descriptors s.fd_count h.are_open (table.get s.files file) shape (suc s.fd_count) in
                 let few = x.0 in omega (arith, few, last)),
           )
           | inr apart ↦ (
@@ -209,7 +210,7 @@ module _ (T : ℕ → Location → ℕ → Type 0) (config : Config) (s : Client
 
   -- as it was but for the call, or a file was opened
   abbrev pub After : ClientDoing → Type 0
-  After d = (Keeps T config d.client × (d.client.fd_count ≡ s.fd_count)) ⊎ ((file : ℕ) × (d.client ≡ (opens (client_begins s) file).client))
+  After d = (Keeps T config d.client × (d.client.fd_count ≡ s.fd_count)) ⊎ ((file : ℕ) × (shape : Shape) × (d.client ≡ (opens (client_begins s) file shape).client))
 
   rests : (d : ClientDoing) → Hand d → ((c : CurrentCall) → d.client.current ≡ Some c → IsFiledAtStage T config d.client c c.stage) → After d
   rests d h stands = inl (record { settings = h.0 ∙ keeps.settings; are_open = h.3; cache = h.4; stands = stands }, h.2)
@@ -317,7 +318,7 @@ module _ (T : ℕ → Location → ℕ → Type 0) (config : Config) (s : Client
         left = λ c chunk rest number now at h. (subst (λ (st : Stage). IsFiledAtStage T config s c st) at (keeps.stands c now)).1;
         answered = λ d c reply h. answered d reply h.0;
         name_answered = λ d c reply h. answered d reply h;
-        opened = λ c number file now at came h. inr (file.0, refl);
+        opened = λ c number file shape now at came h. inr (file.0, shape, refl);
         waits = λ d c idle h. sets (with_current d c) c refl h.0 (idle_stands T config d.client c c.stage idle h.1);
         waits_again = λ d c h. sets (committed d c (again_planned d.client)) (record c { stage = MustAskAgain }) refl h.0 h.1;
         asking = λ d c h. sets (asks d c) (record c { lost_lease = false; stage = AskedWhere (suc d.client.number) }) refl h.0 h.1;

@@ -105,12 +105,12 @@ module _ (sent : List Message) (greatest n handle version : ℕ) where
   abbrev Came : Body → Type 0
   Came b = CameTo sent n b × (is_extend b ≡ false)
 
-  over_granted : (d : ServerDisk) (leases : Table SerialOrder) (order : OrderNo) (q : Handle) (v : Version) (end_moment : Moment) (members : List ℕ) → GrantCameTo sent n order q v end_moment members
-      → is_new_order d order.epoch order.count ≡ true → OverAt d leases → OverAt (disk_changed d (SetOrder order)) (table.insert leases q.0 (lease_of v end_moment members))
-  over_granted d leases order q v end_moment members came new h =
+  over_granted : (d : ServerDisk) (leases : Table SerialOrder) (order : OrderNo) (q : Handle) (v : Version) (end_moment : Moment) (chunk : ℕ) (members : List ℕ) → GrantCameTo sent n order q v end_moment members
+      → is_new_order d order.epoch order.count ≡ true → OverAt d leases → OverAt (disk_changed d (SetOrder order)) (table.insert leases q.0 (lease_of v end_moment chunk members))
+  over_granted d leases order q v end_moment chunk members came new h =
       record {
         held = λ p at same.
-            elim (put_cases leases q.0 (lease_of v end_moment members) handle p at) [
+            elim (put_cases leases q.0 (lease_of v end_moment chunk members) handle p at) [
               | inl now ↦
                   let is : SaysGrant order (handle_of handle) (version_of version) end_moment members (came.1).body =
                   named_grant came.4 (sym now.0) (ap (λ (x : SerialOrder). x.held.version) now.1 ∙ same) in
@@ -132,7 +132,7 @@ module _ (sent : List Message) (greatest n handle version : ℕ) where
         stores = λ c x is h. over_from c.disk (disk_changed c.disk x) c.leases c.leases (replica_later c.disk x is) (same_held c.leases) h;
         takes = λ c order new h. over_from c.disk (disk_changed c.disk (SetOrder order)) c.leases c.leases (risen_later c.disk (SetOrder order) new) (same_held c.leases) h;
         holds = λ c leases from h. over_from c.disk c.disk c.leases leases (same_later c.disk) from h;
-        grants = λ c order q v end_moment members came new h. over_granted c.disk c.leases order q v end_moment members (grant_came sent n order q v end_moment members (came.0, (came.1).0, came.2)) new h;
+        grants = λ c order q v end_moment members came new h. over_granted c.disk c.leases order q v end_moment came.2.chunk members (grant_came sent n order q v end_moment members (came.0, (came.1).0, came.2)) new h;
         extends = λ c q v end_moment p came at same h. absurd (let both : true ≡ false = came.1 in cc);
         revokes = λ c order q v leases came new from none h. over_from c.disk (disk_changed c.disk (SetOrder order)) c.leases leases (risen_later c.disk (SetOrder order) new) from h;
       }

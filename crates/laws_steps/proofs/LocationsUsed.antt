@@ -2,6 +2,7 @@
 use Rattle.std.proofs.Common.{◌≡◌, ◌⊎◌, ℕ, zero, suc, List, [], ◌∷◌, map, Some, refl, sym, ap, subst, ◌∙◌, inl, inr, arith}
 use Rattle.std.specs.FinMap as table
 use Rattle.gfs_types.specs.declared.config.Config.{Config}
+use Rattle.gfs_types.specs.declared.shape.Shape.{Shape}
 use Rattle.gfs_types.specs.declared.ids.Moment.{Moment}
 use Rattle.gfs_types.specs.declared.call.Call.{Call}
 use Rattle.gfs_types.specs.declared.answer.Answer.TheVariants as answer
@@ -96,15 +97,15 @@ module _ (config : Config) (w : WorldState) (T : ℕ → ℕ → Location → �
     left moment Came told keeps d after u is =
         elim (after) [
           | inl quiet ↦ keeps_on Either (Next w e u T index) config (λ file l clock o. elim (o) [ inl before ↦ inl (before, opens_none w u index file s d.client at is quiet.1) | inr now ↦ inr now ]) d.client quiet.0
-          | inr opened ↦ subst (λ (t : ClientState). Keeps (Next w e u T index) config t) (sym opened.1) (keeps_opened (T index) (Next w e u T index) config (client_at s moment) opened.0 (others opened.0 opened.1) (keeps_later (T index) config s moment (h index s at)))
+          | inr opened ↦ subst (λ (t : ClientState). Keeps (Next w e u T index) config t) (sym opened.2) (keeps_opened (T index) (Next w e u T index) config (client_at s moment) opened.0 opened.1 (others opened.0 opened.1 opened.2) (keeps_later (T index) config s moment (h index s at)))
         ]
       where
-        others : (file : ℕ) → d.client ≡ (opens (client_begins (client_at s moment)) file).client → (other : ℕ) (l : Location) (clock : ℕ) → (other ≡ file → ⊥) → T index other l clock → Next w e u T index other l clock
-        others file is_opened other l clock apart told =
+        others : (file : ℕ) (shape : Shape) → d.client ≡ (opens (client_begins (client_at s moment)) file shape).client → (other : ℕ) (l : Location) (clock : ℕ) → (other ≡ file → ⊥) → T index other l clock → Next w e u T index other l clock
+        others file shape is_opened other l clock apart told =
             inl (
               told,
               λ o.
-                  let t : ClientState = (opens (client_begins (client_at s moment)) file).client in
+                  let t : ClientState = (opens (client_begins (client_at s moment)) file shape).client in
                   let after : o.after ≡ t = same_some o.after t (sym o.is ∙ (is ∙ ap (λ (x : ClientState). Some x) is_opened)) in
                   let there : table.get t.descriptors t.fd_count ≡ Some other = subst (λ (x : ClientState). table.get x.descriptors x.fd_count ≡ Some other) after o.of_file in
                   apart (sym (same_some file other (sym (put_there s.descriptors (suc s.fd_count) file (suc s.fd_count) refl) ∙ there))),

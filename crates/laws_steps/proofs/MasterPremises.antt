@@ -172,7 +172,7 @@ abbrev pub IsOrder : NodeInput → (MasterDoing → Type 0) → ℕ → Body →
 IsOrder i A server (body.Create order handle version) = IsAsk i × (IsIssued A handle.0 version.0 0 ⊎ IsUnused A handle.0)
 IsOrder i A server (body.SetVersion order handle version base) = IsAsk i × IsIssued A handle.0 version.0 base.0
 IsOrder i A server (body.CopyLocal order handle version copy copy_version) = IsAsk i × IsCopySource A handle.0 version.0 copy.0
-IsOrder i A server (grant_body order handle version end_moment members) = IsTold i × (has_number members server ≡ true)
+IsOrder i A server (grant_body order handle version end_moment chunk members) = IsTold i × (has_number members server ≡ true)
 IsOrder i A server (revoke_body order handle version) = Unit {0}
 IsOrder i A server (body.Clone order handle version source) = IsTick i
 IsOrder i A server other = ⊥

@@ -29,7 +29,7 @@ is_masters (body.Wait number) = true
 is_masters (body.Refused number refusal) = true
 is_masters (body.Create order handle version) = true
 is_masters (body.SetVersion order handle version base) = true
-is_masters (grant_body order handle version end_moment members) = true
+is_masters (grant_body order handle version end_moment chunk members) = true
 is_masters (body.Extend handle version end_moment) = true
 is_masters (revoke_body order handle version) = true
 is_masters (body.Drop order handle version) = true
@@ -56,7 +56,7 @@ module _ (l : Logged) (i : NodeInput) where
   order_is : (server : ℕ) (b : Body) → IsOrder i AnyDoing server b → is_masters b ≡ true
   order_is server (body.Create order handle version) is = refl
   order_is server (body.SetVersion order handle version base) is = refl
-  order_is server (grant_body order handle version end_moment members) is = refl
+  order_is server (grant_body order handle version end_moment chunk members) is = refl
   order_is server (revoke_body order handle version) is = refl
   order_is server (body.Clone order handle version source) is = refl
   order_is server (body.CopyLocal order handle version copy copy_version) is = refl

@@ -46,7 +46,7 @@ use Rattle.protocol.specs.MasterVersions.{Asker, VersionTarget, holder_line, gro
 use Rattle.protocol.specs.MasterVersions.{version_order, sends_versions, new_attempt, sends_issued, issues_to, targets_by, recorded_holders, placement, placed_targets}
 use Rattle.protocol.specs.MasterVersions.{issues_own, is_attempted, copy_order, sends_copies, copy_targets, sends_copy_started, copies_to, begins_copy, copy_for, is_copied}
 use Rattle.protocol.specs.MasterVersions.{wants_own, wants_own_of, issues_copy, wants_copy, wants_by, wants_primary, holder_target}
-use Rattle.protocol.specs.MasterVersions.{sends_grant, grants_to, is_complete, with_recorded, learns_attempt, learns}
+use Rattle.protocol.specs.MasterVersions.{chunk_size_of, sends_grant, grants_to, is_complete, with_recorded, learns_attempt, learns}
 use Rattle.protocol.specs.MasterAsks.{looks_at_row, looks_at, mutates_row, mutates_at, adds_chunk, with_index, asks_to_write, asks_to_append, asks_for_last, asks_for, asks_of, takes_ask}
 use Rattle.protocol.specs.MasterReports.{holds_now, revoked_row, is_useless, drops_useless, learns_all, may_extend, extends_row, extends_all, hears, takes_report}
 use Rattle.protocol.specs.MasterClones.{CloneOrder, orders_clone, best_clone}
@@ -292,7 +292,7 @@ module _ (l : Logged) (i : NodeInput) (A : MasterDoing → Type 0) (P : StepEffe
     grant_sent handle version primary members has d h =
         let until : ℕ = d.master.now + d.master.config.lease_ms in
         let ended : MasterDoing = ends_at (without_attempt d handle) handle until in
-        ordered ended primary (grant_order handle version until members) (λ o. (told, has)) h
+        ordered ended primary (grant_order handle version until (chunk_size_of d.master.logged.table handle) members) (λ o. (told, has)) h
 
     grants_said : (d : MasterDoing) (handle : ℕ) (a : VersionAttempt) (servers : List ℕ) → Here d → Here (grants_to d handle a servers)
     grants_said d handle a [] h = h
@@ -404,7 +404,7 @@ module _ (l : Logged) (i : NodeInput) (A : MasterDoing → Type 0) (P : StepEffe
     location_said : (d : MasterDoing) (a : Asker) (handle : ℕ) (row : ChunkRow) (holders : List Holder) → IsAskedAt a → A d → AreHeld d.master handle row.granted holders → Here d
         → Here (tells_location d a handle row holders)
     location_said d a handle row holders asked found held h =
-        let place : Location = record { index = a.index; handle = handle_of handle; round = version_of row.granted; holders = holders; group = group_of d.master row } in
+        let place : Location = record { index = a.index; handle = handle_of handle; round = version_of row.granted; shape = row.shape; holders = holders; group = group_of d.master row } in
         said d a.client (body.Told a.number (Some place)) (record { asked = asked; doing = d; found = found; held = held }) h
 
     holders_said : (d : MasterDoing) (a : Asker) (handle : ℕ) (row : ChunkRow) → IsAskedAt a → A d → Here d → Here (tells_holders d a handle row)
@@ -624,7 +624,7 @@ module _ (l : Logged) (i : NodeInput) (A : MasterDoing → Type 0) (P : StepEffe
     takes_here d x (body.Name number deadline c) same came is found h =
         kept_said d (client_number x.sender) number deadline.0 c (table.get d.master.logged.kept (client_number x.sender)) h
     takes_here d x (body.Look number c) same came is found h =
-        said d x.sender (body.Named number (reply_by (outcome_by d.master.logged.names c (master_refusal d.master c)))) tt h
+        said d x.sender (body.Named number (reply_by d.master.logged.table (outcome_by d.master.logged.names c (master_refusal d.master c)))) tt h
     takes_here d x (body.Ask number file w deadline lost) same came is found h =
         let asked : IsTakenAsk i x.sender number = record { ask = x; file = file; what = w; deadline = deadline; lost = lost; came = came; sender_is = refl; body_is = is } in
         ask_said d x.sender number file.0 w deadline.0 lost asked refl (ap (λ (y : Logged). file_of y.table file.0) (sym same)) found h

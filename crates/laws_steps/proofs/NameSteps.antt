@@ -52,7 +52,7 @@ module _ (s : ClientState) (moment : ℕ) where
   nothing = quiet begun refl refl refl
 
   replied : (reply : NameReply) → Asks (takes_reply begun reply)
-  replied (Opened file) = quiet (takes_reply begun (Opened file)) refl refl refl
+  replied (Opened file shape) = quiet (takes_reply begun (Opened file shape)) refl refl refl
   replied (Answered reply) = quiet (takes_reply begun (Answered reply)) refl refl refl
 
   takes : (c : CurrentCall) (b : Body) → Asks (client_takes begun (record c { stage = AskedNames }) b)

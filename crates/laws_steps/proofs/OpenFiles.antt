@@ -4,6 +4,7 @@ use Rattle.std.specs.Prelude.{◌==◌, ◌||◌, nat_le, not, cond}
 use Rattle.std.proofs.lemmas.Bool.{eqb-true, leb-true, true≢false}
 use Rattle.std.specs.Ordering.{nat_cmp}
 use Rattle.std.specs.FinMap as table
+use Rattle.gfs_types.specs.declared.shape.Shape.{Shape}
 use Rattle.protocol.specs.Tables.{Table, has_number, without}
 use Rattle.client_state.specs.declared.kept.OpenFile.{OpenFile}
 use Rattle.protocol.specs.ClientFiles.{opened_again, files_after_open, with_one_closed, files_after_close, with_append_of, with_last_append}
@@ -73,8 +74,8 @@ none_open =
     }
 
 module _ (files : Table OpenFile) (descriptors : Table ℕ) (count : ℕ) (h : AreOpen files descriptors count) where
-  new_row : (file : ℕ) (o : Option OpenFile) → table.get files file ≡ o → AreDescriptors (table.insert descriptors (suc count) file) file (opened_again o (suc count))
-  new_row file None is =
+  new_row : (file : ℕ) (shape : Shape) (o : Option OpenFile) → table.get files file ≡ o → AreDescriptors (table.insert descriptors (suc count) file) file (opened_again o shape (suc count))
+  new_row file shape None is =
       record {
         fds = suc count ∷ [];
         few = omega arith;
@@ -83,7 +84,7 @@ module _ (files : Table OpenFile) (descriptors : Table ℕ) (count : ℕ) (h : A
           | inr before ↦ let f = h.filed fd file before in none_some f.0 (sym is ∙ f.1)
         ];
       }
-  new_row file (Some f) is =
+  new_row file shape (Some f) is =
       let old = (h.rows file f is).1 in
       record {
         fds = suc count ∷ old.fds;
@@ -94,17 +95,17 @@ module _ (files : Table OpenFile) (descriptors : Table ℕ) (count : ℕ) (h : A
         ];
       }
 
-  pub last_is : (o : Option OpenFile) (fd : ℕ) → (opened_again o fd).last_opened.0 ≡ fd
-  last_is None fd = refl
-  last_is (Some f) fd = refl
+  pub last_is : (o : Option OpenFile) (shape : Shape) (fd : ℕ) → (opened_again o shape fd).last_opened.0 ≡ fd
+  last_is None shape fd = refl
+  last_is (Some f) shape fd = refl
 
-  pub open_again : (file : ℕ) → AreOpen (files_after_open files file (suc count)) (table.insert descriptors (suc count) file) (suc count)
-  open_again file =
+  pub open_again : (file : ℕ) (shape : Shape) → AreOpen (files_after_open files file shape (suc count)) (table.insert descriptors (suc count) file) (suc count)
+  open_again file shape =
       record {
-        rows = λ g f is. elim (put_split files file (opened_again (table.get files file) (suc count)) g f is) [
+        rows = λ g f is. elim (put_split files file (opened_again (table.get files file) shape (suc count)) g f is) [
           | inl same ↦ subst (λ (n : ℕ). (f.last_opened.0 ≤ suc count) × AreDescriptors (table.insert descriptors (suc count) file) n f) (sym same.0)
               (subst (λ (x : OpenFile). (x.last_opened.0 ≤ suc count) × AreDescriptors (table.insert descriptors (suc count) file) file x) same.1
-              (let last = last_is (table.get files file) (suc count) in omega (arith, last), new_row file (table.get files file) refl))
+              (let last = last_is (table.get files file) shape (suc count) in omega (arith, last), new_row file shape (table.get files file) refl))
           | inr other ↦
               let old = h.rows g f other.1 in (
                 let few = old.0 in omega (arith, few),
@@ -116,10 +117,10 @@ module _ (files : Table OpenFile) (descriptors : Table ℕ) (count : ℕ) (h : A
               )
         ];
         filed = λ fd g is. elim (same_or_not g file) [
-          | inl same ↦ (opened_again (table.get files file) (suc count), put_there files file (opened_again (table.get files file) (suc count)) g same)
+          | inl same ↦ (opened_again (table.get files file) shape (suc count), put_there files file (opened_again (table.get files file) shape (suc count)) g same)
           | inr other ↦ elim (put_cases descriptors (suc count) file fd g is) [
             | inl new ↦ absurd (other (sym new.1))
-            | inr before ↦ let f = h.filed fd g before in (f.0, put_other files file (opened_again (table.get files file) (suc count)) g other ∙ f.1)
+            | inr before ↦ let f = h.filed fd g before in (f.0, put_other files file (opened_again (table.get files file) shape (suc count)) g other ∙ f.1)
           ]
         ];
       }

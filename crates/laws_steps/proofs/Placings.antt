@@ -76,7 +76,7 @@ module _ (s : ServerState) where
         puts = λ c handle version serial bytes none short h. h.3;
         raises = λ c handle version r there h. h.3;
         copies = λ c handle copy version none h. h.3;
-        grants = λ c handle version until members holds h. h.3;
+        grants = λ c handle version until chunk members holds h. h.3;
         holds = λ c leases from h. h;
         settles = λ c handle version serial h. all_joined IsShown c.seen (BecameSettled _ _ _ ∷ []) h (tt, tt);
         numbers = λ c handle p id m n h. found c handle p id m n h;

@@ -85,8 +85,8 @@ pub record KeepsActs (kept : PushBuffer) (B P : Acting → Type 0) : Type 0 wher
   pub raises : (c : Acting) (handle version : ℕ) (r : Row) → row_at c.disk handle ≡ Some r → B c
       → P (record (with_change c (Raise (handle_of handle) (version_of version))) { leases = table.remove c.leases handle })
   pub copies : (c : Acting) (handle copy version : ℕ) → row_at c.disk copy ≡ None → B c → P (with_change c (Copy (handle_of handle) (handle_of copy) (version_of version)))
-  pub grants : (c : Acting) (handle version until : ℕ) (members : List ℕ) → holds_version version (row_at c.disk handle) ≡ true → B c
-      → P (record c { leases = table.insert c.leases handle (new_order (record { version = version; until = until; members = members })) })
+  pub grants : (c : Acting) (handle version until chunk : ℕ) (members : List ℕ) → holds_version version (row_at c.disk handle) ≡ true → B c
+      → P (record c { leases = table.insert c.leases handle (new_order chunk (record { version = version; until = until; members = members })) })
   pub holds : (c : Acting) (leases : Table SerialOrder) → AreFrom c.leases leases → P c → P (record c { leases = leases })
   pub settles : (c : Acting) (handle version serial : ℕ) → P c → P (with_seen c (BecameSettled (handle_of handle) (version_of version) (serial_of serial)))
   pub numbers : (c : Acting) (handle : ℕ) (p : SerialOrder) (id : DataId) (m : Mutation) → IsNumbering kept c handle p id m → B c
@@ -166,7 +166,7 @@ module _ (s : ServerState) (i : NodeInput) (B P : Acting → Type 0) (k : KeepsA
       let handle : ℕ = n.a.c.handle.0 in
       let serial : ℕ = n.a.p.serial + 1 in
       let new : SerialOrder = numbered n.a.p n.a.c.id.client n.a.c.id.seq (place_of n.placed) in
-      acks_fine (forwards (stores (number_of s i n) (stored_as handle serial n.placed)) (without n.a.p.held.members s.id) handle n.a.p.held.version serial n.a.c.id (change_of n.placed)) handle new s.id serial
+      acks_fine (forwards (stores (number_of s i n) (stored_as handle serial n.placed)) (without n.a.p.held.members s.id) handle n.a.p.held.version serial n.a.c.id n.a.p.chunk (change_of n.placed)) handle new s.id serial
       (put_there s.leases handle new handle refl) (k.numbers Begun handle n.a.p n.a.c.id n.placed (numbering n) h)
 
   ticked_from : AreFrom s.leases (map_values asks_no_more (counting_leases s))
@@ -212,7 +212,7 @@ module _ (s : ServerState) (i : NodeInput) (B P : Acting → Type 0) (k : KeepsA
         orders = λ o new. order_alone o.order;
         creates = λ c new none. k.puts (with_change Begun (SetOrder c.order)) c.handle.0 c.version.0 0 [] none (omega arith) (ordered c.order);
         raised = λ c r new found same. k.raises (with_change Begun (SetOrder c.order)) c.handle.0 c.version.0 r found (ordered c.order);
-        grants = λ c new holds. k.grants (with_change Begun (SetOrder c.order)) c.handle.0 c.version.0 c.end_moment.0 c.members holds (ordered c.order);
+        grants = λ c new holds. k.grants (with_change Begun (SetOrder c.order)) c.handle.0 c.version.0 c.end_moment.0 c.is.chunk c.members holds (ordered c.order);
         revokes = λ c q new same. k.holds (with_change Begun (SetOrder c.order)) (table.remove s.leases c.handle.0) (less_from s.leases c.handle.0) (order_alone c.order);
         revoked = λ c new apart. order_alone c.order;
         drops = λ c r new found old. k.drops (with_change Begun (SetOrder c.order)) c.handle.0 (ordered c.order);

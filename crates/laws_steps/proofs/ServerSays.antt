@@ -52,6 +52,10 @@ IsNackedFor s i d c refusal.NoData = data_of s.pushed c.id ≡ None
 IsNackedFor s i d c refusal.Corrupt = ((from to : ℕ) × (is_writable_at s.disk c.handle.0 from to ≡ false)) × (d.changes ≡ Remove (handle_of c.handle.0) ∷ []) × (d.server.disk ≡ s.disk)
 IsNackedFor s i d c other = ⊥
 
+-- a mutation is numbered under a lease with this size of the chunk
+abbrev pub IsSized : ServerState → NodeInput → Handle → VersionId → ℕ → Type 0
+IsSized s i handle version chunk = (n : Numbering s i) × (handle ≡ handle_of n.a.c.handle.0) × (version ≡ version_of n.a.p.held.version) × (chunk ≡ n.a.p.chunk)
+
 -- Why server s says this on input i; d: the step as it ends. Refused, Pushed, Done and Revoked have no cause here.
 abbrev pub IsSaid : ServerState → NodeInput → ServerDoing → Node → Body → Type 0
 IsSaid s i d receiver (body.Bytes number bytes) =
@@ -59,8 +63,8 @@ IsSaid s i d receiver (body.Bytes number bytes) =
 IsSaid s i d receiver (body.LenIs number count) =
     (c : Measuring i) × (r : Row) × (number ≡ c.number) × (receiver ≡ c.m.sender) × (row_at s.disk c.handle.0 ≡ Some r) × (r.version.0 ≡ c.version.0) × (count ≡ r.count)
 IsSaid s i d receiver (body.Push id bytes hops) = (c : Pushing i) × (id ≡ c.id) × (bytes ≡ c.bytes)
-IsSaid s i d receiver (body.Forward handle version serial id named) =
-    (m : Mutation) × (place : ℕ) × (element_at d.seen place ≡ Some (Numbered handle version serial id m)) × (change_of m ≡ named)
+IsSaid s i d receiver (body.Forward handle version serial id chunk named) =
+    (m : Mutation) × (place : ℕ) × (element_at d.seen place ≡ Some (Numbered handle version serial id m)) × (change_of m ≡ named) × IsSized s i handle version chunk
 IsSaid s i d receiver (body.Acked handle version serial) =
     (t : Storing s i) × (handle ≡ t.f.c.handle) × (version ≡ t.f.c.version) × (serial ≡ t.f.c.serial) × (receiver ≡ t.f.c.m.sender) × (d.changes ≡ t.x ∷ [])
 IsSaid s i d receiver (body.Nacked handle version serial why) =
@@ -128,12 +132,12 @@ module _ (s : ServerState) (i : NodeInput) (B : DataId × List ℕ → Type 0) (
   numbered_here n = (n, (refl, refl, refl), refl, refl)
 
   abbrev forwards_of : Numbering s i → List Message
-  forwards_of n = map (forward_to s.id n.a.c.handle.0 n.a.p.held.version (n.a.p.serial + 1) n.a.c.id (change_of n.placed)) (without n.a.p.held.members s.id)
+  forwards_of n = map (forward_to s.id n.a.c.handle.0 n.a.p.held.version (n.a.p.serial + 1) n.a.c.id n.a.p.chunk (change_of n.placed)) (without n.a.p.held.members s.id)
 
   abbrev forwarded : Numbering s i → ServerDoing
   forwarded n =
       with_primary
-      (forwards (stores (number_of s i n) (stored_as n.a.c.handle.0 (n.a.p.serial + 1) n.placed)) (without n.a.p.held.members s.id) n.a.c.handle.0 n.a.p.held.version (n.a.p.serial + 1) n.a.c.id (change_of n.placed))
+      (forwards (stores (number_of s i n) (stored_as n.a.c.handle.0 (n.a.p.serial + 1) n.placed)) (without n.a.p.held.members s.id) n.a.c.handle.0 n.a.p.held.version (n.a.p.serial + 1) n.a.c.id n.a.p.chunk (change_of n.placed))
       n.a.c.handle.0 (acknowledged (numbered n.a.p n.a.c.id.client n.a.c.id.seq (place_of n.placed)) s.id (n.a.p.serial + 1))
 
   abbrev settled_at_once : Numbering s i → ServerDoing
@@ -142,9 +146,9 @@ module _ (s : ServerState) (i : NodeInput) (B : DataId × List ℕ → Type 0) (
   -- while the numbering is the first that is shown
   all_forwards : (n : Numbering s i) (d : ServerDoing) (members : List ℕ)
       → element_at d.seen 0 ≡ Some (Numbered (handle_of n.a.c.handle.0) (version_of n.a.p.held.version) (serial_of (n.a.p.serial + 1)) n.a.c.id n.placed)
-      → AllOf (IsWord s i d) (map (forward_to s.id n.a.c.handle.0 n.a.p.held.version (n.a.p.serial + 1) n.a.c.id (change_of n.placed)) members)
+      → AllOf (IsWord s i d) (map (forward_to s.id n.a.c.handle.0 n.a.p.held.version (n.a.p.serial + 1) n.a.c.id n.a.p.chunk (change_of n.placed)) members)
   all_forwards n d [] first = tt
-  all_forwards n d (member ∷ members) first = ((refl, (n.placed, 0, first, refl)), all_forwards n d members first)
+  all_forwards n d (member ∷ members) first = ((refl, (n.placed, 0, first, refl, (n, refl, refl, refl))), all_forwards n d members first)
 
   place_told : (n : Numbering s i) (x : Settled) (o : Option ℕ) → Tells s i B (answers_settled (settled_at_once n) (attempt_of x) o)
   place_told n x None = (

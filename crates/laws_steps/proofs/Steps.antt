@@ -130,7 +130,7 @@ module _ (s : ClientState) where
         left = λ c chunk rest number now at h. tt;
         answered = λ d c reply h. quiet (answers d reply) h.0 refl h.1;
         name_answered = λ d c reply h. quiet (answers d reply) h.0 refl h.1;
-        opened = λ c number file now at came h. quiet _ h.0 refl h.1;
+        opened = λ c number file shape now at came h. quiet _ h.0 refl h.1;
         waits = λ d c idle h. of_file (with_current d c) c h.0 refl h.2 (idle_staged d.client c c.stage idle h.2) (λ m is. none_some m (sym h.1 ∙ is));
         waits_again = λ d c h. of_file _ (record c { stage = MustAskAgain }) h.0 refl h.2 h.2 (λ m is. none_some m is);
         asking = λ d c h. of_file _ (record c { lost_lease = false; stage = AskedWhere (suc d.client.number) }) h.0 refl h.2 h.2 (λ m is. subst (λ (x : Message). IsAskedNow (asks d c).client x.body) (same_some _ m is) tt);

@@ -15,10 +15,11 @@ use Rattle.protocol.specs.declared.seen.Seen.TheVariants.{CopyStarted}
 use Rattle.protocol.specs.Server.{ServerState}
 use Rattle.protocol.specs.MasterStep.{master_step}
 use Rattle.protocol.specs.World.{WorldState, IsReached}
+use Rattle.laws_base.specs.Laws.{IsGrantBody}
 
 -- no lease of this chunk was granted, and no server holds one
 pub record HasNoLease (w : WorldState) (handle : Handle) : Type 0 where
-  pub ungranted : (place : ℕ) (m : Message) → element_at w.sent place ≡ Some m → (order : OrderNo) (version : Version) (end_moment : Moment) (members : List ℕ) → m.body ≡ body.Grant order handle version end_moment members → ⊥
+  pub ungranted : (place : ℕ) (m : Message) → element_at w.sent place ≡ Some m → (order : OrderNo) (version : Version) (end_moment : Moment) (members : List ℕ) → IsGrantBody order handle version end_moment members m.body → ⊥
   pub unheld : (index : ℕ) (s : ServerState) → element_at w.servers index ≡ Some s → table.get s.leases handle.0 ≡ None
 
 -- The handle of a copy that the master begins had no lease before (section 3.4).

@@ -20,7 +20,7 @@ use Rattle.protocol.specs.Observer.{observed_moment}
 use Rattle.messages.specs.declared.event.Event.{Event}
 use Rattle.protocol.specs.Choice.{Choice}
 use Rattle.protocol.specs.World.{WorldState, after_events, IsReached}
-use Rattle.laws_base.specs.Laws.{grants_of, HoldsLastingLease}
+use Rattle.laws_base.specs.Laws.{IsGrantBody, grants_of, HoldsLastingLease}
 
 -- the server that this node is refuses the order by its number
 abbrev pub IsRefusedBy : List ServerState → Node → OrderNo → Type 0
@@ -31,7 +31,7 @@ IsRefusedBy servers node order =
 pub record IsLeaseOver (w : WorldState) (handle version : ℕ) : Type 0 where
   pub held : (index : ℕ) (p : SerialOrder) → HoldsLastingLease w index handle p → p.held.version ≡ version → ⊥
   pub comes : (place : ℕ) (grant : Message) (order : OrderNo) (end_moment : Moment) (members : List ℕ) → element_at w.sent place ≡ Some grant
-      → grant.body ≡ body.Grant order (handle_of handle) (version_of version) end_moment members
+      → IsGrantBody order (handle_of handle) (version_of version) end_moment members grant.body
       → (end_moment.0 ≤ w.observer.greatest) ⊎ IsRefusedBy w.servers grant.receiver order
 
 -- each lease of a chunk is over

@@ -72,16 +72,16 @@ abbrev WasGrantedTo : List Message → ℕ → ℕ → ℕ → Type 0
 WasGrantedTo sent server handle version = (place : ℕ) × (grant : Message) × (element_at sent place ≡ Some grant) × (grant.receiver ≡ the_server server) × (is_grant handle version grant.body ≡ true)
 
 module _ (sent : List Message) (server : ℕ) where
-  line_granted : (es : List (ℕ × SerialOrder)) → AllOf (λ e. WasGranted sent server e.0 e.1.held) es → (place : ℕ) (line : LeaseLine) → element_at (map lease_line es) place ≡ Some line
+  line_granted : (es : List (ℕ × SerialOrder)) → AllOf (λ e. WasGranted sent server e.0 e.1.chunk e.1.held) es → (place : ℕ) (line : LeaseLine) → element_at (map lease_line es) place ≡ Some line
       → WasGrantedTo sent server line.handle.0 line.version.0
   line_granted [] all place line at = none_some line at
   line_granted (e ∷ es) all zero line at =
       let g = all.0 in
       subst (λ (x : LeaseLine). WasGrantedTo sent server x.handle.0 x.version.0) (same_some (lease_line e) line at)
-      (g.0, g.1, g.2, g.3, granting g.4 e.0 e.1.held.version g.5 e.1.held.members (g.1).body (lease_grant sent server e.0 e.1.held g))
+      (g.0, g.1, g.2, g.3, granting g.4 e.0 e.1.held.version g.5 e.1.held.members (g.1).body (lease_grant sent server e.0 e.1.chunk e.1.held g))
   line_granted (e ∷ es) all (suc place) line at = line_granted es all.1 place line at
 
-  lines_granted : (es : List (ℕ × SerialOrder)) → AllOf (λ e. WasGranted sent server e.0 e.1.held) es → (handle version : ℕ) → IsLeaseReported (map lease_line es) handle version → WasGrantedTo sent server handle version
+  lines_granted : (es : List (ℕ × SerialOrder)) → AllOf (λ e. WasGranted sent server e.0 e.1.chunk e.1.held) es → (handle version : ℕ) → IsLeaseReported (map lease_line es) handle version → WasGrantedTo sent server handle version
   lines_granted es all handle version is =
       subst (λ (q : ℕ). WasGrantedTo sent server q version) is.3 (subst (λ (v : ℕ). WasGrantedTo sent server (is.1).handle.0 v) is.4 (line_granted es all is.0 is.1 is.2))
 
@@ -107,7 +107,7 @@ report_tells : (config : Config) (servers clients : ℕ) (w : WorldState) → Is
     → TellsGranted w.sent (suc index) (reported (server_at s moment))
 report_tells config servers clients w r index s at moment replicas leases is handle version line =
     lines_granted w.sent (suc index) (table.entries held)
-    (all_of_found (λ q p. WasGranted w.sent (suc index) q p.held) held (table.entries held)
+    (all_of_found (λ q p. WasGranted w.sent (suc index) q p.chunk p.held) held (table.entries held)
     (λ q p there. (leases_are_told config servers clients w r index s at q p (kept_where_cases (λ e. counts_at s.config.skew_ms e.1.held (server_at s moment).now) s.leases q p there)).0)
     (all_found (table.entries held) (table.entries_sorted held)))
     handle version (subst (λ (lines : List LeaseLine). IsLeaseReported lines handle version) (sym (ap leases_of is)) line)

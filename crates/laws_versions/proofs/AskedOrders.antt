@@ -84,7 +84,7 @@ module _ (X : Message → Type 0) (quiet : (receiver : Node) (b : Body) → vers
 
   location_said : (d : MasterDoing) (a : Asker) (handle : ℕ) (row : ChunkRow) (holders : List Holder) → Fine d → Fine (tells_location d a handle row holders)
   location_said d a handle row holders h =
-      said d a.client (body.Told a.number (Some (record { index = a.index; handle = handle_of handle; round = version_of row.granted; holders = holders; group = group_of d.master row }))) refl h
+      said d a.client (body.Told a.number (Some (record { index = a.index; handle = handle_of handle; round = version_of row.granted; shape = row.shape; holders = holders; group = group_of d.master row }))) refl h
 
   holders_said : (d : MasterDoing) (a : Asker) (handle : ℕ) (row : ChunkRow) → Fine d → Fine (tells_holders d a handle row)
   holders_said d a handle row h = location_said d a handle row (map holder_line (current_holders d.master handle row)) h

@@ -281,7 +281,7 @@ module _ (l : Logged) (tried : Attempts) (now : ℕ) (asker : Node) (asked file 
   location_fine d a handle row holders own stood was h = (all_joined (IsSaid l asker asked file) d.sent (message node.Master a.client (body.Told a.number (Some this)) ∷ []) h.0 (one, tt), h.1)
     where
       this : Location
-      this = record { index = a.index; handle = handle_of handle; round = version_of row.granted; holders = holders; group = group_of d.master row }
+      this = record { index = a.index; handle = handle_of handle; round = version_of row.granted; shape = row.shape; holders = holders; group = group_of d.master row }
 
       number_in : Body → ℕ
       number_in (body.Told number o) = number

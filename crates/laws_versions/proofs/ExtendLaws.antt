@@ -118,7 +118,7 @@ master_due sent l tried i came =
             is_report = due.is;
             reported = (due.place, line, due.at, ap (λ (p : ℕ × ℕ). p.0) same, ap (λ (p : ℕ × ℕ). p.1) same);
           };
-      grants = λ server order q v until members told has handle version is. none_some (handle, version) is;
+      grants = λ server order q v until chunk members told has handle version is. none_some (handle, version) is;
       creates = λ server order q v ask raised handle version is. none_some (handle, version) is;
       raises = λ server order q v base ask raised handle version is. none_some (handle, version) is;
       copies = λ server order q v copy copy_version ask new handle version is. none_some (handle, version) is;

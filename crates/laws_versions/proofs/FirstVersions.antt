@@ -65,7 +65,7 @@ master_makes l tried i =
     record {
       plain = λ receiver b none handle version is. none_some (handle, version) (sym (none_made b none) ∙ is);
       extends = λ server line until due handle version is. none_some (handle, version) is;
-      grants = λ server order q v until members told has handle version is. none_some (handle, version) is;
+      grants = λ server order q v until chunk members told has handle version is. none_some (handle, version) is;
       creates = λ server order q v ask due handle version is.
           let same : (q, v) ≡ (handle, version) = same_some (q, v) (handle, version) is in
           (ask, subst (λ (p : ℕ × ℕ). IsRaised l tried p.0 p.1 0 ⊎ (l.next_handle ≤ p.0)) same due);
@@ -97,7 +97,7 @@ asked_grants handle granted l tried i ask =
     record {
       plain = λ receiver b none. plain_grant handle granted b none;
       extends = λ server line until due. refl;
-      grants = λ server order q v until members told has. not_both i ask told;
+      grants = λ server order q v until chunk members told has. not_both i ask told;
       creates = λ server order q v asked due. refl;
       raises = λ server order q v base asked due. refl;
       copies = λ server order q v copy copy_version asked new. refl;

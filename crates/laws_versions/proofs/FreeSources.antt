@@ -16,6 +16,7 @@ use Rattle.protocol.specs.Sending.{message, the_server, server_id, handle_of, ve
 use Rattle.protocol.specs.Logged.{Logged, Copy, LogChange, AppendRecord, WriteCheckpoint, after_record, copies_given_up, copies_for_file, swapped_in, checkpoint_of}
 use Rattle.protocol.specs.Master.{MasterDoing, VersionAttempt, appends}
 use Rattle.protocol.specs.MasterStep.{is_in_time}
+use Rattle.protocol.specs.MasterVersions.{chunk_size_of}
 use Rattle.laws_base.proofs.LeaseOrders.{grant_order}
 use Rattle.laws_base.proofs.Steps.{put_cases, kept_cases, removed_cases}
 use Rattle.laws_base.proofs.Entries.{AllOf, all_joined, kept_where_cases}
@@ -166,7 +167,7 @@ module _ (W : Message → Type 0) (V : LogChange → Type 0) (plain : (receiver 
             let until : ℕ = d.master.now + d.master.config.lease_ms in
             record {
               free = free_granted d.master.logged d.master.attempts d.master.now handle a.version until primary members a at h.free;
-              sent = orders_fine (appends d r) primary (grant_order handle a.version until members) (λ o. refl) h.sent;
+              sent = orders_fine (appends d r) primary (grant_order handle a.version until (chunk_size_of (appends d r).master.logged.table handle) members) (λ o. refl) h.sent;
               changes = all_joined V d.changes (AppendRecord r ∷ []) h.changes (grants handle a.version primary members, tt);
             };
         ended = λ d handle h. record { free = free_set d.master.logged d.master.attempts d.master.now handle 0 (inl (omega arith)) h.free; sent = h.sent; changes = h.changes };

@@ -112,7 +112,7 @@ module _ (taker chunk issued : ℕ) where
 
   location_said : (limit : ℕ) (d : MasterDoing) (a : Asker) (handle : ℕ) (row : ChunkRow) (holders : List Holder) → Fine limit d → Fine limit (tells_location d a handle row holders)
   location_said limit d a handle row holders h =
-      said limit d a.client (body.Told a.number (Some (record { index = a.index; handle = handle_of handle; round = version_of row.granted; holders = holders; group = group_of d.master row }))) refl h
+      said limit d a.client (body.Told a.number (Some (record { index = a.index; handle = handle_of handle; round = version_of row.granted; shape = row.shape; holders = holders; group = group_of d.master row }))) refl h
 
   holders_said : (limit : ℕ) (d : MasterDoing) (a : Asker) (handle : ℕ) (row : ChunkRow) → Fine limit d → Fine limit (tells_holders d a handle row)
   holders_said limit d a handle row h = location_said limit d a handle row (map holder_line (current_holders d.master handle row)) h
@@ -319,7 +319,7 @@ asked_causes l tried i =
     record {
       plain = λ receiver b none. inl (uncaused_none b none);
       extends = λ server line until due. inl refl;
-      grants = λ server order q v until members told has. inl refl;
+      grants = λ server order q v until chunk members told has. inl refl;
       creates = λ server order q v ask due. inr ask;
       raises = λ server order q v base ask due. inr ask;
       copies = λ server order q v copy copy_version ask new. inr ask;

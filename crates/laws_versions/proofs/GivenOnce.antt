@@ -61,7 +61,7 @@ next_causes l tried i =
     record {
       plain = λ receiver b none handle version is. none_some (handle, version) (sym (uncaused_none b none) ∙ is);
       extends = λ server line until due handle version is. none_some (handle, version) is;
-      grants = λ server order q v until members told has handle version is. none_some (handle, version) is;
+      grants = λ server order q v until chunk members told has handle version is. none_some (handle, version) is;
       creates = λ server order q v ask due handle version is.
           (ask, subst (λ (p : ℕ × ℕ). IsNext l p.0 p.1) (same_some (q, v) (handle, version) is) (elim (due) [ inl raised ↦ raised_next l tried q v 0 raised | inr new ↦ inr new ]));
       raises = λ server order q v base ask due handle version is. (ask, subst (λ (p : ℕ × ℕ). IsNext l p.0 p.1) (same_some (q, v) (handle, version) is) (raised_next l tried q v base due));

@@ -31,8 +31,8 @@ use Rattle.protocol.specs.World.{WorldState, stamped, IsReached}
 use Rattle.laws_base.proofs.Steps.{on_cond, none_some, same_some, same_or_not, put_cases, gone_split, removed_cases}
 use Rattle.laws_base.proofs.Entries.{same_number}
 use Rattle.laws_base.proofs.Words.{no_order}
-use Rattle.laws_base.proofs.LeaseOrders.{SaysGrant, grant_order, says_grant, moved_grant, not_said, grant_handle, grant_version, grant_members, revoke_order}
-use Rattle.laws_base.proofs.MasterMoves.{Core, core_of, NoneEnded, core_changed, core_appended, core_ended, core_granted, grant_record, IsDue, IsNoGrantRecord, IsPlainOrder, logs_alone, plain_nothing, unordered_plain}
+use Rattle.laws_base.proofs.LeaseOrders.{SaysGrant, says_grant, moved_grant, not_said, grant_handle, grant_version, grant_members, revoke_order}
+use Rattle.laws_base.proofs.MasterMoves.{Core, core_of, NoneEnded, core_changed, core_appended, core_ended, core_granted, grant_record, IsDue, IsNoGrantRecord, IsPlainOrder, logs_alone, plain_nothing, unordered_plain, granted_order}
 use Rattle.laws_base.proofs.MessagesSent.{IsSent, sent_before, sent_cases, none_sent, numbered_sent, step_sent}
 use Rattle.laws_base.proofs.MembersRecorded.{all_at}
 use Rattle.laws_base.proofs.ClientMoves.{HasNoOrder}
@@ -396,7 +396,7 @@ module _ (handle version : ℕ) where
         d = core_ended (core_appended c r) chunk until
 
         m : Message
-        m = message node.Master (the_server primary) (grant_order chunk a.version until members (record { epoch = d.logged.epoch; count = suc d.order_count }))
+        m = message node.Master (the_server primary) (granted_order c chunk a.version until primary members (record { epoch = d.logged.epoch; count = suc d.order_count }))
 
         later : ArePassed c.logged c.disk → ArePassed d.logged d.disk
         later p = (

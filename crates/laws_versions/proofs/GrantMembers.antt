@@ -24,10 +24,10 @@ use Rattle.protocol.specs.MasterStep.{master_at, master_goes, master_ends, maste
 use Rattle.protocol.specs.World.{WorldState, stamped, IsReached}
 use Rattle.laws_base.proofs.Steps.{on_cond, removed_cases}
 use Rattle.laws_base.proofs.Words.{quiet_nothing}
-use Rattle.laws_base.proofs.LeaseOrders.{SaysGrant, grant_order, named_grant, says_grant, moved_grant, lease_grant, not_said, GrantsNothing, unordered_nothing, grant_handle, grant_version, grant_members, stated_grant}
+use Rattle.laws_base.proofs.LeaseOrders.{SaysGrant, named_grant, says_grant, moved_grant, lease_grant, not_said, GrantsNothing, unordered_nothing, grant_handle, grant_version, grant_members, stated_grant}
 use Rattle.laws_base.proofs.ChunkRows.{Rows, rows_of, removed_owned, swapped_owned}
 use Rattle.laws_base.proofs.VersionsAhead.{changed_cases}
-use Rattle.laws_base.proofs.MasterMoves.{Core, core_of, IsDue, Nothing, NoneEnded, Keeps, core_changed, core_appended, core_ended, core_granted, grant_record, logs_alone, plain_nothing}
+use Rattle.laws_base.proofs.MasterMoves.{Core, core_of, IsDue, Nothing, NoneEnded, Keeps, core_changed, core_appended, core_ended, core_granted, grant_record, logs_alone, plain_nothing, granted_order}
 use Rattle.laws_base.proofs.MasterSteps.{no_input, goes_named}
 use Rattle.laws_base.proofs.MembersRecorded.{all_at}
 use Rattle.laws_base.proofs.MessagesSent.{IsSent, sent_cases, none_sent, numbered_sent, step_sent}
@@ -220,7 +220,7 @@ granted before start c handle version until primary members due n h =
     order = record { epoch = two.logged.epoch; count = suc two.order_count }
 
     m : Message
-    m = message node.Master (the_server primary) (grant_order handle version until members order)
+    m = message node.Master (the_server primary) (granted_order c handle version until primary members order)
 
     ms : List Message
     ms = before ++ c.sent
@@ -442,4 +442,4 @@ members_are_the_rows config servers clients w r handle row there place grant ord
 pub lease_members_are_the_rows : LeaseMembersAreTheRows
 lease_members_are_the_rows config servers clients w r index s at handle p there row known same =
     let g = (leases_are_told config servers clients w r index s at handle p there).0 in
-    members_are_the_rows config servers clients w r handle row known g.0 g.1 g.4 g.5 p.held.members g.2 (stated_grant (named_grant {handle = handle} (lease_grant w.sent (suc index) handle p.held g) refl same))
+    members_are_the_rows config servers clients w r handle row known g.0 g.1 g.4 g.5 p.held.members g.2 (stated_grant (named_grant {handle = handle} (lease_grant w.sent (suc index) handle p.chunk p.held g) refl same))

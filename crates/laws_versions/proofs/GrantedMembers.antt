@@ -27,7 +27,7 @@ master_members l tried i =
     record {
       plain = λ receiver b none order handle version end_moment members is. true_false (sym (ap is_caused is.says) ∙ none);
       extends = λ server line until due order handle version end_moment members is. not_said is tt;
-      grants = λ server order q v until ns told has other handle version end_moment members is n same.
+      grants = λ server order q v until chunk ns told has other handle version end_moment members is n same.
           subst (λ (k : ℕ). has_number members k ≡ true) (ap server_number same) (subst (λ (xs : List ℕ). has_number xs server ≡ true) (ap grant_members is.says) has);
       creates = λ server order q v ask raised other handle version end_moment members is. not_said is tt;
       raises = λ server order q v base ask raised other handle version end_moment members is. not_said is tt;

@@ -26,9 +26,9 @@ use Rattle.laws_base.proofs.LeaseEnds.{ordered_extends, quiet_extends}
 use Rattle.laws_base.proofs.Steps.{on_cond, none_some, same_some}
 use Rattle.laws_base.proofs.Entries.{same_number}
 use Rattle.laws_base.proofs.Words.{is_of_lease, true_false, quiet_nothing}
-use Rattle.laws_base.proofs.LeaseOrders.{grant_order, grant_body, GrantsNothing, ExtendsNothing, untold_nothing}
+use Rattle.laws_base.proofs.LeaseOrders.{grant_body, GrantsNothing, ExtendsNothing, untold_nothing}
 use Rattle.laws_base.proofs.ChunkRows.{Rows, rows_of, From, removed_from, changed_from}
-use Rattle.laws_base.proofs.MasterMoves.{Core, core_of, IsDue, IsPlainOrder, Nothing, NoneEnded, Keeps, core_changed, core_appended, core_ended, core_granted, core_extended, grant_record, logs_alone, plain_nothing}
+use Rattle.laws_base.proofs.MasterMoves.{Core, core_of, IsDue, IsPlainOrder, Nothing, NoneEnded, Keeps, core_changed, core_appended, core_ended, core_granted, core_extended, grant_record, logs_alone, plain_nothing, granted_order}
 use Rattle.laws_base.proofs.MasterSteps.{no_input, goes_named}
 use Rattle.laws_base.proofs.MembersRecorded.{all_at}
 use Rattle.laws_base.proofs.MessagesSent.{IsSent, sent_cases, none_sent, numbered_sent, step_sent}
@@ -147,7 +147,7 @@ paired_more ms more m one with_earlier h x y is also handle version said too =
 -- messages that say nothing of a lease
 
 nothing_said : (b : Body) → GrantsNothing b → ExtendsNothing b → lease_said b ≡ None
-nothing_said (grant_body order handle version end_moment members) none also = absurd none
+nothing_said (grant_body order handle version end_moment chunk members) none also = absurd none
 nothing_said (body.Extend handle version end_moment) none also = absurd also
 nothing_said other none also = refl
 
@@ -274,7 +274,7 @@ granted before start c handle version until primary members due n h =
     order = record { epoch = two.logged.epoch; count = suc two.order_count }
 
     m : Message
-    m = message node.Master (the_server primary) (grant_order handle version until members order)
+    m = message node.Master (the_server primary) (granted_order c handle version until primary members order)
 
     ms : List Message
     ms = before ++ c.sent

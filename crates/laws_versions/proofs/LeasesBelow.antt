@@ -89,7 +89,7 @@ asked_ends handle number until l tried i ask =
       extends = λ server line later due.
           let same : ask.message ≡ due.report = same_message i ask.message due.report ask.taken due.taken in
           true_false (sym (ap is_told (sym ask.is ∙ ap (λ (m : Message). m.body) same ∙ due.is)));
-      grants = λ server order q v later members told has.
+      grants = λ server order q v later chunk members told has.
           let same : ask.message ≡ told.message = same_message i ask.message told.message ask.taken told.taken in
           true_false (sym told.is ∙ sym (ap (λ (m : Message). is_told m.body) same) ∙ ap is_told ask.is);
       creates = λ server order q v asked due. refl;

@@ -33,12 +33,12 @@ abbrev pub is_caused : Body → Bool
 is_caused (body.Create order handle version) = true
 is_caused (body.SetVersion order handle version base) = true
 is_caused (body.CopyLocal order handle version copy copy_version) = true
-is_caused (grant_body order handle version end_moment members) = true
+is_caused (grant_body order handle version end_moment chunk members) = true
 is_caused (body.Extend handle version end_moment) = true
 is_caused other = false
 
 pub uncaused_nothing : (b : Body) → is_caused b ≡ false → GrantsNothing b
-uncaused_nothing (grant_body order handle version end_moment members) none = absurd (true≢false none)
+uncaused_nothing (grant_body order handle version end_moment chunk members) none = absurd (true≢false none)
 uncaused_nothing other none = tt
 
 abbrev pub Attempts : Type 0
@@ -54,8 +54,8 @@ IsRaised l tried handle version base =
 pub record Causes (l : Logged) (tried : Attempts) (i : NodeInput) (W : Message → Type 0) : Type 0 where
   pub plain : (receiver : Node) (b : Body) → is_caused b ≡ false → W (message node.Master receiver b)
   pub extends : (server : ℕ) (line : LeaseLine) (until : ℕ) → IsLineTaken i server line → W (message node.Master (the_server server) (body.Extend line.handle line.version (moment_of until)))
-  pub grants : (server : ℕ) (order : OrderNo) (handle version until : ℕ) (members : List ℕ) → IsTold i → has_number members server ≡ true
-      → W (message node.Master (the_server server) (grant_order handle version until members order))
+  pub grants : (server : ℕ) (order : OrderNo) (handle version until chunk : ℕ) (members : List ℕ) → IsTold i → has_number members server ≡ true
+      → W (message node.Master (the_server server) (grant_order handle version until chunk members order))
   pub creates : (server : ℕ) (order : OrderNo) (handle version : ℕ) → IsAsk i → IsRaised l tried handle version 0 ⊎ (l.next_handle ≤ handle)
       → W (message node.Master (the_server server) (body.Create order (handle_of handle) (version_of version)))
   pub raises : (server : ℕ) (order : OrderNo) (handle version base : ℕ) → IsAsk i → IsRaised l tried handle version base
@@ -157,7 +157,7 @@ module _ (l : Logged) (tried : Attempts) where
           k.raises server order handle.0 version.0 base.0 is.0 (raised handle.0 version.0 base.0 is.1)
       order_caused server (body.CopyLocal order handle version copy copy_version) is =
           k.copies server order handle.0 version.0 copy.0 copy_version.0 is.0 (copied handle.0 version.0 copy.0 is.1)
-      order_caused server (grant_body order handle version end_moment members) is = k.grants server order handle.0 version.0 end_moment.0 members is.0 is.1
+      order_caused server (grant_body order handle version end_moment chunk members) is = k.grants server order handle.0 version.0 end_moment.0 chunk members is.0 is.1
       order_caused server (body.Extend handle version end_moment) is = absurd is
       order_caused server other is = k.plain (the_server server) other refl
 

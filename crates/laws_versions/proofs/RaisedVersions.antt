@@ -74,7 +74,7 @@ master_raises l tried i =
     record {
       plain = λ receiver b none handle version base h. no_raise b handle version base none h;
       extends = λ server line until due handle version base h. absurd (let both = h.is in cc);
-      grants = λ server order q v until members told has handle version base h. absurd (let both = h.is in cc);
+      grants = λ server order q v until chunk members told has handle version base h. absurd (let both = h.is in cc);
       creates = λ server order q v ask raised handle version base h. absurd (let both = h.is in cc);
       raises = λ server order q v old ask raised handle version base h.
           let same : (q, (v, old)) ≡ (handle, (version, base)) = ap raise_parts h.is in

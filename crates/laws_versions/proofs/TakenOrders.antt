@@ -295,7 +295,7 @@ module _ (sent : List Message) (server : ℕ) where
         let q : ℕ = n.a.c.handle.0 in
         let serial : ℕ = n.a.p.serial + 1 in
         let x : StoreChange = stored_as q serial n.placed in
-        acks_holds s.disk (forwards (stores (number_of s i n) x) (without n.a.p.held.members s.id) q n.a.p.held.version serial n.a.c.id (change_of n.placed)) q (numbered n.a.p n.a.c.id.client n.a.c.id.seq (place_of n.placed)) s.id serial
+        acks_holds s.disk (forwards (stores (number_of s i n) x) (without n.a.p.held.members s.id) q n.a.p.held.version serial n.a.c.id n.a.p.chunk (change_of n.placed)) q (numbered n.a.p n.a.c.id.client n.a.c.id.seq (place_of n.placed)) s.id serial
         (again s.disk (stores (server_begins s) x) _ refl refl refl refl (stores_holds s.disk (server_begins s) x (stored_sound s.disk s.disk q serial n.placed) h))
 
     member_sound : (t : Storing s i) → IsOfTakenOrder s.disk t.x

@@ -270,7 +270,7 @@ module _ (Of : Record → Type 0) (calls : (r : Record) → IsOfCalls r → Of r
 
   takes_kept : (d : MasterDoing) (m : Message) (b : Body) → IsNoAsk b → P d → P (master_takes d m b)
   takes_kept d m (body.Name number deadline c) none h = kept_said Of calls P k d (client_number m.sender) number deadline.0 c (table.get d.master.logged.kept (client_number m.sender)) h
-  takes_kept d m (body.Look number c) none h = k.said d m.sender (body.Named number (reply_by (outcome_by d.master.logged.names c (master_refusal d.master c)))) refl h
+  takes_kept d m (body.Look number c) none h = k.said d m.sender (body.Named number (reply_by d.master.logged.table (outcome_by d.master.logged.names c (master_refusal d.master c)))) refl h
   takes_kept d m (body.Ask number file w deadline lost) none h = absurd none
   takes_kept d m (body.Recorded handle version) none h =
       let there : MasterDoing = holds_now d (server_number m.sender) handle.0 version.0 in

@@ -42,7 +42,7 @@ primary_there s version (Some q) p is =
 
 -- a lease that was granted to a server by an order that it took
 module _ (config : Config) (servers clients : ℕ) (w : WorldState) (r : IsReached config servers clients w) (index : ℕ) (s : ServerState) (there : element_at w.servers index ≡ Some s) (handle version : ℕ) (p : SerialOrder) (same : p.held.version ≡ version)
-    (lease : IsToldLease w.sent (suc index) s.disk handle p.held) where
+    (lease : IsToldLease w.sent (suc index) s.disk handle p.chunk p.held) where
   lease_body : SaysGrant lease.order (handle_of handle) (version_of version) lease.end_moment p.held.members (lease.grant).body
   lease_body = named_grant lease.is refl same
 

@@ -18,6 +18,7 @@ use Rattle.laws_steps.specs.Versions.{IsLeaseOver}
 use Rattle.laws_steps.specs.Given.{version_given}
 use Rattle.laws_versions.specs.HeldVersions.{WasCloned}
 use Rattle.laws_versions.specs.ToldVersions.{SaysVersion}
+use Rattle.laws_base.specs.Laws.{IsGrantBody}
 
 -- the chunk and the version that a message has one server copy from another
 abbrev pub version_copied : Body → Option (ℕ × ℕ)
@@ -91,5 +92,5 @@ GrantedVersionsStandAtMembers =
     (config : Config) (servers clients : ℕ) (w : WorldState) → IsReached config servers clients w → IsTrue w.observer.are_clocks_kept
     → (index : ℕ) (s : ServerState) → element_at w.servers index ≡ Some s → (handle : ℕ) (r : Replica) → replica_of s.disk handle ≡ Some r
     → (place : ℕ) (grant : Message) (order : OrderNo) (end_moment : Moment) (members : List ℕ)
-    → element_at w.sent place ≡ Some grant → grant.body ≡ body.Grant order (handle_of handle) (version_of r.version) end_moment members
+    → element_at w.sent place ≡ Some grant → IsGrantBody order (handle_of handle) (version_of r.version) end_moment members grant.body
     → IsTrue (has_number members (suc index)) ⊎ (WasCloned w.sent (suc index) handle r.version × IsVersionOver w handle r.version)

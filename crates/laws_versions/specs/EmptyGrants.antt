@@ -16,7 +16,7 @@ use Rattle.protocol.specs.Choice.{Choice}
 use Rattle.protocol.specs.Observer.{Placed, order_of}
 use Rattle.protocol.specs.Server.{ServerState}
 use Rattle.protocol.specs.World.{WorldState, new_world, after_events, IsReached}
-use Rattle.laws_base.specs.Laws.{grants_of}
+use Rattle.laws_base.specs.Laws.{IsGrantBody, grants_of}
 use Rattle.laws_entries.specs.Deadlines.{Numbers}
 use Rattle.laws_entries.specs.ChunkOrders.{WasCopied, IsSource}
 use Rattle.laws_versions.specs.AnsweredOrders.{IsRefusedBy}
@@ -25,7 +25,7 @@ use Rattle.laws_versions.specs.AnsweredOrders.{IsRefusedBy}
 pub record IsGrantUsed (w : WorldState) (index handle version : ℕ) : Type 0 where
   pub granted : 1 ≤ grants_of handle version w.sent
   pub refused : (place : ℕ) (m : Message) → element_at w.sent place ≡ Some m
-      → (order : OrderNo) (end_moment : Moment) (members : List ℕ) → m.body ≡ body.Grant order (handle_of handle) (version_of version) end_moment members
+      → (order : OrderNo) (end_moment : Moment) (members : List ℕ) → IsGrantBody order (handle_of handle) (version_of version) end_moment members m.body
       → (m.receiver ≡ the_server (suc index)) × ((s : ServerState) → element_at w.servers index ≡ Some s → IsRefusedBy s order)
 
 -- Where a step of a server numbers a mutation under a version, the Grant of that version is used up, in all that follows (section 3.1).

@@ -11,7 +11,7 @@ use Rattle.protocol.specs.Sending.{the_server, handle_of, version_of, order_numb
 use Rattle.replica_store.specs.Replicas.{Replica, replica_of}
 use Rattle.protocol.specs.Server.{ServerState}
 use Rattle.protocol.specs.World.{WorldState, IsReached}
-use Rattle.laws_base.specs.Laws.{tells_version}
+use Rattle.laws_base.specs.Laws.{IsGrantBody, tells_version}
 use Rattle.laws_steps.specs.Given.{version_given}
 use Rattle.laws_versions.specs.HeldVersions.{version_cloned}
 use Rattle.laws_versions.specs.AnsweredOrders.{IsRefusedBy}
@@ -66,5 +66,5 @@ abbrev pub GrantedOrdersAreRefused : Type 0
 GrantedOrdersAreRefused =
     (config : Config) (servers clients : ℕ) (w : WorldState) → IsReached config servers clients w
     → (handle version place : ℕ) (grant : Message) (order : OrderNo) (end_moment : Moment) (members : List ℕ)
-    → element_at w.sent place ≡ Some grant → grant.body ≡ body.Grant order (handle_of handle) (version_of version) end_moment members
+    → element_at w.sent place ≡ Some grant → IsGrantBody order (handle_of handle) (version_of version) end_moment members grant.body
     → (index : ℕ) (s : ServerState) → element_at w.servers index ≡ Some s → RefusesItsOrder w.sent index s handle version

@@ -11,6 +11,7 @@ use Rattle.protocol.specs.Sending.{the_server, handle_of, version_of}
 use Rattle.protocol.specs.Master.{VersionAttempt}
 use Rattle.protocol.specs.World.{WorldState, IsReached}
 use Rattle.laws_steps.specs.Given.{version_given}
+use Rattle.laws_base.specs.Laws.{IsGrantBody}
 
 -- the message went to one of these servers
 abbrev pub IsToOneOf : List ℕ → Message → Type 0
@@ -21,7 +22,7 @@ abbrev pub MembersAloneAreGivenAVersion : Type 0
 MembersAloneAreGivenAVersion =
     (config : Config) (servers clients : ℕ) (w : WorldState) → IsReached config servers clients w
     → (handle version place : ℕ) (grant : Message) (order : OrderNo) (end_moment : Moment) (members : List ℕ)
-    → element_at w.sent place ≡ Some grant → grant.body ≡ body.Grant order (handle_of handle) (version_of version) end_moment members
+    → element_at w.sent place ≡ Some grant → IsGrantBody order (handle_of handle) (version_of version) end_moment members grant.body
     → (other : ℕ) (m : Message) → element_at w.sent other ≡ Some m → version_given m.body ≡ Some (handle, version) → IsToOneOf members m
 
 -- Each order that gives a server a version which is attempted went to a server of the attempt, and no Grant of it was sent (section 3.1).
@@ -31,4 +32,4 @@ AttemptsAreGivenToTheirServers =
     → (handle : ℕ) (a : VersionAttempt) → table.get w.master.attempts handle ≡ Some a
     → (place : ℕ) (m : Message) → element_at w.sent place ≡ Some m
     → (version_given m.body ≡ Some (handle, a.version) → IsToOneOf a.servers m)
-    × ((order : OrderNo) (end_moment : Moment) (members : List ℕ) → m.body ≡ body.Grant order (handle_of handle) (version_of a.version) end_moment members → ⊥)
+    × ((order : OrderNo) (end_moment : Moment) (members : List ℕ) → IsGrantBody order (handle_of handle) (version_of a.version) end_moment members m.body → ⊥)

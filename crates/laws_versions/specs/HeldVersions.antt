@@ -14,6 +14,7 @@ use Rattle.replica_store.specs.Replicas.{Replica, replica_of}
 use Rattle.protocol.specs.Server.{ServerState}
 use Rattle.protocol.specs.World.{WorldState, IsReached}
 use Rattle.laws_steps.specs.Given.{version_given}
+use Rattle.laws_base.specs.Laws.{IsGrantBody}
 
 -- the chunk and the version of which an order has its server make a replica from another server's
 abbrev pub version_cloned : Body → Option (ℕ × ℕ)
@@ -41,7 +42,7 @@ MembersAloneHoldAVersion =
     (config : Config) (servers clients : ℕ) (w : WorldState) → IsReached config servers clients w
     → (index : ℕ) (s : ServerState) → element_at w.servers index ≡ Some s → (handle : ℕ) (r : Replica) → replica_of s.disk handle ≡ Some r
     → (place : ℕ) (grant : Message) (order : OrderNo) (end_moment : Moment) (members : List ℕ)
-    → element_at w.sent place ≡ Some grant → grant.body ≡ body.Grant order (handle_of handle) (version_of r.version) end_moment members
+    → element_at w.sent place ≡ Some grant → IsGrantBody order (handle_of handle) (version_of r.version) end_moment members grant.body
     → IsTrue (has_number members (suc index)) ⊎ WasCloned w.sent (suc index) handle r.version
 
 -- A replica of a version that is attempted stands at a server of the attempt, or was cloned (section 3.1).

@@ -13,12 +13,12 @@ use Rattle.protocol.specs.Tables.{element_at}
 use Rattle.protocol.specs.Sending.{handle_of, version_of}
 use Rattle.protocol.specs.Logged.{replayed}
 use Rattle.protocol.specs.World.{WorldState, IsReached}
-use Rattle.laws_base.specs.Laws.{IsSameOrLater, tells_end}
+use Rattle.laws_base.specs.Laws.{IsGrantBody, IsSameOrLater, tells_end}
 use Rattle.laws_steps.specs.Versions.{IsLeaseOver}
 
 -- the chunk and the version whose lease a message begins or lets last longer
 abbrev pub lease_said : Body → Option (ℕ × ℕ)
-lease_said (body.Grant order handle version end_moment members) = Some (handle.0, version.0)
+lease_said (body.Grant order handle version end_moment chunk members) = Some (handle.0, version.0)
 lease_said (body.Extend handle version end_moment) = Some (handle.0, version.0)
 lease_said other = None
 
@@ -56,7 +56,7 @@ abbrev pub RevokesFollowTheirGrants : Type 0
 RevokesFollowTheirGrants =
     (config : Config) (servers clients : ℕ) (w : WorldState) → IsReached config servers clients w
     → (place other : ℕ) (grant revoke : Message) → element_at w.sent place ≡ Some grant → element_at w.sent other ≡ Some revoke
-    → (order later : OrderNo) (handle : Handle) (version : Version) (end_moment : Moment) (members : List ℕ) → grant.body ≡ body.Grant order handle version end_moment members → revoke.body ≡ body.Revoke later handle version
+    → (order later : OrderNo) (handle : Handle) (version : Version) (end_moment : Moment) (members : List ℕ) → IsGrantBody order handle version end_moment members grant.body → revoke.body ≡ body.Revoke later handle version
     → (grant.receiver ≡ revoke.receiver) × IsSameOrLater order.epoch order.count later.epoch later.count
 
 -- Once a server said that it has no lease of a version, the lease is over (section 3.1).

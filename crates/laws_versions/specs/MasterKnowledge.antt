@@ -15,6 +15,7 @@ use Rattle.protocol.specs.Master.{MasterState, VersionAttempt}
 use Rattle.protocol.specs.Server.{ServerState}
 use Rattle.protocol.specs.World.{WorldState, IsReached}
 use Rattle.laws_versions.specs.GivenOnce.{RefusesItsOrder}
+use Rattle.laws_base.specs.Laws.{IsGrantBody}
 
 -- A server that the master counts among those that recorded a version attempt refuses each order that gives it that version (section 3.1).
 abbrev pub RecordedServersRefuseTheirOrder : Type 0
@@ -33,7 +34,7 @@ MembersAreTheRows =
     (config : Config) (servers clients : ℕ) (w : WorldState) → IsReached config servers clients w
     → (handle : ℕ) (row : ChunkRow) → IsRowOf w.master handle row
     → (place : ℕ) (grant : Message) (order : OrderNo) (end_moment : Moment) (members : List ℕ) → element_at w.sent place ≡ Some grant
-    → grant.body ≡ body.Grant order (handle_of handle) (version_of row.granted) end_moment members → members ≡ row.members
+    → IsGrantBody order (handle_of handle) (version_of row.granted) end_moment members grant.body → members ≡ row.members
 
 -- A lease of the granted version that a server holds has the members of the chunk's row (section 3.1).
 abbrev pub LeaseMembersAreTheRows : Type 0

@@ -18,7 +18,7 @@ use Rattle.protocol.specs.Logged.{Copy, replayed}
 use Rattle.protocol.specs.Master.{MasterState, VersionAttempt}
 use Rattle.protocol.specs.Server.{ServerState}
 use Rattle.protocol.specs.World.{WorldState, after_events, IsReached}
-use Rattle.laws_base.specs.Laws.{IsSameOrLater}
+use Rattle.laws_base.specs.Laws.{IsGrantBody, IsSameOrLater}
 use Rattle.laws_steps.specs.Given.{version_given}
 use Rattle.laws_versions.specs.ClonedVersions.{version_copied}
 use Rattle.laws_versions.specs.MasterKnowledge.{IsRowOf}
@@ -45,7 +45,7 @@ abbrev pub GrantsAgreeWithRows : Type 0
 GrantsAgreeWithRows =
     (config : Config) (servers clients : ℕ) (w : WorldState) → IsReached config servers clients w
     → (handle : ℕ) (row : ChunkRow) → IsRowOf w.master handle row
-    → (place : ℕ) (grant : Message) (order : OrderNo) (version : Version) (end_moment : Moment) (members : List ℕ) → element_at w.sent place ≡ Some grant → grant.body ≡ body.Grant order (handle_of handle) version end_moment members
+    → (place : ℕ) (grant : Message) (order : OrderNo) (version : Version) (end_moment : Moment) (members : List ℕ) → element_at w.sent place ≡ Some grant → IsGrantBody order (handle_of handle) version end_moment members grant.body
     → (version.0 ≤ row.granted) × (version.0 ≡ row.granted → grant.receiver ≡ the_server row.primary)
 
 -- At a master that is up the version of an attempt is the last one that was issued of its chunk, whose handle was used (section 3.1).
@@ -79,7 +79,7 @@ OrderNumbersWereUsed =
 abbrev pub GrantsGoToMembers : Type 0
 GrantsGoToMembers =
     (config : Config) (servers clients : ℕ) (w : WorldState) → IsReached config servers clients w
-    → (place : ℕ) (grant : Message) (order : OrderNo) (handle : Handle) (version : Version) (end_moment : Moment) (members : List ℕ) → element_at w.sent place ≡ Some grant → grant.body ≡ body.Grant order handle version end_moment members
+    → (place : ℕ) (grant : Message) (order : OrderNo) (handle : Handle) (version : Version) (end_moment : Moment) (members : List ℕ) → element_at w.sent place ≡ Some grant → IsGrantBody order handle version end_moment members grant.body
     → (server : ℕ) → grant.receiver ≡ the_server server → IsTrue (has_number members server)
 
 -- The Grant of each lease that a server holds is used up, in all that follows (section 3.1).

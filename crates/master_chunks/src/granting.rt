@@ -2,7 +2,7 @@
 
 ghost use Rattle.std.specs.Prelude.{◌≡◌, OnOk};
 ghost use Rattle.protocol.specs.Logged.{LogDisk};
-ghost use Rattle.protocol.specs.MasterVersions.{sends_grant, grants, grants_to};
+ghost use Rattle.protocol.specs.MasterVersions.{chunk_size_of, sends_grant, grants, grants_to};
 ghost use Rattle.master_plan.specs.Plans.{doing};
 
 use gfs_types::ids::{Handle, Moment, Node, ServerId, Version};
@@ -60,7 +60,7 @@ fn grants<L: OperationLog, A: Allocator + Clone>(
     Ok(())
 }
 
-// A grant that is on the disk is sent to the primary; the lease ends a lease's time from now.
+// A grant that is on the disk is sent to the primary, with the size of the chunk; the lease ends a lease's time from now.
 fn sends_grant<A: Allocator + Clone>(
     plan: &mut Plan<A>,
     handle: Handle,
@@ -74,6 +74,7 @@ fn sends_grant<A: Allocator + Clone>(
         return Err(PlanFault::Limit);
     };
     let end = Moment(until);
+    let chunk = chunk_size(plan, handle);
     plan.remove_attempt(handle);
     plan.end_lease_at(handle, end);
     let order = plan.next_order()?;
@@ -82,7 +83,18 @@ fn sends_grant<A: Allocator + Clone>(
         handle,
         version,
         end,
+        chunk,
         members,
     };
     plan.tell(Node::Server(primary), body)
+}
+
+// How many bytes the chunk has at most.
+fn chunk_size<A: Allocator + Clone>(plan: &Plan<A>, handle: Handle) -> u32
+    ensures { result ≡ chunk_size_of plan.now.logged.table handle.0 }
+{
+    match plan.state().table().chunk(handle) {
+        Some(chunk) => chunk.shape().chunk,
+        None => 0,
+    }
 }

@@ -65,6 +65,13 @@ fn row_of(chunk: &Chunk, alloc: Global) -> Result<ChunkState, NoMemory>
 }
 
 impl ChunkState {
+    /// The shape of its file.
+    pub fn shape(&self) -> Shape
+        ensures { result ≡ self.now.shape }
+    {
+        self.shape
+    }
+
     /// How many replicas its file is to have of each chunk.
     pub fn goal(&self) -> u8
         ensures { result ≡ self.now.shape.goal }

@@ -30,6 +30,7 @@ pub fn tells_location<A: Allocator + Clone>(
         index: asker.index,
         handle,
         round: row.granted(),
+        shape: row.shape(),
         holders,
         group: group_of(plan, row)?,
     };

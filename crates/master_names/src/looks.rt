@@ -1,4 +1,4 @@
-//! Calls that read the names alone.
+//! Calls that change nothing.
 
 ghost use Rattle.std.specs.Prelude.{◌≡◌, IfOk, OnOk};
 ghost use Rattle.relaxed_file.specs.NameStep.{outcome_by};
@@ -18,7 +18,7 @@ use master_replay::lists::list;
 use messages::message::{Body, NameReply};
 use std::alloc::Allocator;
 
-/// A Look, which reads the names alone.
+/// A Look, which changes nothing.
 pub fn takes_look<A: Allocator + Clone>(
     plan: &mut Plan<A>,
     client: Node,
@@ -39,7 +39,7 @@ pub fn takes_look<A: Allocator + Clone>(
 
 #[tactic(auto, using(crate::proofs::Refused::refusal_alike))]
 fn reply_to<A: Allocator + Clone>(plan: &Plan<A>, call: &Call) -> Result<NameReply, NoMemory>
-    ensures { IfOk result (λ r. r ≡ reply_by (outcome_by plan.now.logged.names call.now (master_refusal (known plan.now) call.now))) }
+    ensures { IfOk result (λ r. r ≡ reply_by plan.now.logged.table (outcome_by plan.now.logged.names call.now (master_refusal (known plan.now) call.now))) }
 {
     match call {
         Call::Open(path) => {

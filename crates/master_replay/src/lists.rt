@@ -30,7 +30,7 @@ pub fn list<A: Allocator + Clone>(
     path: &Text,
     is_busy: bool,
 ) -> Result<NameReply, NoMemory>
-    ensures { IfOk result (λ r. (config : Config) → r ≡ reply_by (outcome_by state.now.names (call.List path.now) (refusal_by config state.now.names is_busy (call.List path.now)))) }
+    ensures { IfOk result (λ r. (config : Config) → r ≡ reply_by state.now.table (outcome_by state.now.names (call.List path.now) (refusal_by config state.now.names is_busy (call.List path.now)))) }
 {
     let path = match parsed(state.alloc(), path)? {
         Some(path) => path,

@@ -1,4 +1,4 @@
-//! What reads the names alone (section 4.1).
+//! What a look at the names is answered (section 4.1).
 
 ghost use Rattle.std.specs.Prelude.{◌≡◌, IfOk};
 ghost use Rattle.gfs_types.specs.declared.call.Call.TheVariants as call;
@@ -20,9 +20,9 @@ use namespace::name_kind::NameKind;
 use std::alloc::Allocator;
 
 impl<A: Allocator + Clone> State<A> {
-    /// The reply to an Open: the file, or the refusal. It is told whether a pending snapshot holds a lock that conflicts.
+    /// The reply to an Open: the file with its shape, or the refusal. It is told whether a pending snapshot holds a lock that conflicts.
     pub fn open(&self, path: &Text, is_busy: bool) -> Result<NameReply, NoMemory>
-        ensures { IfOk result (λ r. (config : Config) → r ≡ reply_by (outcome_by self.now.names (call.Open path.now) (refusal_by config self.now.names is_busy (call.Open path.now)))) }
+        ensures { IfOk result (λ r. (config : Config) → r ≡ reply_by self.now.table (outcome_by self.now.names (call.Open path.now) (refusal_by config self.now.names is_busy (call.Open path.now)))) }
     {
         let path = match parsed(self.alloc, path)? {
             Some(path) => path,
@@ -35,7 +35,7 @@ impl<A: Allocator + Clone> State<A> {
             None => refused(Refusal::NotFound),
             Some(node) => match node.kind() {
                 NameKind::Dir => refused(Refusal::NotFile),
-                NameKind::File(id) => NameReply::Opened(id),
+                NameKind::File(id) => NameReply::Opened(id, self.table.shape(id)),
             },
         })
     }

@@ -185,13 +185,13 @@ all_freed p (call ∷ rest) serial server now member h some =
     (λ k. Contains-append_left (members_by p serial call) later member k)
     (owes p serial member call h)
 
-nothing_waits : (held : HeldState) (serial member : ℕ) → WaitsFor (new_primary held) serial member
-nothing_waits held serial member = subst (λ o. WaitsIn o 0 serial member) (sym (get-empty nat_cmp serial)) tt
+nothing_waits : (chunk : ℕ) (held : HeldState) (serial member : ℕ) → WaitsFor (new_primary chunk held) serial member
+nothing_waits chunk held serial member = subst (λ o. WaitsIn o 0 serial member) (sym (get-empty nat_cmp serial)) tt
 
-pub every_member : (held : HeldState) (calls : List OrderCall) (server serial now : ℕ)
-    → IsSome (ack_answer (seen_at (after_calls (new_primary held) calls) now) server serial)
-    → All (Contains (members_of (new_primary held) serial (calls ++ Acknowledge server serial now ∷ []))) held.lease.members
-every_member held calls server serial now some =
-    All-weaker (Contains held.lease.members) (Contains (members_of (new_primary held) serial (calls ++ Acknowledge server serial now ∷ [])))
-    (λ member has. all_freed (new_primary held) calls serial server now member (has, nothing_waits held serial member) some)
+pub every_member : (chunk : ℕ) (held : HeldState) (calls : List OrderCall) (server serial now : ℕ)
+    → IsSome (ack_answer (seen_at (after_calls (new_primary chunk held) calls) now) server serial)
+    → All (Contains (members_of (new_primary chunk held) serial (calls ++ Acknowledge server serial now ∷ []))) held.lease.members
+every_member chunk held calls server serial now some =
+    All-weaker (Contains held.lease.members) (Contains (members_of (new_primary chunk held) serial (calls ++ Acknowledge server serial now ∷ [])))
+    (λ member has. all_freed (new_primary chunk held) calls serial server now member (has, nothing_waits chunk held serial member) some)
     held.lease.members (All-contains_itself held.lease.members)

@@ -106,6 +106,6 @@ members_of p serial (call ∷ rest) = members_by p serial call ++ members_of (af
 
 -- A success implies that every member acknowledged, after the serial was given and while the lease counted.
 abbrev pub SuccessNeedsEveryMember : Type 0
-SuccessNeedsEveryMember = (held : HeldState) (calls : List OrderCall) (server serial now : ℕ)
-    → IsSome (ack_answer (seen_at (after_calls (new_primary held) calls) now) server serial)
-    → All (Contains (members_of (new_primary held) serial (calls ++ Acknowledge server serial now ∷ []))) held.lease.members
+SuccessNeedsEveryMember = (chunk : ℕ) (held : HeldState) (calls : List OrderCall) (server serial now : ℕ)
+    → IsSome (ack_answer (seen_at (after_calls (new_primary chunk held) calls) now) server serial)
+    → All (Contains (members_of (new_primary chunk held) serial (calls ++ Acknowledge server serial now ∷ []))) held.lease.members

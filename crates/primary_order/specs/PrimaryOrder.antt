@@ -22,8 +22,8 @@ use Rattle.primary_order.specs.declared.primary.Primary.{Primary}
 abbrev pub NumberTable : Type 0 → Type 0
 NumberTable X = map.FinMap nat_cmp X
 
-abbrev pub new_primary : HeldState → Primary
-new_primary held = record { held = held; serial = 0; was_used_since_report = false; kept = map.empty; waiting = map.empty }
+abbrev pub new_primary : ℕ → HeldState → Primary
+new_primary chunk held = record { chunk = chunk; held = held; serial = 0; was_used_since_report = false; kept = map.empty; waiting = map.empty }
 
 -- the place that a success tells; a pad has none
 abbrev pub place_of : Mutation → Option ℕ

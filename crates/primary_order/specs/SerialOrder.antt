@@ -17,8 +17,9 @@ use Rattle.primary_order.specs.declared.waiting.Waiting.{Waiting}
 use Rattle.primary_order.specs.declared.primary.Primary.{Primary}
 use Rattle.primary_order.specs.PrimaryOrder.{NumberTable, answer_by, kept_as, with_standing, waiting_by, settled_by, settled_kept, success_of}
 
--- A lease with the last serial, whether it numbered a mutation since the last report, each client's last attempt, and the mutations that are not settled, by serial.
+-- A lease with the size of its chunk, the last serial, whether it numbered a mutation since the last report, each client's last attempt, and the mutations that are not settled, by serial.
 pub record SerialOrder : Type 0 where
+  pub chunk : ℕ
   pub held : LeaseHeld
   pub serial : ℕ
   pub was_used_since_report : Bool
@@ -27,7 +28,7 @@ pub record SerialOrder : Type 0 where
 
 -- what a primary holds but for the clock
 abbrev pub order_of : Primary → SerialOrder
-order_of p = record { held = p.held.lease; serial = p.serial; was_used_since_report = p.was_used_since_report; kept = p.kept; waiting = p.waiting }
+order_of p = record { chunk = p.chunk; held = p.held.lease; serial = p.serial; was_used_since_report = p.was_used_since_report; kept = p.kept; waiting = p.waiting }
 
 -- What an attempt's number is to its client's last one under the lease.
 pub data Attempted : Type 0 where
@@ -38,8 +39,9 @@ pub data Attempted : Type 0 where
   -- it is lower
   IsOld : Attempted
 
-abbrev pub new_order : LeaseHeld → SerialOrder
-new_order held = record { held = held; serial = 0; was_used_since_report = false; kept = map.empty; waiting = map.empty }
+-- under a lease that was granted with the size of its chunk
+abbrev pub new_order : ℕ → LeaseHeld → SerialOrder
+new_order chunk held = record { chunk = chunk; held = held; serial = 0; was_used_since_report = false; kept = map.empty; waiting = map.empty }
 
 -- an attempt's number against its client's last one: new, the same, or lower
 abbrev pub attempted_by : ℕ → Option Kept → Attempted

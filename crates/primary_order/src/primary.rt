@@ -19,10 +19,11 @@ use leases::held::Held;
 use ordered_map::number_map::NumberMap;
 use std::alloc::Global;
 
-/// A lease with the last serial, whether it numbered a mutation since the last report, each client's last attempt, and the mutations
-/// that are not settled, by serial.
+/// A lease with the size of its chunk, the last serial, whether it numbered a mutation since the last report, each client's last
+/// attempt, and the mutations that are not settled, by serial.
 #[derive(Drop)]
 pub struct Primary {
+    chunk: u32,
     held: Held,
     serial: u64,
     was_used_since_report: bool,
@@ -31,17 +32,25 @@ pub struct Primary {
 }
 
 impl Primary {
-    /// The order of a lease that was just granted; serials count from 1. Takes no memory.
-    pub fn new(alloc: Global, held: Held) -> Primary
-        ensures { result ≡ new_primary held }
+    /// The order of a lease that was just granted, with the bytes that its chunk has at most; serials count from 1. Takes no memory.
+    pub fn new(alloc: Global, chunk: u32, held: Held) -> Primary
+        ensures { result ≡ new_primary chunk held }
     {
         Primary {
+            chunk,
             held,
             serial: 0,
             was_used_since_report: false,
             kept: NumberMap::new(alloc),
             waiting: NumberMap::new(alloc),
         }
+    }
+
+    /// The bytes that the chunk has at most, as its Grant told them.
+    pub fn chunk(&self) -> u32
+        ensures { result ≡ self.now.chunk }
+    {
+        self.chunk
     }
 
     /// The lease.

@@ -1,15 +1,16 @@
 -- The files that a client has open (section 2.4).
 use Rattle.std.specs.Prelude.{ℕ, suc, ◌-◌, nat_le, if◌then◌else◌, Option, Some, None}
 use Rattle.std.specs.FinMap as table
+use Rattle.gfs_types.specs.declared.shape.Shape.{Shape}
 use Rattle.protocol.specs.Tables.{Table}
 use Rattle.client_state.specs.declared.kept.OpenFile.{OpenFile}
 
-abbrev pub opened_again : Option OpenFile → ℕ → OpenFile
-opened_again None fd = record { descriptors = 1; last_opened = record { 0 = fd }; last_append = None }
-opened_again (Some f) fd = record f { descriptors = suc f.descriptors; last_opened = record { 0 = fd } }
+abbrev pub opened_again : Option OpenFile → Shape → ℕ → OpenFile
+opened_again None shape fd = record { descriptors = 1; last_opened = record { 0 = fd }; shape = shape; last_append = None }
+opened_again (Some f) shape fd = record f { descriptors = suc f.descriptors; last_opened = record { 0 = fd } }
 
-abbrev pub files_after_open : Table OpenFile → ℕ → ℕ → Table OpenFile
-files_after_open files file fd = table.insert files file (opened_again (table.get files file) fd)
+abbrev pub files_after_open : Table OpenFile → ℕ → Shape → ℕ → Table OpenFile
+files_after_open files file shape fd = table.insert files file (opened_again (table.get files file) shape fd)
 
 abbrev pub with_one_closed : Table OpenFile → ℕ → Option OpenFile → Table OpenFile
 with_one_closed files file None = files

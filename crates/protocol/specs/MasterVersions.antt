@@ -10,7 +10,7 @@ use Rattle.messages.specs.declared.message.Group.{Group}
 use Rattle.log_records.specs.declared.record.Record.TheVariants as log
 use Rattle.protocol.specs.Tables.{ranked, rising, first_of_list, same_numbers, with_number, has_number}
 use Rattle.protocol.specs.Sending.{server_id, file_id, handle_of, version_of, moment_of}
-use Rattle.chunk_table.specs.ChunkTable.{ChunkRow, chunk_of}
+use Rattle.chunk_table.specs.ChunkTable.{ChunkRow, ChunkTable, chunk_of, shape_in}
 use Rattle.protocol.specs.Logged.{Logged, copies_that}
 use Rattle.protocol.specs.declared.seen.Seen.TheVariants.{CopyStarted}
 use Rattle.protocol.specs.Master.{MasterState, MasterDoing, VersionAttempt, HeldAt, tells, orders, logs, with_attempt, without_attempt, gives_up_copy, ends_at, servers_of, version_held, is_present, chunks_held, holders_where, current_holders, present_current_holders, has_lease}
@@ -32,7 +32,7 @@ group_of m row = if has_lease m row then Some (record { primary = server_id row.
 
 abbrev pub tells_location : MasterDoing → Asker → ℕ → ChunkRow → List Holder → MasterDoing
 tells_location d a handle row holders =
-    tells d a.client (body.Told a.number (Some (record { index = a.index; handle = handle_of handle; round = version_of row.granted; holders = holders; group = group_of d.master row })))
+    tells d a.client (body.Told a.number (Some (record { index = a.index; handle = handle_of handle; round = version_of row.granted; shape = row.shape; holders = holders; group = group_of d.master row })))
 
 -- the chunk's current holders, and its primary
 abbrev pub tells_holders : MasterDoing → Asker → ℕ → ChunkRow → MasterDoing
@@ -170,11 +170,16 @@ abbrev pub wants_primary : MasterDoing → Asker → ℕ → ChunkRow → Master
 wants_primary d a handle row =
     if waits_for d.master handle then tells_to_wait d a else wants_by d a handle row (copy_for d.master.logged a.file a.index)
 
--- a grant that is on the disk is sent to the primary; the lease ends a lease's time from now
+-- how many bytes a chunk has at most
+abbrev pub chunk_size_of : ChunkTable → ℕ → ℕ
+chunk_size_of t handle = (shape_in (chunk_of t handle)).chunk
+
+-- a grant that is on the disk is sent to the primary, with the size of the chunk; the lease ends a lease's time from now
 abbrev pub sends_grant : MasterDoing → ℕ → ℕ → ℕ → List ℕ → MasterDoing
 sends_grant d handle version primary members =
     let until : ℕ = d.master.now + d.master.config.lease_ms in
-    orders (ends_at (without_attempt d handle) handle until) primary (λ order. body.Grant order (handle_of handle) (version_of version) (moment_of until) members)
+    orders (ends_at (without_attempt d handle) handle until) primary
+    (λ order. body.Grant order (handle_of handle) (version_of version) (moment_of until) (chunk_size_of d.master.logged.table handle) members)
 
 -- At the grant the version, the primary and the members are logged, and one Grant is sent.
 abbrev pub grants : MasterDoing → ℕ → VersionAttempt → ℕ → List ℕ → MasterDoing

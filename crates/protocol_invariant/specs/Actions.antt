@@ -234,7 +234,7 @@ at_client_body m client c (AskedWhere asked) (body.Told number location) = if as
 at_client_body m client c stage other = []
 
 abbrev pub file_named_by : Body → ℕ
-file_named_by (body.Named number (Opened file)) = file.0
+file_named_by (body.Named number (Opened file shape)) = file.0
 file_named_by other = 0
 
 -- what the trace shows

@@ -81,7 +81,7 @@ index_asked c other = 0
 abbrev pub IsTold : WorldState → Machine → CurrentCall → OpenCall → Option Location → Type 0
 IsTold w m c o None = Contains o.offers (NoSuchChunk (index_asked c c.asked))
 IsTold w m c o (Some l) =
-    IsTrue (list_any (is_offer_at l) o.offers) × IsLocation w m c.file.0 l × (IsTrue (is_length c.asked) → Contains o.offers (Told l.index l.round.0 (suc l.index)))
+    IsTrue (list_any (is_offer_at l) o.offers) × (l.shape ≡ (m.files c.file.0).shape) × IsLocation w m c.file.0 l × (IsTrue (is_length c.asked) → Contains o.offers (Told l.index l.round.0 (suc l.index)))
 
 -- a location that the client uses: its note of that chunk is the told round
 abbrev pub IsNoted : WorldState → Machine → ℕ → ℕ → Location → Type 0
@@ -173,8 +173,13 @@ IsRangeOf size offset count p c = (offset ≡ read_start size p.index c.asked) �
 
 -- the outcome that a reply tells
 abbrev pub outcome_told : NameReply → Outcome
-outcome_told (Opened file) = Opens file.0
+outcome_told (Opened file shape) = Opens file.0
 outcome_told (Answered reply) = Replies reply
+
+-- with a file that was found goes its shape
+abbrev pub IsShapeTold : Machine → NameReply → Type 0
+IsShapeTold m (Opened file shape) = shape ≡ (m.files file.0).shape
+IsShapeTold m (Answered reply) = Unit {0}
 
 abbrev pub MasterRefuses : WorldState → Machine → ℕ → ℕ → Node → Refusal → Type 0
 MasterRefuses w m client number node.Master refusal = WhileAt w m client (λ c o. IsAskedWhere number c.stage → IsCauseOf m client o refusal)
@@ -186,7 +191,7 @@ ClientSays w m g x (body.Name number deadline c) = IsNameRequest w m g (client_n
 ClientSays w m g x (body.Ask number file asked_for deadline lost) = IsAsk m g (client_number x.sender) number file.0 asked_for
 ClientSays w m g x (body.Read number handle version offset count) = IsReadingOf w m g (client_number x.sender) number handle.0 version.0 (IsRangeOf w.config.chunk offset count)
 ClientSays w m g x (body.Len number handle version) = IsReadingOf w m g (client_number x.sender) number handle.0 version.0 (λ p c. IsTrue (is_length c.asked))
-ClientSays w m g x (body.Named number reply) = WhileAt w m (client_number x.receiver) (λ c o. IsAskedNames number c c.stage → Contains o.outcomes (outcome_told reply))
+ClientSays w m g x (body.Named number reply) = WhileAt w m (client_number x.receiver) (λ c o. IsAskedNames number c c.stage → Contains o.outcomes (outcome_told reply) × IsShapeTold m reply)
 ClientSays w m g x (body.Told number location) = WhileAt w m (client_number x.receiver) (λ c o. IsAskedWhere number c.stage → IsTold w m c o location)
 ClientSays w m g x (body.Refused number refusal) = MasterRefuses w m (client_number x.receiver) number x.sender refusal
 ClientSays w m g x (body.Bytes number bytes) = WhileAt w m (client_number x.receiver) (λ c o. IsSentRead number c.stage → IsSomeAnd (purpose_of g (client_number x.receiver) number) (λ p.

@@ -84,7 +84,7 @@ applied_when_put g x other = []
 -- the version under which a message has something applied
 abbrev pub round_applied : Body → ℕ
 round_applied (body.Mutate id handle version target deadline) = version.0
-round_applied (body.Forward handle version serial id change) = version.0
+round_applied (body.Forward handle version serial id chunk change) = version.0
 round_applied other = 0
 
 abbrev pub with_one_more : Ghost → ℕ → Message → ℕ → ℕ → List EntryName

@@ -52,13 +52,14 @@ pub record IsLastGrant (w : WorldState) (handle version server until : ℕ) (mem
 
 -- A lease that a server holds: it was granted, is not granted again, and may count only as the last one.
 pub record IsHeld (w : WorldState) (g : Ghost) (server : ℕ) (s : ServerState) (handle : ℕ) (p : SerialOrder) : Type 0 where
-  pub granted : IsSomeAnd (grant_of g.sent handle p.held.version) (λ grant. (grant.primary ≡ server) × (grant.members ≡ p.held.members) × IsStale s grant.order)
+  pub granted : IsSomeAnd (grant_of g.sent handle p.held.version) (λ grant. (grant.primary ≡ server) × (grant.members ≡ p.held.members) × (grant.chunk ≡ p.chunk) × IsStale s grant.order)
   pub bound : p.held.until ≤ w.observer.greatest + w.config.lease_ms
   pub lasts : (p.held.until ≤ w.observer.greatest) ⊎ IfRow w handle (IsLastGrant w handle p.held.version server p.held.until p.held.members)
 
 -- A Grant that was sent, against its chunk's row: the last one, or an earlier one, whose lease is over.
 pub record IsGrantOf (w : WorldState) (row : ChunkRow) (handle version : ℕ) (grant : Granted) : Type 0 where
   pub within : version ≤ row.granted
+  pub sized : grant.chunk ≡ row.shape.chunk
   pub last : version ≡ row.granted → (grant.primary ≡ row.primary) × (grant.members ≡ row.members)
   pub earlier : version < row.granted → IsEnded w handle version grant
   pub bound : grant.until ≤ w.observer.greatest + w.config.lease_ms

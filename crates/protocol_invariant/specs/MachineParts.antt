@@ -25,17 +25,19 @@ pub record IsFileAt (w : WorldState) (m : Machine) (file : ℕ) (handles : List 
   pub count_is : chunk_count m file ≡ length handles
   pub chunks : EachPlace handles (λ index handle. IsSomeAnd (chunk_of (logged_of w.master).table handle) (IsChunkAt w m file index handle))
 
--- a round whose lease may count is open at the machine, in the chunk that has this order; also where its file is collected since
+-- a round whose lease may count is open at the machine, in the chunk that has this order, and has its file's size; also where that is collected since
 abbrev pub IsOpenRound : WorldState → Machine → Table Spot → ℕ → SerialOrder → Type 0
 IsOpenRound w m spots handle p =
-    w.observer.greatest < p.held.until → IsSomeAnd (table.get spots handle) (λ s. ((chunk_at m s.file s.index).round ≡ p.held.version) × IsTrue (chunk_at m s.file s.index).is_open
+    w.observer.greatest < p.held.until → IsSomeAnd (table.get spots handle) (λ s.
+    ((chunk_at m s.file s.index).round ≡ p.held.version) × (p.chunk ≡ (m.files s.file).shape.chunk) × IsTrue (chunk_at m s.file s.index).is_open
     × (entries_of w.observer handle ≡ (chunk_at m s.file s.index).order))
 
--- a client's descriptors and calls are the machine's while it is up, and it waits for its open call
+-- a client's descriptors, the shapes of its open files and its calls are the machine's while it is up, and it waits for its open call
 pub record IsClientAt (w : WorldState) (m : Machine) (client : ℕ) (c : ClientState) : Type 0 where
   pub calls : (m.clients client).call_count ≡ calls_made w.observer.trace client
   pub fds : IsTrue c.up → c.fd_count ≡ (m.clients client).fd_count
   pub descriptors : IsTrue c.up → EachNumber (suc c.fd_count) (λ fd. table.get c.descriptors fd ≡ (m.clients client).descriptors fd)
+  pub shapes : IsTrue c.up → EachEntry c.files (λ file f. f.shape ≡ (m.files file).shape)
   pub idle : IsTrue c.up → c.current ≡ None → (m.clients client).open_call ≡ None
   pub current : IsTrue c.up → IfSome c.current (λ current. IsSomeAnd (m.clients client).open_call (λ o. o.asked.call ≡ current.asked))
 

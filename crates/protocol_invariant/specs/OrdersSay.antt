@@ -42,8 +42,8 @@ pub record IsCopyOrder (w : WorldState) (g : Ghost) (handle version copy copy_ve
   pub same : filter (λ p. nat_le p.entry.round version) (order_of w.observer copy) ≡ filter (λ p. nat_le p.entry.round version) (order_of w.observer handle)
 
 -- A Grant that may still be taken: nothing was numbered under its version, which is the last one, or its lease has ended already.
-pub record IsGrant (w : WorldState) (g : Ghost) (handle version server until : ℕ) (members : List ℕ) : Type 0 where
-  pub granted : IsSomeAnd (grant_of g.sent handle version) (λ grant. (grant.primary ≡ server) × (grant.members ≡ members) × (grant.until ≡ until))
+pub record IsGrant (w : WorldState) (g : Ghost) (handle version server until chunk : ℕ) (members : List ℕ) : Type 0 where
+  pub granted : IsSomeAnd (grant_of g.sent handle version) (λ grant. (grant.primary ≡ server) × (grant.members ≡ members) × (grant.until ≡ until) × (grant.chunk ≡ chunk))
   pub member : IsTrue (has_number members server)
   pub empty : AllByRecursion (λ p. (p.entry.round < version) ⊎ (version < p.entry.round)) (order_of w.observer handle)
   pub last : (until ≤ w.observer.greatest)
@@ -81,7 +81,8 @@ IsUsedNumber w order =
 abbrev pub BodySays : WorldState → Ghost → Node → Node → Body → Type 0
 BodySays w g from to (body.Create order handle version) = OrderSays w to order (IsRaise w g handle.0 version.0 0 (server_number to))
 BodySays w g from to (body.SetVersion order handle version base) = OrderSays w to order (IsRaise w g handle.0 version.0 base.0 (server_number to))
-BodySays w g from to (body.Grant order handle version end_moment members) = OrderSays w to order (IsGrant w g handle.0 version.0 (server_number to) end_moment.0 members)
+BodySays w g from to (body.Grant order handle version end_moment chunk members) =
+    OrderSays w to order (IsGrant w g handle.0 version.0 (server_number to) end_moment.0 chunk members)
 BodySays w g from to (body.Revoke order handle version) = IsRevoke g order handle.0 version.0 (server_number to)
 BodySays w g from to (body.Drop order handle version) = OrderSays w to order (IfRow w handle.0 (λ row. version.0 < row.granted))
 BodySays w g from to (body.Clone order handle version source) = OrderSays w to order (IsCloneOrder w g order handle.0 version.0 (server_number to))

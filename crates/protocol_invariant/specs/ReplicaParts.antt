@@ -23,7 +23,7 @@ use Rattle.primary_order.specs.PrimaryOrder.{place_of}
 use Rattle.protocol.specs.Observer.{Placed, order_of, is_placed_as}
 use Rattle.protocol.specs.World.{WorldState}
 use Rattle.protocol.specs.Each.{EachEntry, EachServer, EachReplica, AtReplica}
-use Rattle.protocol_invariant.specs.Sent.{Granted, under, get_under}
+use Rattle.protocol_invariant.specs.Sent.{Granted, under, get_under, grant_of}
 use Rattle.protocol_invariant.specs.Ghost.{Ghost, EntryName, is_named, named_in, entries_among, applied_at}
 use Rattle.protocol_invariant.specs.Leases.{IsEnded, IsOver, IsStaleAt}
 
@@ -95,15 +95,16 @@ pub record AreReplicas (w : WorldState) (g : Ghost) : Type 0 where
   pub pushed : EachServer w (λ server s. AllByRecursion (IsPushed g) s.pushed.entries)
   pub entries : EachEntry w.observer.orders (λ handle order. AllByRecursion (IsEntry w g) order)
 
--- A forwarded mutation is an entry's.
-abbrev pub IsForward : WorldState → ℕ → ℕ → ℕ → DataId → Change → Type 0
-IsForward w handle version serial id c =
+-- A forwarded mutation is an entry's, and goes with the size of the chunk that its version was granted with.
+abbrev pub IsForward : WorldState → Ghost → ℕ → ℕ → ℕ → DataId → ℕ → Change → Type 0
+IsForward w g handle version serial id chunk c =
+    IsSomeAnd (grant_of g.sent handle version) (λ grant. grant.chunk ≡ chunk) ×
     IsSomeAnd (entry_named (order_of w.observer handle) version serial) (λ p. (p.entry.call.client ≡ id.client.0) × (p.seq ≡ id.seq) × (change_of p.entry.mutation ≡ c))
 
 -- what messages about replicas say
 abbrev pub ReplicaSays : WorldState → Ghost → Message → Body → Type 0
 ReplicaSays w g x (body.Push id bytes rest) = get_under g.sent.pushes id.client.0 id.seq ≡ Some bytes
-ReplicaSays w g x (body.Forward handle version serial id c) = IsForward w handle.0 version.0 serial.0 id c
+ReplicaSays w g x (body.Forward handle version serial id chunk c) = IsForward w g handle.0 version.0 serial.0 id chunk c
 ReplicaSays w g x (body.Acked handle version serial) = HasApplied w g (server_number x.sender) handle.0 version.0 serial.0
 ReplicaSays w g x (body.Image handle version serial bytes) =
     IsSomeAnd (table.get g.images x.number) (IsImageOf (order_of w.observer handle.0) version.0 serial.0 bytes)

@@ -11,12 +11,13 @@ use Rattle.messages.specs.declared.message.Target.{Target}
 use Rattle.protocol.specs.Tables.{Table}
 use Rattle.protocol.specs.Sending.{server_number, client_number}
 
--- the one Grant of a version: its number, to whom it went, the members, and the end that it told
+-- the one Grant of a version: its number, to whom it went, the members, and the end and the size of the chunk that it told
 pub record Granted : Type 0 where
   pub order : OrderNo
   pub primary : ℕ
   pub members : List ℕ
   pub until : ℕ
+  pub chunk : ℕ
 
 -- what a client asked a primary to place
 pub record Mutated : Type 0 where
@@ -64,8 +65,8 @@ with_push s (node.Client c) seq bytes = record s { pushes = put_under s.pushes c
 with_push s other seq bytes = s
 
 abbrev pub with_body : Sent → Node → Node → Body → Sent
-with_body s from to (body.Grant order handle version end_moment members) =
-    record s { grants = put_under s.grants handle.0 version.0 (record { order = order; primary = server_number to; members = members; until = end_moment.0 }) }
+with_body s from to (body.Grant order handle version end_moment chunk members) =
+    record s { grants = put_under s.grants handle.0 version.0 (record { order = order; primary = server_number to; members = members; until = end_moment.0; chunk = chunk }) }
 with_body s from to (body.Create order handle version) = with_given s handle.0 version.0 (server_number to) order
 with_body s from to (body.SetVersion order handle version base) = with_given s handle.0 version.0 (server_number to) order
 with_body s from to (body.CopyLocal order handle version copy copy_version) = with_given s copy.0 copy_version.0 (server_number to) order

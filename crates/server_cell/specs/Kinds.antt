@@ -13,7 +13,7 @@ is_of_clients other = false
 
 -- from other servers
 abbrev pub is_of_servers : Body → Bool
-is_of_servers (body.Forward handle version serial id change) = true
+is_of_servers (body.Forward handle version serial id chunk change) = true
 is_of_servers (body.Acked handle version serial) = true
 is_of_servers (body.Nacked handle version serial refusal) = true
 is_of_servers (body.CopyAsk handle version) = true

@@ -55,13 +55,14 @@ pub(crate) fn orders_grant<S: ReplicaStore>(
     handle: Handle,
     version: Version,
     end: Moment,
+    chunk: u32,
     members: &ServerList,
 ) -> Result<(), ReplicaStoreFault>
-    ensures goes { OnOk result (on_order (doing server.old effects.old) order (λ o. takes_grant o handle.0 version.0 end.0 members.now) ≡ doing server.new effects.new) }
+    ensures goes { OnOk result (on_order (doing server.old effects.old) order (λ o. takes_grant o handle.0 version.0 end.0 chunk members.now) ≡ doing server.new effects.new) }
     ensures frame { frame server.new ≡ frame server.old }
 {
     if server.begins_order(effects, order)? {
-        server.takes_grant(effects, handle, version, end, members)?;
+        server.takes_grant(effects, handle, version, end, chunk, members)?;
     }
     Ok(())
 }

@@ -44,8 +44,11 @@ pub(crate) fn takes_of_master<S: ReplicaStore>(
             handle,
             version,
             end,
+            chunk,
             members,
-        } => orders_grant(server, effects, *order, *handle, *version, *end, members),
+        } => orders_grant(
+            server, effects, *order, *handle, *version, *end, *chunk, members,
+        ),
         Body::Revoke {
             order,
             handle,

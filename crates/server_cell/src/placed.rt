@@ -95,6 +95,7 @@ fn applies<S: ReplicaStore>(
         version: held.version(),
         serial,
         id,
+        chunk: primary.chunk(),
         change,
     };
     effects.change(stored)?;

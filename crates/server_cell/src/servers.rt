@@ -31,6 +31,7 @@ pub(crate) fn takes_of_servers<S: ReplicaStore>(
             version,
             serial,
             data,
+            chunk: _,
             change,
         } => {
             let asked = MemberRequest {

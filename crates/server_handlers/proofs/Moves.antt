@@ -155,10 +155,10 @@ module _ (skew latest : ℕ) (t after : Table Primary) (k : ℕ) (all : AreHeld 
       held_changed skew latest now t after k (λ p. primary.extended p until now) e le all (λ p held. seen_held skew latest now p le held)
 
 -- a lease begins
-pub begins_one : (t after : Table Primary) (k : ℕ) (orders : Table SerialOrder) (p : Primary) (held : LeaseHeld) → orders_of t ≡ orders → order_of p ≡ order.new_order held → after ≡ insert t k p
-    → orders_of after ≡ insert orders k (order.new_order held)
-begins_one t after k orders p held seen is e =
-    ap (λ x. orders_of x) e ∙ (orders_put t k p ∙ (ap (insert (orders_of t) k) is ∙ ap (λ x. insert x k (order.new_order held)) seen))
+pub begins_one : (t after : Table Primary) (k : ℕ) (orders : Table SerialOrder) (p : Primary) (chunk : ℕ) (held : LeaseHeld) → orders_of t ≡ orders → order_of p ≡ order.new_order chunk held → after ≡ insert t k p
+    → orders_of after ≡ insert orders k (order.new_order chunk held)
+begins_one t after k orders p chunk held seen is e =
+    ap (λ x. orders_of x) e ∙ (orders_put t k p ∙ (ap (insert (orders_of t) k) is ∙ ap (λ x. insert x k (order.new_order chunk held)) seen))
 
 pub keeps_begun : (skew latest : ℕ) (t after : Table Primary) (k : ℕ) (p : Primary) → AreHeld skew latest t → p.held.skew ≡ skew → p.held.latest ≡ 0 → after ≡ insert t k p → AreHeld skew latest after
 keeps_begun skew latest t after k p all own new e =

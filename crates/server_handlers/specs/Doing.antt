@@ -37,7 +37,7 @@ numbers d handle p id m =
 -- the change is made, the other members are told, and this server acknowledges
 abbrev pub applies : ServerDoing → ℕ → SerialOrder → ℕ → DataId → Change → StoreChange → ServerDoing
 applies d handle p serial id c x =
-    acknowledges (forwards (stores d x) (without p.held.members d.server.id) handle p.held.version serial id c) handle p d.server.id serial
+    acknowledges (forwards (stores d x) (without p.held.members d.server.id) handle p.held.version serial id p.chunk c) handle p d.server.id serial
 
 -- whether a lease is of that version
 abbrev pub is_held_at : ℕ → Option SerialOrder → Bool

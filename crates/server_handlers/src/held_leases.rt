@@ -77,20 +77,21 @@ impl Leases {
         counted(&self.table, handle, version, now)
     }
 
-    /// A lease that was granted begins, with serials from 1. An error leaves all as it was.
+    /// A lease that was granted begins, with the bytes that its chunk has at most and serials from 1. An error leaves all as it was.
     pub(crate) fn begin(
         &mut self,
         alloc: Global,
         handle: Handle,
         version: Version,
         until: Moment,
+        chunk: u32,
         members: ServerList,
     ) -> Result<(), NoMemory>
-        ensures after { OnOk result (self.new.orders ≡ table.insert self.old.orders handle.0 (new_order (record { version = version.0; until = until.0; members = members }))) }
+        ensures after { OnOk result (self.new.orders ≡ table.insert self.old.orders handle.0 (new_order chunk (record { version = version.0; until = until.0; members = members }))) }
         ensures same { (self.new.skew ≡ self.old.skew) × (self.new.latest ≡ self.old.latest) }
     {
         let held = Held::take(version, until, members, self.skew_ms);
-        begin(&mut self.table, handle, Primary::new(alloc, held))
+        begin(&mut self.table, handle, Primary::new(alloc, chunk, held))
     }
 
     /// Keeps the refusal of a new attempt.

@@ -26,6 +26,8 @@ pub struct Forwarded {
     pub version: Version,
     pub serial: Serial,
     pub id: DataId,
+    /// Bytes of the chunk, at most.
+    pub chunk: u32,
     pub change: Change,
 }
 
@@ -83,13 +85,14 @@ impl<S: ReplicaStore> Server<S> {
         members: &ServerList,
         forwarded: Forwarded,
     ) -> Result<(), ReplicaStoreFault>
-        ensures { OnOk result (forwards (doing self.now effects.old) members.now forwarded.handle.0 forwarded.version.0 forwarded.serial.0 forwarded.id forwarded.change ≡ doing self.now effects.new) }
+        ensures { OnOk result (forwards (doing self.now effects.old) members.now forwarded.handle.0 forwarded.version.0 forwarded.serial.0 forwarded.id forwarded.chunk forwarded.change ≡ doing self.now effects.new) }
     {
         let Forwarded {
             handle,
             version,
             serial,
             id,
+            chunk,
             change,
         } = forwarded;
         for member in members.as_slice() {
@@ -98,6 +101,7 @@ impl<S: ReplicaStore> Server<S> {
                 version,
                 serial,
                 data: id,
+                chunk,
                 change,
             };
             self.send(effects, Node::Server(ServerId(*member)), body)?;

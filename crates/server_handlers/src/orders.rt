@@ -98,16 +98,17 @@ impl<S: ReplicaStore> Server<S> {
         self.records(effects, handle, version)
     }
 
-    /// Grant: the lease begins, with serials from 1.
+    /// Grant: the lease begins, with serials from 1 and the size of the chunk.
     pub fn takes_grant(
         &mut self,
         effects: &mut ServerEffects,
         handle: Handle,
         version: Version,
         end: Moment,
+        chunk: u32,
         members: &ServerList,
     ) -> Result<(), ReplicaStoreFault>
-        ensures goes { OnOk result (takes_grant (doing self.old effects.old) handle.0 version.0 end.0 members.now ≡ doing self.new effects.new) }
+        ensures goes { OnOk result (takes_grant (doing self.old effects.old) handle.0 version.0 end.0 chunk members.now ≡ doing self.new effects.new) }
         ensures frame { frame self.new ≡ frame self.old }
     {
         let Some(row) = self.store.row(handle) else {
@@ -118,7 +119,7 @@ impl<S: ReplicaStore> Server<S> {
         }
         let members = members.copy(self.alloc)?;
         self.leases
-            .begin(self.alloc, handle, version, end, members)?;
+            .begin(self.alloc, handle, version, end, chunk, members)?;
         Ok(())
     }
 

@@ -13,7 +13,8 @@ use std::test::Fail;
 
 fn alone(alloc: Global) -> Result<Primary, AllocError> {
     let members = ServerList::new(Vec::from_slice(alloc, &[1u16])?);
-    Ok(Primary::new(alloc, Held::take(Version(1), Moment(60), members, 10)))
+    let held = Held::take(Version(1), Moment(60), members, 10);
+    Ok(Primary::new(alloc, 64, held))
 }
 
 fn settles(rt: &impl Abort, alloc: Global, primary: &mut Primary) {

@@ -19,6 +19,6 @@ invariant_of-self c =
 pub returns-clause-after : goal.returns-clause-after
 returns-clause-after c =
     on_ok c.begin.result
-    (begins_one c.self.inside.table _ c.args.handle.0 c.args.self.now.orders c.new.result _ (ap (λ (v : HeldLeases). v.orders) c.self.view_is)
-    (ap order_of c.new.ensures ∙ ap (λ (h : HeldState). new_order h.lease) c.take-held.ensures))
+    (begins_one c.self.inside.table _ c.args.handle.0 c.args.self.now.orders c.new.result c.args.chunk _ (ap (λ (v : HeldLeases). v.orders) c.self.view_is)
+    (ap order_of c.new.ensures ∙ ap (λ (h : HeldState). new_order c.args.chunk h.lease) c.take-held.ensures))
     c.begin.ensures.ok
