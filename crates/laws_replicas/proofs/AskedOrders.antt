@@ -9,6 +9,7 @@ use Rattle.gfs_types.specs.declared.ids.Node.{Node}
 use Rattle.gfs_types.specs.declared.ids.Node.TheVariants as node
 use Rattle.gfs_types.specs.declared.ids.OrderNo.{OrderNo}
 use Rattle.gfs_types.specs.declared.refusal.Refusal.TheVariants.{TooLong, Collected}
+use Rattle.messages.specs.declared.message.NameReply.TheVariants.{Answered}
 use Rattle.messages.specs.declared.message.Body.{Body}
 use Rattle.messages.specs.declared.message.Body.TheVariants as body
 use Rattle.messages.specs.declared.message.Message.{Message}
@@ -146,7 +147,7 @@ module _ (m : MasterState) (low : IsLow m) (apart : AreOwn m) where
   names : NameKeeps IsOfCalls AreHigherSoFar
   names =
       record {
-        named = λ g receiver number reply h. all_joined (λ x. IsHigher m g.seen x.body) g.sent (message node.Master receiver (body.Named number reply) ∷ []) h (tt, tt);
+        named = λ g receiver number reply h. all_joined (λ x. IsHigher m g.seen x.body) g.sent (message node.Master receiver (body.Named number (Answered reply)) ∷ []) h (tt, tt);
         recorded = λ g r is h. h;
         checkpointed = λ g items h. h;
       }

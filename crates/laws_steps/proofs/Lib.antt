@@ -17,6 +17,7 @@ pub mod LeasesStayOver
 pub mod MasterPremises
 pub mod MasterWalk
 pub mod NewCopies
+pub mod ToldShapes
 pub mod Unleased
 pub mod Histories
 pub mod ServerSays

@@ -11,6 +11,7 @@ use Rattle.gfs_types.specs.declared.ids.Version.{Version}
 use Rattle.gfs_types.specs.declared.ids.Moment.{Moment}
 use Rattle.gfs_types.specs.declared.refusal.Refusal.{Refusal}
 use Rattle.gfs_types.specs.declared.refusal.Refusal.TheVariants.{TooLong, Collected}
+use Rattle.gfs_types.specs.declared.answer.Answer.{Answer}
 use Rattle.messages.specs.declared.message.Body.{Body}
 use Rattle.messages.specs.declared.message.Body.TheVariants as body
 use Rattle.messages.specs.declared.message.Message.{Message}
@@ -19,13 +20,14 @@ use Rattle.messages.specs.declared.message.Location.{Location}
 use Rattle.messages.specs.declared.message.Wanted.{Wanted}
 use Rattle.messages.specs.declared.message.Wanted.TheVariants as wanted
 use Rattle.messages.specs.declared.message.NameReply.{NameReply}
+use Rattle.messages.specs.declared.message.NameReply.TheVariants.{Opened, Answered}
 use Rattle.messages.specs.declared.message.ReplicaLine.{ReplicaLine}
 use Rattle.messages.specs.declared.message.LeaseLine.{LeaseLine}
 use Rattle.messages.specs.declared.event.NodeInput.{NodeInput}
 use Rattle.messages.specs.declared.event.NodeInput.TheVariants as input
 use Rattle.log_records.specs.declared.record.Record.{Record}
 use Rattle.log_records.specs.declared.record.Record.TheVariants as log
-use Rattle.chunk_table.specs.ChunkTable.{ChunkRow, chunk_of, file_of}
+use Rattle.chunk_table.specs.ChunkTable.{ChunkRow, chunk_of, file_of, shape_of}
 use Rattle.protocol.specs.Tables.{Table, element_at, has_number}
 use Rattle.protocol.specs.Sending.{message, file_id, handle_of, moment_of, the_server, server_number}
 use Rattle.protocol.specs.declared.seen.Seen.{Seen}
@@ -118,6 +120,10 @@ pub record IsLocated (i : NodeInput) (A : MasterDoing → Type 0) (receiver : No
   pub asked : IsTakenAskOf i receiver number place.index
   pub doing : MasterDoing
   pub found : A doing
+  -- its row, whose shape is told
+  pub row : ChunkRow
+  pub at : chunk_of doing.master.logged.table place.handle.0 ≡ Some row
+  pub shape_is : place.shape ≡ row.shape
   pub held : AreHeld doing.master place.handle.0 place.round.0 place.holders
 
 -- an Ask is refused for a chunk past the next one of its file, or for a file that is gone
@@ -127,12 +133,17 @@ IsRefusedFor l file what TooLong =
 IsRefusedFor l file what Collected = file_of l.table file ≡ None
 IsRefusedFor l file what other = ⊥
 
+-- a file that an Open found is told with the shape that is logged of it
+abbrev pub IsShapeOf : Logged → NameReply → Type 0
+IsShapeOf l (Opened file shape) = shape ≡ shape_of l.table file.0
+IsShapeOf l (Answered reply) = Unit {0}
+
 -- an answer to a client
 abbrev pub IsAnswer : Logged → NodeInput → (MasterDoing → Type 0) → Node → Body → Type 0
 IsAnswer l i A receiver (body.Told number (Some place)) = IsLocated i A receiver number place
 IsAnswer l i A receiver (body.Told number None) = IsTakenAsk i receiver number
 IsAnswer l i A receiver (body.Refused number refusal) = (asked : IsTakenAsk i receiver number) × IsRefusedFor l asked.file.0 asked.what refusal
-IsAnswer l i A receiver (body.Named number reply) = Unit {0}
+IsAnswer l i A receiver (body.Named number reply) = IsShapeOf l reply
 IsAnswer l i A receiver (body.Wait number) = Unit {0}
 IsAnswer l i A receiver other = ⊥
 
@@ -254,7 +265,7 @@ SaysOne b handle version = (b ≡ body.Recorded handle version) ⊎ (b ≡ body.
 
 -- What answers to name calls keep, with records of which Of holds.
 pub record NameKeeps (Of : Record → Type 0) (P : StepEffects → Type 0) : Type 0 where
-  pub named : (g : StepEffects) (receiver : Node) (number : ℕ) (reply : NameReply) → P g → P (effect_told g receiver (body.Named number reply))
+  pub named : (g : StepEffects) (receiver : Node) (number : ℕ) (reply : Answer) → P g → P (effect_told g receiver (body.Named number (Answered reply)))
   pub recorded : (g : StepEffects) (r : Record) → Of r → P g → P (effect_logged g (AppendRecord r))
   pub checkpointed : (g : StepEffects) (items : List Record) → P g → P (effect_logged g (WriteCheckpoint items))
 
@@ -286,7 +297,7 @@ pub record MasterSays (l : Logged) (i : NodeInput) (A : MasterDoing → Type 0) 
 
 module _ (l : Logged) (i : NodeInput) (A : MasterDoing → Type 0) where
   pub names_kept_by : (P : StepEffects → Type 0) → MasterKeeps l i A P → NameKeeps (IsOfStep i) P
-  names_kept_by P k = record { named = λ g receiver number reply h. k.answered g receiver (body.Named number reply) tt h; recorded = k.recorded; checkpointed = k.checkpointed }
+  names_kept_by P k = record { named = λ g receiver number reply h. k.answered g receiver (body.Named number (Answered reply)) tt h; recorded = k.recorded; checkpointed = k.checkpointed }
 
   pub keeps_said : (W : Message → Type 0) → MasterSays l i A W → MasterKeeps l i A (λ g. AllOf W g.sent)
   keeps_said W k =

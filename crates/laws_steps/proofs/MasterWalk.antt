@@ -17,15 +17,15 @@ use Rattle.messages.specs.declared.message.Holder.{Holder}
 use Rattle.messages.specs.declared.message.Location.{Location}
 use Rattle.messages.specs.declared.message.Wanted.{Wanted}
 use Rattle.messages.specs.declared.message.Wanted.TheVariants as wanted
-use Rattle.messages.specs.declared.message.NameReply.TheVariants.{Answered}
 use Rattle.messages.specs.declared.message.ReplicaLine.{ReplicaLine}
 use Rattle.messages.specs.declared.message.LeaseLine.{LeaseLine}
 use Rattle.messages.specs.declared.event.NodeInput.{NodeInput}
 use Rattle.messages.specs.declared.event.NodeInput.TheVariants as input
 use Rattle.log_records.specs.declared.record.Record.{Record}
 use Rattle.log_records.specs.declared.record.Record.TheVariants as log
+use Rattle.relaxed_file.specs.Machine.{Outcome, Replies, Opens}
 use Rattle.relaxed_file.specs.NameStep.{outcome_by, needs_room}
-use Rattle.chunk_table.specs.ChunkTable.{ChunkRow, chunk_of, file_of}
+use Rattle.chunk_table.specs.ChunkTable.{ChunkRow, ChunkTable, chunk_of, file_of, shape_of}
 use Rattle.leases.specs.LeaseEnds.{has_ended}
 use Rattle.protocol.specs.Tables.{element_at, rising, has_number, with_number}
 use Rattle.protocol.specs.LogSizes.{checkpoint_fits}
@@ -58,7 +58,7 @@ use Rattle.laws_base.proofs.LeaseOrders.{revoke_order, grant_order}
 use Rattle.laws_base.proofs.Steps.{on_cond}
 use Rattle.laws_base.proofs.Entries.{AllOf, all_filtered, same_number}
 use Rattle.laws_base.proofs.MembersRecorded.{all_in_order}
-use Rattle.laws_steps.proofs.MasterPremises.{IsTakenAsk, IsIndexFor, IsTakenAskOf, IsAsk, is_told, IsTold, IsLineTaken, IsReplicaTaken, IsTick, AreHeld, IsRefusedFor, IsAnswer, IsOver}
+use Rattle.laws_steps.proofs.MasterPremises.{IsTakenAsk, IsIndexFor, IsTakenAskOf, IsAsk, is_told, IsTold, IsLineTaken, IsReplicaTaken, IsTick, AreHeld, IsRefusedFor, IsShapeOf, IsAnswer, IsOver}
 use Rattle.laws_steps.proofs.MasterPremises.{IsIssued, IsUnused, IsCopySource, IsOrder, IsOfCalls, IsOfStep, calls_are_of_steps, AskKeeps, StepEffects, effects_of}
 use Rattle.laws_steps.proofs.MasterPremises.{NameKeeps, MasterKeeps, MasterSays, names_kept_by, keeps_said, keeps_shown}
 
@@ -180,7 +180,7 @@ module _ (Of : Record → Type 0) (calls : (r : Record) → IsOfCalls r → Of r
   logged_here d r then_ is go h = logs_here d r then_ is (go (appends d r)) (go (appends (writes_checkpoint d) r)) h
 
   answered_here : (client number : ℕ) (o : Option Refusal) (d : MasterDoing) → Named d → Named (answers_name d client number o)
-  answered_here client number o d h = k.named (effects_of d) (the_client client) number (Answered (reply_of o)) h
+  answered_here client number o d h = k.named (effects_of d) (the_client client) number (reply_of o) h
 
   settled_here : (d : MasterDoing) (client number : ℕ) (r : Record) (o : Option Refusal) → Of r → Named d → Named (settles_name d client number r o)
   settled_here d client number r o is h = logged_here d r (λ e. answers_name e client number o) is (answered_here client number o) h
@@ -401,15 +401,16 @@ module _ (l : Logged) (i : NodeInput) (A : MasterDoing → Type 0) (P : StepEffe
         let t : IsAsked a = asked.taken in
         record { message = t.ask; number = a.number; file = t.file; what = t.what; deadline = t.deadline; lost = t.lost; taken = t.came; is = t.body_is }
 
-    location_said : (d : MasterDoing) (a : Asker) (handle : ℕ) (row : ChunkRow) (holders : List Holder) → IsAskedAt a → A d → AreHeld d.master handle row.granted holders → Here d
+    location_said : (d : MasterDoing) (a : Asker) (handle : ℕ) (row : ChunkRow) (holders : List Holder) → IsAskedAt a → A d → chunk_of d.master.logged.table handle ≡ Some row
+        → AreHeld d.master handle row.granted holders → Here d
         → Here (tells_location d a handle row holders)
-    location_said d a handle row holders asked found held h =
+    location_said d a handle row holders asked found at held h =
         let place : Location = record { index = a.index; handle = handle_of handle; round = version_of row.granted; shape = row.shape; holders = holders; group = group_of d.master row } in
-        said d a.client (body.Told a.number (Some place)) (record { asked = asked; doing = d; found = found; held = held }) h
+        said d a.client (body.Told a.number (Some place)) (record { asked = asked; doing = d; found = found; row = row; at = at; shape_is = refl; held = held }) h
 
-    holders_said : (d : MasterDoing) (a : Asker) (handle : ℕ) (row : ChunkRow) → IsAskedAt a → A d → Here d → Here (tells_holders d a handle row)
-    holders_said d a handle row asked found h =
-        location_said d a handle row (map holder_line (current_holders d.master handle row)) asked found
+    holders_said : (d : MasterDoing) (a : Asker) (handle : ℕ) (row : ChunkRow) → IsAskedAt a → A d → chunk_of d.master.logged.table handle ≡ Some row → Here d → Here (tells_holders d a handle row)
+    holders_said d a handle row asked found at h =
+        location_said d a handle row (map holder_line (current_holders d.master handle row)) asked found at
         (lines_held d.master handle row.granted (current_holders d.master handle row) (all_hold d.master handle (λ v. nat_le row.granted v) (servers_of d.master))) h
 
     none_said : (d : MasterDoing) (a : Asker) → IsAsked a → Here d → Here (tells_none d a)
@@ -439,10 +440,10 @@ module _ (l : Logged) (i : NodeInput) (A : MasterDoing → Type 0) (P : StepEffe
         wait_said (sends_versions held handle version targets) a (versions_sent held handle version row targets ask due all h)
 
     issues_said : (d : MasterDoing) (a : Asker) (own : ℕ) (own_row : ChunkRow) (handle : ℕ) (row : ChunkRow) (targets : List VersionTarget) → IsAskedAt a → A d
-        → chunk_of d.master.logged.table handle ≡ Some row → table.get d.master.attempts handle ≡ None → AllOf (IsTarget row) targets → Here d
+        → chunk_of d.master.logged.table own ≡ Some own_row → chunk_of d.master.logged.table handle ≡ Some row → table.get d.master.attempts handle ≡ None → AllOf (IsTarget row) targets → Here d
         → Here (issues_to d a own own_row handle row targets)
-    issues_said d a own own_row handle row [] asked found at none all h = location_said d a own own_row [] asked found tt h
-    issues_said d a own own_row handle row (t ∷ rest) asked found at none all h =
+    issues_said d a own own_row handle row [] asked found own_at at none all h = location_said d a own own_row [] asked found own_at tt h
+    issues_said d a own own_row handle row (t ∷ rest) asked found own_at at none all h =
         logged d (log.Issue (handle_of handle) (version_of (suc row.issued))) (λ e. sends_issued e a handle (suc row.issued) (t ∷ rest)) tt
         (issued_said a handle (suc row.issued) row (t ∷ rest) (ask_of a asked)
         (λ base over. record { doing = d; found = found; row = row; at = at; none = none; next = refl; over = over }) all) h
@@ -451,7 +452,7 @@ module _ (l : Logged) (i : NodeInput) (A : MasterDoing → Type 0) (P : StepEffe
         → is_attempted d.master handle ≡ b → Here d → Here (issues_own d a handle row b)
     own_said d a handle row true asked found at is h = wait_said d a h
     own_said d a handle row false asked found at is h =
-        issues_said d a handle row handle row (targets_by d.master handle row (recorded_holders d.master handle row)) asked found at
+        issues_said d a handle row handle row (targets_by d.master handle row (recorded_holders d.master handle row)) asked found at at
         (unattempted (table.get d.master.attempts handle) is) (targets_over d.master handle row) h
 
     -- a copy of a shared chunk
@@ -482,7 +483,7 @@ module _ (l : Logged) (i : NodeInput) (A : MasterDoing → Type 0) (P : StepEffe
 
     copies_said : (d : MasterDoing) (a : Asker) (handle : ℕ) (row : ChunkRow) (targets : List VersionTarget) → IsAskedAt a → A d → chunk_of d.master.logged.table handle ≡ Some row
         → nat_lt 1 row.references ≡ true → AllOf (λ (t : VersionTarget). HasBase d.master handle t.base) targets → Here d → Here (copies_to d a handle row targets)
-    copies_said d a handle row [] asked found at shared all h = location_said d a handle row [] asked found tt h
+    copies_said d a handle row [] asked found at shared all h = location_said d a handle row [] asked found at tt h
     copies_said d a handle row (t ∷ rest) asked found at shared all h =
         let copy : ℕ = d.master.logged.next_handle in
         let sources : AreSources d.master handle copy =
@@ -505,13 +506,13 @@ module _ (l : Logged) (i : NodeInput) (A : MasterDoing → Type 0) (P : StepEffe
     wants_of_said d a handle (Some row) asked found at h = wants_said d a handle row asked found at h
 
     issues_copy_said : (d : MasterDoing) (a : Asker) (handle : ℕ) (row : ChunkRow) (copy : ℕ) (copy_row : ChunkRow) (holders : List HeldAt) → IsAskedAt a → A d
-        → chunk_of d.master.logged.table copy ≡ Some copy_row → table.get d.master.attempts copy ≡ None → AreOver copy_row holders → Here d
+        → chunk_of d.master.logged.table handle ≡ Some row → chunk_of d.master.logged.table copy ≡ Some copy_row → table.get d.master.attempts copy ≡ None → AreOver copy_row holders → Here d
         → Here (issues_copy d a handle row copy copy_row holders)
-    issues_copy_said d a handle row copy copy_row [] asked found at none all h =
+    issues_copy_said d a handle row copy copy_row [] asked found own_at at none all h =
         let given_up : MasterDoing = gives_up_copy d copy in
         wants_of_said given_up a handle (chunk_of given_up.master.logged.table handle) asked (f.less d copy found) refl h
-    issues_copy_said d a handle row copy copy_row (x ∷ rest) asked found at none all h =
-        issues_said d a handle row copy copy_row (map holder_target (x ∷ rest)) asked found at none (held_targets copy_row (x ∷ rest) all) h
+    issues_copy_said d a handle row copy copy_row (x ∷ rest) asked found own_at at none all h =
+        issues_said d a handle row copy copy_row (map holder_target (x ∷ rest)) asked found own_at at none (held_targets copy_row (x ∷ rest) all) h
 
     wants_copy_said : (d : MasterDoing) (a : Asker) (handle : ℕ) (row : ChunkRow) (copy : ℕ) (o : Option ChunkRow) → IsAskedAt a → A d → chunk_of d.master.logged.table handle ≡ Some row
         → chunk_of d.master.logged.table copy ≡ o → Here d → Here (wants_copy d a handle row copy o)
@@ -519,7 +520,7 @@ module _ (l : Logged) (i : NodeInput) (A : MasterDoing → Type 0) (P : StepEffe
     wants_copy_said d a handle row copy (Some copy_row) asked found at copy_at h =
         let holders : List HeldAt = holders_where d.master copy (λ v. v == copy_row.issued) in
         on_cond Here (is_attempted d.master copy) (tells_to_wait d a) (issues_copy d a handle row copy copy_row holders) (λ _. wait_said d a h)
-        (λ no. issues_copy_said d a handle row copy copy_row holders asked found copy_at (unattempted (table.get d.master.attempts copy) no) (last_over d.master copy copy_row) h)
+        (λ no. issues_copy_said d a handle row copy copy_row holders asked found at copy_at (unattempted (table.get d.master.attempts copy) no) (last_over d.master copy copy_row) h)
 
     by_said : (d : MasterDoing) (a : Asker) (handle : ℕ) (row : ChunkRow) (o : Option ℕ) → IsAskedAt a → A d → chunk_of d.master.logged.table handle ≡ Some row → Here d
         → Here (wants_by d a handle row o)
@@ -534,19 +535,24 @@ module _ (l : Logged) (i : NodeInput) (A : MasterDoing → Type 0) (P : StepEffe
 
     -- what an Ask asks for
 
-    looks_row_said : (d : MasterDoing) (a : Asker) (handle : ℕ) (o : Option ChunkRow) → IsAskedAt a → A d → Here d → Here (looks_at_row d a handle o)
-    looks_row_said d a handle None asked found h = h
-    looks_row_said d a handle (Some row) asked found h = holders_said d a handle row asked found h
+    looks_row_said : (d : MasterDoing) (a : Asker) (handle : ℕ) (o : Option ChunkRow) → IsAskedAt a → A d → chunk_of d.master.logged.table handle ≡ o → Here d → Here (looks_at_row d a handle o)
+    looks_row_said d a handle None asked found at h = h
+    looks_row_said d a handle (Some row) asked found at h = holders_said d a handle row asked found at h
 
     looks_said : (d : MasterDoing) (a : Asker) (o : Option ℕ) → IsAskedAt a → A d → Here d → Here (looks_at d a o)
     looks_said d a None asked found h = none_said d a asked.taken h
-    looks_said d a (Some handle) asked found h = looks_row_said d a handle (chunk_of d.master.logged.table handle) asked found h
+    looks_said d a (Some handle) asked found h = looks_row_said d a handle (chunk_of d.master.logged.table handle) asked found refl h
 
     revoked_found : (d : MasterDoing) (handle : ℕ) (o : Option ChunkRow) → A d → A (revokes_row d handle o)
     revoked_found d handle None found = found
     revoked_found d handle (Some row) found =
         on_cond A (has_lease d.master row) (orders d row.primary (revoke_order handle row)) d
         (λ _. f.ordered d row.primary (revoke_order handle row) found) (λ _. found)
+
+    revoked_there : (d : MasterDoing) (handle q : ℕ) (row : ChunkRow) (o : Option ChunkRow) → chunk_of d.master.logged.table q ≡ Some row → chunk_of (revokes_row d handle o).master.logged.table q ≡ Some row
+    revoked_there d handle q row None at = at
+    revoked_there d handle q row (Some r) at =
+        on_cond (λ (e : MasterDoing). chunk_of e.master.logged.table q ≡ Some row) (has_lease d.master r) (orders d r.primary (revoke_order handle r)) d (λ _. at) (λ _. at)
 
     row_said : (d : MasterDoing) (a : Asker) (lost : Bool) (handle : ℕ) (o : Option ChunkRow) → IsAskedAt a → A d → chunk_of d.master.logged.table handle ≡ o → Here d
         → Here (mutates_row d a lost handle o)
@@ -556,6 +562,7 @@ module _ (l : Logged) (i : NodeInput) (A : MasterDoing → Type 0) (P : StepEffe
         (λ _. primary_said d a handle row asked found at h)
         (λ _. holders_said (cond lost (revokes d handle) d) a handle row asked
         (on_cond A lost (revokes d handle) d (λ _. revoked_found d handle (chunk_of d.master.logged.table handle) found) (λ _. found))
+        (on_cond (λ (e : MasterDoing). chunk_of e.master.logged.table handle ≡ Some row) lost (revokes d handle) d (λ _. revoked_there d handle handle row (chunk_of d.master.logged.table handle) at) (λ _. at))
         (on_cond Here lost (revokes d handle) d (λ _. revoked_here d handle h) (λ _. h)))
 
     at_said : (d : MasterDoing) (a : Asker) (lost : Bool) (o : Option ℕ) → IsAskedAt a → A d → Here d → Here (mutates_at d a lost o)
@@ -618,13 +625,19 @@ module _ (l : Logged) (i : NodeInput) (A : MasterDoing → Type 0) (P : StepEffe
         let handles : Option (List ℕ) = file_of d.master.logged.table file in
         on_cond Here (nat_le deadline d.master.now) d (asks_of d a lost w handles) (λ _. h) (λ _. asks_of_said d a lost w handles asked same here found h)
 
+    -- a file that was found goes with its shape
+    shape_told : (t : ChunkTable) (o : Outcome) → t ≡ l.table → IsShapeOf l (reply_by t o)
+    shape_told t (Opens file) same = ap (λ (u : ChunkTable). shape_of u file) same
+    shape_told t (Replies reply) same = tt
+
     -- the step
 
     pub takes_here : (d : MasterDoing) (x : Message) (b : Body) → d.master.logged ≡ l → i ≡ input.Deliver x → x.body ≡ b → A d → Here d → Here (master_takes d x b)
     takes_here d x (body.Name number deadline c) same came is found h =
         kept_said d (client_number x.sender) number deadline.0 c (table.get d.master.logged.kept (client_number x.sender)) h
     takes_here d x (body.Look number c) same came is found h =
-        said d x.sender (body.Named number (reply_by d.master.logged.table (outcome_by d.master.logged.names c (master_refusal d.master c)))) tt h
+        let outcome : Outcome = outcome_by d.master.logged.names c (master_refusal d.master c) in
+        said d x.sender (body.Named number (reply_by d.master.logged.table outcome)) (shape_told d.master.logged.table outcome (ap (λ (y : Logged). y.table) same)) h
     takes_here d x (body.Ask number file w deadline lost) same came is found h =
         let asked : IsTakenAsk i x.sender number = record { ask = x; file = file; what = w; deadline = deadline; lost = lost; came = came; sender_is = refl; body_is = is } in
         ask_said d x.sender number file.0 w deadline.0 lost asked refl (ap (λ (y : Logged). file_of y.table file.0) (sym same)) found h

@@ -2,6 +2,7 @@ pub mod Attempts
 pub mod Given
 pub mod Versions
 pub mod NewCopies
+pub mod ToldShapes
 pub mod Words
 pub mod Replicas
 pub mod ReplicaChanges

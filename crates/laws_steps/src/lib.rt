@@ -10,5 +10,6 @@ pub mod new_copies;
 pub mod reads;
 pub mod replica_changes;
 pub mod replicas;
+pub mod told_shapes;
 pub mod versions;
 pub mod words;

@@ -41,7 +41,7 @@ use Rattle.laws_base.proofs.ScenesReached.{scene_reached}
 use Rattle.laws_steps.proofs.Histories.{IsGrown}
 use Rattle.laws_versions.specs.AnsweredOrders.{IsRefusedBy, RecordedOrdersAreRefused, IsLeaseReported, ReportedLeasesWereGranted}
 use Rattle.laws_versions.proofs.ServerCauses.{is_plain, IsOrderOf, Said, reported, step_words}
-use Rattle.laws_versions.proofs.SaidByServers.{IsSaidNow, WasSaid, was_said}
+use Rattle.laws_versions.proofs.SaidByServers.{is_other, IsSaidNow, WasSaid, was_said}
 
 pub server_id_is : (config : Config) (servers clients : ℕ) (w : WorldState) → IsReached config servers clients w → (index : ℕ) (s : ServerState) → element_at w.servers index ≡ Some s → s.id ≡ suc index
 server_id_is config servers clients w r index s at = (scene_reached AreTold told_kept config servers clients w r index s at).id
@@ -50,7 +50,7 @@ pub placed_later : (sent all : List Message) (place : ℕ) (m : Message) → IsG
 placed_later sent all place m grown at = subst (λ (ms : List Message). element_at ms place ≡ Some m) (sym grown.1) (kept_place sent grown.0 place m at)
 
 -- who sends a Report or a Recorded
-pub sender_is : (config : Config) (servers clients : ℕ) (w : WorldState) → IsReached config servers clients w → (place : ℕ) (m : Message) → element_at w.sent place ≡ Some m → is_plain m.body ≡ false
+pub sender_is : (config : Config) (servers clients : ℕ) (w : WorldState) → IsReached config servers clients w → (place : ℕ) (m : Message) → element_at w.sent place ≡ Some m → is_other m.body ≡ false
     → (index : ℕ) × (m.sender ≡ the_server (suc index))
 sender_is config servers clients w r place m at none = (n.index, sym n.same.0 ∙ one.0)
   where
@@ -120,7 +120,7 @@ reported_leases_were_granted config servers clients w r place m at replicas leas
     (g.0, (let low = below in let high = h.unsent in omega (arith, low, high)), g.1, placed_later h.before.sent w.sent g.0 g.1 h.grown g.2, g.3 ∙ sym one.0 ∙ n.same.0, g.4)
   where
     h : WasSaid config servers clients w place m
-    h = was_said config servers clients w r place m at (ap is_plain is)
+    h = was_said config servers clients w r place m at (ap is_other is)
 
     n : IsSaidNow h.before h.next m
     n = h.now
@@ -269,7 +269,7 @@ recorded_orders_are_refused config servers clients w r place m at handle version
 )
   where
     h : WasSaid config servers clients w place m
-    h = was_said config servers clients w r place m at (ap is_plain is)
+    h = was_said config servers clients w r place m at (ap is_other is)
 
     n : IsSaidNow h.before h.next m
     n = h.now

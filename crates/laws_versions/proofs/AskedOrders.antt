@@ -11,6 +11,7 @@ use Rattle.gfs_types.specs.declared.ids.OrderNo.{OrderNo}
 use Rattle.gfs_types.specs.declared.ids.FileId.{FileId}
 use Rattle.gfs_types.specs.declared.ids.Moment.{Moment}
 use Rattle.gfs_types.specs.declared.refusal.Refusal.TheVariants.{TooLong, Collected}
+use Rattle.messages.specs.declared.message.NameReply.TheVariants.{Answered}
 use Rattle.messages.specs.declared.message.Body.{Body}
 use Rattle.messages.specs.declared.message.Body.TheVariants as body
 use Rattle.messages.specs.declared.message.Message.{Message}
@@ -72,7 +73,7 @@ module _ (X : Message → Type 0) (quiet : (receiver : Node) (b : Body) → vers
   names : NameKeeps IsOfCalls AreSaid
   names =
       record {
-        named = λ g receiver number reply h. (all_joined X g.sent (message node.Master receiver (body.Named number reply) ∷ []) h.0 (quiet receiver (body.Named number reply) refl, tt), h.1);
+        named = λ g receiver number reply h. (all_joined X g.sent (message node.Master receiver (body.Named number (Answered reply)) ∷ []) h.0 (quiet receiver (body.Named number (Answered reply)) refl, tt), h.1);
         recorded = λ g r is h. h;
         checkpointed = λ g items h. h;
       }

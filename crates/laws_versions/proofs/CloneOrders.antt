@@ -7,6 +7,7 @@ use Rattle.gfs_types.specs.declared.ids.Node.{Node}
 use Rattle.gfs_types.specs.declared.ids.Node.TheVariants as node
 use Rattle.gfs_types.specs.declared.ids.OrderNo.{OrderNo}
 use Rattle.messages.specs.declared.event.NodeInput.TheVariants as input
+use Rattle.messages.specs.declared.message.NameReply.TheVariants.{Answered}
 use Rattle.messages.specs.declared.message.Body.{Body}
 use Rattle.messages.specs.declared.message.Body.TheVariants as body
 use Rattle.messages.specs.declared.message.Message.{Message}
@@ -211,7 +212,7 @@ Any r = Unit {0}
 names_said : (holders : Table (Table ℕ)) (C : ℕ → ℕ → Type 0) → NameKeeps Any (AreTickWords holders C)
 names_said holders C =
     record {
-      named = λ g receiver number reply h. (h.0, all_joined (IsMastersMessage (IsTickWord C)) g.sent (message node.Master receiver (body.Named number reply) ∷ []) h.1 ((refl, tt), tt));
+      named = λ g receiver number reply h. (h.0, all_joined (IsMastersMessage (IsTickWord C)) g.sent (message node.Master receiver (body.Named number (Answered reply)) ∷ []) h.1 ((refl, tt), tt));
       recorded = λ g r is h. h;
       checkpointed = λ g items h. h;
     }

@@ -38,7 +38,7 @@ use Rattle.laws_steps.proofs.Events.{IsGiven, HoldsAfter, holds_after}
 use Rattle.laws_steps.proofs.RequestsOnce.{later_cases}
 use Rattle.laws_steps.proofs.Histories.{IsGrown, steps_grown, SentIn, sent_in, after_both}
 use Rattle.laws_versions.specs.AnsweredOrders.{IsLeaseReported}
-use Rattle.laws_versions.proofs.ServerCauses.{is_plain}
+use Rattle.laws_versions.proofs.SaidByServers.{is_other}
 use Rattle.laws_versions.proofs.AnsweredOrders.{placed_later, sender_is, reported_leases_were_granted}
 use Rattle.laws_versions.specs.ExtendedLeases.{version_extended, ExtendsAnswerReports, ExtendsFollowTheirGrants}
 use Rattle.laws_versions.proofs.MasterCauses.{is_caused, Attempts, Causes, step_caused}
@@ -201,7 +201,7 @@ was_due config servers clients w r place m at handle version is =
 reporter_is : (config : Config) (servers clients : ℕ) (w : WorldState) → IsReached config servers clients w → (place : ℕ) (m : Message) → element_at w.sent place ≡ Some m → (replicas : List ReplicaLine) (leases : List LeaseLine) → m.body ≡ body.Report replicas leases
     → m.sender ≡ the_server (server_number m.sender)
 reporter_is config servers clients w r place m at replicas leases is =
-    let sender = sender_is config servers clients w r place m at (ap is_plain is) in
+    let sender = sender_is config servers clients w r place m at (ap is_other is) in
     sender.1 ∙ sym (ap (λ (n : Node). the_server (server_number n)) sender.1)
 
 pub extends_answer_reports : ExtendsAnswerReports

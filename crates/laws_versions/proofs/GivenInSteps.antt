@@ -7,6 +7,7 @@ use Rattle.gfs_types.specs.declared.ids.OrderNo.{OrderNo}
 use Rattle.gfs_types.specs.declared.ids.FileId.{FileId}
 use Rattle.gfs_types.specs.declared.ids.Moment.{Moment}
 use Rattle.gfs_types.specs.declared.refusal.Refusal.TheVariants.{TooLong, Collected}
+use Rattle.messages.specs.declared.message.NameReply.TheVariants.{Answered}
 use Rattle.messages.specs.declared.message.Body.{Body}
 use Rattle.messages.specs.declared.message.Body.TheVariants as body
 use Rattle.messages.specs.declared.message.Message.{Message}
@@ -100,7 +101,7 @@ module _ (taker chunk issued : ℕ) where
   names : (limit : ℕ) → NameKeeps IsOfCalls (AreGiven limit)
   names limit =
       record {
-        named = λ g receiver number reply h. let same = quiet_count g.sent (message node.Master receiver (body.Named number reply)) refl in omega (arith, same, h);
+        named = λ g receiver number reply h. let same = quiet_count g.sent (message node.Master receiver (body.Named number (Answered reply))) refl in omega (arith, same, h);
         recorded = λ g r is h. h;
         checkpointed = λ g items h. h;
       }

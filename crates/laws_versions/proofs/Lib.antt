@@ -14,6 +14,7 @@ pub mod HeldVersions
 pub mod NodeClocks
 pub mod TakenOrders
 pub mod ToldOrders
+pub mod ToldSizes
 pub mod TrueWords
 pub mod ServerWords
 pub mod HoldersKnown

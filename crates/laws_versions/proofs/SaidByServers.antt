@@ -1,5 +1,5 @@
--- A Report or a Recorded that stands among what was sent was sent in one step of a server.
-use Rattle.std.proofs.Common.{◌≡◌, ℕ, suc, ◌≤◌, ◌-◌, true, false, List, [], ◌∷◌, ◌++◌, length, Option, Some, None, refl, sym, ap, subst, ◌∙◌, inl, inr, arith}
+-- A Report, a Recorded or a Forward that stands among what was sent was sent in one step of a server.
+use Rattle.std.proofs.Common.{◌≡◌, ℕ, suc, ◌≤◌, ◌-◌, Bool, true, false, List, [], ◌∷◌, ◌++◌, length, Option, Some, None, refl, sym, ap, subst, ◌∙◌, inl, inr, arith}
 use Rattle.std.specs.Option.{option_to_list}
 use Rattle.gfs_types.specs.declared.config.Config.{Config}
 use Rattle.messages.specs.declared.event.Event.{Event}
@@ -30,7 +30,13 @@ use Rattle.laws_steps.proofs.ClientNumbers.{IsSaid, IsStepOf, of_step, of_call}
 use Rattle.laws_steps.proofs.RequestsOnce.{numbered_reached, later_cases}
 use Rattle.laws_steps.proofs.MasterTalks.{is_masters, MasterTalks, master_said, restart_said}
 use Rattle.laws_steps.proofs.Histories.{IsGrown, steps_grown, SentIn, sent_in, after_both}
-use Rattle.laws_versions.proofs.ServerCauses.{is_plain}
+
+-- words that others than servers say, or that nobody looks for here
+abbrev pub is_other : Body → Bool
+is_other (body.Recorded handle version) = false
+is_other (body.Report replicas leases) = false
+is_other (body.Forward handle version serial id chunk change) = false
+is_other other = true
 
 -- In a step from one world to the next a server said this, on a message that was sent to it or at a tick.
 pub record IsSaidNow (u v : WorldState) (m : Message) : Type 0 where
@@ -55,30 +61,32 @@ new_one sent ms k place m from at =
     ]
 
 abbrev IsPlain : Message → Type 0
-IsPlain x = is_plain x.body ≡ true
+IsPlain x = is_other x.body ≡ true
 
-none_new : {A : Type 0} (sent ms : List Message) (k place : ℕ) (m : Message) → AllOf IsPlain ms → length sent ≤ place → element_at (sent ++ stamped k ms) place ≡ Some m → is_plain m.body ≡ false → A
+none_new : {A : Type 0} (sent ms : List Message) (k place : ℕ) (m : Message) → AllOf IsPlain ms → length sent ≤ place → element_at (sent ++ stamped k ms) place ≡ Some m → is_other m.body ≡ false → A
 none_new sent ms k place m all from at none =
     let new = new_one sent ms k place m from at in
-    let one : is_plain (new.0).body ≡ true = all_at IsPlain ms (new.1).0 new.0 all (new.1).1 in
-    true_false (sym one ∙ ap is_plain (new.2).2 ∙ none)
+    let one : is_other (new.0).body ≡ true = all_at IsPlain ms (new.1).0 new.0 all (new.1).1 in
+    true_false (sym one ∙ ap is_other (new.2).2 ∙ none)
 
 none_before : {A : Type 0} (sent : List Message) (place : ℕ) (m : Message) → length sent ≤ place → element_at sent place ≡ Some m → A
 none_before sent place m from at = absurd (let below = place_below sent place m at in omega (arith, below, from))
 
 -- who says none of these words
 
-masters_plain : (b : Body) → is_masters b ≡ true → is_plain b ≡ true
+masters_plain : (b : Body) → is_masters b ≡ true → is_other b ≡ true
 masters_plain (body.Recorded handle version) is = true_false (sym is)
 masters_plain (body.Report replicas leases) is = true_false (sym is)
+masters_plain (body.Forward handle version serial id chunk change) is = true_false (sym is)
 masters_plain other is = refl
 
 master_plain : MasterTalks IsPlain
 master_plain = record { plain = λ receiver b is. masters_plain b is; locates = λ receiver number l current. refl }
 
-said_plain : (s t : ClientState) (b : Body) → IsSaid s t b → is_plain b ≡ true
+said_plain : (s t : ClientState) (b : Body) → IsSaid s t b → is_other b ≡ true
 said_plain s t (body.Recorded handle version) h = absurd h
 said_plain s t (body.Report replicas leases) h = absurd h
+said_plain s t (body.Forward handle version serial id chunk change) h = absurd h
 said_plain s t other h = refl
 
 client_plain : (s : ClientState) (d : ClientDoing) (o : Option Message) → IsStepOf s d → d.sent ≡ o → AllOf IsPlain (option_to_list o)
@@ -111,7 +119,7 @@ came_in w e index moment input.Tick is m same = absurd (cc)
 -- worlds
 
 abbrev AreSaidNow : WorldState → WorldState → Type 0
-AreSaidNow u v = (place : ℕ) (m : Message) → length u.sent ≤ place → element_at v.sent place ≡ Some m → is_plain m.body ≡ false → IsSaidNow u v m
+AreSaidNow u v = (place : ℕ) (m : Message) → length u.sent ≤ place → element_at v.sent place ≡ Some m → is_other m.body ≡ false → IsSaidNow u v m
 
 each_said : (config : Config) (servers clients : ℕ) (u : WorldState) → IsReached config servers clients u → HoldsAfter u (λ e x. AreSaidNow u x.world)
 each_said config servers clients u r =
@@ -145,7 +153,7 @@ pub record WasSaid (config : Config) (servers clients : ℕ) (w : WorldState) (p
   pub after : List (Event × Choice)
   pub rest : after_events next after ≡ w
 
-pub was_said : (config : Config) (servers clients : ℕ) (w : WorldState) → IsReached config servers clients w → (place : ℕ) (m : Message) → element_at w.sent place ≡ Some m → is_plain m.body ≡ false → WasSaid config servers clients w place m
+pub was_said : (config : Config) (servers clients : ℕ) (w : WorldState) → IsReached config servers clients w → (place : ℕ) (m : Message) → element_at w.sent place ≡ Some m → is_other m.body ≡ false → WasSaid config servers clients w place m
 was_said config servers clients w r place m at none =
     record {
       before = u;

@@ -35,7 +35,7 @@ use Rattle.laws_base.proofs.LeasesTold.{IsStaleAt}
 use Rattle.laws_steps.proofs.Histories.{IsGrown}
 use Rattle.laws_versions.specs.AnsweredOrders.{IsOrderTaken}
 use Rattle.laws_versions.proofs.ServerCauses.{is_plain, Said, reported, step_words}
-use Rattle.laws_versions.proofs.SaidByServers.{IsSaidNow, WasSaid, was_said}
+use Rattle.laws_versions.proofs.SaidByServers.{is_other, IsSaidNow, WasSaid, was_said}
 use Rattle.laws_versions.proofs.AnsweredOrders.{server_id_is, recorded_orders_are_refused}
 use Rattle.laws_versions.specs.TakenOrders.{WasTaken, ToldVersionsAreOfTakenOrders}
 use Rattle.laws_versions.proofs.TakenOrders.{IsOrdered, ordered_later, ordered_more, servers_are_faithful}
@@ -148,7 +148,7 @@ reported_taken config servers clients w r place m at replicas leases is handle v
     (subst (λ (k : ℕ). IsOrdered h.before.sent (suc k) n.server.disk handle version) same (told.1 handle version any))))
   where
     h : WasSaid config servers clients w place m
-    h = was_said config servers clients w r place m at (ap is_plain is)
+    h = was_said config servers clients w r place m at (ap is_other is)
 
     n : IsSaidNow h.before h.next m
     n = h.now

@@ -9,6 +9,7 @@ pub mod HeldVersions
 pub mod NodeClocks
 pub mod TakenOrders
 pub mod ToldVersions
+pub mod ToldSizes
 pub mod ClonedVersions
 pub mod EmptyGrants
 pub mod OutdatedVersions

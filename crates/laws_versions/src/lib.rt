@@ -27,4 +27,5 @@ pub mod raised_versions;
 pub mod replaced_chunks;
 pub mod shared_chunks;
 pub mod taken_orders;
+pub mod told_sizes;
 pub mod told_versions;
