@@ -27,7 +27,7 @@ pub fn versions_are_granted_once()
     ensures { VersionsAreGrantedOnce }
 {}
 
-/// A lease that a server holds was granted to it, with its members, and ends as a Grant or an Extend of its version told.
+/// A lease that a server holds was granted to it, with its members and the size of the chunk, and ends as a Grant or an Extend of its version told.
 pub fn leases_are_told()
     ensures { LeasesAreTold }
 {}
