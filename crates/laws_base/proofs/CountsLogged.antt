@@ -293,7 +293,7 @@ all_left_row rows (x ∷ xs) q none has =
     let whole = count-cons (λ h. h == q) x xs in
     all_left_row (leave_one rows x) xs q (omega (arith, whole, none)) (left_row rows x q (λ same. let one = tally_same x q same in omega (arith, whole, none, one)) has)
 
-swap_row : (j : Logged) (handle : ℕ) (o : Option Copy) (q : ℕ) → ((c : Copy) → o ≡ Some c → IsPlacedIn j.table.files c) → times_in j.table.files q ≡ 0 → HasRow (rows_of j) q → HasRow (rows_of (swapped_in j handle o)) q
+pub swap_row : (j : Logged) (handle : ℕ) (o : Option Copy) (q : ℕ) → ((c : Copy) → o ≡ Some c → IsPlacedIn j.table.files c) → times_in j.table.files q ≡ 0 → HasRow (rows_of j) q → HasRow (rows_of (swapped_in j handle o)) q
 swap_row j handle None q placed none has = has
 swap_row j handle (Some c) q placed none has =
     left_row (share_one (rows_of j) handle) c.source q

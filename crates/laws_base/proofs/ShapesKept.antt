@@ -60,16 +60,16 @@ record IsShaped (l : Logged) : Type 0 where
 -- rows that keep their shapes
 
 -- the row was there before, with the same shape
-abbrev WasShaped : Rows → ℕ → ChunkRow → Type 0
+abbrev pub WasShaped : Rows → ℕ → ChunkRow → Type 0
 WasShaped rows q row = (old : ChunkRow) × (table.get rows q ≡ Some old) × (old.shape ≡ row.shape)
 
-abbrev KeepsShapes : Rows → Rows → Type 0
+abbrev pub KeepsShapes : Rows → Rows → Type 0
 KeepsShapes rows more = (q : ℕ) (row : ChunkRow) → table.get more q ≡ Some row → WasShaped rows q row
 
-same_keeps : (rows : Rows) → KeepsShapes rows rows
+pub same_keeps : (rows : Rows) → KeepsShapes rows rows
 same_keeps rows q row is = (row, is, refl)
 
-joined_keeps : (a b c : Rows) → KeepsShapes a b → KeepsShapes b c → KeepsShapes a c
+pub joined_keeps : (a b c : Rows) → KeepsShapes a b → KeepsShapes b c → KeepsShapes a c
 joined_keeps a b c first second q row is =
     let late = second q row is in
     let early = first q late.0 late.1 in
@@ -83,17 +83,17 @@ put_keeps rows x old new at same q row is =
       | inr before ↦ (row, before, refl)
     ]
 
-changed_keeps : (rows : Rows) (x : ℕ) (change : ChunkRow → ChunkRow) → ((row : ChunkRow) → row.shape ≡ (change row).shape) → KeepsShapes rows (changed_by rows x change (table.get rows x))
+pub changed_keeps : (rows : Rows) (x : ℕ) (change : ChunkRow → ChunkRow) → ((row : ChunkRow) → row.shape ≡ (change row).shape) → KeepsShapes rows (changed_by rows x change (table.get rows x))
 changed_keeps rows x change same = by_row (table.get rows x) refl
   where
     by_row : (o : Option ChunkRow) → table.get rows x ≡ o → KeepsShapes rows (changed_by rows x change o)
     by_row None at = same_keeps rows
     by_row (Some old) at = put_keeps rows x old (change old) at (same old)
 
-owned_keeps : (rows more : Rows) → OwnedFrom rows more → KeepsShapes rows more
+pub owned_keeps : (rows more : Rows) → OwnedFrom rows more → KeepsShapes rows more
 owned_keeps rows more owned q row is = let was = owned q row is in (was.0, was.1, ap (λ (r : ChunkRow). r.shape) was.2)
 
-removed_keeps : (rows : Rows) (hs : List ℕ) → KeepsShapes rows (removed_all rows hs)
+pub removed_keeps : (rows : Rows) (hs : List ℕ) → KeepsShapes rows (removed_all rows hs)
 removed_keeps rows hs = owned_keeps rows (removed_all rows hs) (removed_owned rows hs)
 
 kept_shaped : (files : Files) (shapes : Table Shape) (rows more : Rows) → KeepsShapes rows more → AreShaped files shapes rows → AreShaped files shapes more

@@ -15,6 +15,7 @@ pub mod NodeClocks
 pub mod TakenOrders
 pub mod ToldOrders
 pub mod ToldSizes
+pub mod GrantedSizes
 pub mod TrueWords
 pub mod ServerWords
 pub mod HoldersKnown

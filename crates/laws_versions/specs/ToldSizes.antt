@@ -1,5 +1,6 @@
--- Laws of every lawful list of events on the sizes of chunks that messages carry, that public functions of this crate state.
-use Rattle.std.specs.Prelude.{◌≡◌, ℕ, ◌<◌, List, Some}
+-- Laws of every lawful list of events on the shapes of files and sizes of chunks that messages carry, that public functions of this crate state.
+use Rattle.std.specs.Prelude.{◌≡◌, ℕ, ◌<◌, List, Some, IsTrue}
+use Rattle.std.specs.FinMap as table
 use Rattle.gfs_types.specs.declared.config.Config.{Config}
 use Rattle.gfs_types.specs.declared.ids.DataId.{DataId}
 use Rattle.gfs_types.specs.declared.ids.Handle.{Handle}
@@ -8,10 +9,17 @@ use Rattle.gfs_types.specs.declared.ids.Node.{Node}
 use Rattle.gfs_types.specs.declared.ids.OrderNo.{OrderNo}
 use Rattle.gfs_types.specs.declared.ids.Serial.{Serial}
 use Rattle.gfs_types.specs.declared.ids.Version.{Version}
+use Rattle.gfs_types.specs.declared.shape.Shape.{Shape}
+use Rattle.messages.specs.declared.event.NodeInput.{NodeInput}
 use Rattle.messages.specs.declared.message.Body.TheVariants as body
 use Rattle.messages.specs.declared.message.Change.{Change}
+use Rattle.messages.specs.declared.message.Location.{Location}
 use Rattle.messages.specs.declared.message.Message.{Message}
+use Rattle.chunk_table.specs.ChunkTable.{handles_of, shape_of}
 use Rattle.protocol.specs.Tables.{element_at}
+use Rattle.protocol.specs.Choice.{Choice}
+use Rattle.protocol.specs.Logged.{Logged, Copy}
+use Rattle.protocol.specs.MasterStep.{master_step}
 use Rattle.protocol.specs.World.{WorldState, IsReached}
 
 -- one of the messages before this place is a Grant of the version to this node, with this size of the chunk
@@ -27,3 +35,23 @@ ForwardsTellTheGrantedSize =
     → (place : ℕ) (m : Message) → element_at w.sent place ≡ Some m
     → (handle : Handle) (version : Version) (serial : Serial) (id : DataId) (chunk : ℕ) (c : Change) → m.body ≡ body.Forward handle version serial id chunk c
     → WasGrantedWith w.sent place m.sender handle version chunk
+
+-- This holds of the shape of each file that has the chunk, and of the file that it is a copy for.
+pub record IsOfFiles (l : Logged) (handle : ℕ) (P : Shape → Type 0) : Type 0 where
+  pub files : (file index : ℕ) → element_at (handles_of l.table file) index ≡ Some handle → P (shape_of l.table file)
+  pub copies : (c : Copy) → table.get l.copies handle ≡ Some c → P (shape_of l.table c.file)
+
+-- A Grant tells the size of the chunks of each file that has its chunk as the step begins, and of the file that it is a copy for (section 3.1).
+abbrev pub GrantsTellTheirFilesSizes : Type 0
+GrantsTellTheirFilesSizes =
+    (config : Config) (servers clients : ℕ) (w : WorldState) → IsReached config servers clients w → IsTrue w.master.up
+    → (moment : ℕ) (i : NodeInput) (choice : Choice) (place : ℕ) (x : Message) → element_at (master_step w.master moment i choice).out.sent place ≡ Some x
+    → (order : OrderNo) (handle : Handle) (version : Version) (end_moment : Moment) (chunk : ℕ) (members : List ℕ) → x.body ≡ body.Grant order handle version end_moment chunk members
+    → IsOfFiles w.master.logged handle.0 (λ s. chunk ≡ s.chunk)
+
+-- Where a chunk is, is told with the shape of each file that has it as the step begins, and of the file that it is a copy for (section 2.3).
+abbrev pub ToldShapesAreTheirFiles : Type 0
+ToldShapesAreTheirFiles =
+    (config : Config) (servers clients : ℕ) (w : WorldState) → IsReached config servers clients w → IsTrue w.master.up
+    → (moment : ℕ) (i : NodeInput) (choice : Choice) (place : ℕ) (x : Message) → element_at (master_step w.master moment i choice).out.sent place ≡ Some x
+    → (number : ℕ) (l : Location) → x.body ≡ body.Told number (Some l) → IsOfFiles w.master.logged l.handle.0 (λ s. l.shape ≡ s)

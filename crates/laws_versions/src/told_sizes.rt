@@ -1,8 +1,18 @@
-//! Laws of the sizes of chunks that messages carry, in every lawful list of events from a new cell: restarts, stops in a step, losses, repeats, refused memory and rot.
+//! Laws of the shapes of files and sizes of chunks that messages carry, in every lawful list of events from a new cell: restarts, stops in a step, losses, repeats, refused memory and rot.
 
-ghost use Rattle.laws_versions.specs.ToldSizes.{ForwardsTellTheGrantedSize};
+ghost use Rattle.laws_versions.specs.ToldSizes.{ForwardsTellTheGrantedSize, GrantsTellTheirFilesSizes, ToldShapesAreTheirFiles};
 
 /// A Forward tells the size of the chunk with which its version was granted: such a Grant was sent to its sender before.
 pub fn forwards_tell_the_granted_size()
     ensures { ForwardsTellTheGrantedSize }
+{}
+
+/// A Grant tells the size of the chunks of each file that has its chunk as the step begins, and of the file that it is a copy for.
+pub fn grants_tell_their_files_sizes()
+    ensures { GrantsTellTheirFilesSizes }
+{}
+
+/// Where a chunk is, is told with the shape of each file that has it as the step begins, and of the file that it is a copy for.
+pub fn told_shapes_are_their_files()
+    ensures { ToldShapesAreTheirFiles }
 {}
