@@ -9,7 +9,7 @@ use Rattle.messages.specs.declared.event.NodeInput.{NodeInput}
 use Rattle.messages.specs.declared.message.Body.{Body}
 use Rattle.messages.specs.declared.message.Body.TheVariants as body
 use Rattle.messages.specs.declared.message.Message.{Message}
-use Rattle.messages.specs.declared.message.NameReply.TheVariants.{Opened, Answered}
+use Rattle.messages.specs.declared.message.NameReply.TheVariants.{Opened}
 use Rattle.log_records.specs.declared.record.Record.TheVariants as log
 use Rattle.chunk_table.specs.ChunkTable.{ChunkRow, chunk_of, no_shape, shape_of, added_row}
 use Rattle.protocol.specs.Tables.{Table}

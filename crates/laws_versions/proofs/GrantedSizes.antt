@@ -11,7 +11,7 @@ use Rattle.messages.specs.declared.event.NodeInput.{NodeInput}
 use Rattle.log_records.specs.declared.record.Record.{Record}
 use Rattle.log_records.specs.declared.record.Record.TheVariants as log
 use Rattle.relaxed_file.specs.Names.{copied_entries}
-use Rattle.chunk_table.specs.ChunkTable.{ChunkRow, chunk_of, handles_of, shape_of, shape_in, added_row, copied_row, row_issued, row_granted, grant, share_one, leave_one}
+use Rattle.chunk_table.specs.ChunkTable.{ChunkRow, chunk_of, handles_of, shape_in, added_row, copied_row, row_issued, row_granted, grant, share_one, leave_one}
 use Rattle.protocol.specs.Tables.{element_at}
 use Rattle.protocol.specs.Choice.{Choice, Ending, Goes, Lost, Stops}
 use Rattle.protocol.specs.Seen.{Taken, no_step}
@@ -30,14 +30,14 @@ use Rattle.laws_base.proofs.ChunkRows.{Rows, rows_of}
 use Rattle.laws_base.proofs.Owners.{HasRow, chunk_row, placed_stands}
 use Rattle.laws_base.proofs.CountsLogged.{IsCountedLog, apart_here, keeps_row, swap_row}
 use Rattle.laws_base.proofs.GrantsOnce.{row_below}
-use Rattle.laws_base.proofs.MasterMoves.{Core, core_of, core_appended, core_ended, grant_record, IsDue, Keeps, Nothing, NoneEnded, plain_nothing}
+use Rattle.laws_base.proofs.MasterMoves.{Core, core_appended, core_ended, grant_record, IsDue, Keeps, Nothing, NoneEnded, plain_nothing}
 use Rattle.laws_base.proofs.MasterSteps.{no_input, goes_named}
 use Rattle.laws_base.proofs.NamesReached.{IsUpToLog, IsLogged, naming_keeps, logged_here}
 use Rattle.laws_base.proofs.OrderNumbers.{state_of}
 use Rattle.laws_base.proofs.RevokesNumbered.{IsRowing}
 use Rattle.laws_base.proofs.RowsLogged.{IsFoundRows, IsRowedLog}
 use Rattle.laws_base.proofs.RowsKept.{rows_kept}
-use Rattle.laws_base.proofs.ShapesKept.{KeepsShapes, same_keeps, joined_keeps, changed_keeps, shared_keeps, left_keeps, all_left_keeps, removed_keeps, snapshot_keeps, chunks_have_their_files_shapes}
+use Rattle.laws_base.proofs.ShapesKept.{KeepsShapes, joined_keeps, changed_keeps, shared_keeps, left_keeps, all_left_keeps, removed_keeps, snapshot_keeps, chunks_have_their_files_shapes}
 use Rattle.laws_versions.specs.ToldSizes.{IsOfFiles, GrantsTellTheirFilesSizes, ToldShapesAreTheirFiles}
 use Rattle.laws_steps.specs.ToldShapes.{IsShapeIn}
 use Rattle.laws_steps.proofs.ToldShapes.{told_shapes_are_of_their_chunks}

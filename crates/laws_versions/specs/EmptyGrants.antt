@@ -9,7 +9,6 @@ use Rattle.gfs_types.specs.declared.ids.OrderNo.{OrderNo}
 use Rattle.messages.specs.declared.event.Event.{Event}
 use Rattle.messages.specs.declared.event.NodeInput.{NodeInput}
 use Rattle.messages.specs.declared.message.Message.{Message}
-use Rattle.messages.specs.declared.message.Body.TheVariants as body
 use Rattle.protocol.specs.Tables.{element_at}
 use Rattle.protocol.specs.Sending.{the_server, handle_of, version_of}
 use Rattle.protocol.specs.Choice.{Choice}
