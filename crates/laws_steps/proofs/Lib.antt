@@ -18,6 +18,7 @@ pub mod MasterPremises
 pub mod MasterWalk
 pub mod NewCopies
 pub mod ToldShapes
+pub mod OpenShapes
 pub mod Unleased
 pub mod Histories
 pub mod ServerSays

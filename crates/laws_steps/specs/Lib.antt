@@ -3,6 +3,7 @@ pub mod Given
 pub mod Versions
 pub mod NewCopies
 pub mod ToldShapes
+pub mod OpenShapes
 pub mod Words
 pub mod Replicas
 pub mod ReplicaChanges
