@@ -1,8 +1,7 @@
 -- Where the shapes of a client's open files come from.
-use Rattle.std.proofs.Common.{◌≡◌, ◌⊎◌, ℕ, suc, ◌-◌, Option, Some, None, refl, sym, ap, subst, ◌∙◌, inl, inr}
+use Rattle.std.proofs.Common.{◌≡◌, ◌⊎◌, ℕ, suc, ◌-◌, Option, Some, None, refl, sym, subst, inl, inr}
 use Rattle.std.specs.Prelude.{nat_le}
 use Rattle.std.specs.FinMap as table
-use Rattle.gfs_types.specs.declared.call.Call.{Call}
 use Rattle.gfs_types.specs.declared.ids.FileId.{FileId}
 use Rattle.gfs_types.specs.declared.shape.Shape.{Shape}
 use Rattle.messages.specs.declared.event.NodeInput.{NodeInput}
@@ -16,7 +15,7 @@ use Rattle.client_state.specs.declared.call.Stage.{Stage}
 use Rattle.client_state.specs.declared.call.Stage.TheVariants.{AskedNames, AskedWhere, MustAskAgain, SentData, SentMutate, SentRead, IsOver, HasAnswer}
 use Rattle.client_state.specs.declared.kept.OpenFile.{OpenFile}
 use Rattle.protocol.specs.Tables.{Table}
-use Rattle.protocol.specs.Client.{ClientState, ClientDoing, client_begins}
+use Rattle.protocol.specs.Client.{ClientState, ClientDoing}
 use Rattle.protocol.specs.ClientFiles.{opened_again, files_after_open, with_one_closed, files_after_close, with_append_of, with_last_append}
 use Rattle.protocol.specs.ClientStep.{client_at}
 use Rattle.laws_base.proofs.Steps.{on_cond, put_cases, kept_cases}
