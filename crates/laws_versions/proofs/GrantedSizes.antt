@@ -192,8 +192,8 @@ module _ (l : Logged) where
   ends_sized m d choice (Stops made) h = tt
 
 module _ (config : Config) (servers clients : ℕ) (w : WorldState) (r : IsReached config servers clients w) (up : IsTrue w.master.up) where
-  abbrev l : Logged
-  l = w.master.logged
+  abbrev now : Logged
+  now = w.master.logged
 
   logged : IsLogged IsFoundRows IsRowedLog rows_kept w.master
   logged = (logged_here IsFoundRows IsRowedLog rows_kept config servers clients w r).1
@@ -201,34 +201,34 @@ module _ (config : Config) (servers clients : ℕ) (w : WorldState) (r : IsReach
   known : IsUpToLog IsFoundRows IsRowedLog rows_kept w.master
   known = logged.up up
 
-  shapes : HaveFilesShapes l
+  shapes : HaveFilesShapes now
   shapes = (chunks_have_their_files_shapes config servers clients w r up).0
 
-  step_sized : (moment : ℕ) (i : NodeInput) (choice : Choice) → AreTellingSizes l (master_step w.master moment i choice).out.sent
+  step_sized : (moment : ℕ) (i : NodeInput) (choice : Choice) → AreTellingSizes now (master_step w.master moment i choice).out.sent
   step_sized moment i choice =
       let m : MasterState = w.master in
       let d : MasterDoing = master_goes m moment i choice.refused in
-      let good : Taken MasterState → Type 0 = λ t. AreTellingSizes l t.out.sent in
+      let good : Taken MasterState → Type 0 = λ t. AreTellingSizes now t.out.sent in
       let end =
-      goes_named NoneEnded (λ c. IsRowing m.disk c × IsSizing l c) (sizing_keeps l m.disk) m moment i choice.refused (no_input i) known.bound known.names known.ready
-      (record { none = known.idle; disk = refl; same = known.same; tied = known.tied; stops = logged.found [] }, record { sized = same_sized l; said = tt }) in
+      goes_named NoneEnded (λ c. IsRowing m.disk c × IsSizing now c) (sizing_keeps now m.disk) m moment i choice.refused (no_input i) known.bound known.names known.ready
+      (record { none = known.idle; disk = refl; same = known.same; tied = known.tied; stops = logged.found [] }, record { sized = same_sized now; said = tt }) in
       on_cond good m.up (master_bounded m d choice) (no_step m)
-      (λ _. on_cond good (may_end d choice.ending) (master_ends m d choice choice.ending) (no_step m) (λ _. ends_sized l m d choice choice.ending ((end.0).1).said) (λ _. tt))
+      (λ _. on_cond good (may_end d choice.ending) (master_ends m d choice choice.ending) (no_step m) (λ _. ends_sized now m d choice choice.ending ((end.0).1).said) (λ _. tt))
       (λ _. tt)
 
   -- a handle that stands in a file, or is a copy's, is not new
 
-  in_file : (file index handle : ℕ) → element_at (handles_of l.table file) index ≡ Some handle → HasRow (rows_of l) handle
-  in_file file index handle at = chunk_row l.table file handle known.tied.base.counted (placed_stands (handles_of l.table file) index handle at)
+  in_file : (file index handle : ℕ) → element_at (handles_of now.table file) index ≡ Some handle → HasRow (rows_of now) handle
+  in_file file index handle at = chunk_row now.table file handle known.tied.base.counted (placed_stands (handles_of now.table file) index handle at)
 
-  of_copy : (handle : ℕ) (c : Copy) → table.get l.copies handle ≡ Some c → HasRow (rows_of l) handle
+  of_copy : (handle : ℕ) (c : Copy) → table.get now.copies handle ≡ Some c → HasRow (rows_of now) handle
   of_copy handle c is = known.tied.base.rows handle c is
 
-  not_new : (handle : ℕ) → HasRow (rows_of l) handle → l.next_handle ≤ handle → ⊥
-  not_new handle has new = let low = row_below l (state_of w.master.disk) known.same known.tied handle has.0 has.1 in omega (arith, low, new)
+  not_new : (handle : ℕ) → HasRow (rows_of now) handle → now.next_handle ≤ handle → ⊥
+  not_new handle has new = let low = row_below now (state_of w.master.disk) known.same known.tied handle has.0 has.1 in omega (arith, low, new)
 
   -- a shape that is told of a chunk is that of its files
-  shape_is : (handle : ℕ) (shape : Shape) → IsShapeIn l handle shape → IsOfFiles l handle (λ s. shape ≡ s)
+  shape_is : (handle : ℕ) (shape : Shape) → IsShapeIn now handle shape → IsOfFiles now handle (λ s. shape ≡ s)
   shape_is handle shape (inl row) =
       record {
         files = λ file index at. sym row.2 ∙ shapes.chunks file index handle row.0 at row.1;
@@ -237,7 +237,7 @@ module _ (config : Config) (servers clients : ℕ) (w : WorldState) (r : IsReach
   shape_is handle shape (inr new) =
       record { files = λ file index at. absurd (not_new handle (in_file file index handle at) new.0); copies = λ c is. absurd (not_new handle (of_copy handle c is) new.0) }
 
-  size_is : (handle chunk : ℕ) → IsSizeIn l handle chunk → IsOfFiles l handle (λ s. chunk ≡ s.chunk)
+  size_is : (handle chunk : ℕ) → IsSizeIn now handle chunk → IsOfFiles now handle (λ s. chunk ≡ s.chunk)
   size_is handle chunk (inl row) =
       record {
         files = λ file index at. sym row.2 ∙ ap (λ (s : Shape). s.chunk) (shapes.chunks file index handle row.0 at row.1);
