@@ -66,7 +66,7 @@ WasShaped rows q row = (old : ChunkRow) × (table.get rows q ≡ Some old) × (o
 abbrev pub KeepsShapes : Rows → Rows → Type 0
 KeepsShapes rows more = (q : ℕ) (row : ChunkRow) → table.get more q ≡ Some row → WasShaped rows q row
 
-pub same_keeps : (rows : Rows) → KeepsShapes rows rows
+same_keeps : (rows : Rows) → KeepsShapes rows rows
 same_keeps rows q row is = (row, is, refl)
 
 pub joined_keeps : (a b c : Rows) → KeepsShapes a b → KeepsShapes b c → KeepsShapes a c

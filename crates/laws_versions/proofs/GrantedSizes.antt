@@ -5,17 +5,18 @@ use Rattle.std.specs.Prelude.{IsTrue}
 use Rattle.std.specs.FinMap as table
 use Rattle.gfs_types.specs.declared.config.Config.{Config}
 use Rattle.gfs_types.specs.declared.shape.Shape.{Shape}
+use Rattle.gfs_types.specs.Paths.{Path}
 use Rattle.messages.specs.declared.message.Body.{Body}
 use Rattle.messages.specs.declared.message.Message.{Message}
 use Rattle.messages.specs.declared.event.NodeInput.{NodeInput}
 use Rattle.log_records.specs.declared.record.Record.{Record}
 use Rattle.log_records.specs.declared.record.Record.TheVariants as log
-use Rattle.relaxed_file.specs.Names.{copied_entries}
-use Rattle.chunk_table.specs.ChunkTable.{ChunkRow, chunk_of, handles_of, shape_in, added_row, copied_row, row_issued, row_granted, grant, share_one, leave_one}
+use Rattle.relaxed_file.specs.Names.{Node, copied_entries}
+use Rattle.chunk_table.specs.ChunkTable.{ChunkRow, chunk_of, handles_of, shape_in, added_row, copied_row, row_issued, row_granted, grant}
 use Rattle.protocol.specs.Tables.{element_at}
 use Rattle.protocol.specs.Choice.{Choice, Ending, Goes, Lost, Stops}
 use Rattle.protocol.specs.Seen.{Taken, no_step}
-use Rattle.protocol.specs.Logged.{Logged, LogDisk, Copy, after_record, copies_for_file, copies_given_up, swapped_in}
+use Rattle.protocol.specs.Logged.{Logged, LogDisk, Copy, after_record, copies_given_up, swapped_in, with_copied_nodes}
 use Rattle.protocol.specs.Master.{MasterState, MasterDoing}
 use Rattle.protocol.specs.MasterVersions.{chunk_size_of}
 use Rattle.protocol.specs.MasterStep.{master_goes, master_ends, master_bounded, master_step, may_end}
@@ -26,7 +27,7 @@ use Rattle.laws_base.proofs.Words.{quiet_nothing}
 use Rattle.laws_base.proofs.Entries.{AllOf, all_joined}
 use Rattle.laws_base.proofs.LeaseOrders.{grant_body, GrantsNothing}
 use Rattle.laws_base.proofs.MembersRecorded.{all_at, all_in_order}
-use Rattle.laws_base.proofs.ChunkRows.{Rows, rows_of}
+use Rattle.laws_base.proofs.ChunkRows.{Rows, rows_of, all_copied_owned, swapped_owned, expired_owned}
 use Rattle.laws_base.proofs.Owners.{HasRow, chunk_row, placed_stands}
 use Rattle.laws_base.proofs.CountsLogged.{IsCountedLog, apart_here, keeps_row, swap_row}
 use Rattle.laws_base.proofs.GrantsOnce.{row_below}
@@ -37,7 +38,7 @@ use Rattle.laws_base.proofs.OrderNumbers.{state_of}
 use Rattle.laws_base.proofs.RevokesNumbered.{IsRowing}
 use Rattle.laws_base.proofs.RowsLogged.{IsFoundRows, IsRowedLog}
 use Rattle.laws_base.proofs.RowsKept.{rows_kept}
-use Rattle.laws_base.proofs.ShapesKept.{KeepsShapes, joined_keeps, changed_keeps, shared_keeps, left_keeps, all_left_keeps, removed_keeps, snapshot_keeps, chunks_have_their_files_shapes}
+use Rattle.laws_base.proofs.ShapesKept.{KeepsShapes, joined_keeps, changed_keeps, owned_keeps, removed_keeps, chunks_have_their_files_shapes}
 use Rattle.laws_versions.specs.ToldSizes.{IsOfFiles, GrantsTellTheirFilesSizes, ToldShapesAreTheirFiles}
 use Rattle.laws_steps.specs.ToldShapes.{IsShapeIn}
 use Rattle.laws_steps.proofs.ToldShapes.{told_shapes_are_of_their_chunks}
@@ -48,9 +49,10 @@ grant_keeps : (l : Logged) (handle version primary : ℕ) (members : List ℕ) (
     → KeepsShapes (rows_of l) (rows_of (swapped_in (record l { table = grant l.table handle version primary members }) handle o))
 grant_keeps l handle version primary members None = changed_keeps (rows_of l) handle (row_granted version primary members) (λ row. refl)
 grant_keeps l handle version primary members (Some c) =
-    let rows : Rows = rows_of (record l { table = grant l.table handle version primary members }) in
-    joined_keeps (rows_of l) rows (leave_one (share_one rows handle) c.source) (changed_keeps (rows_of l) handle (row_granted version primary members) (λ row. refl))
-    (joined_keeps rows (share_one rows handle) (leave_one (share_one rows handle) c.source) (shared_keeps rows handle) (left_keeps (share_one rows handle) c.source))
+    let one : Logged = record l { table = grant l.table handle version primary members } in
+    let after : Rows = rows_of (swapped_in one handle (Some c)) in
+    joined_keeps (rows_of l) (rows_of one) after (changed_keeps (rows_of l) handle (row_granted version primary members) (λ row. refl))
+    (owned_keeps (rows_of one) after (swapped_owned one handle (Some c)))
 
 granted_there : (l k : Logged) (handle version primary : ℕ) (members : List ℕ) → IsCountedLog l k → HasRow (rows_of l) handle
     → HasRow (rows_of (after_record l (grant_record handle version primary members))) handle
@@ -116,12 +118,11 @@ module _ (l : Logged) where
 
   sized_after : (k : Logged) (r : Record) → IsDue (Unit {0}) k r → AreSized k → AreSized (after_record k r)
   sized_after k (log.Snapshot client n from to) due h =
-      kept_sized k (after_record k (log.Snapshot client n from to)) (omega arith) (snapshot_keeps k.table k.next_file (copied_entries k.names from to)) h
+      let es : List (Path × Node) = copied_entries k.names from to in
+      kept_sized k (after_record k (log.Snapshot client n from to)) (omega arith)
+      (owned_keeps (rows_of k) (with_copied_nodes k.table k.next_file es).chunks (all_copied_owned k.table k.next_file es)) h
   sized_after k (log.Expired file) due h =
-      let less : Rows = rows_of (copies_given_up k (copies_for_file k file.0)) in
-      let handles : List ℕ = handles_of k.table file.0 in
-      kept_sized k (after_record k (log.Expired file)) (omega arith)
-      (joined_keeps (rows_of k) less (rows_of (after_record k (log.Expired file))) (removed_keeps (rows_of k) (copies_for_file k file.0)) (all_left_keeps less handles)) h
+      kept_sized k (after_record k (log.Expired file)) (omega arith) (owned_keeps (rows_of k) (rows_of (after_record k (log.Expired file))) (expired_owned k file)) h
   sized_after k (log.AddChunk file handle) due h =
       put_sized k (after_record k (log.AddChunk file handle)) handle.0 (added_row k.table file.0) due.0 (le-max_left k.next_handle (handle.0 + 1)) refl h
   sized_after k (log.Issue handle version) due h =
@@ -171,11 +172,13 @@ module _ (l : Logged) where
         revokes = λ c handle row is h. (base.revokes c handle row is h.0, record { sized = h.1.sized; said = one_more c _ tt h.1.said });
         grants = λ c handle version until primary members told due names from idle h.
             let entry : Record = grant_record handle version primary members in
-            let size = granted_size c.logged (state_of c.disk) handle version primary members due.0 h.0.tied.base due.1 in
-            (base.grants c handle version until primary members told due names from idle h.0, record {
-              sized = ended_sized (core_appended c entry) handle until (sized_after c.logged entry due h.1.sized);
-              said = one_more c _ (subst (λ (chunk : ℕ). IsSizeIn handle chunk) size (h.1.sized.rows handle due.0 due.1)) h.1.said;
-            });
+            let size = granted_size c.logged (state_of c.disk) handle version primary members due.0 h.0.tied.base due.1 in (
+              base.grants c handle version until primary members told due names from idle h.0,
+              record {
+                sized = ended_sized (core_appended c entry) handle until (sized_after c.logged entry due h.1.sized);
+                said = one_more c _ (subst (λ (chunk : ℕ). IsSizeIn handle chunk) size (h.1.sized.rows handle due.0 due.1)) h.1.said;
+              },
+            );
         appends = λ c r due plain names h. (base.appends c r due plain names h.0, record { sized = sized_after c.logged r due h.1.sized; said = h.1.said });
         checkpoint = λ c tree h. (base.checkpoint c tree h.0, record { sized = less_sized c.logged (table.keys c.logged.copies) h.1.sized; said = h.1.said });
         less = λ c handles copied h. (base.less c handles copied h.0, record { sized = less_sized c.logged handles h.1.sized; said = h.1.said });

@@ -82,8 +82,10 @@ forwards_tell_the_granted_size config servers clients w r place m at handle vers
     one =
         all_at (Says h.before.sent (suc n.index)) _ n.said.0 n.word
         (step_says (Says h.before.sent (suc n.index)) n.server n.moment n.taken n.choice
-        (λ x word. (word.0 ∙ ap the_server (server_id_is config servers clients h.before h.reached n.index n.server n.at),
-        word_tells config servers clients h.before h.reached n.index n.server n.at n.moment n.taken x word)))
+        (λ x word. (
+          word.0 ∙ ap the_server (server_id_is config servers clients h.before h.reached n.index n.server n.at),
+          word_tells config servers clients h.before h.reached n.index n.server n.at n.moment n.taken x word,
+        )))
         n.said.1
 
     g : IsGrantedWith h.before.sent (suc n.index) handle version chunk
