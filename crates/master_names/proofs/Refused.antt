@@ -10,6 +10,7 @@ use Rattle.gfs_types.specs.declared.refusal.Refusal.TheVariants.{BadPath, Busy}
 use Rattle.gfs_types.specs.Paths.{Path, is_path}
 use Rattle.relaxed_file.specs.Names.{Names}
 use Rattle.relaxed_file.specs.NameStep.{first_refusal, path_tests, name_tests, outcome_by}
+use Rattle.protocol.specs.Logged.{Logged}
 use Rattle.protocol.specs.Master.{MasterState}
 use Rattle.protocol.specs.MasterNames.{is_busy, master_refusal, reply_by}
 use Rattle.master_state.specs.Refusals.{refusal_by}
@@ -76,12 +77,12 @@ refused_with (Ok r) m c told b names config h settings same is busy =
     h ∙ ap (λ x. refusal_by x names b told) settings ∙ ap (λ n. refusal_by m.config n b told) same ∙ ap (refusal_by m.config m.logged.names b) (sym is) ∙ refusal_alike m c b busy
 refused_with (Err e) m c told b names config h settings same is busy = tt
 
--- what a state of these names tells
-pub told_so : {E : Type 0} (result : Result NameReply E) (m : MasterState) (c told : Call) (b : Bool) (names : Names)
-    → IfOk result (λ r. (config : Config) → r ≡ reply_by (outcome_by names told (refusal_by config names b told))) → names ≡ m.logged.names → c ≡ told
-    → (are_paths c ≡ true → b ≡ is_busy m c) → IfOk result (λ r. r ≡ reply_by (outcome_by m.logged.names c (master_refusal m c)))
-told_so (Ok r) m c told b names h same is busy =
-    h m.config ∙ ap (λ n. reply_by (outcome_by n told (refusal_by m.config n b told))) same
-    ∙ ap (λ x. reply_by (outcome_by m.logged.names x (refusal_by m.config m.logged.names b x))) (sym is)
-    ∙ ap (λ x. reply_by (outcome_by m.logged.names c x)) (refusal_alike m c b busy)
-told_so (Err e) m c told b names h same is busy = tt
+-- what a state of these names and files tells
+pub told_so : {E : Type 0} (result : Result NameReply E) (m : MasterState) (c told : Call) (b : Bool) (l : Logged)
+    → IfOk result (λ r. (config : Config) → r ≡ reply_by l.table (outcome_by l.names told (refusal_by config l.names b told))) → l ≡ m.logged → c ≡ told
+    → (are_paths c ≡ true → b ≡ is_busy m c) → IfOk result (λ r. r ≡ reply_by m.logged.table (outcome_by m.logged.names c (master_refusal m c)))
+told_so (Ok r) m c told b l h same is busy =
+    h m.config ∙ ap (λ (x : Logged). reply_by x.table (outcome_by x.names told (refusal_by m.config x.names b told))) same
+    ∙ ap (λ x. reply_by m.logged.table (outcome_by m.logged.names x (refusal_by m.config m.logged.names b x))) (sym is)
+    ∙ ap (λ x. reply_by m.logged.table (outcome_by m.logged.names c x)) (refusal_alike m c b busy)
+told_so (Err e) m c told b l h same is busy = tt
