@@ -11,7 +11,7 @@ use messages::message_lists::HolderList;
 
 /// An attempt that its primary refused for want of a lease or a replica: it may still be placed at that index under that
 /// version, up to that moment.
-#[derive(Clone, Copy, Debug)]
+#[derive(Clone, Copy)]
 pub struct LiveAttempt {
     pub index: u64,
     pub version: Version,
@@ -19,7 +19,7 @@ pub struct LiveAttempt {
 }
 
 /// What an attempt keeps of a location.
-#[derive(Clone, Copy, Debug)]
+#[derive(Clone, Copy)]
 pub struct ToldChunk {
     pub index: u64,
     pub handle: Handle,

@@ -5,7 +5,7 @@ use gfs_types::shape::Shape;
 use messages::message::Location;
 
 /// A chunk of a file, by the file's number and the chunk's place in it.
-#[derive(Clone, Copy, Debug, PartialEq, Eq, Hash)]
+#[derive(Clone, Copy, PartialEq, Eq, Hash)]
 pub struct Place {
     pub file: u64,
     pub index: u64,
@@ -21,7 +21,7 @@ pub struct Cached {
 }
 
 /// A file that is open.
-#[derive(Clone, Copy, Debug)]
+#[derive(Clone, Copy)]
 pub struct OpenFile {
     /// How many descriptors it has.
     pub descriptors: u64,
