@@ -4,7 +4,7 @@ use gfs_types::ids::{ClientId, Serial};
 use gfs_types::refusal::Refusal;
 
 /// A mutation that all members have applied. It has no place where it was a pad.
-#[derive(Clone, Copy, Debug, PartialEq, Eq)]
+#[derive(Clone, Copy, PartialEq, Eq)]
 pub struct Settled {
     pub client: ClientId,
     pub seq: u64,
@@ -12,7 +12,7 @@ pub struct Settled {
 }
 
 /// What becomes of an attempt.
-#[derive(Clone, Copy, Debug, PartialEq, Eq)]
+#[derive(Clone, Copy, PartialEq, Eq)]
 pub enum Accept {
     /// It got this serial and is to be applied and forwarded.
     New(Serial),

@@ -10,7 +10,7 @@ use gfs_types::refusal::Refusal;
 use ordered_map::number_map::NumberMap;
 
 /// What became of an attempt that the primary took.
-#[derive(Clone, Copy, Debug, PartialEq, Eq)]
+#[derive(Clone, Copy, PartialEq, Eq)]
 pub enum Standing {
     IsPending,
     /// Settled at a place of the chunk, or by a pad.
@@ -19,7 +19,7 @@ pub enum Standing {
 }
 
 /// A client's last attempt.
-#[derive(Clone, Copy, Debug, PartialEq, Eq)]
+#[derive(Clone, Copy, PartialEq, Eq)]
 pub struct Kept {
     pub seq: u64,
     pub standing: Standing,
