@@ -5,7 +5,6 @@ use gfs_types::lists::Sequence;
 use gfs_types::mutation::Mutation;
 
 /// One thing that is seen of a step.
-#[derive(Debug, Drop)]
 pub enum Seen {
     /// A primary gave a mutation its serial.
     Numbered {
@@ -26,6 +25,27 @@ pub enum Seen {
         handle: Handle,
         copy: Handle,
     },
+}
+
+// Stands here, once, so that no function that lets one go, here or above, takes its variants apart.
+impl Drop for Seen {
+    fn drop(self) {
+        match self {
+            Self::Numbered {
+                handle: _,
+                version: _,
+                serial: _,
+                data: _,
+                mutation: _mutation,
+            } => {}
+            Self::BecameSettled {
+                handle: _,
+                version: _,
+                serial: _,
+            } => {}
+            Self::CopyStarted { handle: _, copy: _ } => {}
+        }
+    }
 }
 
 /// What is seen of a step, in order.
