@@ -32,7 +32,6 @@ use std::alloc::Global;
 use std::marker::Model;
 
 /// A chunkserver (section 2.3).
-#[derive(Drop)]
 pub struct Server<S: ReplicaStore> {
     pub(crate) config: Config,
     pub(crate) id: ServerId,
@@ -43,6 +42,23 @@ pub struct Server<S: ReplicaStore> {
     pub(crate) pushed: Pushed,
     pub(crate) clones: NumberMap<u64>,
     pub(crate) alloc: Global,
+}
+
+// Stands here, once, so that no crate above proves the drops of all that a server owns.
+impl<S: ReplicaStore + Drop> Drop for Server<S> {
+    fn drop(self) {
+        let Self {
+            config: _,
+            id: _,
+            up: _,
+            clock: _,
+            store: _store,
+            leases: _leases,
+            pushed: _pushed,
+            clones: _clones,
+            alloc: _,
+        } = self;
+    }
 }
 
 impl<S: ReplicaStore> Model for Server<S> {
