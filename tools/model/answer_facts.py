@@ -43,8 +43,8 @@ class AnswerFacts:
         # by client and number of an ask: its file; by client and number of a Len: its chunk
         self.asks = {}
         self.lengths = {}
-        # the chunks of which a client was told since it last opened the file, as (client, file, handle)
-        self.told = set()
+        # of the chunks of which a client was told since it last opened the file, by (client, file, handle): when, by its own clock
+        self.told = {}
 
     def called(self, client, call, number, file):
         self.calls[client] = OpenCall(call, number, file, self.cell.world)
@@ -73,7 +73,7 @@ class AnswerFacts:
         call = self.calls.get(client)
         if message.kind == 'Told' and body[2][0] == 'Some':
             file = self.asks.get((client, body[1]))
-            self.told.add((client, file, state.number(body[2][1]['handle'])))
+            self.told[client, file, state.number(body[2][1]['handle'])] = self.now_of(client)
         if call and message.kind in ('Done', 'Refused'):
             number = body[1]['seq'] if message.kind == 'Done' else body[1]
             for attempt in call.attempts:
@@ -83,7 +83,7 @@ class AnswerFacts:
             call.is_named = True
 
     def check_sent(self, client, message):
-        """A client uses the location of a chunk only where it was told of it since it opened the file."""
+        """A client uses the location of a chunk only where it was told of it since it opened the file, and less than the cache's time before."""
         body = message.body
         call = self.calls[client]
         handle = None
@@ -97,8 +97,16 @@ class AnswerFacts:
         elif message.kind == 'Mutate':
             handle, version = state.numbers(body[2:4])
             call.attempts.append(Attempt(body[1]['seq'], version, state.number(body[5])))
-        if handle is not None and (client, call.file, handle) not in self.told:
+        if handle is None:
+            return
+        told = self.told.get((client, call.file, handle))
+        if told is None:
             raise Broken(f'client {client} uses a location of chunk {handle} that it was not told since it opened the file')
+        if self.now_of(client) - told >= self.cell.settings['cache_ms']:
+            raise Broken(f'client {client} uses a location of chunk {handle} that it was told too long before')
+
+    def now_of(self, client):
+        return state.now_of(state.client(self.cell.world, client))
 
     def check_read(self, message, asked, before):
         """What a server reads matches its checksums, and is of a selection up to the version that was named."""
@@ -176,7 +184,7 @@ class AnswerFacts:
                 raise Broken(f'client {client} answers a name call while its attempt lives')
         if kind == 'Fd':
             file = state.descriptors(state.client(self.cell.world, client)).get(state.number(answer[1]))
-            self.told = {told for told in self.told if told[:2] != (client, file)}
+            self.told = {of: when for of, when in self.told.items() if of[:2] != (client, file)}
         elif kind == 'At':
             self.check_settled(client, call, answer[1] // self.chunk, answer[1] % self.chunk)
         elif kind == 'Done' and call.call[0] == 'write' and call.call[3]:

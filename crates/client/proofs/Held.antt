@@ -18,10 +18,10 @@ use Rattle.protocol.specs.Sending.{moment_of}
 use Rattle.protocol.specs.Tables.{is_empty_list}
 use Rattle.protocol.specs.PushBuffer.{next_hop}
 use Rattle.protocol.specs.Client.{ClientState, ClientDoing, client_begins, with_current, committed, file_chunk, place_in_file}
-use Rattle.protocol.specs.ClientCache.{is_same_place, fresh_one, cached, cache_after_look, without_location, with_location}
+use Rattle.protocol.specs.ClientCache.{is_new_enough, is_same_place, fresh_one, cached, cache_after_look, without_location, with_location}
 use Rattle.protocol.specs.ClientFiles.{with_last_append}
-use Rattle.protocol.specs.ClientAttempts.{is_mutation, is_append, is_length, chunk_of, push_planned, push_planned_to, will_do, chunk_to_find, read_count, has_next_part, completes, reads_next, goes_on_at, begins_with, begins_at, attempts, asks, begins_next_part, is_last_attempt, gives_up, ended}
-use Rattle.protocol.specs.ClientTakes.{gets, takes_bytes, succeeds, told_location}
+use Rattle.protocol.specs.ClientAttempts.{is_mutation, is_append, is_length, chunk_of, push_planned, push_planned_to, will_do, chunk_to_find, read_count, has_next_part, completes, reads_next, goes_on_at, begins_with, begins_at, attempts, asks, asks_anew, begins_next_part, is_last_attempt, gives_up, ended}
+use Rattle.protocol.specs.ClientTakes.{gets, takes_bytes, reader_refuses, succeeds, told_location}
 use Rattle.protocol.specs.ClientStep.{ends_unanswered}
 use Rattle.client.specs.Takes.{holding, with_found}
 
@@ -45,6 +45,11 @@ pub next_reads_held : (s : ClientState) (k c : CurrentCall) (chunk : ToldChunk) 
 next_reads_held s k c chunk [] = refl
 next_reads_held s k c chunk (h ∷ rest) = refl
 
+-- and where their location may be too old
+pub reader_refuses_held : (s : ClientState) (k c : CurrentCall) (chunk : ToldChunk) (hs : List Holder)
+    → reader_refuses (holding s k) c chunk hs ≡ reader_refuses (client_begins s) (record c { stage = IsOver }) chunk hs
+reader_refuses_held s k c chunk hs = ap (λ (next : ClientDoing). if is_new_enough s c.told.0 then next else asks_anew (client_begins s) c) (next_reads_held s k c chunk hs)
+
 push_to_held : (s : ClientState) (k c : CurrentCall) (chunk : ToldChunk) (g : Group) (first : Option ServerId)
     → push_planned_to (with_held s k) c chunk g first ≡ push_planned_to s c chunk g first
 push_to_held s k c chunk g None = refl
@@ -67,14 +72,14 @@ located_held s k c l =
     (λ (next : ClientDoing).
     if is_empty_list l.holders then with_current (client_begins s) (record c { stage = MustAskAgain; saw_no_holder = true; is_nobody_serving = true })
     else next)
-    (goes_on_held (record s { cache = with_location s c.file.0 l }) k (record c { saw_no_holder = false; is_nobody_serving = false }) l)
+    (goes_on_held (record s { cache = with_location s c.file.0 l }) k (record c { told = moment_of s.now; saw_no_holder = false; is_nobody_serving = false }) l)
 
 kept_held : (s : ClientState) (k c : CurrentCall) (kept : Option Cached) → begins_with (holding s k) c kept ≡ begins_with (client_begins s) c kept
 kept_held s k c None = refl
 kept_held s k c (Some e) =
     elim (will_do c e)
-    as (λ b. (if b then goes_on_at (holding s k) c e.location else asks (holding s k) c) ≡ (if b then goes_on_at (client_begins s) c e.location else asks (client_begins s) c))
-    [ true ↦ goes_on_held s k c e.location | false ↦ refl ]
+    as (λ b. (if b then goes_on_at (holding s k) (record c { told = e.told }) e.location else asks (holding s k) c) ≡ (if b then goes_on_at (client_begins s) (record c { told = e.told }) e.location else asks (client_begins s) c))
+    [ true ↦ goes_on_held s k (record c { told = e.told }) e.location | false ↦ refl ]
 
 at_held : (s : ClientState) (k c : CurrentCall) (index : Option ℕ) → begins_at (holding s k) c index ≡ begins_at (client_begins s) c index
 at_held s k c None = refl

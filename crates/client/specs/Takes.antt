@@ -6,7 +6,8 @@ use Rattle.client_state.specs.declared.call.CurrentCall.{CurrentCall}
 use Rattle.client_state.specs.declared.call.Stage.{Stage}
 use Rattle.client_state.specs.declared.call.Stage.TheVariants.{MustAskAgain, SentRead}
 use Rattle.protocol.specs.Client.{ClientState, ClientDoing, client_begins, with_current}
-use Rattle.protocol.specs.ClientAttempts.{completes, forgets, reads_next}
+use Rattle.protocol.specs.ClientAttempts.{completes, forgets}
+use Rattle.protocol.specs.ClientTakes.{reader_refuses}
 
 -- a step of a client with this open call
 abbrev pub holding : ClientState → CurrentCall → ClientDoing
@@ -18,7 +19,7 @@ waits_to_ask d c is_nobody_there = with_current d (record c { stage = MustAskAga
 
 -- a server's refusal
 abbrev pub server_refuses : ClientDoing → CurrentCall → Stage → ℕ → ClientDoing
-server_refuses d c (SentRead chunk left asked) number = if asked == number then reads_next (forgets d c chunk) c chunk left else d
+server_refuses d c (SentRead chunk left asked) number = if asked == number then reader_refuses (forgets d c chunk) c chunk left else d
 server_refuses d c other number = d
 
 -- what a read has so far, with these bytes and their round

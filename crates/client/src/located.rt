@@ -114,6 +114,7 @@ fn told_location(
         return Ok(waits_to_ask(client, current, true));
     }
     client.keeps(current.file, location)?;
+    current.told = client.now();
     current.saw_no_holder = false;
     current.is_nobody_serving = false;
     client.goes_on_at(current, location)

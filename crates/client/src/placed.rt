@@ -17,7 +17,7 @@ use gfs_types::ids::DataId;
 use gfs_types::no_memory::NoMemory;
 use std::alloc::Global;
 
-/// A Pushed: all members have the data, and the primary is asked to place them.
+/// A Pushed: all members have the data, and the primary is asked to place them, if its location may still be used.
 pub fn takes_pushed(
     client: &mut Client,
     current: CurrentCall,
@@ -33,6 +33,9 @@ pub fn takes_pushed(
         } => {
             if !client.is_own_data(id, *number) {
                 return Ok(client.waits(current));
+            }
+            if !client.is_new_enough(current.told) {
+                return Ok(client.asks_anew(current));
             }
             let plan = client.mutate_planned(&current, *chunk, *primary, *number)?;
             Ok(client.commits(current, plan))

@@ -62,8 +62,8 @@ fn master_refuses(client: &mut Client, current: CurrentCall, refusal: Refusal) -
     }
 }
 
-/// A server that can't serve is left, and the next one asked.
-#[tactic(auto, using(crate::proofs::Held::next_reads_held))]
+/// A server that can't serve is left, and the next one asked, if their location may still be used.
+#[tactic(auto, using(crate::proofs::Held::reader_refuses_held))]
 fn server_refuses(
     client: &mut Client,
     mut current: CurrentCall,
@@ -87,6 +87,9 @@ fn server_refuses(
                 return Ok(client.waits(current));
             }
             client.forgets(&current, chunk);
+            if !client.is_new_enough(current.told) {
+                return Ok(client.asks_anew(current));
+            }
             client.reads_next(current, chunk, left.as_slice())
         }
         stage => {

@@ -10,7 +10,7 @@ use Rattle.protocol.specs.Client.{ClientState, ClientDoing, Plan, committed}
 use Rattle.protocol.specs.ClientCache.{cached}
 use Rattle.protocol.specs.ClientAttempts.{is_mutation, chunk_of, push_planned, will_do, chunk_to_find, reads_next, goes_on_at, begins_with, begins_at, attempts, asks}
 use Rattle.client_calls.specs.declared.attempt.Attempt.{Attempt}
-use Rattle.client_calls.specs.Attempts.{next_read, planned_at, follows, asking, with_kept, attempt_at, before_attempt, planned_attempt, after_look, begun}
+use Rattle.client_calls.specs.Attempts.{next_read, planned_at, follows, asking, told_as, with_kept, attempt_at, before_attempt, planned_attempt, after_look, begun}
 
 pub next_reads : (d : ClientDoing) (c : CurrentCall) (chunk : ToldChunk) (hs : List Holder) → reads_next d c chunk hs ≡ follows d c (next_read d.client c chunk hs)
 next_reads d c chunk [] = refl
@@ -28,9 +28,9 @@ pub kept_begun : (d : ClientDoing) (c : CurrentCall) (p : Place) (kept : Option 
 kept_begun d c p None = refl
 kept_begun d c p (Some e) =
     elim (will_do c e)
-    as (λ b. (if b then goes_on_at (after_look d (Some p)) c e.location else asks (after_look d (Some p)) c)
-    ≡ begun d (if b then record { current = c; plan = planned_at d.client c e.location; looked = Some p } else asking d.client c (Some p)))
-    [ true ↦ goes_as_planned (after_look d (Some p)) c e.location | false ↦ refl ]
+    as (λ b. (if b then goes_on_at (after_look d (Some p)) (told_as c e) e.location else asks (after_look d (Some p)) c)
+    ≡ begun d (if b then record { current = told_as c e; plan = planned_at d.client (told_as c e) e.location; looked = Some p } else asking d.client c (Some p)))
+    [ true ↦ goes_as_planned (after_look d (Some p)) (told_as c e) e.location | false ↦ refl ]
 
 pub at_begun : (d : ClientDoing) (c : CurrentCall) (index : Option ℕ) → begins_at d c index ≡ begun d (attempt_at d.client c index)
 at_begun d c None = refl

@@ -30,9 +30,13 @@ follows d c (Some p) = committed d c p
 abbrev pub asking : ClientState → CurrentCall → Option Place → Attempt
 asking s c looked = record { current = record c { lost_lease = false }; plan = Some (ask_planned s c); looked = looked }
 
+-- the call goes by a location that was told then
+abbrev pub told_as : CurrentCall → Cached → CurrentCall
+told_as c e = record c { told = e.told }
+
 abbrev pub with_kept : ClientState → CurrentCall → Place → Option Cached → Attempt
 with_kept s c p None = asking s c (Some p)
-with_kept s c p (Some e) = if will_do c e then record { current = c; plan = planned_at s c e.location; looked = Some p } else asking s c (Some p)
+with_kept s c p (Some e) = if will_do c e then record { current = told_as c e; plan = planned_at s (told_as c e) e.location; looked = Some p } else asking s c (Some p)
 
 abbrev pub attempt_at : ClientState → CurrentCall → Option ℕ → Attempt
 attempt_at s c None = asking s c None

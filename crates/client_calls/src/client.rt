@@ -175,8 +175,21 @@ impl Client {
     fn is_fresh(&self, file: u64, kept: &Cached) -> bool
         ensures { result ≡ is_fresh self.now file kept.now }
     {
-        kept.opened.0 == self.files.last_opened(file)
-            && self.clock.saturating_sub(kept.told.0) < self.config.cache_ms
+        kept.opened.0 == self.files.last_opened(file) && self.is_new_enough(kept.told)
+    }
+
+    /// Whether a location that was told at a moment may be used now.
+    pub fn is_new_enough(&self, told: Moment) -> bool
+        ensures { result ≡ is_new_enough self.now told.0 }
+    {
+        self.clock.saturating_sub(told.0) < self.config.cache_ms
+    }
+
+    /// Its clock.
+    pub fn now(&self) -> Moment
+        ensures { result.0 ≡ self.now.now }
+    {
+        Moment(self.clock)
     }
 
     /// The location that was looked for is the one used last, or goes, if it isn't fresh. Takes no memory.

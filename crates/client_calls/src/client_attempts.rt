@@ -2,7 +2,7 @@
 
 ghost use Rattle.std.specs.Prelude.{◌≡◌, IfOk, OnErr};
 ghost use Rattle.protocol.specs.Client.{client_begins, with_current, answers, committed};
-ghost use Rattle.protocol.specs.ClientAttempts.{completes, last_refusal, gives_up, ended, ends_refused, asks, reads_next, goes_on_at, attempts, attempts_names};
+ghost use Rattle.protocol.specs.ClientAttempts.{completes, last_refusal, gives_up, ended, ends_refused, asks, asks_anew, reads_next, goes_on_at, attempts, attempts_names};
 ghost use Rattle.client_calls.specs.Doing.{doing};
 ghost use Rattle.client_calls.specs.Attempts.{follows, begun};
 
@@ -95,6 +95,14 @@ impl Client {
         let plan = self.ask_planned(&current)?;
         current.lost_lease = false;
         Ok(self.commits(current, plan))
+    }
+
+    /// The location by which the attempt goes is too old: the master is asked again at the next tick.
+    pub fn asks_anew(&mut self, mut current: CurrentCall) -> ClientEffects
+        ensures { asks_anew (client_begins self.old) current ≡ doing self.new result }
+    {
+        current.stage = Stage::MustAskAgain;
+        self.waits(current)
     }
 
     /// The attempt goes on as it was planned; a read that nobody is left to serve ends.

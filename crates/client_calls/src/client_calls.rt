@@ -44,6 +44,7 @@ impl Client {
             last_chunk,
             left: self.config.attempts,
             deadline: Moment(0),
+            told: Moment(0),
             stage: Stage::IsOver,
             lost_lease: false,
             saw_no_holder: false,

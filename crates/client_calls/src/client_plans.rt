@@ -279,7 +279,7 @@ impl Client {
     /// An attempt that begins at a kept location, or with an ask.
     fn with_kept(
         &self,
-        current: CurrentCall,
+        mut current: CurrentCall,
         place: Place,
         kept: Option<&Cached>,
     ) -> Result<Attempt, NoMemory>
@@ -291,6 +291,7 @@ impl Client {
         if !will_do(&current, kept) {
             return self.asking(current, Some(place));
         }
+        current.told = kept.told;
         let plan = self.planned_at(&current, &kept.location)?;
         Ok(Attempt {
             current,

@@ -74,6 +74,8 @@ pub struct CurrentCall {
     pub left: u32,
     /// When the last attempt that was begun ends.
     pub deadline: Moment,
+    /// When the client was told the location by which the attempt goes.
+    pub told: Moment,
     pub stage: Stage,
     /// Whether the primary answered the attempt before that it has no lease or no replica.
     pub lost_lease: bool,
@@ -98,6 +100,7 @@ impl Drop for CurrentCall {
             last_chunk: _,
             left: _,
             deadline: _,
+            told: _,
             stage: _stage,
             lost_lease: _,
             saw_no_holder: _,
@@ -122,6 +125,7 @@ impl CurrentCall {
             last_chunk: _,
             left: _,
             deadline: _,
+            told: _,
             stage: _stage,
             lost_lease: _,
             saw_no_holder: _,

@@ -183,7 +183,7 @@ module _ (s : ClientState) where
         finds = λ d c index e end is h. tt;
         hears = λ c number l now at came h. (h, tt);
         holders = λ d c l fit. tt;
-        left = λ c chunk rest number now at h. tt;
+        left = λ c chunk rest number now at fresh h. tt;
         answered = λ d c reply h. silent d h (answers d reply) refl refl h.3 none_open;
         name_answered = λ d c reply h. silent d h (answers d reply) refl refl h.3 none_open;
         opened = λ c number file shape now at came h. silent (client_begins s) (refl, refl, refl, refl) _ refl refl refl none_open;
@@ -196,7 +196,7 @@ module _ (s : ClientState) where
             speaks d h (committed d c (read_planned d.client c chunk x rest)) refl refl (message (the_client d.client.id) (the_server x.server.0) (read_body d.client c chunk x)) refl refl
             (own_read (Some (record c { stage = SentRead chunk rest (suc d.client.number) })) d.client c chunk x) (record c { stage = SentRead chunk rest (suc d.client.number) }) refl refl;
         pushes = λ d c l g first is hop fit h. pushed_now d h c (chunk_of l) g first;
-        mutates = λ c chunk primary number now at h.
+        mutates = λ c chunk primary number now at fresh h.
             speaks (client_begins s) h (committed (client_begins s) c (mutate_planned s c chunk primary number)) refl refl
             (message (the_client s.id) (the_server primary.0) (body.Mutate (data_id s.id number) chunk.handle chunk.round (target_of (file_chunk s c.file.0) c.index c.asked) c.deadline)) refl refl
             (record { before = c; chunk = chunk; primary = primary; number = number; before_is = now; stage_is = at; after_is = refl; id_is = refl; handle_is = refl; version_is = refl; aim_is = refl })

@@ -55,7 +55,7 @@ module _ (s : ClientState) where
         finds = λ d c index e end is h. tt;
         hears = λ c number l now at came h. (h, tt);
         holders = λ d c l fit. tt;
-        left = λ c chunk rest number now at h. tt;
+        left = λ c chunk rest number now at fresh h. tt;
         answered = λ d c reply h. inr (h.0, tt);
         name_answered = λ d c reply h. inr (h.0, tt);
         opened = λ c number file shape now at came h. inr (h.0, tt);
@@ -64,7 +64,7 @@ module _ (s : ClientState) where
         asking = λ d c h. inr (h.0, later d c h);
         reads = λ d c chunk x rest r h. inr (h.0, later d c h);
         pushes = λ d c l g first is hop fit h. inr (h.0, tt);
-        mutates = λ c chunk primary number now is h. inr (refl, ap waited_data now ∙ ap data_number is);
+        mutates = λ c chunk primary number now is fresh h. inr (refl, ap waited_data now ∙ ap data_number is);
         naming = λ d c end h. inr (h.0, tt);
       }
 

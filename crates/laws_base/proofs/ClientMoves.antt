@@ -40,10 +40,10 @@ use Rattle.client_state.specs.declared.call.ToldChunk.{ToldChunk}
 use Rattle.client_state.specs.declared.call.Stage.{Stage}
 use Rattle.client_state.specs.declared.call.Stage.TheVariants.{AskedNames, AskedWhere, MustAskAgain, SentData, SentMutate, SentRead, IsOver, HasAnswer}
 use Rattle.protocol.specs.Client.{file_chunk, place_in_file, ClientState, ClientDoing, client_begins, Plan, committed, from_client, with_current, answers}
-use Rattle.protocol.specs.ClientCache.{cached, cache_after_look, with_location}
+use Rattle.protocol.specs.ClientCache.{cached, cache_after_look, with_location, is_new_enough}
 use Rattle.protocol.specs.ClientFiles.{last_append, with_last_append}
-use Rattle.protocol.specs.ClientAttempts.{is_mutation, is_length, is_append, bytes_to_send, read_start, read_count, wanted_by, has_next_part, is_live_at, completes, last_refusal, gives_up, ended, is_last_attempt, ends_refused, asks, read_planned, reads_next, push_planned_to, push_planned, mutate_planned, chunk_of, goes_on_at, will_do, begins_with, begins_at, chunk_to_find, attempts, attempts_names, begins_next_part, forgets}
-use Rattle.protocol.specs.ClientTakes.{takes_reply, takes_named, takes_wait, gets, told_none, told_location, told, takes_told, is_own_data, takes_pushed, less_live, succeeds, takes_done, takes_bytes, takes_len_is, master_refuses, stays_live, finds_full, primary_refuses, takes_refused, client_takes}
+use Rattle.protocol.specs.ClientAttempts.{is_mutation, is_length, is_append, bytes_to_send, read_start, read_count, wanted_by, has_next_part, is_live_at, completes, last_refusal, gives_up, ended, is_last_attempt, ends_refused, asks, read_planned, reads_next, push_planned_to, push_planned, mutate_planned, chunk_of, goes_on_at, will_do, begins_with, begins_at, chunk_to_find, attempts, attempts_names, begins_next_part, forgets, asks_anew}
+use Rattle.protocol.specs.ClientTakes.{takes_reply, takes_named, takes_wait, gets, told_none, told_location, told, takes_told, is_own_data, takes_pushed, less_live, succeeds, takes_done, takes_bytes, takes_len_is, master_refuses, stays_live, finds_full, primary_refuses, takes_refused, client_takes, pushed_to, reader_refuses}
 use Rattle.protocol.specs.ClientStep.{new_call, calls_names, calls_file, calls_on, fd_of, calls, ticks_names, ends_unanswered, ticks_unanswered, ticks_at, takes_at, client_does, client_at, client_goes, client_call_goes, may_step, client_ends, client_call, client_step}
 use Rattle.laws_base.specs.Laws.{orders_under, is_number}
 use Rattle.laws_base.proofs.Steps.{on_cond, tally, count-cons, count-append}
@@ -122,7 +122,9 @@ goes_on_quiet d c l h =
 
 begins_with_quiet : (d : ClientDoing) (c : CurrentCall) (o : Option Cached) → Quiet d → Quiet (begins_with d c o)
 begins_with_quiet d c None h = asks_quiet d c
-begins_with_quiet d c (Some e) h = on_cond Quiet (will_do c e) (goes_on_at d c e.location) (asks d c) (λ _. goes_on_quiet d c e.location h) (λ _. asks_quiet d c)
+begins_with_quiet d c (Some e) h =
+    let then_ : CurrentCall = record c { told = e.told } in
+    on_cond Quiet (will_do c e) (goes_on_at d then_ e.location) (asks d c) (λ _. goes_on_quiet d then_ e.location h) (λ _. asks_quiet d c)
 
 begins_at_quiet : (d : ClientDoing) (c : CurrentCall) (o : Option ℕ) → Quiet d → Quiet (begins_at d c o)
 begins_at_quiet d c None h = asks_quiet d c
@@ -172,7 +174,7 @@ told_none_quiet d c other h = h
 told_location_quiet : (d : ClientDoing) (c : CurrentCall) (l : Location) → Quiet d → Quiet (told_location d c l)
 told_location_quiet d c l h =
     let kept : ClientDoing = record d { client = record d.client { cache = with_location d.client c.file.0 l } } in
-    let there : CurrentCall = record c { saw_no_holder = false; is_nobody_serving = false } in
+    let there : CurrentCall = record c { told = moment_of d.client.now; saw_no_holder = false; is_nobody_serving = false } in
     on_cond Quiet (is_empty_list l.holders) _ (goes_on_at kept there l) (λ _. h) (λ _. goes_on_quiet kept there l h)
 
 told_quiet : (d : ClientDoing) (c : CurrentCall) (o : Option Location) → Quiet d → Quiet (told d c o)
@@ -183,9 +185,13 @@ takes_told_quiet : (d : ClientDoing) (c : CurrentCall) (s : Stage) (number : ℕ
 takes_told_quiet d c (AskedWhere asked) number o h = on_cond Quiet (asked == number) (told d c o) d (λ _. told_quiet d c o h) (λ _. h)
 takes_told_quiet d c other number o h = h
 
+pushed_to_quiet : (d : ClientDoing) (c : CurrentCall) (chunk : ToldChunk) (primary : ServerId) (number : ℕ) → Quiet d → Quiet (pushed_to d c chunk primary number)
+pushed_to_quiet d c chunk primary number h =
+    on_cond Quiet (is_new_enough d.client c.told.0) (committed d c (mutate_planned d.client c chunk primary number)) (asks_anew d c) (λ _. (refl, tt)) (λ _. h)
+
 pushed_quiet : (d : ClientDoing) (c : CurrentCall) (s : Stage) (id : DataId) → Quiet d → Quiet (takes_pushed d c s id)
 pushed_quiet d c (SentData chunk primary number) id h =
-    on_cond Quiet (is_own_data d id number) (committed d c (mutate_planned d.client c chunk primary number)) d (λ _. (refl, tt)) (λ _. h)
+    on_cond Quiet (is_own_data d id number) (pushed_to d c chunk primary number) d (λ _. pushed_to_quiet d c chunk primary number h) (λ _. h)
 pushed_quiet d c other id h = h
 
 succeeds_quiet : (d : ClientDoing) (c : CurrentCall) (chunk : ToldChunk) (place : ℕ) → Quiet d → Quiet (succeeds d c chunk place)
@@ -225,10 +231,13 @@ primary_refuses_quiet d c chunk NoLease h = refused_quiet d (stays_live d c chun
 primary_refuses_quiet d c chunk ChunkFull h = full_quiet d (less_live c chunk) chunk h
 primary_refuses_quiet d c chunk other h = refused_quiet d (less_live c chunk) h
 
+reader_quiet : (d : ClientDoing) (c : CurrentCall) (chunk : ToldChunk) (left : List Holder) → Quiet d → Quiet (reader_refuses d c chunk left)
+reader_quiet d c chunk left h = on_cond Quiet (is_new_enough d.client c.told.0) (reads_next d c chunk left) (asks_anew d c) (λ _. reads_quiet d c chunk left h) (λ _. h)
+
 takes_refused_quiet : (d : ClientDoing) (c : CurrentCall) (s : Stage) (number : ℕ) (r : Refusal) → Quiet d → Quiet (takes_refused d c s number r)
 takes_refused_quiet d c (AskedWhere asked) number r h = on_cond Quiet (asked == number) (master_refuses d c r) d (λ _. master_refuses_quiet d c r h) (λ _. h)
 takes_refused_quiet d c (SentMutate chunk asked) number r h = on_cond Quiet (asked == number) (primary_refuses (forgets d c chunk) c chunk r) d (λ _. primary_refuses_quiet (forgets d c chunk) c chunk r h) (λ _. h)
-takes_refused_quiet d c (SentRead chunk left asked) number r h = on_cond Quiet (asked == number) (reads_next (forgets d c chunk) c chunk left) d (λ _. reads_quiet (forgets d c chunk) c chunk left h) (λ _. h)
+takes_refused_quiet d c (SentRead chunk left asked) number r h = on_cond Quiet (asked == number) (reader_refuses (forgets d c chunk) c chunk left) d (λ _. reader_quiet (forgets d c chunk) c chunk left h) (λ _. h)
 takes_refused_quiet d c other number r h = h
 
 takes_quiet : (d : ClientDoing) (c : CurrentCall) (b : Body) → Quiet d → Quiet (client_takes d c b)

@@ -36,16 +36,16 @@ use Rattle.client_state.specs.declared.call.Stage.TheVariants.{AskedNames, Asked
 use Rattle.client_state.specs.declared.kept.Cached.{Cached}
 use Rattle.client_state.specs.declared.kept.Place.{Place}
 use Rattle.protocol.specs.Client.{file_chunk, place_in_file, ClientState, ClientDoing, client_begins, committed, with_current, answers}
-use Rattle.protocol.specs.ClientCache.{cached}
+use Rattle.protocol.specs.ClientCache.{cached, is_new_enough}
 use Rattle.protocol.specs.ClientFiles.{last_append}
-use Rattle.protocol.specs.ClientAttempts.{is_mutation, is_length, is_append, wanted_by, read_start, read_count, has_next_part, is_live_at, completes, last_refusal, gives_up, ended, is_last_attempt, ends_refused, asks, reads_next, push_planned_to, push_planned, mutate_planned, chunk_of, goes_on_at, will_do, begins_with, begins_at, chunk_to_find, attempts, attempts_names, begins_next_part, forgets}
-use Rattle.protocol.specs.ClientTakes.{takes_reply, takes_named, takes_wait, gets, told_none, told_location, told, takes_told, is_own_data, takes_pushed, less_live, succeeds, takes_done, takes_bytes, takes_len_is, master_refuses, stays_live, finds_full, primary_refuses, takes_refused, client_takes}
+use Rattle.protocol.specs.ClientAttempts.{is_mutation, is_length, is_append, wanted_by, read_start, read_count, has_next_part, is_live_at, completes, last_refusal, gives_up, ended, is_last_attempt, ends_refused, asks, reads_next, push_planned_to, push_planned, mutate_planned, chunk_of, goes_on_at, will_do, begins_with, begins_at, chunk_to_find, attempts, attempts_names, begins_next_part, forgets, asks_anew}
+use Rattle.protocol.specs.ClientTakes.{takes_reply, takes_named, takes_wait, gets, told_none, told_location, told, takes_told, is_own_data, takes_pushed, less_live, succeeds, takes_done, takes_bytes, takes_len_is, master_refuses, stays_live, finds_full, primary_refuses, takes_refused, client_takes, pushed_to, reader_refuses}
 use Rattle.protocol.specs.ClientStep.{new_call, calls_names, calls_file, calls_on, fd_of, calls, ticks_names, ends_unanswered, ticks_unanswered, ticks_at, takes_at, client_does}
 use Rattle.laws_base.proofs.Steps.{on_cond, none_some, same_some}
 use Rattle.laws_base.proofs.Entries.{AllOf}
 use Rattle.laws_base.proofs.ServerMoves.{IsCameIn}
 use Rattle.laws_steps.proofs.Caches.{after_look, after_drop}
-use Rattle.laws_steps.proofs.ClientWalk.{attempt_end, place_at, looked, heard_at, is_told_of, noted, closed, once_more}
+use Rattle.laws_steps.proofs.ClientWalk.{attempt_end, place_at, looked, heard_at, is_told_of, noted, closed, once_more, told_at}
 use Rattle.laws_steps.proofs.Budget.{IsNoMutate}
 
 -- the same part of a call, with the same attempts that count as live
@@ -270,7 +270,9 @@ module _ (s : ClientState) (Came : Body → Type 0) (P : Place × Cached → Typ
 
   begins_with_calm : (d : ClientDoing) (c : CurrentCall) (o : Option Cached) → IsReady P s d → ((e : Cached) → o ≡ Some e → X c (chunk_of e.location)) → H c → Calm (begins_with d c o)
   begins_with_calm d c None r x h = asks_calm d c r h
-  begins_with_calm d c (Some e) r x h = on_cond Calm (will_do c e) (goes_on_at d c e.location) (asks d c) (λ _. goes_on_calm d c e.location r (x e refl) h) (λ _. asks_calm d c r h)
+  begins_with_calm d c (Some e) r x h =
+      on_cond Calm (will_do c e) (goes_on_at d (told_at c e) e.location) (asks d c)
+      (λ _. goes_on_calm d (told_at c e) e.location r (k.fits c (told_at c e) (chunk_of e.location) refl refl (x e refl)) (k.same c (told_at c e) (refl, refl, refl, refl, refl) h)) (λ _. asks_calm d c r h)
 
   begins_at_calm : (d : ClientDoing) (c : CurrentCall) (o : Option ℕ) → IsReady P s d → ((index : ℕ) → o ≡ Some index → IsOfPart c.asked c.index index) → H c → Calm (begins_at d c o)
   begins_at_calm d c None r part h = asks_calm d c r h
@@ -314,8 +316,8 @@ module _ (s : ClientState) (Came : Body → Type 0) (P : Place × Cached → Typ
   location_calm : (d : ClientDoing) (c : CurrentCall) (l : Location) → IsReady P s d → X c (chunk_of l) → H c → Calm (told_location d c l)
   location_calm d c l r x h =
       let nobody : CurrentCall = record c { stage = MustAskAgain; saw_no_holder = true; is_nobody_serving = true } in
-      on_cond Calm (is_empty_list l.holders) (with_current d nobody) (goes_on_at (heard_at d c l) (is_told_of c) l)
-      (λ _. waits d nobody r (k.same c nobody (refl, refl, refl, refl, refl) h)) (λ _. goes_on_calm (heard_at d c l) (is_told_of c) l (heard_ready d c l r) (k.fits c (is_told_of c) (chunk_of l) refl refl x) (k.same c (is_told_of c) (refl, refl, refl, refl, refl) h))
+      on_cond Calm (is_empty_list l.holders) (with_current d nobody) (goes_on_at (heard_at d c l) (is_told_of d c) l)
+      (λ _. waits d nobody r (k.same c nobody (refl, refl, refl, refl, refl) h)) (λ _. goes_on_calm (heard_at d c l) (is_told_of d c) l (heard_ready d c l r) (k.fits c (is_told_of d c) (chunk_of l) refl refl x) (k.same c (is_told_of d c) (refl, refl, refl, refl, refl) h))
 
   told_calm : (d : ClientDoing) (c : CurrentCall) (o : Option Location) → IsReady P s d → ((l : Location) → o ≡ Some l → X c (chunk_of l)) → H c → Calm d → Calm (told d c o)
   told_calm d c None r x h p = told_none_calm d c c.asked refl r h p
@@ -384,7 +386,10 @@ module _ (s : ClientState) (Came : Body → Type 0) (P : Place × Cached → Typ
       on_cond Calm (asked == number) (primary_refuses (forgets d0 c chunk) c chunk refusal) d0
       (λ same. primary_refuses_calm c chunk asked refusal h.1 (subst (λ (n : ℕ). Came (body.Refused n refusal)) (sym (eqb-true asked number same)) came)) (λ _. p)
   takes_refused_calm c (SentRead chunk left asked) number refusal h came p =
-      on_cond Calm (asked == number) (reads_next (forgets d0 c chunk) c chunk left) d0 (λ _. reads_calm (forgets d0 c chunk) c chunk left (dropped c chunk) h.0 h.2 h.1) (λ _. p)
+      let there : ClientDoing = forgets d0 c chunk in
+      on_cond Calm (asked == number) (reader_refuses there c chunk left) d0
+      (λ _. on_cond Calm (is_new_enough there.client c.told.0) (reads_next there c chunk left) (asks_anew there c) (λ _. reads_calm there c chunk left (dropped c chunk) h.0 h.2 h.1)
+      (λ _. waits there (record c { stage = MustAskAgain }) (dropped c chunk) (k.same c (record c { stage = MustAskAgain }) (refl, refl, refl, refl, refl) h.1))) (λ _. p)
   takes_refused_calm c other number refusal h came p = p
 
   succeeds_calm : (c : CurrentCall) (chunk : ToldChunk) (place : ℕ) → K c chunk place → Calm (succeeds (client_begins s) c chunk place)
@@ -408,8 +413,10 @@ module _ (s : ClientState) (Came : Body → Type 0) (P : Place × Cached → Typ
 
   takes_pushed_calm : (c : CurrentCall) (st : Stage) (id : DataId) → c.stage ≡ st → s.current ≡ Some c → At None c st → Calm d0 → Left (takes_pushed (client_begins s) c st id)
   takes_pushed_calm c (SentData chunk primary number) id staged now h p =
-      on_cond Left (is_own_data d0 id number) (committed d0 c (mutate_planned s c chunk primary number)) d0
-      (λ _. inr (record { current = c; chunk = chunk; primary = primary; number = number; current_is = now; stage_is = staged; mutates = h.0; over = h.1; pushed = h.2; is = refl })) (λ _. inl p)
+      on_cond Left (is_own_data d0 id number) (pushed_to d0 c chunk primary number) d0
+      (λ _. on_cond Left (is_new_enough s c.told.0) (committed d0 c (mutate_planned s c chunk primary number)) (asks_anew d0 c)
+      (λ _. inr (record { current = c; chunk = chunk; primary = primary; number = number; current_is = now; stage_is = staged; mutates = h.0; over = h.1; pushed = h.2; is = refl }))
+      (λ _. inl (waits d0 (record c { stage = MustAskAgain }) ready (k.same c (record c { stage = MustAskAgain }) (refl, refl, refl, refl, refl) h.1)))) (λ _. inl p)
   takes_pushed_calm c other id staged now h p = inl p
 
   takes_calm : (c : CurrentCall) (b : Body) → s.current ≡ Some c → Came b → At None c c.stage → Calm d0 → Left (client_takes (client_begins s) c b)

@@ -138,7 +138,7 @@ module _ (sent : List Message) (k client : ℕ) (s : ClientState) where
           finds = λ d c index e end is h. tt;
           hears = λ c number l now at came h. ((h.0, h.1, heard_keyed (client_begins s) c l h.2), tt);
           holders = λ d c l told. tt;
-          left = λ c chunk rest number now at h. tt;
+          left = λ c chunk rest number now at fresh h. tt;
           answered = λ d c reply h. answered d reply h.2;
           name_answered = λ d c reply h. answered d reply h.2;
           opened = λ c number file shape now at came h. rests (opens (client_begins s) file.0 shape) h.2 (λ e is. none_some e is);
@@ -147,7 +147,7 @@ module _ (sent : List Message) (k client : ℕ) (s : ClientState) where
           asking = λ d c h. asking d c h;
           reads = λ d c chunk x rest r h. stays (committed d c (read_planned d.client c chunk x rest)) (record c { stage = SentRead chunk rest (suc d.client.number) }) refl tt h.2;
           pushes = λ d c l g first is hop told h. stays (committed d c (push_planned_to d.client c (chunk_of l) g (Some first))) (record c { stage = SentData (chunk_of l) g.primary (suc d.client.number) }) refl tt h.2;
-          mutates = λ c chunk primary number now at h. stays (committed (client_begins s) c (mutate_planned s c chunk primary number)) (record c { stage = SentMutate chunk number }) refl tt h.2;
+          mutates = λ c chunk primary number now at fresh h. stays (committed (client_begins s) c (mutate_planned s c chunk primary number)) (record c { stage = SentMutate chunk number }) refl tt h.2;
           naming = λ d c end h. stays (committed d c (name_planned d.client c)) (record c { stage = AskedNames }) refl tt h.2;
         }
 

@@ -34,7 +34,7 @@ use Rattle.laws_steps.specs.Reads.{HasAsked}
 use Rattle.laws_steps.proofs.ClientReads.{WasRequestSent}
 use Rattle.laws_steps.proofs.Known.{known_reached}
 use Rattle.laws_steps.specs.Locations.{chunk_used, BeganInTime, WasTold, IsToldNow}
-use Rattle.laws_steps.proofs.LocationsUsed.{locations_are_not_used_too_long}
+use Rattle.laws_steps.proofs.LocationsUsed.{attempts_go_by_told_locations}
 use Rattle.laws_entries.proofs.Deadlines.{asks_for, asking, same_counted}
 use Rattle.laws_entries.proofs.OwnMutates.{IsOwn, mutates_are_own}
 use Rattle.laws_entries.proofs.UsedNumbers.{Asks}
@@ -133,7 +133,7 @@ located : (config : Config) (servers clients : ℕ) (steps : List (Event × Choi
 located config servers clients steps index file chunk seq x h granted =
     record {
       location = l;
-      chunk_is = law.2;
+      chunk_is = law.1;
       place = now.number - 1;
       told = told_grown v.sent w.sent grown (suc index) file l (now.number - 1)
           (subst (λ (n : ℕ). IsToldAt v.sent (suc index) n l (now.number - 1)) (now.file_is ∙ h.file_is) (record {
@@ -143,7 +143,7 @@ located config servers clients steps index file chunk seq x h granted =
             sent_is = element_numbered v.sent now.number now.told now.message_is;
             receiver_is = now.receiver_is;
             body_is = now.body_is;
-            granted = subst (λ (c : ToldChunk). 1 ≤ c.round.0) (sym law.2) granted;
+            granted = subst (λ (c : ToldChunk). 1 ≤ c.round.0) (sym law.1) granted;
           }));
     }
   where
@@ -153,19 +153,19 @@ located config servers clients steps index file chunk seq x h granted =
     w : WorldState
     w = after_events start steps
 
-    law : (l : Location) × (clock : ℕ) × (chunk_of l ≡ chunk) × BeganInTime config (h.current).deadline.0 clock × WasTold start steps index (h.current).file.0 l clock
-    law = locations_are_not_used_too_long config servers clients steps index h.client h.current chunk h.client_is h.current_is (ap (λ (st : Stage). chunk_used st) h.stage_is)
+    law : (l : Location) × (chunk_of l ≡ chunk) × BeganInTime config (h.current).deadline.0 (h.current).told.0 × WasTold start steps index (h.current).file.0 l (h.current).told.0
+    law = attempts_go_by_told_locations config servers clients steps index h.client h.current chunk h.client_is h.current_is (ap (λ (st : Stage). chunk_used st) h.stage_is)
 
     l : Location
     l = law.0
 
-    was : WasTold start steps index (h.current).file.0 l law.1
-    was = law.4
+    was : WasTold start steps index (h.current).file.0 l (h.current).told.0
+    was = law.3
 
     v : WorldState
     v = after_events start was.before
 
-    now : IsToldNow v (was.step).0 index (h.current).file.0 l law.1
+    now : IsToldNow v (was.step).0 index (h.current).file.0 l (h.current).told.0
     now = was.told
 
     grown : IsGrown v.sent w.sent

@@ -46,7 +46,7 @@ use Rattle.laws_steps.proofs.Histories.{IsGrown, steps_grown, after_both}
 use Rattle.laws_steps.proofs.Known.{known_reached}
 use Rattle.laws_steps.proofs.RequestsOnce.{first_and}
 use Rattle.laws_steps.proofs.LeasesStayOver.{reached_later}
-use Rattle.laws_steps.proofs.LocationsUsed.{locations_are_not_used_too_long}
+use Rattle.laws_steps.proofs.LocationsUsed.{attempts_go_by_told_locations}
 use Rattle.laws_calls.specs.AnsweredWrites.{IsToldChunk}
 use Rattle.laws_calls.specs.ToldIndexes.{has_index, PartsGoToTheirChunk}
 use Rattle.laws_calls.proofs.CallWalk.{IsOfPart, KeepsCall, StandsAt, StandsNow, IsCalm, IsAsking, Leaves, does_leave, begun_calm, call_calm, at_once_calm}
@@ -261,7 +261,7 @@ fitting_reached config servers clients steps = fits_on config servers clients (n
 -- the location was told
 pub used_was_told : (config : Config) (servers clients : ℕ) (steps : List (Event × Choice)) (index : ℕ) (s : ClientState) (c : CurrentCall) (chunk : ToldChunk) → element_at (after_events (new_world config servers clients) steps).clients index ≡ Some s → s.current ≡ Some c
     → chunk_used c.stage ≡ Some chunk → (l : Location) × (chunk_of l ≡ chunk) × IsTold (after_events (new_world config servers clients) steps).sent (suc index) c.file.0 l
-used_was_told config servers clients steps index s c chunk at current used = (law.0, law.2, subst (λ (ms : List Message). IsTold ms (suc index) c.file.0 law.0) (sym grown.1) (told_later v.sent grown.0 (suc index) c.file.0 law.0 there))
+used_was_told config servers clients steps index s c chunk at current used = (law.0, law.1, subst (λ (ms : List Message). IsTold ms (suc index) c.file.0 law.0) (sym grown.1) (told_later v.sent grown.0 (suc index) c.file.0 law.0 there))
   where
     start : WorldState
     start = new_world config servers clients
@@ -269,16 +269,16 @@ used_was_told config servers clients steps index s c chunk at current used = (la
     w : WorldState
     w = after_events start steps
 
-    law : (l : Location) × (clock : ℕ) × (chunk_of l ≡ chunk) × BeganInTime config c.deadline.0 clock × WasTold start steps index c.file.0 l clock
-    law = locations_are_not_used_too_long config servers clients steps index s c chunk at current used
+    law : (l : Location) × (chunk_of l ≡ chunk) × BeganInTime config c.deadline.0 c.told.0 × WasTold start steps index c.file.0 l c.told.0
+    law = attempts_go_by_told_locations config servers clients steps index s c chunk at current used
 
-    was : WasTold start steps index c.file.0 law.0 law.1
-    was = law.4
+    was : WasTold start steps index c.file.0 law.0 c.told.0
+    was = law.3
 
     v : WorldState
     v = after_events start was.before
 
-    now : IsToldNow v (was.step).0 index c.file.0 law.0 law.1
+    now : IsToldNow v (was.step).0 index c.file.0 law.0 c.told.0
     now = was.told
 
     grown : IsGrown v.sent w.sent

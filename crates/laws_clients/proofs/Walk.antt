@@ -32,10 +32,10 @@ use Rattle.client_state.specs.declared.call.ToldChunk.{ToldChunk}
 use Rattle.client_state.specs.declared.call.Stage.{Stage}
 use Rattle.client_state.specs.declared.call.Stage.TheVariants.{AskedNames, AskedWhere, MustAskAgain, SentData, SentMutate, SentRead, IsOver, HasAnswer}
 use Rattle.protocol.specs.Client.{file_chunk, place_in_file, ClientState, ClientDoing, client_begins, committed, with_current, answers}
-use Rattle.protocol.specs.ClientCache.{cached, cache_after_look, with_location}
+use Rattle.protocol.specs.ClientCache.{cached, cache_after_look, with_location, is_new_enough}
 use Rattle.protocol.specs.ClientFiles.{last_append, with_last_append}
-use Rattle.protocol.specs.ClientAttempts.{is_mutation, is_length, is_append, read_count, has_next_part, is_live_at, completes, last_refusal, gives_up, ended, is_last_attempt, ends_refused, asks, reads_next, push_planned, mutate_planned, chunk_of, goes_on_at, will_do, begins_with, begins_at, chunk_to_find, attempts, attempts_names, begins_next_part, forgets}
-use Rattle.protocol.specs.ClientTakes.{takes_reply, takes_named, takes_wait, gets, told_none, told_location, told, takes_told, is_own_data, takes_pushed, less_live, succeeds, takes_done, takes_bytes, takes_len_is, master_refuses, stays_live, finds_full, primary_refuses, takes_refused, client_takes}
+use Rattle.protocol.specs.ClientAttempts.{is_mutation, is_length, is_append, read_count, has_next_part, is_live_at, completes, last_refusal, gives_up, ended, is_last_attempt, ends_refused, asks, reads_next, push_planned, mutate_planned, chunk_of, goes_on_at, will_do, begins_with, begins_at, chunk_to_find, attempts, attempts_names, begins_next_part, forgets, asks_anew}
+use Rattle.protocol.specs.ClientTakes.{takes_reply, takes_named, takes_wait, gets, told_none, told_location, told, takes_told, is_own_data, takes_pushed, less_live, succeeds, takes_done, takes_bytes, takes_len_is, master_refuses, stays_live, finds_full, primary_refuses, takes_refused, client_takes, pushed_to, reader_refuses}
 use Rattle.protocol.specs.ClientStep.{new_call, calls_names, calls_file, calls_on, fd_of, calls, ticks_names, ends_unanswered, ticks_unanswered, ticks_at, takes_at, client_does}
 use Rattle.laws_clients.specs.Answered.{one_if}
 
@@ -77,7 +77,9 @@ goes_on_one d c l h =
 
 begins_with_one : (d : ClientDoing) (c : CurrentCall) (o : Option Cached) → Unanswered d → One (begins_with d c o)
 begins_with_one d c None h = stays d h
-begins_with_one d c (Some e) h = on_cond One (will_do c e) (goes_on_at d c e.location) (asks d c) (λ _. goes_on_one d c e.location h) (λ _. stays d h)
+begins_with_one d c (Some e) h =
+    let then_ : CurrentCall = record c { told = e.told } in
+    on_cond One (will_do c e) (goes_on_at d then_ e.location) (asks d c) (λ _. goes_on_one d then_ e.location h) (λ _. stays d h)
 
 begins_at_one : (d : ClientDoing) (c : CurrentCall) (o : Option ℕ) → Unanswered d → One (begins_at d c o)
 begins_at_one d c None h = stays d h
@@ -110,7 +112,7 @@ told_none_one d c other h p = p
 told_location_one : (d : ClientDoing) (c : CurrentCall) (l : Location) → Unanswered d → One (told_location d c l)
 told_location_one d c l h =
     let there : ClientDoing = record d { client = record d.client { cache = with_location d.client c.file.0 l } } in
-    let heard : CurrentCall = record c { saw_no_holder = false; is_nobody_serving = false } in
+    let heard : CurrentCall = record c { told = moment_of d.client.now; saw_no_holder = false; is_nobody_serving = false } in
     on_cond One (is_empty_list l.holders) (with_current d (record c { stage = MustAskAgain; saw_no_holder = true; is_nobody_serving = true })) (goes_on_at there heard l)
     (λ _. stays d h) (λ _. goes_on_one there heard l h)
 
@@ -137,7 +139,8 @@ takes_wait_one d c other number h p = p
 
 takes_pushed_one : (d : ClientDoing) (c : CurrentCall) (st : Stage) (id : DataId) → Unanswered d → One d → One (takes_pushed d c st id)
 takes_pushed_one d c (SentData chunk primary number) id h p =
-    on_cond One (is_own_data d id number) (committed d c (mutate_planned d.client c chunk primary number)) d (λ _. stays d h) (λ _. p)
+    on_cond One (is_own_data d id number) (pushed_to d c chunk primary number) d
+    (λ _. on_cond One (is_new_enough d.client c.told.0) (committed d c (mutate_planned d.client c chunk primary number)) (asks_anew d c) (λ _. stays d h) (λ _. stays d h)) (λ _. p)
 takes_pushed_one d c other id h p = p
 
 succeeds_one : (d : ClientDoing) (c : CurrentCall) (chunk : ToldChunk) (place : ℕ) → Unanswered d → One (succeeds d c chunk place)
@@ -183,7 +186,9 @@ takes_refused_one d c (AskedWhere asked) number r h p = on_cond One (asked == nu
 takes_refused_one d c (SentMutate chunk asked) number r h p =
     on_cond One (asked == number) (primary_refuses (forgets d c chunk) c chunk r) d (λ _. primary_refuses_one (forgets d c chunk) c chunk r h) (λ _. p)
 takes_refused_one d c (SentRead chunk left asked) number r h p =
-    on_cond One (asked == number) (reads_next (forgets d c chunk) c chunk left) d (λ _. reads_one (forgets d c chunk) c chunk left h) (λ _. p)
+    let there : ClientDoing = forgets d c chunk in
+    on_cond One (asked == number) (reader_refuses there c chunk left) d
+    (λ _. on_cond One (is_new_enough there.client c.told.0) (reads_next there c chunk left) (asks_anew there c) (λ _. reads_one there c chunk left h) (λ _. stays there h)) (λ _. p)
 takes_refused_one d c other number r h p = p
 
 takes_one : (d : ClientDoing) (c : CurrentCall) (b : Body) → Unanswered d → One d → One (client_takes d c b)

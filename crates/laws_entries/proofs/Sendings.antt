@@ -36,9 +36,9 @@ use Rattle.client_state.specs.declared.call.Stage.{Stage}
 use Rattle.client_state.specs.declared.call.Stage.TheVariants.{AskedNames, AskedWhere, MustAskAgain, SentData, SentMutate, SentRead, IsOver, HasAnswer}
 use Rattle.protocol.specs.Client.{file_chunk, place_in_file, ClientDoing, committed, with_current, answers}
 use Rattle.protocol.specs.ClientFiles.{with_last_append, last_append}
-use Rattle.protocol.specs.ClientCache.{cached, cache_after_look, with_location}
-use Rattle.protocol.specs.ClientAttempts.{is_mutation, bytes_to_send, is_append, is_length, read_count, has_next_part, is_live_at, completes, last_refusal, gives_up, ended, is_last_attempt, ends_refused, asks, reads_next, push_planned_to, push_planned, mutate_planned, chunk_of, goes_on_at, will_do, begins_with, begins_at, chunk_to_find, attempts, attempts_names, begins_next_part, forgets}
-use Rattle.protocol.specs.ClientTakes.{takes_reply, takes_named, takes_wait, gets, told_none, told_location, told, takes_told, is_own_data, takes_pushed, less_live, succeeds, takes_done, takes_bytes, takes_len_is, master_refuses, stays_live, finds_full, primary_refuses, takes_refused, client_takes}
+use Rattle.protocol.specs.ClientCache.{cached, cache_after_look, with_location, is_new_enough}
+use Rattle.protocol.specs.ClientAttempts.{is_mutation, bytes_to_send, is_append, is_length, read_count, has_next_part, is_live_at, completes, last_refusal, gives_up, ended, is_last_attempt, ends_refused, asks, reads_next, push_planned_to, push_planned, mutate_planned, chunk_of, goes_on_at, will_do, begins_with, begins_at, chunk_to_find, attempts, attempts_names, begins_next_part, forgets, asks_anew}
+use Rattle.protocol.specs.ClientTakes.{takes_reply, takes_named, takes_wait, gets, told_none, told_location, told, takes_told, is_own_data, takes_pushed, less_live, succeeds, takes_done, takes_bytes, takes_len_is, master_refuses, stays_live, finds_full, primary_refuses, takes_refused, client_takes, pushed_to, reader_refuses}
 use Rattle.protocol.specs.ClientStep.{new_call, calls_names, calls_file, calls_on, fd_of, calls, ticks_names, ends_unanswered, ticks_unanswered, ticks_at, takes_at, client_does}
 use Rattle.laws_base.proofs.Steps.{on_cond, none_some}
 
@@ -151,7 +151,9 @@ module _ (A : Call) (F : ℕ → Type 0) (Size Own : ℕ) (Sent : List Message) 
 
   with_good : (d : ClientDoing) (c : CurrentCall) (o : Option Cached) → c.asked ≡ A → Base d → Good (begins_with d c o)
   with_good d c None same h = asks_good d c same h
-  with_good d c (Some e) same h = on_cond Good (will_do c e) (goes_on_at d c e.location) (asks d c) (λ _. goes_good d c e.location same h) (λ _. asks_good d c same h)
+  with_good d c (Some e) same h =
+      let then_ : CurrentCall = record c { told = e.told } in
+      on_cond Good (will_do c e) (goes_on_at d then_ e.location) (asks d c) (λ _. goes_good d then_ e.location same h) (λ _. asks_good d c same h)
 
   at_good : (d : ClientDoing) (c : CurrentCall) (o : Option ℕ) → c.asked ≡ A → Base d → Good (begins_at d c o)
   at_good d c None same h = asks_good d c same h
@@ -188,8 +190,8 @@ module _ (A : Call) (F : ℕ → Type 0) (Size Own : ℕ) (Sent : List Message) 
   location_good : (d : ClientDoing) (c : CurrentCall) (l : Location) → c.asked ≡ A → Good d → Good (told_location d c l)
   location_good d c l same h =
       on_cond Good (is_empty_list l.holders) (with_current d (record c { stage = MustAskAgain; saw_no_holder = true; is_nobody_serving = true }))
-      (goes_on_at (record d { client = record d.client { cache = with_location d.client c.file.0 l } }) (record c { saw_no_holder = false; is_nobody_serving = false }) l) (λ _. (h.0, h.1, h.2, (same, tt)))
-      (λ _. goes_good (record d { client = record d.client { cache = with_location d.client c.file.0 l } }) (record c { saw_no_holder = false; is_nobody_serving = false }) l same (base_of d h))
+      (goes_on_at (record d { client = record d.client { cache = with_location d.client c.file.0 l } }) (record c { told = moment_of d.client.now; saw_no_holder = false; is_nobody_serving = false }) l) (λ _. (h.0, h.1, h.2, (same, tt)))
+      (λ _. goes_good (record d { client = record d.client { cache = with_location d.client c.file.0 l } }) (record c { told = moment_of d.client.now; saw_no_holder = false; is_nobody_serving = false }) l same (base_of d h))
 
   told_good : (d : ClientDoing) (c : CurrentCall) (o : Option Location) → c.asked ≡ A → Good d → Good (told d c o)
   told_good d c None same h = none_good d c c.asked same h
@@ -214,7 +216,9 @@ module _ (A : Call) (F : ℕ → Type 0) (Size Own : ℕ) (Sent : List Message) 
 
   pushed_good : (d : ClientDoing) (c : CurrentCall) (st : Stage) (id : DataId) → c.asked ≡ A → FineStage None st → Good d → Good (takes_pushed d c st id)
   pushed_good d c (SentData chunk primary number) id same fine h =
-      on_cond Good (is_own_data d id number) (committed d c (mutate_planned d.client c chunk primary number)) d (λ _. (h.0, h.1, h.2, (same, λ it. later_pushed _ number (fine it)))) (λ _. h)
+      on_cond Good (is_own_data d id number) (pushed_to d c chunk primary number) d
+      (λ _. on_cond Good (is_new_enough d.client c.told.0) (committed d c (mutate_planned d.client c chunk primary number)) (asks_anew d c)
+      (λ _. (h.0, h.1, h.2, (same, λ it. later_pushed _ number (fine it)))) (λ _. (h.0, h.1, h.2, (same, tt)))) (λ _. h)
   pushed_good d c other id same fine h = h
 
   succeeds_good : (d : ClientDoing) (c : CurrentCall) (chunk : ToldChunk) (place : ℕ) → c.asked ≡ A → (is_append A ≡ true → F (place_in_file Size chunk.index place)) → Base d → Good (succeeds d c chunk place)
@@ -271,7 +275,9 @@ module _ (A : Call) (F : ℕ → Type 0) (Size Own : ℕ) (Sent : List Message) 
   refused_good d c (SentMutate chunk asked) number refusal same h =
       on_cond Good (asked == number) (primary_refuses (forgets d c chunk) c chunk refusal) d (λ _. primary_good (forgets d c chunk) c chunk refusal same (base_of d h)) (λ _. h)
   refused_good d c (SentRead chunk left asked) number refusal same h =
-      on_cond Good (asked == number) (reads_next (forgets d c chunk) c chunk left) d (λ _. reads_good (forgets d c chunk) c chunk left same (base_of d h)) (λ _. h)
+      let there : ClientDoing = forgets d c chunk in
+      on_cond Good (asked == number) (reader_refuses there c chunk left) d
+      (λ _. on_cond Good (is_new_enough there.client c.told.0) (reads_next there c chunk left) (asks_anew there c) (λ _. reads_good there c chunk left same (base_of d h)) (λ _. (h.0, h.1, h.2, (same, tt)))) (λ _. h)
   refused_good d c other number refusal same h = h
 
   takes_good : (d : ClientDoing) (c : CurrentCall) (b : Body) → c.asked ≡ A → FineStage None c.stage → TellsPlace b → Good d → Good (client_takes d c b)

@@ -74,7 +74,7 @@ module _ (s : ClientState) where
         finds = λ d c index e end is h. tt;
         hears = λ c number l now at came h. (tt, tt);
         holders = λ d c l fit. tt;
-        left = λ c chunk rest number now at h. tt;
+        left = λ c chunk rest number now at fresh h. tt;
         answered = λ d c reply h. none_waited s _ refl;
         name_answered = λ d c reply h. none_waited s _ refl;
         opened = λ c number file shape now at came h. none_waited s _ refl;
@@ -83,7 +83,7 @@ module _ (s : ClientState) where
         asking = λ d c h. none_waited s _ refl;
         reads = λ d c chunk x rest r h. none_waited s _ refl;
         pushes = λ d c l g first is hop fit h. none_waited s _ refl;
-        mutates = λ c chunk primary number now at h x n is. inl (this_asked _ (chunk, number) (x, n) (record {
+        mutates = λ c chunk primary number now at fresh h x n is. inl (this_asked _ (chunk, number) (x, n) (record {
           asked = _;
           sent_is = refl;
           sender_is = refl;

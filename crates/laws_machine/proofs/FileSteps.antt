@@ -34,9 +34,9 @@ use Rattle.client_state.specs.declared.call.Stage.TheVariants.{AskedNames, Asked
 use Rattle.protocol.specs.Tables.{is_empty_list}
 use Rattle.protocol.specs.Sending.{moment_of}
 use Rattle.protocol.specs.Client.{file_chunk, place_in_file, ClientState, ClientDoing, client_begins, committed, with_current}
-use Rattle.protocol.specs.ClientCache.{last_opened, last_opened_of, with_location}
-use Rattle.protocol.specs.ClientAttempts.{is_mutation, is_length, is_append, is_live_at, completes, gives_up, ended, is_last_attempt, ends_refused, asks, reads_next, mutate_planned, chunk_of, goes_on_at, attempts, forgets}
-use Rattle.protocol.specs.ClientTakes.{takes_named, takes_wait, gets, told_none, told_location, told, takes_told, is_own_data, takes_pushed, less_live, succeeds, takes_done, takes_bytes, takes_len_is, master_refuses, stays_live, finds_full, primary_refuses, takes_refused, client_takes}
+use Rattle.protocol.specs.ClientCache.{last_opened, last_opened_of, with_location, is_new_enough}
+use Rattle.protocol.specs.ClientAttempts.{is_mutation, is_length, is_append, is_live_at, completes, gives_up, ended, is_last_attempt, ends_refused, asks, reads_next, mutate_planned, chunk_of, goes_on_at, attempts, forgets, asks_anew}
+use Rattle.protocol.specs.ClientTakes.{takes_named, takes_wait, gets, told_none, told_location, told, takes_told, is_own_data, takes_pushed, less_live, succeeds, takes_done, takes_bytes, takes_len_is, master_refuses, stays_live, finds_full, primary_refuses, takes_refused, client_takes, pushed_to, reader_refuses}
 use Rattle.protocol.specs.ClientStep.{ticks_unanswered, ends_unanswered, ticks_at, takes_at, client_does, client_at}
 use Rattle.laws_base.proofs.Steps.{on_cond}
 use Rattle.laws_steps.specs.FileCalls.{IsOfFile}
@@ -190,7 +190,7 @@ module _ (m : Machine) (client : ℕ) (s : ClientState) (x : CurrentCall) (alike
     few : last_opened s x.file.0 ≤ s.fd_count
     few = let low = row.2 in let last : last_opened s x.file.0 ≡ (row.0).last_opened.0 = ap last_opened_of row.1 in omega (arith, low, last)
 
-    heard_hand : Hand m2 client o2 open2 (heard_at d0 x l) (is_told_of x)
+    heard_hand : Hand m2 client o2 open2 (heard_at d0 x l) (is_told_of d0 x)
     heard_hand =
         record {
           settings = alike.settings;
@@ -214,14 +214,14 @@ module _ (m : Machine) (client : ℕ) (s : ClientState) (x : CurrentCall) (alike
           last = λ is. subst (λ (k : ℕ). Contains o.offers (Told l.index l.round.0 k)) (told.last is) told.offered;
         }
 
-    heard_goes : Goes (goes_on_at (heard_at d0 x l) (is_told_of x) l)
+    heard_goes : Goes (goes_on_at (heard_at d0 x l) (is_told_of d0 x) l)
     heard_goes =
-        comes_first m client (goes_on_at (heard_at d0 x l) (is_told_of x) l) (Note client x.file.0 l.index l.round.0 told.count) (o, is_open, (open_call.file_is, told.offered, told.rising)) refl refl refl elsewhere
-        (goes_on_done m2 client o2 open2 (heard_at d0 x l) (is_told_of x) l heard_hand noted_chunk)
+        comes_first m client (goes_on_at (heard_at d0 x l) (is_told_of d0 x) l) (Note client x.file.0 l.index l.round.0 told.count) (o, is_open, (open_call.file_is, told.offered, told.rising)) refl refl refl elsewhere
+        (goes_on_done m2 client o2 open2 (heard_at d0 x l) (is_told_of d0 x) l heard_hand noted_chunk)
 
     location_goes : Goes (told_location d0 x l)
     location_goes =
-        on_cond Goes (is_empty_list l.holders) (with_current d0 (record x { stage = MustAskAgain; saw_no_holder = true; is_nobody_serving = true })) (goes_on_at (heard_at d0 x l) (is_told_of x) l)
+        on_cond Goes (is_empty_list l.holders) (with_current d0 (record x { stage = MustAskAgain; saw_no_holder = true; is_nobody_serving = true })) (goes_on_at (heard_at d0 x l) (is_told_of d0 x) l)
         (λ _. rests m client o is_open d0 (record x { stage = MustAskAgain; saw_no_holder = true; is_nobody_serving = true }) hand tt) (λ _. heard_goes)
 
   told_goes : (l : Option Location) → IsToldAt m client o x l → Goes (told d0 x l)
@@ -252,7 +252,9 @@ module _ (m : Machine) (client : ℕ) (s : ClientState) (x : CurrentCall) (alike
 
   pushed_goes : (st : Stage) (id : DataId) → Staged st → Goes (takes_pushed d0 x st id)
   pushed_goes (SentData chunk primary number) id at =
-      on_cond Goes (is_own_data d0 id number) (committed d0 x (mutate_planned d0.client x chunk primary number)) d0 (λ _. sends m client o is_open d0 x (mutate_planned d0.client x chunk primary number) hand at) (λ _. nothing)
+      on_cond Goes (is_own_data d0 id number) (pushed_to d0 x chunk primary number) d0
+      (λ _. on_cond Goes (is_new_enough d0.client x.told.0) (committed d0 x (mutate_planned d0.client x chunk primary number)) (asks_anew d0 x)
+      (λ _. sends m client o is_open d0 x (mutate_planned d0.client x chunk primary number) hand at) (λ _. rests m client o is_open d0 (record x { stage = MustAskAgain }) hand tt)) (λ _. nothing)
   pushed_goes other id at = nothing
 
   done_goes : (st : Stage) (id : DataId) (place : ℕ) → Staged st → Said st (body.Done id place) → Goes (takes_done d0 x st id place)
@@ -319,7 +321,10 @@ module _ (m : Machine) (client : ℕ) (s : ClientState) (x : CurrentCall) (alike
   refused_goes (AskedWhere asked) number r at said = on_cond Goes (asked == number) (master_refuses d0 x r) d0 (λ same. master_goes r (said (eqb-true asked number same))) (λ _. nothing)
   refused_goes (SentMutate chunk asked) number r at said = on_cond Goes (asked == number) (primary_refuses (forgets d0 x chunk) x chunk r) d0 (λ _. primary_goes chunk r) (λ _. nothing)
   refused_goes (SentRead chunk left asked) number r at said =
-      on_cond Goes (asked == number) (reads_next (forgets d0 x chunk) x chunk left) d0 (λ _. reads_done m client o is_open (forgets d0 x chunk) x chunk left (dropped_hand m client o is_open d0 x chunk hand) at.0 at.1) (λ _. nothing)
+      let there : ClientDoing = forgets d0 x chunk in
+      on_cond Goes (asked == number) (reader_refuses there x chunk left) d0
+      (λ _. on_cond Goes (is_new_enough there.client x.told.0) (reads_next there x chunk left) (asks_anew there x) (λ _. reads_done m client o is_open there x chunk left (dropped_hand m client o is_open d0 x chunk hand) at.0 at.1)
+      (λ _. rests m client o is_open there (record x { stage = MustAskAgain }) (dropped_hand m client o is_open d0 x chunk hand) tt)) (λ _. nothing)
   refused_goes other number r at said = nothing
 
   takes_goes : (b : Body) → IsOfFile x.stage → Said x.stage b → Goes (client_takes d0 x b)

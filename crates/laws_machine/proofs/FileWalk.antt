@@ -301,8 +301,9 @@ module _ (m : Machine) (client : ℕ) (o : OpenCall) (is_open : IsOpen m client 
   begins_with_done d x index None is plain h = asks_done (looked d (place_at x index)) x (looked_hand d x index h)
   begins_with_done d x index (Some e) is plain h =
       let there : ClientDoing = looked d (place_at x index) in
-      on_cond Done (will_do x e) (goes_on_at there x e.location) (asks there x)
-      (λ _. goes_on_done there x e.location (looked_hand d x index h) (record { noted = found_noted d x index e h is; last = λ is_len. absurd (true≢false (sym is_len ∙ plain)) }))
+      let then_ : CurrentCall = record x { told = e.told } in
+      on_cond Done (will_do x e) (goes_on_at there then_ e.location) (asks there x)
+      (λ _. goes_on_done there then_ e.location (looked_hand d x index h) (record { noted = found_noted d x index e h is; last = λ is_len. absurd (true≢false (sym is_len ∙ plain)) }))
       (λ _. asks_done there x (looked_hand d x index h))
 
   begins_at_done : (d : ClientDoing) (x : CurrentCall) (p : Option ℕ) → ((index : ℕ) → p ≡ Some index → is_length x.asked ≡ false) → Hand d x → Done (begins_at d x p)

@@ -113,7 +113,7 @@ frame s P quiet asks =
       finds = λ d c index e end is h. tt;
       hears = λ c number l now at came h. (tt, tt);
       holders = λ d c l fit. tt;
-      left = λ c chunk rest number now at h. tt;
+      left = λ c chunk rest number now at fresh h. tt;
       answered = λ d c reply h. quiet _ refl;
       name_answered = λ d c reply h. quiet _ refl;
       opened = λ c number file shape now at came h. quiet _ refl;
@@ -122,7 +122,7 @@ frame s P quiet asks =
       asking = λ d c h. quiet _ refl;
       reads = λ d c chunk x rest r h. quiet _ refl;
       pushes = λ d c l g first is hop fit h. quiet _ refl;
-      mutates = λ c chunk primary number now at h. asks c chunk primary number now;
+      mutates = λ c chunk primary number now at fresh h. asks c chunk primary number now;
       naming = λ d c end h. quiet _ refl;
     }
 

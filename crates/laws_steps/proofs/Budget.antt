@@ -35,14 +35,14 @@ use Rattle.client_state.specs.declared.kept.Cached.{Cached}
 use Rattle.protocol.specs.Tables.{is_empty_list}
 use Rattle.protocol.specs.PushBuffer.{next_hop}
 use Rattle.protocol.specs.Client.{file_chunk, place_in_file, ClientState, ClientDoing, client_begins, committed, with_current, answers}
-use Rattle.protocol.specs.ClientCache.{cached}
+use Rattle.protocol.specs.ClientCache.{cached, is_new_enough}
 use Rattle.protocol.specs.ClientFiles.{last_append}
-use Rattle.protocol.specs.ClientAttempts.{is_mutation, is_length, is_append, read_start, read_count, has_next_part, is_live_at, completes, last_refusal, gives_up, ended, is_last_attempt, ends_refused, asks, reads_next, push_planned_to, push_planned, mutate_planned, chunk_of, goes_on_at, will_do, begins_with, begins_at, chunk_to_find, attempts, attempts_names, begins_next_part, forgets}
-use Rattle.protocol.specs.ClientTakes.{takes_reply, takes_named, takes_wait, gets, told_none, told_location, told, takes_told, is_own_data, takes_pushed, less_live, succeeds, takes_done, takes_bytes, takes_len_is, master_refuses, stays_live, finds_full, primary_refuses, takes_refused, client_takes}
+use Rattle.protocol.specs.ClientAttempts.{is_mutation, is_length, is_append, read_start, read_count, has_next_part, is_live_at, completes, last_refusal, gives_up, ended, is_last_attempt, ends_refused, asks, reads_next, push_planned_to, push_planned, mutate_planned, chunk_of, goes_on_at, will_do, begins_with, begins_at, chunk_to_find, attempts, attempts_names, begins_next_part, forgets, asks_anew}
+use Rattle.protocol.specs.ClientTakes.{takes_reply, takes_named, takes_wait, gets, told_none, told_location, told, takes_told, is_own_data, takes_pushed, less_live, succeeds, takes_done, takes_bytes, takes_len_is, master_refuses, stays_live, finds_full, primary_refuses, takes_refused, client_takes, pushed_to, reader_refuses}
 use Rattle.protocol.specs.ClientStep.{new_call, calls_names, calls_file, calls_on, fd_of, calls, ticks_names, ends_unanswered, ticks_unanswered, ticks_at, takes_at, client_does}
 use Rattle.laws_base.proofs.Steps.{on_cond, none_some, same_some, same_or_not}
 use Rattle.laws_base.proofs.ServerMoves.{IsCameIn}
-use Rattle.laws_steps.proofs.ClientWalk.{attempt_end, place_at, looked, heard_at, is_told_of, noted, closed, once_more}
+use Rattle.laws_steps.proofs.ClientWalk.{attempt_end, place_at, looked, heard_at, is_told_of, noted, closed, once_more, told_at}
 use Rattle.laws_steps.specs.FewAttempts.{part_of, EachOf, AreApart}
 
 -- lists of numbers
@@ -228,7 +228,7 @@ module _ (config : Config) (U : Option ℕ → ℕ → Type 0) where
 
   begins_with_fine : (d : ClientDoing) (c : CurrentCall) (o : Option Cached) → Ready d → MayGo c → IsFine (begins_with d c o)
   begins_with_fine d c None r h = asks_fine d c r h
-  begins_with_fine d c (Some e) r h = on_cond IsFine (will_do c e) (goes_on_at d c e.location) (asks d c) (λ _. goes_on_fine d c e.location r h) (λ _. asks_fine d c r h)
+  begins_with_fine d c (Some e) r h = on_cond IsFine (will_do c e) (goes_on_at d (told_at c e) e.location) (asks d c) (λ _. goes_on_fine d (told_at c e) e.location r h) (λ _. asks_fine d c r h)
 
   begins_at_fine : (d : ClientDoing) (c : CurrentCall) (o : Option ℕ) → Ready d → MayGo c → IsFine (begins_at d c o)
   begins_at_fine d c None r h = asks_fine d c r h
@@ -295,7 +295,7 @@ module _ (config : Config) (U : Option ℕ → ℕ → Type 0) where
   location_fine : (d : ClientDoing) (c : CurrentCall) (l : Location) → Ready d → MayGo c → IsFine (told_location d c l)
   location_fine d c l r h =
       let nobody : CurrentCall = record c { stage = MustAskAgain; saw_no_holder = true; is_nobody_serving = true } in
-      on_cond IsFine (is_empty_list l.holders) (with_current d nobody) (goes_on_at (heard_at d c l) (is_told_of c) l) (λ _. waits_fine d nobody r h) (λ _. goes_on_fine (heard_at d c l) (is_told_of c) l r h)
+      on_cond IsFine (is_empty_list l.holders) (with_current d nobody) (goes_on_at (heard_at d c l) (is_told_of d c) l) (λ _. waits_fine d nobody r h) (λ _. goes_on_fine (heard_at d c l) (is_told_of d c) l r h)
 
   told_fine : (d : ClientDoing) (c : CurrentCall) (o : Option Location) → Ready d → MayGo c → IsFine d → IsFine (told d c o)
   told_fine d c None r h p = none_fine d c c.asked r h p
@@ -362,6 +362,10 @@ module _ (config : Config) (U : Option ℕ → ℕ → Type 0) where
   primary_refuses_fine d c chunk one ChunkFull r full h = full_fine d (less_live c chunk) chunk one r (full refl) h
   primary_refuses_fine d c chunk one other r full h = refused_fine d (less_live c chunk) r (asked_end c one h)
 
+  reader_fine : (d : ClientDoing) (c : CurrentCall) (chunk : ToldChunk) (left : List Holder) → Ready d → MayGo c → IsFine (reader_refuses d c chunk left)
+  reader_fine d c chunk left r h =
+      on_cond IsFine (is_new_enough d.client c.told.0) (reads_next d c chunk left) (asks_anew d c) (λ _. reads_fine d c chunk left r h) (λ _. waits_fine d (record c { stage = MustAskAgain }) r h)
+
   takes_refused_fine : (d : ClientDoing) (c : CurrentCall) (st : Stage) (number : ℕ) (refusal : Refusal) → Ready d → Came (body.Refused number refusal) → HasBudget c st → IsFine d → IsFine (takes_refused d c st number refusal)
   takes_refused_fine d c (AskedWhere asked) number refusal r came h p = on_cond IsFine (asked == number) (master_refuses d c refusal) d (λ _. master_refuses_fine d c refusal r p) (λ _. p)
   takes_refused_fine d c (SentMutate chunk asked) number refusal r came h p =
@@ -369,7 +373,7 @@ module _ (config : Config) (U : Option ℕ → ℕ → Type 0) where
       (λ same. primary_refuses_fine (forgets d c chunk) c chunk asked refusal r
       (λ is u. came number (ap (λ (x : Refusal). body.Refused number x) is) (subst (λ (n : ℕ). U None n) (eqb-true asked number same) u)) h) (λ _. p)
   takes_refused_fine d c (SentRead chunk left asked) number refusal r came h p =
-      on_cond IsFine (asked == number) (reads_next (forgets d c chunk) c chunk left) d (λ _. reads_fine (forgets d c chunk) c chunk left r h) (λ _. p)
+      on_cond IsFine (asked == number) (reader_refuses (forgets d c chunk) c chunk left) d (λ _. reader_fine (forgets d c chunk) c chunk left r h) (λ _. p)
   takes_refused_fine d c other number refusal r came h p = p
 
   -- a primary is asked now
@@ -389,18 +393,19 @@ module _ (config : Config) (U : Option ℕ → ℕ → Type 0) where
     abbrev d0 : ClientDoing
     d0 = client_begins s
 
-    takes_pushed_fine : (c : CurrentCall) (st : Stage) (id : DataId) → s.current ≡ Some c → HasBudget c st → IsFine (client_begins s) → Leaves s (takes_pushed (client_begins s) c st id)
-    takes_pushed_fine c (SentData chunk primary number) id now h p =
-        on_cond (Leaves s) (is_own_data (client_begins s) id number) (committed (client_begins s) c (mutate_planned s c chunk primary number)) (client_begins s)
-        (λ _. inr (record { current = c; chunk = chunk; primary = primary; number = number; current_is = now; goes = h; is = refl })) (λ _. inl p)
-    takes_pushed_fine c other id now h p = inl p
+    takes_pushed_fine : (c : CurrentCall) (st : Stage) (id : DataId) → s.current ≡ Some c → Ready (client_begins s) → HasBudget c st → IsFine (client_begins s) → Leaves s (takes_pushed (client_begins s) c st id)
+    takes_pushed_fine c (SentData chunk primary number) id now r h p =
+        on_cond (Leaves s) (is_own_data (client_begins s) id number) (pushed_to (client_begins s) c chunk primary number) (client_begins s)
+        (λ _. on_cond (Leaves s) (is_new_enough s c.told.0) (committed (client_begins s) c (mutate_planned s c chunk primary number)) (asks_anew (client_begins s) c)
+        (λ _. inr (record { current = c; chunk = chunk; primary = primary; number = number; current_is = now; goes = h; is = refl })) (λ _. inl (waits_fine (client_begins s) (record c { stage = MustAskAgain }) r h))) (λ _. inl p)
+    takes_pushed_fine c other id now r h p = inl p
 
     takes_fine : (c : CurrentCall) (b : Body) → s.current ≡ Some c → Ready (client_begins s) → Came b → HasBudget c c.stage → IsFine (client_begins s) → Leaves s (client_takes (client_begins s) c b)
     takes_fine c (body.Named number reply) now r came h p = inl (takes_named_fine (client_begins s) c c.stage number reply r p)
     takes_fine c (body.Told number location) now r came h p = inl (takes_told_fine (client_begins s) c c.stage number location r h p)
     takes_fine c (body.Wait number) now r came h p = inl (takes_wait_fine (client_begins s) c c.stage number r h p)
     takes_fine c (body.Refused number refusal) now r came h p = inl (takes_refused_fine (client_begins s) c c.stage number refusal r came h p)
-    takes_fine c (body.Pushed id) now r came h p = takes_pushed_fine c c.stage id now h p
+    takes_fine c (body.Pushed id) now r came h p = takes_pushed_fine c c.stage id now r h p
     takes_fine c (body.Done id place) now r came h p = inl (takes_done_fine (client_begins s) c c.stage id place r h p)
     takes_fine c (body.Bytes number bytes) now r came h p = inl (takes_bytes_fine (client_begins s) c c.stage number bytes r h p)
     takes_fine c (body.LenIs number count) now r came h p = inl (takes_len_fine (client_begins s) c c.stage number count r p)

@@ -126,7 +126,7 @@ module _ (s : ClientState) where
         finds = λ d c index e end is h. tt;
         hears = λ c number l now at came h. (h, tt);
         holders = λ d c l fit. tt;
-        left = λ c chunk rest number now at h. tt;
+        left = λ c chunk rest number now at fresh h. tt;
         answered = λ d c reply h. rests (answers d reply) refl (λ e is. none_some e is) (let same = h.5 in omega (arith, same)) (h.0, h.1, h.2, h.3, h.4, h.6);
         name_answered = λ d c reply h. rests (answers d reply) refl (λ e is. none_some e is) (let same = h.5 in omega (arith, same)) (h.0, h.1, h.2, h.3, h.4, h.6);
         opened = λ c number file shape now at came h. rests (opens (client_begins s) file.0 shape) refl (λ e is. none_some e is) (omega arith) (h.0, h.1, h.2, h.3, h.4, h.6);
@@ -135,7 +135,7 @@ module _ (s : ClientState) where
         asking = λ d c h. asks_new d c (record c { lost_lease = false; stage = AskedWhere (suc d.client.number) }) (body.Ask (suc d.client.number) c.file (wanted_by c.index c.asked) c.deadline c.lost_lease) Master h refl (inl refl) (λ t is. (ap (λ (n : ℕ). suc n) h.3, is));
         reads = λ d c chunk x rest r h. reads_new d c chunk x rest h;
         pushes = λ d c l g first is hop fit h. asks_new d c (record c { stage = SentData (chunk_of l) g.primary (suc d.client.number) }) (body.Push (data_id d.client.id (suc d.client.number)) (bytes_to_send (file_chunk d.client c.file.0) c.index c.asked) (hops_after g.members first.0)) (the_server first.0) h refl (inr refl) (λ t is. (h.0, ap (λ (n : ℕ). suc n) h.3, is));
-        mutates = λ c chunk primary number now at h. record {
+        mutates = λ c chunk primary number now at fresh h. record {
           id = refl;
           up = refl;
           now = refl;

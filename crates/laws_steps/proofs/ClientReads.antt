@@ -258,7 +258,7 @@ module _ (config : Config) (sent : List Message) (k client : ℕ) (s : ClientSta
           body_is = came.3;
         }
 
-    heard : (c : CurrentCall) (l : Location) → IsTold sent client c.file.0 l → Hand (client_begins s) c → Hand (heard_at (client_begins s) c l) (is_told_of c)
+    heard : (c : CurrentCall) (l : Location) → IsTold sent client c.file.0 l → Hand (client_begins s) c → Hand (heard_at (client_begins s) c l) (is_told_of (client_begins s) c)
     heard c l told hand = (
       hand.0,
       hand.1,
@@ -280,7 +280,7 @@ module _ (config : Config) (sent : List Message) (k client : ℕ) (s : ClientSta
           finds = λ d c index e end is h. kept_told d c index e is h.4;
           hears = λ c number l now at came h. let told = told_now c number l now at came in (heard c l told h, told);
           holders = λ d c l told. (l, told, refl, ([], refl));
-          left = λ c chunk rest number now at h.
+          left = λ c chunk rest number now at fresh h.
               let reading : IsReading sent client config.chunk c chunk rest number = subst (λ (st : Stage). WasRequestSent sent client config.chunk c st) at (knows.stands c now) in
               (reading.location, reading.told, reading.chunk_is, (reading.earlier ++ reading.holder ∷ [], reading.holders_are ∙ append-step reading.earlier reading.holder rest));
           answered = λ d c reply h. answered d reply h.0 h.4;
@@ -294,7 +294,7 @@ module _ (config : Config) (sent : List Message) (k client : ℕ) (s : ClientSta
           reads = λ d c chunk x rest r h. reads d c chunk x rest r h;
           pushes = λ d c l g first is hop told h.
               stays (committed d c (push_planned_to d.client c (chunk_of l) g (Some first))) (record c { stage = SentData (chunk_of l) g.primary (suc d.client.number) }) refl tt refl h.0 h.4;
-          mutates = λ c chunk primary number now at h.
+          mutates = λ c chunk primary number now at fresh h.
               stays (committed (client_begins s) c (mutate_planned s c chunk primary number)) (record c { stage = SentMutate chunk number }) refl tt refl h.0 h.4;
           naming = λ d c end h. stays (committed d c (name_planned d.client c)) (record c { stage = AskedNames }) refl tt refl h.0 h.4;
         }

@@ -39,10 +39,10 @@ use Rattle.client_state.specs.declared.call.ToldChunk.{ToldChunk}
 use Rattle.client_state.specs.declared.call.Stage.{Stage}
 use Rattle.client_state.specs.declared.call.Stage.TheVariants.{AskedNames, AskedWhere, MustAskAgain, SentData, SentMutate, SentRead, IsOver, HasAnswer}
 use Rattle.protocol.specs.Client.{file_chunk, place_in_file, ClientState, ClientDoing, client_begins, committed, with_current, answers}
-use Rattle.protocol.specs.ClientCache.{cached, cache_after_look, with_location}
+use Rattle.protocol.specs.ClientCache.{cached, cache_after_look, with_location, is_new_enough}
 use Rattle.protocol.specs.ClientFiles.{files_after_close, last_append, with_last_append}
-use Rattle.protocol.specs.ClientAttempts.{is_mutation, is_length, is_append, read_count, has_next_part, is_live_at, completes, last_refusal, gives_up, ended, is_last_attempt, ends_refused, asks, read_planned, reads_next, again_planned, push_planned_to, push_planned, mutate_planned, chunk_of, goes_on_at, will_do, begins_with, begins_at, chunk_to_find, attempts, name_planned, attempts_names, begins_next_part, forgets}
-use Rattle.protocol.specs.ClientTakes.{opens, takes_reply, takes_named, takes_wait, gets, told_none, told_location, told, takes_told, is_own_data, takes_pushed, less_live, succeeds, takes_done, takes_bytes, takes_len_is, master_refuses, stays_live, finds_full, primary_refuses, takes_refused, client_takes}
+use Rattle.protocol.specs.ClientAttempts.{is_mutation, is_length, is_append, read_count, has_next_part, is_live_at, completes, last_refusal, gives_up, ended, is_last_attempt, ends_refused, asks, read_planned, reads_next, again_planned, push_planned_to, push_planned, mutate_planned, chunk_of, goes_on_at, will_do, begins_with, begins_at, chunk_to_find, attempts, name_planned, attempts_names, begins_next_part, forgets, asks_anew}
+use Rattle.protocol.specs.ClientTakes.{opens, takes_reply, takes_named, takes_wait, gets, told_none, told_location, told, takes_told, is_own_data, takes_pushed, less_live, succeeds, takes_done, takes_bytes, takes_len_is, master_refuses, stays_live, finds_full, primary_refuses, takes_refused, client_takes, pushed_to, reader_refuses}
 use Rattle.protocol.specs.ClientStep.{new_call, calls_names, calls_file, calls_on, fd_of, calls, ticks_names, ends_unanswered, ticks_unanswered, ticks_at, takes_at, client_does}
 use Rattle.laws_base.proofs.Steps.{on_cond}
 use Rattle.laws_base.proofs.ServerMoves.{IsCameIn}
@@ -73,8 +73,12 @@ looked d p = record d { client = record d.client { cache = cache_after_look d.cl
 abbrev pub heard_at : ClientDoing → CurrentCall → Location → ClientDoing
 heard_at d c l = record d { client = record d.client { cache = with_location d.client c.file.0 l } }
 
-abbrev pub is_told_of : CurrentCall → CurrentCall
-is_told_of c = record c { saw_no_holder = false; is_nobody_serving = false }
+abbrev pub is_told_of : ClientDoing → CurrentCall → CurrentCall
+is_told_of d c = record c { told = moment_of d.client.now; saw_no_holder = false; is_nobody_serving = false }
+
+-- the attempt goes by a location that is kept
+abbrev pub told_at : CurrentCall → Cached → CurrentCall
+told_at c e = record c { told = e.told }
 
 -- the last append of a file is noted or forgotten
 abbrev pub noted : ClientDoing → ℕ → Option ℕ → ClientDoing
@@ -91,13 +95,14 @@ pub record KeepsClient (s : ClientState) (Came : Body → Type 0) (N H : ClientD
   pub notes : (d : ClientDoing) (c : CurrentCall) (index : Option ℕ) → H d c → H (noted d c.file.0 index) c
   pub looks : (d : ClientDoing) (c : CurrentCall) (index : ℕ) → H d c → H (looked d (place_at c index)) c
   -- a location that is kept
-  pub finds : (d : ClientDoing) (c : CurrentCall) (index : ℕ) (e : Cached) → c.deadline ≡ attempt_end d.client → cached d.client (place_at c index) ≡ Some e → H d c → L (looked d (place_at c index)) c e.location
+  pub finds : (d : ClientDoing) (c : CurrentCall) (index : ℕ) (e : Cached) → c.deadline ≡ attempt_end d.client → cached d.client (place_at c index) ≡ Some e → H d c → L (looked d (place_at c index)) (told_at c e) e.location
   -- a location that the master told
   pub hears : (c : CurrentCall) (number : ℕ) (l : Location) → s.current ≡ Some c → c.stage ≡ AskedWhere number → Came (body.Told number (Some l)) → H (client_begins s) c
-      → H (heard_at (client_begins s) c l) (is_told_of c) × L (heard_at (client_begins s) c l) (is_told_of c) l
+      → H (heard_at (client_begins s) c l) (is_told_of (client_begins s) c) × L (heard_at (client_begins s) c l) (is_told_of (client_begins s) c) l
   pub holders : (d : ClientDoing) (c : CurrentCall) (l : Location) → L d c l → R d c (chunk_of l) l.holders
-  -- the servers that are left after a refusal
-  pub left : (c : CurrentCall) (chunk : ToldChunk) (rest : List Holder) (number : ℕ) → s.current ≡ Some c → c.stage ≡ SentRead chunk rest number → H (client_begins s) c → R (forgets (client_begins s) c chunk) c chunk rest
+  -- the servers that are left after a refusal, of a location that may still be used
+  pub left : (c : CurrentCall) (chunk : ToldChunk) (rest : List Holder) (number : ℕ) → s.current ≡ Some c → c.stage ≡ SentRead chunk rest number → is_new_enough s c.told.0 ≡ true → H (client_begins s) c
+      → R (forgets (client_begins s) c chunk) c chunk rest
   pub answered : (d : ClientDoing) (c : CurrentCall) (reply : Answer) → H d c → P (answers d reply)
   pub name_answered : (d : ClientDoing) (c : CurrentCall) (reply : Answer) → N d c → P (answers d reply)
   pub opened : (c : CurrentCall) (number : ℕ) (file : FileId) (shape : Shape) → s.current ≡ Some c → c.stage ≡ AskedNames → Came (body.Named number (Opened file shape)) → N (client_begins s) c
@@ -108,7 +113,7 @@ pub record KeepsClient (s : ClientState) (Came : Body → Type 0) (N H : ClientD
   pub reads : (d : ClientDoing) (c : CurrentCall) (chunk : ToldChunk) (h : Holder) (rest : List Holder) → R d c chunk (h ∷ rest) → H d c → P (committed d c (read_planned d.client c chunk h rest))
   pub pushes : (d : ClientDoing) (c : CurrentCall) (l : Location) (g : Group) (first : ServerId) → l.group ≡ Some g → next_hop g.members 0 ≡ Some first → L d c l → H d c
       → P (committed d c (push_planned_to d.client c (chunk_of l) g (Some first)))
-  pub mutates : (c : CurrentCall) (chunk : ToldChunk) (primary : ServerId) (number : ℕ) → s.current ≡ Some c → c.stage ≡ SentData chunk primary number → H (client_begins s) c
+  pub mutates : (c : CurrentCall) (chunk : ToldChunk) (primary : ServerId) (number : ℕ) → s.current ≡ Some c → c.stage ≡ SentData chunk primary number → is_new_enough s c.told.0 ≡ true → H (client_begins s) c
       → P (committed (client_begins s) c (mutate_planned (client_begins s).client c chunk primary number))
   pub naming : (d : ClientDoing) (c : CurrentCall) → c.deadline ≡ attempt_end d.client → N d c → P (committed d c (name_planned d.client c))
 
@@ -179,8 +184,9 @@ module _ (s : ClientState) (Came : Body → Type 0) (N H : ClientDoing → Curre
   begins_with_kept d c index None begun is h = k.asking (looked d (place_at c index)) c (k.looks d c index h)
   begins_with_kept d c index (Some e) begun is h =
       let there : ClientDoing = looked d (place_at c index) in
-      on_cond P (will_do c e) (goes_on_at there c e.location) (asks there c)
-      (λ _. goes_on_kept there c e.location (k.finds d c index e begun is h) (k.looks d c index h)) (λ _. k.asking there c (k.looks d c index h))
+      let kept : H there c = k.looks d c index h in
+      on_cond P (will_do c e) (goes_on_at there (told_at c e) e.location) (asks there c)
+      (λ _. goes_on_kept there (told_at c e) e.location (k.finds d c index e begun is h) (k.changes there c (told_at c e) (refl, refl, refl, refl) kept)) (λ _. k.asking there c kept)
 
   begins_at_kept : (d : ClientDoing) (c : CurrentCall) (o : Option ℕ) → c.deadline ≡ attempt_end d.client → H d c → P (begins_at d c o)
   begins_at_kept d c None begun h = k.asking d c h
@@ -227,8 +233,8 @@ module _ (s : ClientState) (Came : Body → Type 0) (N H : ClientDoing → Curre
   told_location_kept c number l now at came h =
       let nobody : CurrentCall = record c { stage = MustAskAgain; saw_no_holder = true; is_nobody_serving = true } in
       let there = k.hears c number l now at came h in
-      on_cond P (is_empty_list l.holders) (with_current d0 nobody) (goes_on_at (heard_at d0 c l) (is_told_of c) l)
-      (λ _. k.waits d0 nobody tt (k.changes d0 c nobody (refl, refl, refl, refl) h)) (λ _. goes_on_kept (heard_at d0 c l) (is_told_of c) l there.1 there.0)
+      on_cond P (is_empty_list l.holders) (with_current d0 nobody) (goes_on_at (heard_at d0 c l) (is_told_of d0 c) l)
+      (λ _. k.waits d0 nobody tt (k.changes d0 c nobody (refl, refl, refl, refl) h)) (λ _. goes_on_kept (heard_at d0 c l) (is_told_of d0 c) l there.1 there.0)
 
   told_kept : (c : CurrentCall) (number : ℕ) (o : Option Location) → s.current ≡ Some c → c.stage ≡ AskedWhere number → Came (body.Told number o) → H d0 c → P d0 → P (told d0 c o)
   told_kept c number None now at came h p = told_none_kept d0 c c.asked h p
@@ -254,9 +260,17 @@ module _ (s : ClientState) (Came : Body → Type 0) (N H : ClientDoing → Curre
       on_cond P (asked == number) (with_current d0 again) d0 (λ _. k.waits d0 again tt (k.changes d0 c again (refl, refl, refl, refl) h)) (λ _. p)
   takes_wait_kept c other number h p = p
 
+  -- the location is too old
+  anew_kept : (d : ClientDoing) (c : CurrentCall) → H d c → P (asks_anew d c)
+  anew_kept d c h = k.waits d (record c { stage = MustAskAgain }) tt (k.changes d c (record c { stage = MustAskAgain }) (refl, refl, refl, refl) h)
+
+  pushed_to_kept : (c : CurrentCall) (chunk : ToldChunk) (primary : ServerId) (number : ℕ) → s.current ≡ Some c → c.stage ≡ SentData chunk primary number → H d0 c → P (pushed_to d0 c chunk primary number)
+  pushed_to_kept c chunk primary number now at h =
+      on_cond P (is_new_enough d0.client c.told.0) (committed d0 c (mutate_planned d0.client c chunk primary number)) (asks_anew d0 c) (λ fresh. k.mutates c chunk primary number now at fresh h) (λ _. anew_kept d0 c h)
+
   takes_pushed_kept : (c : CurrentCall) (st : Stage) (id : DataId) → s.current ≡ Some c → c.stage ≡ st → At c st → P d0 → P (takes_pushed d0 c st id)
   takes_pushed_kept c (SentData chunk primary number) id now at h p =
-      on_cond P (is_own_data d0 id number) (committed d0 c (mutate_planned d0.client c chunk primary number)) d0 (λ _. k.mutates c chunk primary number now at h) (λ _. p)
+      on_cond P (is_own_data d0 id number) (pushed_to d0 c chunk primary number) d0 (λ _. pushed_to_kept c chunk primary number now at h) (λ _. p)
   takes_pushed_kept c other id now at h p = p
 
   succeeds_kept : (d : ClientDoing) (c : CurrentCall) (chunk : ToldChunk) (place : ℕ) → H d c → P (succeeds d c chunk place)
@@ -299,13 +313,18 @@ module _ (s : ClientState) (Came : Body → Type 0) (N H : ClientDoing → Curre
   primary_refuses_kept d c chunk ChunkFull h = full_kept d (less_live c chunk) chunk (k.changes d c (less_live c chunk) (refl, refl, refl, refl) h)
   primary_refuses_kept d c chunk other h = refused_kept d (less_live c chunk) (k.changes d c (less_live c chunk) (refl, refl, refl, refl) h)
 
+  reader_kept : (c : CurrentCall) (chunk : ToldChunk) (left : List Holder) (number : ℕ) → s.current ≡ Some c → c.stage ≡ SentRead chunk left number → H d0 c → P (reader_refuses (forgets d0 c chunk) c chunk left)
+  reader_kept c chunk left number now at h =
+      let there : ClientDoing = forgets d0 c chunk in
+      on_cond P (is_new_enough there.client c.told.0) (reads_next there c chunk left) (asks_anew there c)
+      (λ fresh. reads_kept there c chunk left (k.left c chunk left number now at fresh h) (k.drops d0 c chunk h)) (λ _. anew_kept there c (k.drops d0 c chunk h))
+
   takes_refused_kept : (c : CurrentCall) (st : Stage) (number : ℕ) (r : Refusal) → s.current ≡ Some c → c.stage ≡ st → At c st → P d0 → P (takes_refused d0 c st number r)
   takes_refused_kept c (AskedWhere asked) number r now at h p = on_cond P (asked == number) (master_refuses d0 c r) d0 (λ _. master_refuses_kept d0 c r h p) (λ _. p)
   takes_refused_kept c (SentMutate chunk asked) number r now at h p =
       on_cond P (asked == number) (primary_refuses (forgets d0 c chunk) c chunk r) d0 (λ _. primary_refuses_kept (forgets d0 c chunk) c chunk r (k.drops d0 c chunk h)) (λ _. p)
   takes_refused_kept c (SentRead chunk left asked) number r now at h p =
-      on_cond P (asked == number) (reads_next (forgets d0 c chunk) c chunk left) d0
-      (λ _. reads_kept (forgets d0 c chunk) c chunk left (k.left c chunk left asked now at h) (k.drops d0 c chunk h)) (λ _. p)
+      on_cond P (asked == number) (reader_refuses (forgets d0 c chunk) c chunk left) d0 (λ _. reader_kept c chunk left asked now at h) (λ _. p)
   takes_refused_kept c other number r now at h p = p
 
   takes_kept : (c : CurrentCall) (b : Body) → s.current ≡ Some c → Came b → At c c.stage → P d0 → P (client_takes d0 c b)

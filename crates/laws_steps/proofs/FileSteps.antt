@@ -35,7 +35,7 @@ use Rattle.protocol.specs.ClientAttempts.{is_mutation, is_length, read_start, re
 use Rattle.protocol.specs.ClientStep.{client_at, new_call, calls_names, calls_file, calls_on, fd_of}
 use Rattle.laws_base.proofs.Steps.{on_cond, none_some, same_some}
 use Rattle.laws_base.proofs.ServerMoves.{IsCameIn}
-use Rattle.laws_steps.proofs.ClientWalk.{IsIdle, KeepsClient, HoldsAt, looked, place_at, noted, closed, step_kept}
+use Rattle.laws_steps.proofs.ClientWalk.{IsIdle, KeepsClient, HoldsAt, looked, place_at, noted, closed, step_kept, told_at}
 use Rattle.laws_steps.specs.FileCalls.{IsOfFile, IsNoWordOfNames, IsFileCall, IsFileStep, FileCallsBegin, FileCallsGoOn}
 
 idle_of_file : (st : Stage) → IsIdle st → IsOfFile st
@@ -114,7 +114,7 @@ module _ (s : ClientState) (moment : ℕ) where
 
   begins_with_done : (d : ClientDoing) (c : CurrentCall) (o : Option Cached) → InHand d → Done (begins_with d c o)
   begins_with_done d c None h = asks_done d c h
-  begins_with_done d c (Some e) h = on_cond Done (will_do c e) (goes_on_at d c e.location) (asks d c) (λ _. goes_on_done d c e.location h) (λ _. asks_done d c h)
+  begins_with_done d c (Some e) h = on_cond Done (will_do c e) (goes_on_at d (told_at c e) e.location) (asks d c) (λ _. goes_on_done d (told_at c e) e.location h) (λ _. asks_done d c h)
 
   begins_at_done : (d : ClientDoing) (c : CurrentCall) (o : Option ℕ) → InHand d → Done (begins_at d c o)
   begins_at_done d c None h = asks_done d c h
@@ -161,7 +161,7 @@ module _ (s : ClientState) (moment : ℕ) where
         finds = λ d c index e end is h. tt;
         hears = λ c number l now at came h. (h, tt);
         holders = λ d c l fit. tt;
-        left = λ c chunk rest number now at h. tt;
+        left = λ c chunk rest number now at fresh h. tt;
         answered = λ d c reply h. answered_done d reply h;
         name_answered = λ d c reply h. absurd h;
         opened = λ c number file shape now at came h. absurd h;
@@ -170,7 +170,7 @@ module _ (s : ClientState) (moment : ℕ) where
         asking = λ d c h. asks_done d c h;
         reads = λ d c chunk x rest r h. read_done d c chunk x rest h;
         pushes = λ d c l g first is hop fit h. push_to_done d c l g (Some first) h;
-        mutates = λ c chunk primary number now is h. sends_done (client_begins at) c (SentMutate chunk number) at.number _ (body.Mutate _ _ _ _ _) tt tt h;
+        mutates = λ c chunk primary number now is fresh h. sends_done (client_begins at) c (SentMutate chunk number) at.number _ (body.Mutate _ _ _ _ _) tt tt h;
         naming = λ d c end h. absurd h;
       }
 

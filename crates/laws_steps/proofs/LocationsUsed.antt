@@ -1,5 +1,7 @@
 -- In each world that is reached, the location by which a client's attempt goes was told to it in time, and its file was not opened since.
-use Rattle.std.proofs.Common.{◌≡◌, ◌⊎◌, ℕ, zero, suc, List, [], ◌∷◌, map, Some, refl, sym, ap, subst, ◌∙◌, inl, inr, arith}
+use Rattle.std.proofs.Common.{◌≡◌, ◌⊎◌, ℕ, zero, suc, ◌+◌, ◌<◌, ◌≤◌, true, false, true≢false, List, [], ◌∷◌, ◌++◌, map, Option, Some, None, refl, sym, ap, subst, ◌∙◌, inl, inr, arith}
+use Rattle.std.specs.Prelude.{IsTrue}
+use Rattle.std.specs.Option.{option_to_list}
 use Rattle.std.specs.FinMap as table
 use Rattle.gfs_types.specs.declared.config.Config.{Config}
 use Rattle.gfs_types.specs.declared.shape.Shape.{Shape}
@@ -18,7 +20,7 @@ use Rattle.messages.specs.declared.event.NodeInput.TheVariants as input
 use Rattle.client_state.specs.declared.call.CurrentCall.{CurrentCall}
 use Rattle.client_state.specs.declared.call.Stage.TheVariants.{AskedWhere}
 use Rattle.protocol.specs.Tables.{element_at, with_at, first_numbers}
-use Rattle.protocol.specs.Sending.{the_client}
+use Rattle.protocol.specs.Sending.{the_client, client_number}
 use Rattle.protocol.specs.Choice.{Choice}
 use Rattle.protocol.specs.Client.{ClientState, ClientDoing, new_client, stopped_client, client_begins, answers}
 use Rattle.protocol.specs.ClientTakes.{opens}
@@ -26,14 +28,21 @@ use Rattle.protocol.specs.ClientStep.{client_at, client_goes, client_call_goes, 
 use Rattle.protocol.specs.MasterStep.{master_step, master_restart}
 use Rattle.protocol.specs.ServerStep.{server_step, server_restart}
 use Rattle.replica_store.specs.Replicas.{rotten_replica}
-use Rattle.protocol.specs.World.{WorldState, new_world, numbered_from_1, after_master, after_server, after_client, happens, after_events}
+use Rattle.protocol.specs.World.{WorldState, Happened, new_world, numbered_from_1, after_master, after_server, after_client, happens, after_events}
 use Rattle.laws_base.proofs.Steps.{none_some, same_some, put_there}
 use Rattle.laws_base.proofs.RisingOrders.{set_cases}
+use Rattle.laws_base.proofs.Entries.{AllOf}
+use Rattle.laws_base.proofs.MembersRecorded.{all_at}
 use Rattle.laws_base.proofs.ServerMoves.{IsCameIn}
 use Rattle.laws_steps.proofs.Events.{IsGiven, with_call, with_rot, HoldsAfter, holds_after}
 use Rattle.laws_steps.proofs.ClientReads.{stepped, called}
-use Rattle.laws_steps.specs.Locations.{OpensFile, OpensNever, IsToldNow, WasTold, LocationsAreNotUsedTooLong}
-use Rattle.laws_steps.proofs.KeptLocations.{IsUsed, Keeps, used_at, nothing_kept, keeps_on, keeps_later, keeps_opened, After, steps_here, calls_here, refused_here}
+use Rattle.laws_steps.proofs.ClientNumbers.{IsStepOf, of_step, of_call}
+use Rattle.laws_steps.proofs.Histories.{after_both}
+use Rattle.laws_steps.proofs.RequestsOnce.{AreNumbered, from_itself, put_at, numbered_reached}
+use Rattle.laws_steps.proofs.Senders.{AreNotClients, server_sends, server_restart_sends, master_sends, master_restart_sends}
+use Rattle.laws_steps.specs.Attempts.{is_from_client}
+use Rattle.laws_steps.specs.Locations.{OpensFile, OpensNever, IsToldNow, WasTold, AttemptsGoByToldLocations, goes_by_location, GoesInTime, LocationsAreNotUsedTooLong}
+use Rattle.laws_steps.proofs.KeptLocations.{IsUsed, IsInTime, GoesBy, SaysInTime, Keeps, used_at, nothing_kept, keeps_on, says_on, keeps_later, keeps_opened, After, steps_here, calls_here, refused_here}
 
 -- what was told before and whose file is not opened now, or is told now
 abbrev Next : WorldState → Event → WorldState → (ℕ → ℕ → Location → ℕ → Type 0) → ℕ → ℕ → Location → ℕ → Type 0
@@ -147,6 +156,31 @@ module _ (config : Config) (w : WorldState) (T : ℕ → ℕ → Location → �
         (left moment Came (told_now moment) (either_kept moment) (client_call_goes s moment c) (calls_here Either config (client_at s moment) Came (told_now moment) (either_kept moment) c))
         (left moment Came (told_now moment) (either_kept moment) (answers (client_begins (client_at s moment)) (answer.Refused NoMemory)) (refused_here Either config (client_at s moment) Came (told_now moment) (either_kept moment))) stops
 
+    -- what it sends goes by locations in time
+    abbrev Says : ClientState → List Message → Type 0
+    Says t ms = (u : WorldState) → element_at u.clients index ≡ Some t → AllOf (λ m. IsTrue (goes_by_location m.body) → GoesBy (Next w e u T index) config t m.body) ms
+
+    says : (moment : ℕ) (Came : Body → Type 0)
+        → (told : (c : CurrentCall) (number : ℕ) (l : Location) → s.current ≡ Some c → c.stage ≡ AskedWhere number → Came (body.Told number (Some l)) → Either c.file.0 l (client_at s moment).now)
+        → (keeps : Keeps Either config (client_at s moment)) (d : ClientDoing) → After Either config (client_at s moment) Came told keeps d → Says d.client (option_to_list d.sent)
+    says moment Came told keeps d after u is =
+        elim (after) [
+          | inl quiet ↦ says_on Either (Next w e u T index) config (λ file l clock o. elim (o) [ inl before ↦ inl (before, opens_none w u index file s d.client at is quiet.1) | inr now ↦ inr now ]) d.client d.sent quiet.2
+          | inr opened ↦ subst (λ (o : Option Message). AllOf (λ m. IsTrue (goes_by_location m.body) → GoesBy (Next w e u T index) config d.client m.body) (option_to_list o)) (sym opened.3) tt
+        ]
+
+    step_says : (moment : ℕ) (i : NodeInput) (choice : Choice) → IsGiven w e (the_client (suc index)) moment i → Says (client_step s moment i choice).state (client_step s moment i choice).out.sent
+    step_says moment i choice is =
+        let Came : Body → Type 0 = ComesNow w e (suc index) moment in
+        stepped (λ t ms. Says t ms) s moment i choice
+        (says moment Came (told_now moment) (either_kept moment) (client_goes s moment i) (steps_here Either config (client_at s moment) Came (told_now moment) (either_kept moment) i (comes_in w e (suc index) moment i is))) (λ u there. tt) (λ u there. tt)
+
+    call_says : (moment : ℕ) (c : Call) (choice : Choice) → Says (client_call s moment c choice).state (client_call s moment c choice).out.sent
+    call_says moment c choice =
+        let Came : Body → Type 0 = ComesNow w e (suc index) moment in
+        called (λ t ms. Says t ms) s moment c choice
+        (says moment Came (told_now moment) (either_kept moment) (client_call_goes s moment c) (calls_here Either config (client_at s moment) Came (told_now moment) (either_kept moment) c)) (λ u there. tt) (λ u there. tt)
+
     -- all clients then
     all_kept : (t : ClientState) (u : WorldState) → u.clients ≡ with_at w.clients index t → Leaves t → AreKept config (Next w e u T) u
     all_kept t u clients leaves other x is =
@@ -207,12 +241,133 @@ new_kept config [] index s is = none_some s is
 new_kept config (n ∷ ns) zero s is = subst (λ (x : ClientState). Keeps Nowhere config x) (same_some (new_client config n) s is) (nothing_kept Nowhere config (new_client config n) refl refl refl refl refl refl)
 new_kept config (n ∷ ns) (suc index) s is = new_kept config ns index s is
 
-pub locations_are_not_used_too_long : LocationsAreNotUsedTooLong
-locations_are_not_used_too_long config servers clients steps index s c chunk at now used =
+pub attempts_go_by_told_locations : AttemptsGoByToldLocations
+attempts_go_by_told_locations config servers clients steps index s c chunk at now used =
     let start : WorldState = new_world config servers clients in
     let keeps : Keeps (Since start steps (λ n. Nowhere) index) config s = all_since config start steps (λ n. Nowhere) (new_kept config (first_numbers clients)) index s at in
-    let one : IsUsed (Since start steps (λ n. Nowhere) index) config c.file.0 c.deadline.0 chunk = used_at (Since start steps (λ n. Nowhere) index) config s c chunk c.stage (keeps.stands c now) used in
-    (one.0, one.1, one.2, one.3, told c.file.0 one.0 one.1 one.4)
+    let one : IsUsed (Since start steps (λ n. Nowhere) index) config c chunk = used_at (Since start steps (λ n. Nowhere) index) config s c chunk c.stage (keeps.stands c now) used in
+    (one.0, one.1, one.2, told c.file.0 one.0 c.told.0 one.3)
   where
     told : (file : ℕ) (l : Location) (clock : ℕ) → Since (new_world config servers clients) steps (λ n. Nowhere) index file l clock → WasTold (new_world config servers clients) steps index file l clock
     told file l clock x = elim (x) [ inl none ↦ absurd (none.0) | inr was ↦ was ]
+
+-- messages
+
+-- What a client sends in an event goes by locations in time.
+abbrev AreInTime : Config → (ℕ → ℕ → Location → ℕ → Type 0) → Happened → Type 0
+AreInTime config T x =
+    (index : ℕ) (t : ClientState) → element_at x.world.clients index ≡ Some t
+    → (place : ℕ) (m : Message) → element_at x.out.sent place ≡ Some m → m.sender ≡ the_client (suc index) → IsTrue (goes_by_location m.body) → GoesBy (T index) config t m.body
+
+others_in_time : (config : Config) (T : ℕ → ℕ → Location → ℕ → Type 0) (x : Happened) → AreNotClients x.out.sent → AreInTime config T x
+others_in_time config T x all index t is place m at from it =
+    absurd (true≢false (sym (from_itself (suc index) m.sender from) ∙ all_at (λ (y : Message). (client : ℕ) → is_from_client client y.sender ≡ false) x.out.sent place m all at (suc index)))
+
+said_by : (client : ℕ) (s : ClientState) → s.id ≡ suc client → (d : ClientDoing) (o : Option Message) → d.sent ≡ o → IsStepOf s d → AllOf (λ m. m.sender ≡ the_client (suc client)) (option_to_list o)
+said_by client s id d None is step = tt
+said_by client s id d (Some m) is step = ((step.says m is).0 ∙ ap (λ (n : ℕ). the_client n) id, tt)
+
+-- of a client's own messages
+own_in_time : (config : Config) (w : WorldState) (T : ℕ → ℕ → Location → ℕ → Type 0) (client : ℕ) (x : Happened) (t : ClientState) (ms : List Message) → x.out.sent ≡ ms → x.world.clients ≡ with_at w.clients client t
+    → AllOf (λ m. m.sender ≡ the_client (suc client)) ms → ((is : element_at x.world.clients client ≡ Some t) → AllOf (λ m. IsTrue (goes_by_location m.body) → GoesBy (T client) config t m.body) ms) → AreInTime config T x
+own_in_time config w T client x t ms out clients senders says index s is place m at from it =
+    subst (λ (n : ℕ). GoesBy (T n) config s m.body) same
+    (subst (λ (y : ClientState). GoesBy (T client) config y m.body) (sym one) (all_at (λ (y : Message). IsTrue (goes_by_location y.body) → GoesBy (T client) config t y.body) ms place m (says there) sent it))
+  where
+    sent : element_at ms place ≡ Some m
+    sent = subst (λ (xs : List Message). element_at xs place ≡ Some m) out at
+
+    same : client ≡ index
+    same = let both : suc client ≡ suc index = ap client_number (sym (all_at (λ (y : Message). y.sender ≡ the_client (suc client)) ms place m senders sent) ∙ from) in omega (arith, both)
+
+    here : element_at x.world.clients client ≡ Some s
+    here = subst (λ (n : ℕ). element_at x.world.clients n ≡ Some s) (sym same) is
+
+    one : s ≡ t
+    one = put_at t w.clients client s (subst (λ (xs : List ClientState). element_at xs client ≡ Some s) clients here)
+
+    there : element_at x.world.clients client ≡ Some t
+    there = subst (λ (y : ClientState). element_at x.world.clients client ≡ Some y) one here
+
+each_in_time : (config : Config) (w : WorldState) (T : ℕ → ℕ → Location → ℕ → Type 0) → AreKept config T w → AreNumbered w.sent w.clients → HoldsAfter w (λ e x. AreInTime config (Next w e x.world T) x)
+each_in_time config w T h numbered =
+    record {
+      nothing = λ e index t is place m none from it. none_some m none;
+      masters = λ e moment i choice given up. let x : Happened = after_master w moment (master_step w.master moment i choice) in others_in_time config (Next w e x.world T) x (master_sends w.master moment i choice);
+      opens = λ e moment choice. let x : Happened = after_master w moment (master_restart w.master moment choice) in others_in_time config (Next w e x.world T) x (master_restart_sends w.master moment choice);
+      serves = λ e server moment s i choice there given up. let x : Happened = after_server w server moment (server_step s moment i choice) in others_in_time config (Next w e x.world T) x (server_sends s moment i choice);
+      restarts = λ e server moment s choice there. let x : Happened = after_server w server moment (server_restart s moment choice) in others_in_time config (Next w e x.world T) x (server_restart_sends s moment choice);
+      steps = λ e client moment s i choice at given up.
+          let x : Happened = after_client w client moment (client_step s moment i choice) in
+          own_in_time config w (Next w e x.world T) client x (client_step s moment i choice).state (client_step s moment i choice).out.sent refl refl
+          (of_step (λ t ms. AllOf (λ m. m.sender ≡ the_client (suc client)) ms) s moment i choice (numbered.each client s at).named (λ d step. said_by client (client_at s moment) (numbered.each client s at).id d d.sent refl step) tt tt)
+          (step_says config w T h e client s at moment i choice given x.world);
+      calls = λ e client moment s c choice at may.
+          let x : Happened = after_client (with_call w client moment c) client moment (client_call s moment c choice) in
+          own_in_time config w (Next w e x.world T) client x (client_call s moment c choice).state (client_call s moment c choice).out.sent refl refl
+          (of_call (λ t ms. AllOf (λ m. m.sender ≡ the_client (suc client)) ms) s moment c choice (numbered.each client s at).named (λ d step. said_by client (client_at s moment) (numbered.each client s at).id d d.sent refl step) tt)
+          (call_says config w T h e client s at moment c choice x.world);
+      rots = λ e server handle s r spot byte is_kept there found up index t is place m none from it. none_some m none;
+    }
+
+-- what was told in a list of steps was told in it and one more
+told_on : (start : WorldState) (steps : List (Event × Choice)) (step : Event × Choice) (index file : ℕ) (l : Location) (clock : ℕ) → WasTold start steps index file l clock
+    → (OpensFile (after_events start steps) (happens (after_events start steps) step.0 step.1).world index file → ⊥) → WasTold start (steps ++ step ∷ []) index file l clock
+told_on start steps step index file l clock was unopened =
+    record {
+      before = was.before;
+      step = was.step;
+      after = was.after ++ step ∷ [];
+      steps_are = ap (λ (xs : List (Event × Choice)). xs ++ step ∷ []) was.steps_are ∙ joined was.before;
+      told = was.told;
+      unopened = never (happens (after_events start was.before) (was.step).0 (was.step).1).world was.after was.unopened
+          (subst (λ (v : WorldState). OpensFile v (happens v step.0 step.1).world index file → ⊥)
+          (ap (λ (xs : List (Event × Choice)). after_events start xs) was.steps_are ∙ after_both start was.before (was.step ∷ was.after)) unopened);
+    }
+  where
+    joined : (xs : List (Event × Choice)) → (xs ++ was.step ∷ was.after) ++ step ∷ [] ≡ xs ++ was.step ∷ (was.after ++ step ∷ [])
+    joined [] = refl
+    joined (x ∷ xs) = ap (λ (ys : List (Event × Choice)). x ∷ ys) (joined xs)
+
+    never : (v : WorldState) (after : List (Event × Choice)) → OpensNever v after index file → (OpensFile (after_events v after) (happens (after_events v after) step.0 step.1).world index file → ⊥) → OpensNever v (after ++ step ∷ []) index file
+    never v [] none last = (last, tt)
+    never v (x ∷ rest) none last = (none.0, never (happens v x.0 x.1).world rest none.1 last)
+
+pub locations_are_not_used_too_long : LocationsAreNotUsedTooLong
+locations_are_not_used_too_long config servers clients some steps step index s is place m sent from it =
+    record {
+      call = goes.0;
+      location = goes.1;
+      call_is = goes.2;
+      chunk_is = goes.3;
+      named = goes.4;
+      in_time = soon s.now (goes.0).told.0 goes.5;
+      told = told (goes.0).file.0 goes.1 (goes.0).told.0 goes.6;
+    }
+  where
+    start : WorldState
+    start = new_world config servers clients
+
+    w : WorldState
+    w = after_events start steps
+
+    u : WorldState
+    u = (happens w step.0 step.1).world
+
+    keeps : AreKept config (Since start steps (λ n. Nowhere)) w
+    keeps = all_since config start steps (λ n. Nowhere) (new_kept config (first_numbers clients))
+
+    goes : GoesBy (Next w step.0 u (Since start steps (λ n. Nowhere)) index) config s m.body
+    goes =
+        holds_after w (λ e x. AreInTime config (Next w e x.world (Since start steps (λ n. Nowhere))) x) (each_in_time config w (Since start steps (λ n. Nowhere)) keeps (numbered_reached config servers clients w (steps, refl)))
+        step.0 step.1 index s is place m sent from it
+
+    soon : (now clock : ℕ) → IsInTime config now clock → now < clock + config.cache_ms
+    soon now clock h = elim (h) [ inl same ↦ omega (arith, same, some) | inr later ↦ later ]
+
+    told : (file : ℕ) (l : Location) (clock : ℕ) → Next w step.0 u (Since start steps (λ n. Nowhere)) index file l clock → WasTold start (steps ++ step ∷ []) index file l clock
+    told file l clock h =
+        elim (h) [
+          | inl before ↦ told_on start steps step index file l clock (elim (before.0) [ inl none ↦ absurd (none.0) | inr was ↦ was ]) before.1
+          | inr now ↦ record { before = steps; step = step; after = []; steps_are = refl; told = now; unopened = tt }
+        ]

@@ -78,7 +78,7 @@ module _ (s : ClientState) (Came : Body → Type 0) (Told : ℕ → Shape → Ty
         finds = λ d c index e end is h. tt;
         hears = λ c number l now at came h. (h, tt);
         holders = λ d c l fit. tt;
-        left = λ c chunk rest number now at h. tt;
+        left = λ c chunk rest number now at fresh h. tt;
         answered = λ d c reply h. h;
         name_answered = λ d c reply h. h;
         opened = λ c number file shape now at came h. opened_known s.files file.0 shape (suc s.fd_count) (names number file shape came) h;
@@ -87,7 +87,7 @@ module _ (s : ClientState) (Came : Body → Type 0) (Told : ℕ → Shape → Ty
         asking = λ d c h. h;
         reads = λ d c chunk x rest r h. h;
         pushes = λ d c l g first is hop fit h. h;
-        mutates = λ c chunk primary number now is h. h;
+        mutates = λ c chunk primary number now is fresh h. h;
         naming = λ d c end h. h;
       }
 

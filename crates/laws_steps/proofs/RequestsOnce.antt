@@ -250,7 +250,7 @@ module _ (sent : List Message) (k index : ℕ) (s : ClientState) (d : ClientDoin
       ]
 
 -- what stands at a place where an element was put
-put_at : (t : ClientState) (xs : List ClientState) (i : ℕ) (s : ClientState) → element_at (with_at xs i t) i ≡ Some s → s ≡ t
+pub put_at : (t : ClientState) (xs : List ClientState) (i : ℕ) (s : ClientState) → element_at (with_at xs i t) i ≡ Some s → s ≡ t
 put_at t [] i s e = none_some s e
 put_at t (x ∷ xs) zero s e = sym (same_some t s e)
 put_at t (x ∷ xs) (suc i) s e = put_at t xs i s e

@@ -127,7 +127,7 @@ module _ (s : ClientState) where
         finds = λ d c index e end is h. tt;
         hears = λ c number l now at came h. (h, tt);
         holders = λ d c l fit. tt;
-        left = λ c chunk rest number now at h. tt;
+        left = λ c chunk rest number now at fresh h. tt;
         answered = λ d c reply h. quiet (answers d reply) h.0 refl h.1;
         name_answered = λ d c reply h. quiet (answers d reply) h.0 refl h.1;
         opened = λ c number file shape now at came h. quiet _ h.0 refl h.1;
@@ -136,7 +136,7 @@ module _ (s : ClientState) where
         asking = λ d c h. of_file _ (record c { lost_lease = false; stage = AskedWhere (suc d.client.number) }) h.0 refl h.2 h.2 (λ m is. subst (λ (x : Message). IsAskedNow (asks d c).client x.body) (same_some _ m is) tt);
         reads = λ d c chunk x rest r h. reads_now d c chunk x rest h;
         pushes = λ d c l g first is hop fit h. of_file _ (record c { stage = SentData (chunk_of l) g.primary (suc d.client.number) }) h.0 refl h.2 h.2 (λ m is. subst (λ (x : Message). IsAskedNow (committed d c (push_planned_to d.client c (chunk_of l) g (Some first))).client x.body) (same_some _ m is) tt);
-        mutates = λ c chunk primary number now at h. of_file _ (record c { stage = SentMutate chunk number }) h.0 refl h.2 h.2 (λ m is. subst (λ (x : Message). IsAskedNow (committed (client_begins s) c (mutate_planned s c chunk primary number)).client x.body) (same_some _ m is) tt);
+        mutates = λ c chunk primary number now at fresh h. of_file _ (record c { stage = SentMutate chunk number }) h.0 refl h.2 h.2 (λ m is. subst (λ (x : Message). IsAskedNow (committed (client_begins s) c (mutate_planned s c chunk primary number)).client x.body) (same_some _ m is) tt);
         naming = λ d c end h. names_now d c (ap (λ (m : Moment). m.0) end) h;
       }
     where

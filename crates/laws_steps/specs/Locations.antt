@@ -1,11 +1,12 @@
--- The law of every lawful list of events on the locations that clients use, that a public function of this crate states.
-use Rattle.std.specs.Prelude.{◌≡◌, ◌⊎◌, ℕ, suc, ◌+◌, ◌≤◌, ◌<◌, List, [], ◌∷◌, ◌++◌, Option, Some, None}
+-- Laws of every lawful list of events on the locations that clients use, that public functions of this crate state.
+use Rattle.std.specs.Prelude.{◌≡◌, ◌⊎◌, ℕ, suc, ◌+◌, ◌≤◌, ◌<◌, Bool, true, false, IsTrue, List, [], ◌∷◌, ◌++◌, Option, Some, None}
 use Rattle.std.specs.FinMap as table
 use Rattle.gfs_types.specs.declared.config.Config.{Config}
 use Rattle.gfs_types.specs.declared.ids.Moment.{Moment}
 use Rattle.messages.specs.declared.event.Event.{Event}
 use Rattle.messages.specs.declared.event.Event.TheVariants as event
 use Rattle.messages.specs.declared.message.Message.{Message}
+use Rattle.messages.specs.declared.message.Body.{Body}
 use Rattle.messages.specs.declared.message.Body.TheVariants as body
 use Rattle.messages.specs.declared.message.Location.{Location}
 use Rattle.client_state.specs.declared.call.CurrentCall.{CurrentCall}
@@ -73,10 +74,43 @@ chunk_used other = None
 abbrev pub BeganInTime : Config → ℕ → ℕ → Type 0
 BeganInTime config deadline clock = (deadline ≤ clock + config.attempt_ms) ⊎ (deadline < clock + config.attempt_ms + config.cache_ms)
 
--- The location by which an attempt goes was told to the client less than the cache's time before the attempt began, by the client's own clock, and the client has not opened the file since.
-abbrev pub LocationsAreNotUsedTooLong : Type 0
-LocationsAreNotUsedTooLong =
+-- The location by which an attempt goes was told to the client, when the call says, less than the cache's time before the attempt began, by the client's own clock, and the client has not opened the file since.
+abbrev pub AttemptsGoByToldLocations : Type 0
+AttemptsGoByToldLocations =
     (config : Config) (servers clients : ℕ) (steps : List (Event × Choice))
     → (index : ℕ) (s : ClientState) (c : CurrentCall) (chunk : ToldChunk)
     → element_at (after_events (new_world config servers clients) steps).clients index ≡ Some s → s.current ≡ Some c → chunk_used c.stage ≡ Some chunk
-    → (l : Location) × (clock : ℕ) × (chunk_of l ≡ chunk) × BeganInTime config c.deadline.0 clock × WasTold (new_world config servers clients) steps index c.file.0 l clock
+    → (l : Location) × (chunk_of l ≡ chunk) × BeganInTime config c.deadline.0 c.told.0 × WasTold (new_world config servers clients) steps index c.file.0 l c.told.0
+
+-- what a client sends by a location
+abbrev pub goes_by_location : Body → Bool
+goes_by_location (body.Push id bytes rest) = true
+goes_by_location (body.Mutate id handle version target deadline) = true
+goes_by_location (body.Read number handle version offset count) = true
+goes_by_location (body.Len number handle version) = true
+goes_by_location other = false
+
+-- it names this chunk; a push names none
+abbrev pub NamesChunk : ToldChunk → Body → Type 0
+NamesChunk chunk (body.Mutate id handle version target deadline) = (handle ≡ chunk.handle) × (version ≡ chunk.round)
+NamesChunk chunk (body.Read number handle version offset count) = handle ≡ chunk.handle
+NamesChunk chunk (body.Len number handle version) = handle ≡ chunk.handle
+NamesChunk chunk other = Unit {0}
+
+-- A client sends this by a location that it was told less than the cache's time before, by its own clock, and it has not opened the file since.
+pub record GoesInTime (start : WorldState) (steps : List (Event × Choice)) (index : ℕ) (s : ClientState) (b : Body) : Type 0 where
+  pub call : CurrentCall
+  pub location : Location
+  pub call_is : s.current ≡ Some call
+  pub chunk_is : chunk_used call.stage ≡ Some (chunk_of location)
+  pub named : NamesChunk (chunk_of location) b
+  pub in_time : s.now < call.told.0 + start.config.cache_ms
+  pub told : WasTold start steps index call.file.0 location call.told.0
+
+-- So goes each push, Mutate, reading and length that a client sends in a step. (A life of 0, which no cell has, would end at once.)
+abbrev pub LocationsAreNotUsedTooLong : Type 0
+LocationsAreNotUsedTooLong =
+    (config : Config) (servers clients : ℕ) → 1 ≤ config.cache_ms → (steps : List (Event × Choice)) (step : Event × Choice)
+    → (index : ℕ) (s : ClientState) → element_at (happens (after_events (new_world config servers clients) steps) step.0 step.1).world.clients index ≡ Some s
+    → (place : ℕ) (m : Message) → element_at (happens (after_events (new_world config servers clients) steps) step.0 step.1).out.sent place ≡ Some m → m.sender ≡ the_client (suc index) → IsTrue (goes_by_location m.body)
+    → GoesInTime (new_world config servers clients) (steps ++ step ∷ []) index s m.body
