@@ -4,7 +4,7 @@ use gfs_types::ids::Handle;
 use replica_store::change::StoreChange;
 
 /// A change of what a disk says.
-#[derive(Debug, Drop)]
+#[derive(Drop)]
 pub enum SaidChange {
     /// One that a server makes.
     Made(StoreChange),
