@@ -5,7 +5,6 @@ use gfs_types::ids::{Handle, OrderNo, Serial, Version};
 use gfs_types::lists::Sequence;
 
 /// One change of a server's disk. Offsets count bytes from the chunk's start.
-#[derive(Debug, Drop)]
 pub enum StoreChange {
     /// The number of the last order that the server took.
     SetOrder(OrderNo),
@@ -43,6 +42,43 @@ pub enum StoreChange {
     },
     /// The replica goes.
     Remove(Handle),
+}
+
+// Stands here, once, so that no function that lets one go, here or above, takes its variants apart.
+impl Drop for StoreChange {
+    fn drop(self) {
+        match self {
+            Self::SetOrder(_) => {}
+            Self::Put {
+                handle: _,
+                version: _,
+                serial: _,
+                bytes: _bytes,
+            } => {}
+            Self::Write {
+                handle: _,
+                serial: _,
+                offset: _,
+                bytes: _bytes,
+            } => {}
+            Self::Zero {
+                handle: _,
+                serial: _,
+                offset: _,
+                count: _,
+            } => {}
+            Self::Raise {
+                handle: _,
+                version: _,
+            } => {}
+            Self::Copy {
+                handle: _,
+                copy: _,
+                version: _,
+            } => {}
+            Self::Remove(_) => {}
+        }
+    }
 }
 
 /// Changes in their order.
