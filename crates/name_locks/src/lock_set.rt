@@ -1,8 +1,6 @@
 //! Names, each to be read or written.
 
 ghost use Rattle.std.specs.Prelude.{◌≡◌, IfOk};
-ghost use Rattle.std.specs.List.{list_any};
-ghost use Rattle.name_locks.specs.Locks.{clash, sets_clash};
 
 use gfs_types::no_memory::NoMemory;
 use gfs_types::path::Path;
@@ -44,22 +42,9 @@ impl LockSet {
         Ok(LockSet { locks: copies })
     }
 
-    // Whether some lock of this set conflicts with some lock of the other.
-    pub(crate) fn clashes(&self, wanted: &[(Path, Mode)]) -> bool
-        ensures { result ≡ sets_clash self.now wanted.now }
+    pub(crate) fn as_slice(&self) -> &[(Path, Mode)]
+        ensures { result.now ≡ self.now }
     {
-        self.locks.iter().any(|held| clashes_with_any(held, wanted))
+        self.locks.as_slice()
     }
-}
-
-fn clashes_with_any(held: &(Path, Mode), wanted: &[(Path, Mode)]) -> bool
-    ensures { result ≡ list_any (λ b. clash held.now b) wanted.now }
-{
-    wanted.iter().any(|lock| clash(held, lock))
-}
-
-fn clash(a: &(Path, Mode), b: &(Path, Mode)) -> bool
-    ensures { result ≡ clash a.now b.now }
-{
-    a.0.as_str() == b.0.as_str() && (a.1 == Mode::Write || b.1 == Mode::Write)
 }

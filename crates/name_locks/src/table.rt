@@ -5,11 +5,13 @@ ghost use Rattle.name_locks.specs.Faults.{fault_text};
 ghost use Rattle.name_locks.specs.Locks.{Changes, has_conflict, held_by};
 ghost use Rattle.name_locks.specs.declared.table.TakeFault.TheVariants.{Conflict, NoMemory as OutOfMemory};
 
+use crate::lock_counts::{LockCounts, add_all, are_blocked, take_all};
 use crate::lock_set::{LockSet, Mode};
 use gfs_types::no_memory::NoMemory;
 use gfs_types::path::Path;
 use slab::Slab;
-use std::alloc::{AllocFailed, Global};
+use std::alloc::Global;
+use std::collections::BTreeMap;
 use std::error::Error;
 use std::fmt;
 use std::marker::Model;
@@ -62,15 +64,20 @@ impl Model for Ticket {
 #[derive(Drop)]
 pub struct LockTable {
     taken: Slab<LockSet, Global>,
+    // the locks of all taken sets, by their names
+    counts: LockCounts,
     alloc: Global,
 }
 
 impl Model for LockTable {
     ghost use Rattle.name_locks.specs.Locks.{Table};
+    ghost use Rattle.name_locks.specs.LockCounts.{AreCounted};
 
     ghost Value = { Table };
 
     ghost view = { λ t. t.taken.slots };
+
+    ghost invariant = { λ t. AreCounted t.taken.slots t.counts };
 }
 
 impl LockTable {
@@ -80,6 +87,7 @@ impl LockTable {
     {
         LockTable {
             taken: Slab::new(alloc),
+            counts: BTreeMap::new(alloc),
             alloc,
         }
     }
@@ -88,12 +96,7 @@ impl LockTable {
     pub fn conflicts(&self, names: &[(Path, Mode)]) -> bool
         ensures { result ≡ has_conflict self.now names.now }
     {
-        for (_, held) in self.taken.iter() {
-            if held.clashes(names) {
-                return true;
-            }
-        }
-        false
+        are_blocked(&self.counts, names)
     }
 
     /// Takes these names under a new ticket. A set doesn't conflict with itself. A refusal leaves the table as it was; Conflict is looked for first.
@@ -110,21 +113,27 @@ impl LockTable {
         Ok(self.add(locks)?)
     }
 
+    #[tactic(auto, using(crate::proofs::Counts::put_counts))]
     fn add(&mut self, locks: LockSet) -> Result<Ticket, NoMemory>
         ensures vacant { IfOk result (λ ticket. held_by self.old ticket ≡ None) }
         ensures taken { IfOk result (λ ticket. Changes self.old self.new ticket (Some locks)) }
         ensures err { OnErr result (self.new ≡ self.old) }
     {
-        let key = self.taken.insert(locks)?;
+        self.taken.reserve(1)?;
+        add_all(self.alloc, &mut self.counts, locks.as_slice())?;
+        let key = self.taken.insert_reserved(locks);
         Ok(Ticket { key })
     }
 
     /// Gives the names of a ticket back, which is an open one of this table. It needs no memory.
+    #[tactic(auto, using(crate::proofs::Counts::gone_counts))]
     pub fn give(&mut self, ticket: Ticket)
         requires { IsSome (held_by self.old ticket) }
         ensures { Changes self.old self.new ticket None }
     {
         let Ticket { key } = ticket;
-        self.taken.try_remove(key);
+        if let Some(locks) = self.taken.try_remove(key) {
+            take_all(&mut self.counts, locks.as_slice());
+        }
     }
 }

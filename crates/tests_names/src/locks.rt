@@ -1,4 +1,4 @@
-//! Locks: two creations in a directory, and refused memory.
+//! Locks: two creations in a directory, names that are given back, and refused memory.
 
 ghost use Rattle.std.specs.Prelude.{◌≡◌, ◌∷◌, [], Some, IsTrue, IfOk, IsErrOf, OnErr};
 ghost use Rattle.name_locks.specs.Locks.{has_conflict, held_by};
@@ -73,6 +73,39 @@ fn two_creations_in_a_directory(rt: HostRuntime) -> Result<(), Fail> {
     drop(table);
     assert!(rt; faults == [None, None, Some(TakeFault::Conflict)]);
     assert!(rt; conflicts);
+    Ok(())
+}
+
+// Whether these names conflict once others were taken and given back. None: they weren't taken.
+fn conflicts_after(
+    table: &mut LockTable,
+    taken: &[(Path, Mode)],
+    names: &[(Path, Mode)],
+) -> Option<bool> {
+    match table.try_take(taken) {
+        Ok(ticket) => {
+            table.give(ticket);
+            Some(table.conflicts(names))
+        }
+        Err(_) => None,
+    }
+}
+
+#[test]
+fn what_one_gives_back_another_holds(rt: HostRuntime) -> Result<(), Fail> {
+    let alloc = rt.alloc();
+    let reader = [(Path::parse("/d", alloc)?, Mode::Read)];
+    let writer = [(Path::parse("/d", alloc)?, Mode::Write)];
+    let mut table = LockTable::new(alloc);
+    let alone = conflicts_after(&mut table, &reader, &writer);
+    let kept = fault_of(table.try_take(&reader));
+    let beside_another = conflicts_after(&mut table, &reader, &writer);
+    drop(table);
+    drop(reader);
+    drop(writer);
+    assert!(rt; kept.is_none());
+    assert!(rt; alone == Some(false));
+    assert!(rt; beside_another == Some(true));
     Ok(())
 }
 
