@@ -2,5 +2,4 @@ pub mod Sources
 pub mod Waits
 pub mod Parts
 pub mod Snapshots
-pub mod Busy
 pub mod Refused

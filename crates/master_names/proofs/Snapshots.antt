@@ -1,5 +1,8 @@
 -- Snapshots that begin and are taken, whatever answers to growths of the names are left.
 use Rattle.std.proofs.Common.{◌≡◌, ℕ, Bool, true, false, cond, List, [], ◌∷◌, ◌++◌, Some, None, Option, refl, sym, ap, ◌∙◌, subst}
+use Rattle.std.specs.Prelude.{not}
+use Rattle.std.specs.List.{list_all}
+use Rattle.std.proofs.lemmas.Bool.{true≢false, and_parts}
 use Rattle.gfs_types.specs.declared.ids.OrderNo.{OrderNo}
 use Rattle.gfs_types.specs.Paths.{Path}
 use Rattle.gfs_types.specs.declared.call.Call.{Call}
@@ -11,9 +14,12 @@ use Rattle.messages.specs.declared.message.Body.TheVariants as body
 use Rattle.chunk_table.specs.ChunkTable.{ChunkRow, chunk_of}
 use Rattle.protocol.specs.Sending.{client_id, handle_of, version_of}
 use Rattle.protocol.specs.Logged.{LogDisk}
-use Rattle.protocol.specs.Master.{MasterDoing, PendingSnapshot, has_lease, orders, gives_up_copies, without_attempts}
+use Rattle.protocol.specs.Master.{MasterState, MasterDoing, PendingSnapshot, has_lease, orders, gives_up_copies, without_attempts}
 use Rattle.protocol.specs.MasterSnapshots.{takes_locks, snapshot_handles, snapshot_files, copies_for_files, changes_names, revokes_row, revokes_all, begins_snapshot, lets_go, is_ready, takes_snapshot, takes_ready}
-use Rattle.protocol.specs.MasterNames.{performs}
+use Rattle.protocol.specs.MasterNames.{performs, is_busy, master_refusal}
+use Rattle.relaxed_file.specs.NameStep.{first_refusal, path_tests, name_tests}
+use Rattle.gfs_types.specs.declared.refusal.Refusal.{Refusal}
+use Rattle.gfs_types.specs.declared.refusal.Refusal.TheVariants.{Busy}
 use Rattle.master_plan.specs.Plans.{PlanState, doing, known}
 use Rattle.master_names.specs.Doing.{answered, IsPlanned, Changes}
 use Rattle.master_names.proofs.Parts.{uses_none, goes_on, then_does, changes_with}
@@ -89,3 +95,38 @@ one_more disk old mid new s all left is first rest =
 -- none is left
 pub none_left : (disk : LogDisk) (p : PlanState) (all : List PendingSnapshot) → all ≡ [] → IsPlanned (λ d. takes_ready d all) disk p p
 none_left disk p all is = uses_none (λ d. takes_ready d all) disk p p (λ rest. ap (λ (l : List PendingSnapshot). takes_ready (answered disk p rest) l) is)
+
+-- where none is ready, none is taken
+none_taken : (d : MasterDoing) (ss : List PendingSnapshot) → list_all (λ s. not (is_ready d.master s)) ss ≡ true → takes_ready d ss ≡ d
+none_taken d [] waits = refl
+none_taken d (s ∷ ss) waits =
+    let both = and_parts (not (is_ready d.master s)) (list_all (λ s. not (is_ready d.master s)) ss) waits in
+    ap (λ (e : MasterDoing). takes_ready e ss) (first (is_ready d.master s) both.0) ∙ none_taken d ss both.1
+  where
+    first : (b : Bool) → not b ≡ true → cond b (takes_snapshot d s) d ≡ d
+    first true e = absurd (true≢false (sym e))
+    first false e = refl
+
+pub none_ready : (disk : LogDisk) (p : PlanState) → list_all (λ s. not (is_ready (known p) s)) p.snapshots ≡ true → IsPlanned (λ d. takes_ready d d.master.snapshots) disk p p
+none_ready disk p waits = uses_none (λ d. takes_ready d d.master.snapshots) disk p p (λ rest. none_taken (answered disk p rest) p.snapshots waits)
+
+-- the list is that of the snapshots that wait as the step's end begins
+pub taken_all : (disk : LogDisk) (old mid new : PlanState) (all : List PendingSnapshot) → all ≡ old.snapshots → new ≡ mid
+    → IsPlanned (λ d. takes_ready d all) disk old mid → IsPlanned (λ d. takes_ready d d.master.snapshots) disk old new
+taken_all disk old mid new all is same does =
+    subst (λ (p : PlanState). IsPlanned (λ d. takes_ready d d.master.snapshots) disk old p) (sym same)
+    (goes_on (λ d. takes_ready d d.master.snapshots) (λ d. takes_ready d all) disk old old mid
+    (λ answers. ap (λ (ss : List PendingSnapshot). takes_ready (answered disk old answers) ss) (sym is)) does)
+
+-- A call that meets no refusal finds no lock that conflicts.
+no_test_before : (tests rest : List (Bool × Refusal)) (busy : Bool) (refusal : Refusal) → first_refusal (tests ++ (busy, refusal) ∷ rest) ≡ None → busy ≡ false
+no_test_before [] rest true refusal e = cc
+no_test_before [] rest false refusal e = refl
+no_test_before (test ∷ tests) rest busy refusal e =
+    elim test.0 as (λ b. cond b (Some test.1) (first_refusal (tests ++ (busy, refusal) ∷ rest)) ≡ None → busy ≡ false) [
+      | true ↦ λ f. cc
+      | false ↦ λ f. no_test_before tests rest busy refusal f
+    ] e
+
+pub not_busy : (m : MasterState) (c : Call) → master_refusal m c ≡ None → is_busy m c ≡ false
+not_busy m c e = no_test_before (path_tests m.config c) (name_tests m.logged.names c) (is_busy m c) Busy e

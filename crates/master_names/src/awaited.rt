@@ -88,13 +88,13 @@ fn is_awaited<A: Allocator + Clone>(plan: &Plan<A>, snapshot: &Pending, awaited:
     is_leased(plan, file, awaited.index)
 }
 
-fn is_in_source(snapshot: &Pending, path: &Path) -> bool
+pub(crate) fn is_in_source(snapshot: &Pending, path: &Path) -> bool
     ensures { result ≡ is_at_or_below snapshot.now.from path.now }
 {
     is_at_or_below(snapshot.from().as_str(), path.as_str())
 }
 
-fn file_at<A: Allocator + Clone>(plan: &Plan<A>, path: &Path) -> Option<FileId>
+pub(crate) fn file_at<A: Allocator + Clone>(plan: &Plan<A>, path: &Path) -> Option<FileId>
     ensures { IfSome result (λ file. get plan.now.logged.names path.now ≡ Some (File file.0)) }
 {
     let names = plan.state().names();

@@ -1,9 +1,10 @@
 //! How a snapshot takes its locks, and gives them back.
 
-ghost use Rattle.std.specs.Prelude.{◌≡◌, OnOk};
+ghost use Rattle.std.specs.Prelude.{◌≡◌, false, OnOk};
 ghost use Rattle.protocol.specs.Logged.{LogDisk};
 ghost use Rattle.protocol.specs.MasterSnapshots.{begins_snapshot, lets_go};
-ghost use Rattle.master_plan.specs.Plans.{doing};
+ghost use Rattle.protocol.specs.MasterNames.{is_busy, snapshot_call};
+ghost use Rattle.master_plan.specs.Plans.{doing, known};
 
 use crate::concerned::snapshot_plan;
 use crate::revokes::revokes_all;
@@ -12,12 +13,13 @@ use master_plan::plan::Plan;
 use master_plan::waiting::Pending;
 use std::alloc::Allocator;
 
-/// The locks are taken; version numbers of the chunks that are under way, and copies for the files, are given up, and leases are
-/// revoked.
-pub fn begins_snapshot<A: Allocator + Clone>(
+// The locks are taken; version numbers of the chunks that are under way, and copies for the files, are given up, and leases are
+// revoked.
+pub(crate) fn begins_snapshot<A: Allocator + Clone>(
     plan: &mut Plan<A>,
     snapshot: Pending,
 ) -> Result<(), PlanFault>
+    requires { is_busy (known plan.old) (snapshot_call snapshot) ≡ false }
     ensures { OnOk result ((disk : LogDisk) → begins_snapshot (doing disk plan.old) snapshot ≡ doing disk plan.new) }
 {
     let found = snapshot_plan(plan, &snapshot)?;

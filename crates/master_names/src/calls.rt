@@ -1,13 +1,13 @@
 //! The calls that change the names, as they take effect.
 
-ghost use Rattle.std.specs.Prelude.{◌≡◌, List, Bool, Some, None, OnOk};
+ghost use Rattle.std.specs.Prelude.{◌≡◌, false, List, Bool, Some, None, OnOk};
 ghost use Rattle.gfs_types.specs.declared.call.Call.TheVariants as call;
 ghost use Rattle.log_records.specs.declared.record.Record.TheVariants as entries;
 ghost use Rattle.protocol.specs.Logged.{LogDisk};
 ghost use Rattle.protocol.specs.Sending.{client_id, file_id, moment_of};
-ghost use Rattle.protocol.specs.MasterNames.{told_shape};
+ghost use Rattle.protocol.specs.MasterNames.{is_busy, told_shape};
 ghost use Rattle.protocol.specs.MasterSnapshots.{settles_name, changes_names, begins_snapshot};
-ghost use Rattle.master_plan.specs.Plans.{doing};
+ghost use Rattle.master_plan.specs.Plans.{doing, known};
 ghost use Rattle.master_names.specs.Doing.{answered, IsPlanned};
 
 use crate::answers::{changes_names, settles_name};
@@ -133,6 +133,7 @@ pub(crate) fn waits<A: Allocator + Clone>(
     from: &Text,
     to: &Text,
 ) -> Result<(), PlanFault>
+    requires { is_busy (known plan.old) (call.Snapshot from.now to.now) ≡ false }
     ensures { OnOk result ((disk : LogDisk) → begins_snapshot (doing disk plan.old) (record { client = client.0; number = number; deadline = deadline.0; from = from.now; to = to.now }) ≡ doing disk plan.new) }
 {
     let from = path_of(plan.alloc(), from)?;

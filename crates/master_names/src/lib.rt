@@ -14,3 +14,4 @@ pub mod ready;
 pub mod refusals;
 pub mod revokes;
 pub mod snapshots_ready;
+mod waits;

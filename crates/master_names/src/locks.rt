@@ -14,7 +14,7 @@ use std::alloc::Allocator;
 
 // Whether a snapshot that waits holds a lock that conflicts. Nothing is said of a call whose texts are no paths, which is refused
 // before. Takes no memory where none waits.
-#[tactic(auto, using(crate::proofs::Busy::none_busy, crate::proofs::Busy::busy_is))]
+#[tactic(auto, using(master_plan::proofs::Clashes::none_busy, master_plan::proofs::Clashes::busy_is))]
 pub(crate) fn is_busy<A: Allocator + Clone>(plan: &Plan<A>, call: &Call) -> Result<bool, NoMemory>
     ensures { IfOk result (λ b. IsTrue (are_paths call.now) → b ≡ is_busy (known plan.now) call.now) }
 {
@@ -35,6 +35,5 @@ pub(crate) fn is_waiting<A: Allocator + Clone>(
 ) -> bool
     ensures { result ≡ is_waiting_call (known plan.now) client.0 number }
 {
-    plan.snapshots().iter().any(|snapshot| snapshot.client().0 == client.0
-        && snapshot.number() == number)
+    plan.has_snapshot(client, number)
 }

@@ -1,7 +1,8 @@
 //! Name calls that change the names, refusals too: what is answered is logged before.
 
-ghost use Rattle.std.specs.Prelude.{◌≡◌, OnOk};
-ghost use Rattle.protocol.specs.MasterNames.{performs, names_by, names_anew, takes_name};
+ghost use Rattle.std.specs.Prelude.{◌≡◌, None, OnOk};
+ghost use Rattle.protocol.specs.MasterNames.{master_refusal, performs, names_by, names_anew, takes_name};
+ghost use Rattle.master_plan.specs.Plans.{known};
 ghost use Rattle.master_names.specs.Doing.{IsPlanned};
 
 use crate::answers::{answers_name, refuses_name};
@@ -62,7 +63,7 @@ fn names_anew<L: OperationLog, A: Allocator + Clone>(
 }
 
 // A call that meets no refusal: a snapshot begins to wait, and the others take effect.
-#[tactic(auto, using(crate::proofs::Parts::uses_none, crate::proofs::Snapshots::begins))]
+#[tactic(auto, using(crate::proofs::Parts::uses_none, crate::proofs::Snapshots::begins, crate::proofs::Snapshots::not_busy))]
 fn performs<L: OperationLog, A: Allocator + Clone>(
     log: &L,
     plan: &mut Plan<A>,
@@ -71,6 +72,7 @@ fn performs<L: OperationLog, A: Allocator + Clone>(
     deadline: Moment,
     call: &Call,
 ) -> Result<(), PlanFault>
+    requires { master_refusal (known plan.old) call.now ≡ None }
     ensures { OnOk result (IsPlanned (λ d. performs d client.0 number deadline.0 call.now) (L.disk log.now) plan.old plan.new) }
 {
     match call {

@@ -7,6 +7,7 @@ ghost use Rattle.master_names.specs.Doing.{IsPlanned};
 use crate::answers::changes_names;
 use crate::awaited::has_waited;
 use crate::begins::lets_go;
+use crate::waits::notes_wait;
 use log_records::record::Record;
 use master_plan::fault::PlanFault;
 use master_plan::plan::Plan;
@@ -14,15 +15,21 @@ use master_plan::waiting::Pending;
 use operation_log::log::OperationLog;
 use std::alloc::Allocator;
 
-/// Each snapshot that is ready is taken, the oldest first.
+/// Each snapshot that is ready is taken, the oldest first. None is looked at where it is known that none is ready.
+#[tactic(auto, using(crate::proofs::Snapshots::none_ready, crate::proofs::Snapshots::taken_all))]
 pub fn takes_ready<L: OperationLog, A: Allocator + Clone>(
     log: &L,
     plan: &mut Plan<A>,
 ) -> Result<(), PlanFault>
     ensures { OnOk result (IsPlanned (λ d. takes_ready d d.master.snapshots) (L.disk log.now) plan.old plan.new) }
 {
+    if plan.all_wait() {
+        return Ok(());
+    }
     let snapshots = plan.copied_snapshots()?;
-    takes_those_ready(log, plan, &snapshots)
+    takes_those_ready(log, plan, &snapshots)?;
+    notes_wait(plan);
+    Ok(())
 }
 
 fn takes_those_ready<L: OperationLog, A: Allocator + Clone>(

@@ -66,20 +66,20 @@ left_alone ss files chunks l after names table h =
 
 module _ (ss : List PendingSnapshot) (files chunks : NumberSet) where
   -- what is a source, or below one, is no path that isn't
-  apart : (p x : Path) → is_source ss p ≡ false → is_source ss x ≡ true → x ≡ p → ⊥
+  pub apart : (p x : Path) → is_source ss p ≡ false → is_source ss x ≡ true → x ≡ p → ⊥
   apart p x e c same = true≢false (sym c ∙ ap (is_source ss) same ∙ e)
 
   file_apart : (k f : ℕ) → is_in files k ≡ false → is_in files f ≡ true → f ≡ k → ⊥
   file_apart k f e c same = true≢false (sym c ∙ ap (is_in files) same ∙ e)
 
-  hidden_same : (names : Names) (path : Path) (moment : ℕ) (o : Option Node) → is_source ss path ≡ false → list_any (λ s. is_by_trash s.from) ss ≡ false
+  pub hidden_same : (names : Names) (path : Path) (moment : ℕ) (o : Option Node) → is_source ss path ≡ false → list_any (λ s. is_by_trash s.from) ss ≡ false
       → (x : Path) → is_source ss x ≡ true → node_at (hidden names path moment o) x ≡ node_at names x
   hidden_same names path moment None e g x c = refl
   hidden_same names path moment (Some Dir) e g x c = refl
   hidden_same names path moment (Some (File id)) e g x c =
       inserted_other (remove names path) (hidden_name moment id) (File id) x (apart (hidden_name moment id) x (none_hides ss moment id g) c) ∙ removed_other names path x (apart path x e c)
 
-  renamed_same : (names : Names) (from to : Path) (o : Option Node) → is_source ss from ≡ false → is_source ss to ≡ false
+  pub renamed_same : (names : Names) (from to : Path) (o : Option Node) → is_source ss from ≡ false → is_source ss to ≡ false
       → (x : Path) → is_source ss x ≡ true → node_at (with_node (remove names from) to o) x ≡ node_at names x
   renamed_same names from to None e g x c = removed_other names from x (apart from x e c)
   renamed_same names from to (Some v) e g x c = inserted_other (remove names from) to v x (apart to x g c) ∙ removed_other names from x (apart from x e c)

@@ -11,3 +11,7 @@ pub mod Watching
 pub mod Locked
 pub mod Due
 pub mod CallLocks
+pub mod Clashes
+pub mod Bounds
+pub mod Sources
+pub mod Waits

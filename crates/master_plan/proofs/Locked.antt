@@ -1,7 +1,9 @@
 -- The taken sets are the locks of the snapshots that wait, as these come and go.
 use Rattle.std.proofs.Common.{◌≡◌, ◌≢◌, ℕ, zero, suc, ◌+◌, ◌-◌, ◌<◌, ◌==◌, Bool, true, false, not, cond, ◌&&◌, ◌||◌, List, [], ◌∷◌, ◌++◌, length, length-append, filter_map, filter, take, drop, Option, Some, None, is_some, slice_index_or, refl, sym, ap, ◌∙◌, subst, arith}
 use Rattle.std.specs.Option.{option_or}
-use Rattle.std.specs.Prelude.{Result, Ok, Err, OnOk, OnErr}
+use Rattle.std.specs.Prelude.{◌↔◌, IsTrue, Result, Ok, Err, OnOk, OnErr}
+use Rattle.name_locks.specs.declared.table.TakeFault.{TakeFault}
+use Rattle.name_locks.specs.declared.table.TakeFault.TheVariants.{Conflict}
 use Rattle.std.specs.Result.{is_ok, is_err}
 use Rattle.std.proofs.lemmas.List.{take_at}
 use Rattle.std.specs.List.{list_any, list_all, remove}
@@ -24,7 +26,7 @@ itself a = grind (arith, nat_tests)
 differ : (a b : ℕ) → (a == b) ≡ false → a ≢ b
 differ a b e is = let t : (a == b) ≡ true = ap (λ x. a == x) (sym is) ∙ itself a in absurd (let both : true ≡ false = sym t ∙ e in cc)
 
-neither : (a b : Bool) → (a || b) ≡ false → (a ≡ false) × (b ≡ false)
+pub neither : (a b : Bool) → (a || b) ≡ false → (a ≡ false) × (b ≡ false)
 neither false b e = (refl, e)
 neither true b e = cc
 
@@ -87,11 +89,11 @@ distinct_more (u ∷ ts) t d e =
     let both = neither (u == t) (has_number ts t) e in
     (number_more ts t u d.0 (apart u t both.0), distinct_more ts t d.1 both.1)
 
-all_more : {X : Type 0} (f : X → Bool) (xs : List X) (x : X) → list_all f xs ≡ true → f x ≡ true → list_all f (xs ++ x ∷ []) ≡ true
+pub all_more : {X : Type 0} (f : X → Bool) (xs : List X) (x : X) → list_all f xs ≡ true → f x ≡ true → list_all f (xs ++ x ∷ []) ≡ true
 all_more f [] x e g = ap (λ b. b && true) g
 all_more f (y ∷ ys) x e g = let both = and_parts (f y) (list_all f ys) e in ap (λ b. b && list_all f (ys ++ x ∷ [])) both.0 ∙ all_more f ys x both.1 g
 
-all_less : {X : Type 0} (f : X → Bool) (xs : List X) (i : ℕ) → list_all f xs ≡ true → list_all f (remove xs i) ≡ true
+pub all_less : {X : Type 0} (f : X → Bool) (xs : List X) (i : ℕ) → list_all f xs ≡ true → list_all f (remove xs i) ≡ true
 all_less f [] zero e = refl
 all_less f [] (suc i) e = refl
 all_less f (x ∷ xs) zero e = (and_parts (f x) (list_all f xs) e).1
@@ -311,3 +313,11 @@ if_err (Err x) e h = h
 pub is_ok_there : {T E : Type 0} (r : Result T E) → is_err r ≡ false → is_ok r ≡ true
 is_ok_there (Ok x) e = refl
 is_ok_there (Err x) e = absurd (let both : true ≡ false = e in cc)
+
+-- locks that are free don't conflict
+pub no_conflict : {T : Type 0} (r : Result T TakeFault) (table : Table) (wanted locks : List Lock) → r ≡ Err Conflict → ((r ≡ Err Conflict) ↔ IsTrue (has_conflict table wanted))
+    → wanted ≡ locks → has_conflict table locks ≡ false → ⊥
+no_conflict r table wanted locks is iff same free =
+    let met : has_conflict table wanted ≡ true = iff.0 is in
+    let none : has_conflict table wanted ≡ false = ap (has_conflict table) same ∙ free in
+    let both : true ≡ false = sym met ∙ none in cc

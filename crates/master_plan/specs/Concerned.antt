@@ -60,6 +60,27 @@ abbrev pub is_for_one : NumberSet → Option Copy → Bool
 is_for_one files None = false
 is_for_one files (Some c) = is_in files c.file
 
+-- whether a record may change a name at a source or below it, as far as is looked
+abbrev pub moves : List PendingSnapshot → Record → Bool
+moves snapshots (log.Epoch epoch) = false
+moves snapshots (log.Mkdir client n path) = is_source snapshots path
+moves snapshots (log.Rmdir client n path) = is_source snapshots path
+moves snapshots (log.Create client n file shape path) = is_source snapshots path
+moves snapshots (log.Delete client n moment path) = is_source snapshots path || list_any (λ s. is_by_trash s.from) snapshots
+moves snapshots (log.Rename client n from to) = is_source snapshots from || is_source snapshots to
+moves snapshots (log.Snapshot client n from to) = true
+moves snapshots (log.Refused client n refusal) = false
+moves snapshots (log.Expired file) = true
+moves snapshots (log.AddChunk file handle) = false
+moves snapshots (log.Issue handle version) = false
+moves snapshots (log.Grant handle version primary members) = false
+moves snapshots (log.CopyStart file index handle copy copy_version) = false
+moves snapshots (log.Counters next_file next_handle epoch) = false
+moves snapshots (log.DirItem path) = true
+moves snapshots (log.FileItem path file shape handles) = true
+moves snapshots (log.ChunkItem handle granted issued primary members) = false
+moves snapshots (log.ClientItem client n refusal) = false
+
 -- Whether a record changes what snapshots copy otherwise than by a chunk at a file's end, as far as is looked.
 abbrev pub touches : Logged → List PendingSnapshot → NumberSet → Record → Bool
 touches l snapshots files (log.Epoch epoch) = false

@@ -6,6 +6,7 @@ pub mod Plans
 pub mod Watched
 pub mod Granted
 pub mod CallLocks
+pub mod Due
 pub mod Sizes
 pub mod Logging
 pub mod Reports

@@ -49,6 +49,7 @@ impl<A: Allocator + Clone> Plan<A> {
             holders: NumberMap::new(alloc),
             reported: first_reports(alloc, server_count, now)?,
             whole_until: None,
+            all_wait_until: None,
             knows_concerned: false,
             concerned_files: OrderedMap::new(alloc),
             concerned_chunks: OrderedMap::new(alloc),

@@ -53,6 +53,16 @@ fn read(alloc: Global, locks: &mut Locks, path: &str) -> Result<(), NoMemory>
     }
 }
 
+/// The locks of one path.
+pub fn path_locks(alloc: Global, path: &Path, mode: Mode) -> Result<Locks, NoMemory>
+    ensures locks { IfOk result (λ locks. locks.items ≡ locks_on mode path.now) }
+    ensures path { OnOk result (IsTrue (is_path path.now)) }
+{
+    let mut locks = Vec::new(alloc);
+    lock(alloc, &mut locks, path, mode)?;
+    Ok(locks)
+}
+
 /// The locks of a snapshot that waits.
 pub fn snapshot_locks(alloc: Global, from: &Path, to: &Path) -> Result<Locks, NoMemory>
     ensures locks { IfOk result (λ locks. locks.items ≡ snapshot_locks from.now to.now) }

@@ -1,16 +1,19 @@
 //! Copies that are given up, and the ends of leases.
 
-ghost use Rattle.std.specs.Prelude.{◌≡◌, OnOk};
+ghost use Rattle.std.specs.Prelude.{◌≡◌, ◌||◌, true, Some, nat_lt, length, OnOk, IfSome};
 ghost use Rattle.std.specs.FinMap as map;
 ghost use Rattle.protocol.specs.Tables.{removed_all};
 ghost use Rattle.protocol.specs.Logged.{copies_given_up};
-ghost use Rattle.chunk_table.specs.ChunkTable.{set_end};
+ghost use Rattle.protocol.specs.MasterSnapshots.{row_has_ended};
+ghost use Rattle.chunk_table.specs.ChunkTable.{chunk_of, set_end};
 ghost use Rattle.master_plan.specs.Plans.{without_copies, without_attempts, with_end, with_lease_extended};
 
 use crate::fault::PlanFault;
 use crate::plan::Plan;
+use crate::still_waiting::has_ended_at;
 use crate::waiting::VersionAttempt;
 use gfs_types::ids::{Handle, Moment};
+use master_state::state::State;
 use ordered_map::OrderedMap;
 use std::alloc::Allocator;
 
@@ -23,7 +26,10 @@ impl<A: Allocator + Clone> Plan<A> {
         self.whole_until = None;
         let known = self.knows_concerned;
         self.knows_concerned = false;
+        let waiting = waits_without(self.all_wait_until, handles);
+        self.all_wait_until = None;
         self.state.give_up_copies(handles)?;
+        self.all_wait_until = waiting;
         self.knows_concerned = known;
         self.whole_until = until;
         self.remove_attempts(handles);
@@ -50,8 +56,35 @@ impl<A: Allocator + Clone> Plan<A> {
     pub fn end_lease_at(&mut self, handle: Handle, moment: Moment)
         ensures { self.new ≡ with_end self.old handle.0 moment.0 }
     {
+        let waiting = waits_beside(&self.state, self.all_wait_until, handle, moment);
+        self.all_wait_until = None;
         self.state.set_lease_end(handle, moment);
+        self.all_wait_until = waiting;
     }
+}
+
+// The moment up to which all wait, where no row goes.
+fn waits_without(until: Option<u64>, handles: &[u64]) -> Option<u64>
+    ensures { IfSome result (λ moment. (until ≡ Some moment) × (length handles.now ≡ 0)) }
+{
+    if handles.is_empty() { until } else { None }
+}
+
+// The same, where a chunk's lease that has not ended then doesn't end earlier either.
+fn waits_beside<A: Allocator + Clone>(
+    state: &State<A>,
+    until: Option<u64>,
+    handle: Handle,
+    end: Moment,
+) -> Option<u64>
+    ensures kept { IfSome result (λ moment. until ≡ Some moment) }
+    ensures lease { IfSome result (λ moment. (nat_lt moment end.0 || row_has_ended moment (chunk_of state.now.table handle.0)) ≡ true) }
+{
+    let moment = until?;
+    if moment < end.0 || has_ended_at(state, handle, moment) {
+        return Some(moment);
+    }
+    None
 }
 
 fn remove_all(attempts: &mut OrderedMap<VersionAttempt>, handles: &[u64])

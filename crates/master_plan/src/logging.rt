@@ -12,7 +12,8 @@ use crate::fault::PlanFault;
 use crate::granted::doubt_granted;
 use crate::plan::Plan;
 use crate::sizes::{bytes_used, checkpoint_bytes};
-use crate::waiting_concerned::{follow, stays_known, touches};
+use crate::still_waiting::still_waiting;
+use crate::waiting_concerned::{follow, moves, stays_known, touches};
 use gfs_types::ids::Moment;
 use log_records::record::Record;
 use master_replay::checkpoint::checkpoint_items;
@@ -74,14 +75,12 @@ impl<A: Allocator + Clone> Plan<A> {
     {
         let until = doubt_granted(self.whole_until, &mut self.doubted, &entry);
         self.whole_until = None;
-        let touched = touches(
-            &self.state,
-            self.snapshots.as_slice(),
-            &self.concerned_files,
-            &entry,
-        );
+        let is_moved = moves(&self.snapshots, &entry)?;
+        let touched = touches(&self.state, &self.concerned_files, &entry, is_moved);
         let stays = stays_known(self.knows_concerned, touched);
         self.knows_concerned = false;
+        let waiting = still_waiting(&self.state, self.all_wait_until, &entry, is_moved);
+        self.all_wait_until = None;
         replay_at(&mut self.state, &entry, Moment(self.clock))?;
         let known = follow(
             &mut self.concerned_chunks,
@@ -92,6 +91,7 @@ impl<A: Allocator + Clone> Plan<A> {
         self.changes.push(PlannedChange::Append(entry))?;
         self.knows_concerned = known;
         self.whole_until = until;
+        self.all_wait_until = waiting;
         Ok(())
     }
 

@@ -39,6 +39,8 @@ pub struct Plan<A: Allocator> {
     pub(crate) reported: NumberMap<u64>,
     // a moment up to which no chunk lacks replicas but some of the doubted ones, as far as is known
     pub(crate) whole_until: Option<u64>,
+    // where it is known, a moment at which no snapshot that waits is ready
+    pub(crate) all_wait_until: Option<u64>,
     // where they are known, the files and chunks that the snapshots are about
     pub(crate) knows_concerned: bool,
     pub(crate) concerned_files: OrderedMap<()>,
@@ -64,6 +66,7 @@ impl<A: Allocator> Drop for Plan<A> {
             holders: _holders,
             reported: _reported,
             whole_until: _,
+            all_wait_until: _,
             knows_concerned: _,
             concerned_files: _files,
             concerned_chunks: _chunks,
@@ -84,6 +87,7 @@ impl<A: Allocator> Model for Plan<A> {
     ghost use Rattle.master_plan.specs.Plans.{PlanState};
     ghost use Rattle.master_plan.specs.Watched.{IsWholeAt};
     ghost use Rattle.master_plan.specs.Concerned.{AreConcerned, IfKnown};
+    ghost use Rattle.master_plan.specs.Due.{WaitAt};
 
     ghost Value = { PlanState };
 
@@ -106,7 +110,8 @@ impl<A: Allocator> Model for Plan<A> {
 
     ghost invariant = { λ p. (((p.clock ≤ moment_limit) × (p.config.lease_ms ≤ 3600000))
         × IfKnown p.knows_concerned (AreConcerned p.state p.snapshots p.concerned_files p.concerned_chunks))
-        × IfSome p.whole_until (IsWholeAt p.config p.server_count p.state p.holders p.reported p.doubted) };
+        × IfSome p.whole_until (IsWholeAt p.config p.server_count p.state p.holders p.reported p.doubted)
+        × IfSome p.all_wait_until (WaitAt p.state p.snapshots) };
 }
 
 impl<A: Allocator + Clone> Plan<A> {
@@ -149,6 +154,7 @@ impl<A: Allocator + Clone> Plan<A> {
         ensures { record self.new { logged = record self.new.logged { names = map.empty } } ≡ record self.old { logged = record self.old.logged { names = map.empty } } }
     {
         self.whole_until = None;
+        self.all_wait_until = None;
         self.knows_concerned = false;
         self.state.forget_names(alloc);
     }

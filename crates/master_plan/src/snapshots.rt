@@ -1,9 +1,13 @@
 //! The snapshots that wait, as they come and go (section 3.4).
 
-ghost use Rattle.std.specs.Prelude.{◌≡◌, ◌==◌, ◌&&◌, ◌++◌, ◌∷◌, [], true, not, filter, IfOk, OnOk};
+ghost use Rattle.std.specs.Prelude.{◌≡◌, ◌==◌, ◌&&◌, ◌++◌, ◌∷◌, [], false, true, not, filter, IfOk, OnOk};
 ghost use Rattle.std.specs.List.{list_all, list_any};
 ghost use Rattle.name_locks.specs.Locks.{sets_clash};
+ghost use Rattle.protocol.specs.MasterNames.{is_busy, is_waiting_call, snapshot_call};
+ghost use Rattle.protocol.specs.MasterSnapshots.{is_ready};
 ghost use Rattle.master_plan.specs.CallLocks.{has_paths, locks_of_snapshot};
+ghost use Rattle.master_plan.specs.Due.{WaitAt};
+ghost use Rattle.master_plan.specs.Plans.{known};
 
 use crate::fault::PlanFault;
 use crate::plan::Plan;
@@ -16,12 +20,16 @@ use ordered_map::OrderedMap;
 use std::alloc::Allocator;
 
 impl<A: Allocator + Clone> Plan<A> {
-    /// A snapshot waits from now on, behind the others, under its locks. Damaged: another one has a lock that conflicts, which is refused
-    /// before.
+    /// A snapshot that no other makes busy waits from now on, behind the others, under its locks.
+    #[tactic(auto, using(crate::proofs::Clashes::none_clashes))]
     pub fn put_snapshot(&mut self, snapshot: Pending) -> Result<(), PlanFault>
+        requires { is_busy (known self.old) (snapshot_call snapshot) ≡ false }
         ensures { OnOk result (self.new ≡ record self.old { snapshots = self.old.snapshots ++ snapshot ∷ [] }) }
     {
         self.knows_concerned = false;
+        self.all_wait_until = None;
+        self.snapshots.have_paths();
+        snapshot.has_paths();
         self.snapshots.push(snapshot)
     }
 
@@ -48,6 +56,31 @@ impl<A: Allocator + Clone> Plan<A> {
         ensures paths { list_all has_paths self.now.snapshots ≡ true }
     {
         self.snapshots.conflicts(locks)
+    }
+
+    /// Whether that of a client's call of this number waits. Takes no memory.
+    pub fn has_snapshot(&self, client: ClientId, number: u64) -> bool
+        ensures { result ≡ is_waiting_call (known self.now) client.0 number }
+    {
+        self.snapshots.has_call(client, number)
+    }
+
+    /// Whether none can be ready now, as far as was found before. Takes no memory.
+    pub fn all_wait(&self) -> bool
+        ensures { result ≡ true → list_all (λ s. not (is_ready (known self.now) s)) self.now.snapshots ≡ true }
+    {
+        match self.all_wait_until {
+            Some(until) => self.clock <= until,
+            None => self.snapshots.is_empty(),
+        }
+    }
+
+    /// It was found that at this moment none is ready. That is known until a lease ends that was counted on.
+    pub fn note_all_wait(&mut self, moment: u64)
+        requires { WaitAt self.old.logged self.old.snapshots moment }
+        ensures { self.new ≡ self.old }
+    {
+        self.all_wait_until = Some(moment);
     }
 
     /// A copy of the list of them.

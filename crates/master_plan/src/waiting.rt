@@ -1,6 +1,7 @@
 //! What the master knows until it stops: version numbers that are under way, and snapshots that wait.
 
-ghost use Rattle.std.specs.Prelude.{◌≡◌};
+ghost use Rattle.std.specs.Prelude.{◌≡◌, true};
+ghost use Rattle.master_plan.specs.CallLocks.{has_paths};
 
 use gfs_types::ids::{ClientId, Moment, Version};
 use gfs_types::lists::ServerList;
@@ -113,6 +114,14 @@ impl Pending {
             to,
             awaited: None,
         }
+    }
+
+    /// Its names are paths.
+    pub fn has_paths(&self)
+        ensures { has_paths self.now ≡ true }
+    {
+        let _from = self.from.as_str();
+        let _to = self.to.as_str();
     }
 
     /// The client that asked.

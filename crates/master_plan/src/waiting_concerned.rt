@@ -1,11 +1,13 @@
 //! The files and chunks that waiting snapshots are about, and what of them stays known as records follow (section 3.4).
 
-ghost use Rattle.std.specs.Prelude.{◌≡◌, ◌&&◌, not, true, IfOk, OnOk};
+ghost use Rattle.std.specs.Prelude.{◌≡◌, ◌&&◌, not, true, List, IfOk, OnOk};
 ghost use Rattle.std.specs.List.{list_any};
 ghost use Rattle.std.specs.FinMap as map;
-ghost use Rattle.master_plan.specs.Concerned.{is_in, with_all, files_of_all, chunks_of_all, is_source, is_by_trash, is_for_one, touches, followed};
+ghost use Rattle.protocol.specs.Master.{PendingSnapshot};
+ghost use Rattle.master_plan.specs.Concerned.{is_in, with_all, files_of_all, chunks_of_all, is_source, is_by_trash, is_for_one, moves, touches, followed};
 
 use crate::waiting::Pending;
+use crate::waiting_list::WaitingSnapshots;
 use gfs_types::ids::Handle;
 use gfs_types::no_memory::NoMemory;
 use gfs_types::path::Path;
@@ -62,34 +64,42 @@ pub fn chunks_of_all<A: Allocator + Clone>(
     Ok(set)
 }
 
-/// Whether a record may change what snapshots copy otherwise than by a chunk at a file's end.
-pub fn touches<A: Allocator + Clone>(
-    state: &State<A>,
-    snapshots: &[Pending],
-    files: &OrderedMap<()>,
-    entry: &Record,
-) -> bool
-    ensures { result ≡ touches state.now snapshots.now files.now entry.now }
+/// Whether a record may change a name at a source or below it.
+pub fn moves(waiting: &WaitingSnapshots, entry: &Record) -> Result<bool, NoMemory>
+    ensures { IfOk result (λ b. b ≡ moves waiting.now entry.now) }
 {
     match entry {
-        Record::Mkdir { path, .. } | Record::Rmdir { path, .. } => {
-            is_source(snapshots, path.as_str())
-        }
-        Record::Create { file, path, .. } => {
-            has(files, file.0) || is_source(snapshots, path.as_str())
+        Record::Mkdir { path, .. } | Record::Rmdir { path, .. } | Record::Create { path, .. } => {
+            waiting.is_source(path.as_str())
         }
         Record::Delete { path, .. } => {
-            is_source(snapshots, path.as_str()) || are_by_trash(snapshots)
+            Ok(waiting.is_source(path.as_str())? || waiting.are_by_trash()?)
         }
         Record::Rename { from, to, .. } => {
-            is_source(snapshots, from.as_str()) || is_source(snapshots, to.as_str())
+            Ok(waiting.is_source(from.as_str())? || waiting.is_source(to.as_str())?)
         }
-        Record::Grant { handle, .. } => is_for_one(state, files, *handle),
         Record::Snapshot { .. }
         | Record::Expired { .. }
         | Record::DirItem { .. }
-        | Record::FileItem { .. } => true,
-        _ => false,
+        | Record::FileItem { .. } => Ok(true),
+        _ => Ok(false),
+    }
+}
+
+/// Whether a record may change what snapshots copy otherwise than by a chunk at a file's end. It is told whether it may change a name at
+/// a source or below it.
+pub fn touches<A: Allocator + Clone>(
+    state: &State<A>,
+    files: &OrderedMap<()>,
+    entry: &Record,
+    is_moved: bool,
+) -> bool
+    ensures { (snapshots : List PendingSnapshot) → is_moved ≡ moves snapshots entry.now → result ≡ touches state.now snapshots files.now entry.now }
+{
+    match entry {
+        Record::Create { file, .. } => has(files, file.0) || is_moved,
+        Record::Grant { handle, .. } => is_for_one(state, files, *handle),
+        _ => is_moved,
     }
 }
 
@@ -100,7 +110,8 @@ pub fn stays_known(known: bool, touched: bool) -> bool
     known && !touched
 }
 
-fn is_source(snapshots: &[Pending], path: &str) -> bool
+/// Whether a path is a source, or lies below one, by a look at each.
+pub fn is_source(snapshots: &[Pending], path: &str) -> bool
     ensures { result ≡ is_source snapshots.now path.now }
 {
     snapshots
@@ -108,7 +119,8 @@ fn is_source(snapshots: &[Pending], path: &str) -> bool
         .any(|snapshot| is_at_or_below(snapshot.from().as_str(), path))
 }
 
-fn are_by_trash(snapshots: &[Pending]) -> bool
+/// Whether the hidden name of a deleted file may lie at a source or below it, by a look at each.
+pub fn are_by_trash(snapshots: &[Pending]) -> bool
     ensures { result ≡ list_any (λ s. is_by_trash s.from) snapshots.now }
 {
     snapshots

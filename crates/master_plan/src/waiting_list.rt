@@ -1,42 +1,48 @@
-//! The snapshots that wait, each under its locks (sections 3.4 and 4.1).
+//! The snapshots that wait, and what is kept beside them, so that few calls look at each (section 3.4).
 
-ghost use Rattle.std.specs.Prelude.{◌≡◌, ◌==◌, ◌&&◌, ◌++◌, ◌∷◌, [], ◌<◌, None, true, not, nat_lt, length, filter, IfOk, OnOk, OnErr, IsSome};
-ghost use Rattle.std.specs.List.{list_all, list_any, position, remove};
-ghost use Rattle.name_locks.specs.Locks.{Changes, held_by, sets_clash};
+ghost use Rattle.std.specs.Prelude.{◌≡◌, ◌==◌, ◌&&◌, ◌++◌, ◌∷◌, [], false, true, not, length, filter, IfOk, OnOk, OnErr};
+ghost use Rattle.std.specs.List.{list_all, list_any};
+ghost use Rattle.gfs_types.specs.Paths.{is_path};
+ghost use Rattle.name_locks.specs.Locks.{sets_clash};
 ghost use Rattle.protocol.specs.MasterSnapshots.{live_snapshots};
-ghost use Rattle.master_plan.specs.CallLocks.{AreKept, TakesOne, has_paths, locks_of_snapshot};
+ghost use Rattle.master_plan.specs.CallLocks.{has_paths, locks_of_snapshot, locks_on};
+ghost use Rattle.master_plan.specs.Concerned.{is_source, is_by_trash};
 
-use crate::call_locks::snapshot_locks;
+use crate::call_locks::path_locks;
 use crate::fault::PlanFault;
+use crate::locked_list::LockedSnapshots;
 use crate::waiting::{Awaited, Pending};
-use crate::waiting_snapshots::{copies_of, note_at_call};
+use crate::waiting_concerned::{are_by_trash, is_source};
+use crate::waiting_snapshots::earliest_of;
 use gfs_types::ids::ClientId;
 use gfs_types::no_memory::NoMemory;
-use gfs_types::path::Path;
+use gfs_types::path::{Path, PathFault};
 use name_locks::lock_set::Mode;
-use name_locks::table::{LockTable, TakeFault, Ticket};
-use std::alloc::{AllocFailed, Global};
+use ordered_map::OrderedMap;
+use std::alloc::Global;
 use std::marker::Model;
 
-/// The snapshots that wait, the oldest first. Each holds a ticket for its locks, and nobody else holds any.
+/// The snapshots that wait, the oldest first, each under its locks.
 #[derive(Drop)]
 pub struct WaitingSnapshots {
     alloc: Global,
-    snapshots: Vec<Pending>,
-    tickets: Vec<Ticket>,
-    locks: LockTable,
+    snapshots: LockedSnapshots,
+    // no deadline is earlier
+    earliest: u64,
+    // the clients that asked, and perhaps some whose snapshots were given up
+    clients: OrderedMap<()>,
 }
 
 impl Model for WaitingSnapshots {
     ghost use Rattle.std.specs.Prelude.{List};
     ghost use Rattle.protocol.specs.Master.{PendingSnapshot};
-    ghost use Rattle.master_plan.specs.CallLocks.{AreLocked};
+    ghost use Rattle.master_plan.specs.Due.{are_due_from, are_from};
 
     ghost Value = { List PendingSnapshot };
 
-    ghost view = { λ w. w.snapshots.items };
+    ghost view = { λ w. w.snapshots };
 
-    ghost invariant = { λ w. AreLocked w.snapshots.items w.tickets.items w.locks };
+    ghost invariant = { λ w. (are_due_from w.earliest w.snapshots ≡ true) × (are_from w.clients w.snapshots ≡ true) };
 }
 
 impl WaitingSnapshots {
@@ -46,9 +52,9 @@ impl WaitingSnapshots {
     {
         WaitingSnapshots {
             alloc,
-            snapshots: Vec::new(alloc),
-            tickets: Vec::new(alloc),
-            locks: LockTable::new(alloc),
+            snapshots: LockedSnapshots::new(alloc),
+            earliest: u64::MAX,
+            clients: OrderedMap::new(alloc),
         }
     }
 
@@ -66,139 +72,140 @@ impl WaitingSnapshots {
         self.snapshots.is_empty()
     }
 
+    /// Their names are paths.
+    pub fn have_paths(&self)
+        ensures { list_all has_paths self.now ≡ true }
+    {
+        self.snapshots.have_paths();
+    }
+
     /// Whether a snapshot holds a lock that conflicts with one of these. Takes no memory.
-    #[tactic(auto, using(crate::proofs::Locked::conflicts_are))]
     pub fn conflicts(&self, locks: &[(Path, Mode)]) -> bool
         ensures answer { result ≡ list_any (λ s. sets_clash (locks_of_snapshot s) locks.now) self.now }
         ensures paths { list_all has_paths self.now ≡ true }
     {
-        self.locks.conflicts(locks)
+        self.snapshots.conflicts(locks)
     }
 
-    /// One more waits, behind the others, under its locks. Damaged: another one has a lock that conflicts, which is refused before.
-    #[tactic(auto, using(crate::proofs::Locked::locked_more, crate::proofs::Locked::locked_still, crate::proofs::Locked::popped))]
+    /// One more waits, behind the others, under its locks, with which no lock of another one conflicts.
+    #[tactic(auto, using(crate::proofs::Bounds::due_pushed, crate::proofs::Bounds::due_left, crate::proofs::Bounds::from_pushed, crate::proofs::Bounds::from_left))]
     pub fn push(&mut self, snapshot: Pending) -> Result<(), PlanFault>
+        requires { list_any (λ s. sets_clash (locks_of_snapshot s) (locks_of_snapshot snapshot)) self.old ≡ false }
         ensures ok { OnOk result (self.new ≡ self.old ++ snapshot ∷ []) }
         ensures err { OnErr result (self.new ≡ self.old) }
     {
-        if self.snapshots.push(snapshot).is_err() {
-            return Err(PlanFault::NoMemory);
-        }
-        let last = self.snapshots.len() - 1;
-        let taken = take_locks(
-            self.alloc,
-            &self.snapshots[last],
-            &mut self.tickets,
-            &mut self.locks,
-        );
-        if taken.is_err() {
-            let _snapshot = self.snapshots.pop();
-        }
-        taken
+        self.clients.insert(snapshot.client().0, ())?;
+        self.earliest = self.earliest.min(snapshot.deadline().0);
+        self.snapshots.push(snapshot)?;
+        Ok(())
     }
 
-    /// Those whose deadline has come wait no more, and give their locks back. Takes no memory.
-    #[tactic(auto, using(crate::proofs::Due::none_due, crate::proofs::Due::due))]
+    /// Those whose deadline has come wait no more, and give their locks back. Looks at none before the earliest one. Takes no memory.
     pub fn keep_live(&mut self, now: u64)
         ensures { self.new ≡ live_snapshots now self.old }
     {
-        while let Some(index) = self.first_due(now) {
-            self.remove_at(index);
+        if self.all_live(now) {
+            return;
         }
+        self.snapshots.keep_live(now);
+        self.earliest = earliest_of(self.snapshots.as_slice());
     }
 
-    fn first_due(&self, now: u64) -> Option<usize>
-        ensures { result ≡ position (λ s. not (nat_lt now s.deadline)) self.now }
+    // Whether it is known that no deadline has come.
+    fn all_live(&self, now: u64) -> bool
+        ensures { result ≡ true → self.now ≡ live_snapshots now self.now }
     {
-        self.snapshots
-            .iter()
-            .position(|snapshot| !(now < snapshot.deadline().0))
+        now < self.earliest
     }
 
     /// That of a client's call of this number waits no more, and gives its locks back. Takes no memory.
-    #[tactic(auto, using(crate::proofs::Due::none_due, crate::proofs::Due::due))]
+    #[tactic(auto, using(crate::proofs::Bounds::due_kept, crate::proofs::Bounds::from_kept, crate::proofs::Bounds::from_without))]
     pub fn remove_call(&mut self, client: ClientId, number: u64)
         ensures { self.new ≡ filter (λ other. not ((client.0 == other.client) && (number == other.number))) self.old }
     {
-        while let Some(index) = self.first_of_call(client, number) {
-            self.remove_at(index);
+        self.snapshots.remove_call(client, number);
+        if self.snapshots.has_of(client) {
+            return;
+        }
+        self.clients.remove(client.0);
+    }
+
+    /// Whether that of a client's call of this number waits. Takes no memory.
+    #[tactic(auto, using(crate::proofs::Bounds::no_call))]
+    pub fn has_call(&self, client: ClientId, number: u64) -> bool
+        ensures { result ≡ list_any (λ s. (s.client == client.0) && (s.number == number)) self.now }
+    {
+        if self.is_stranger(client) {
+            return false;
+        }
+        self.snapshots.has_call(client, number)
+    }
+
+    // Whether it is known that a client has none.
+    fn is_stranger(&self, client: ClientId) -> bool
+        ensures { result ≡ true → list_any (λ s. s.client == client.0) self.now ≡ false }
+    {
+        self.clients.get(client.0).is_none()
+    }
+
+    /// Whether a text is a source, or a path below one.
+    #[tactic(auto, using(crate::proofs::Sources::not_source, crate::proofs::Sources::none_there))]
+    pub fn is_source(&self, text: &str) -> Result<bool, NoMemory>
+        ensures { IfOk result (λ b. b ≡ is_source self.now text.now) }
+    {
+        if self.is_empty() {
+            return Ok(false);
+        }
+        match Path::parse(text, self.alloc) {
+            Ok(path) => {
+                if !self.are_locked(&path, Mode::Read)? {
+                    return Ok(false);
+                }
+                Ok(is_source(self.as_slice(), text))
+            }
+            Err(PathFault::BadPath) => Ok(is_source(self.as_slice(), text)),
+            Err(PathFault::NoMemory) => Err(NoMemory),
         }
     }
 
-    fn first_of_call(&self, client: ClientId, number: u64) -> Option<usize>
-        ensures { result ≡ position (λ s. not (not ((client.0 == s.client) && (number == s.number)))) self.now }
+    /// Whether the hidden name of a deleted file may lie at a source or below it.
+    #[tactic(auto, using(crate::proofs::Sources::not_by_trash, crate::proofs::Sources::none_there))]
+    pub fn are_by_trash(&self) -> Result<bool, NoMemory>
+        ensures { IfOk result (λ b. b ≡ list_any (λ s. is_by_trash s.from) self.now) }
     {
-        self.snapshots
-            .iter()
-            .position(|snapshot| is_of_call(snapshot, client, number))
+        if self.is_empty() {
+            return Ok(false);
+        }
+        let Ok(trash) = Path::parse("/.gone", self.alloc) else {
+            return Err(NoMemory);
+        };
+        if !self.are_locked(&trash, Mode::Write)? {
+            return Ok(false);
+        }
+        Ok(are_by_trash(self.as_slice()))
     }
 
-    // One waits no more.
-    #[tactic(auto, using(crate::proofs::Locked::locked_less, crate::proofs::Locked::is_open))]
-    fn remove_at(&mut self, index: usize)
-        requires { index < length self.old }
-        ensures { self.new ≡ remove self.old index }
+    // Whether a snapshot holds a lock that conflicts with one on this path, or on a directory above it.
+    fn are_locked(&self, path: &Path, mode: Mode) -> Result<bool, NoMemory>
+        ensures answer { IfOk result (λ b. b ≡ list_any (λ s. sets_clash (locks_of_snapshot s) (locks_on mode path.now)) self.now) }
+        ensures paths { list_all has_paths self.now ≡ true }
+        ensures path { OnOk result (is_path path.now ≡ true) }
     {
-        let _snapshot = self.snapshots.remove(index);
-        let ticket = self.tickets.remove(index);
-        self.locks.give(ticket);
+        let locks = path_locks(self.alloc, path, mode)?;
+        Ok(self.conflicts(&locks))
     }
 
     /// Where a chunk was found that the snapshot of a client's call of this number waits for. Takes no memory.
     pub fn note(&mut self, client: ClientId, number: u64, awaited: Awaited)
         ensures { self.new ≡ self.old }
     {
-        note_at_call(&mut self.snapshots, client, number, awaited);
+        self.snapshots.note(client, number, awaited);
     }
 
     /// A copy of the list.
     pub fn copies(&self, alloc: Global) -> Result<Vec<Pending>, NoMemory>
         ensures { IfOk result (λ v. v.items ≡ self.now) }
     {
-        copies_of(alloc, &self.snapshots)
+        self.snapshots.copies(alloc)
     }
-}
-
-// A ticket for the locks of a snapshot, behind the others. Nothing is taken where it fails.
-fn take_locks(
-    alloc: Global,
-    snapshot: &Pending,
-    tickets: &mut Vec<Ticket>,
-    locks: &mut LockTable,
-) -> Result<(), PlanFault>
-    ensures ok { OnOk result (TakesOne tickets.old.items tickets.new.items locks.old locks.new (locks_of_snapshot snapshot.now)) }
-    ensures paths { OnOk result (has_paths snapshot.now ≡ true) }
-    ensures err { OnErr result ((tickets.new.items ≡ tickets.old.items) × AreKept locks.old locks.new) }
-{
-    let wanted = snapshot_locks(alloc, snapshot.from(), snapshot.to())?;
-    match locks.try_take(&wanted) {
-        Ok(ticket) => Ok(push_ticket(tickets, locks, ticket)?),
-        Err(TakeFault::Conflict) => Err(PlanFault::Damaged),
-        Err(TakeFault::NoMemory) => Err(PlanFault::NoMemory),
-    }
-}
-
-// A ticket behind the others. It is given back where it finds no room.
-fn push_ticket(
-    tickets: &mut Vec<Ticket>,
-    locks: &mut LockTable,
-    ticket: Ticket,
-) -> Result<(), NoMemory>
-    requires { IsSome (held_by locks.old ticket) }
-    ensures ok { OnOk result ((tickets.new.items ≡ tickets.old.items ++ ticket ∷ []) × (locks.new ≡ locks.old)) }
-    ensures err { OnErr result ((tickets.new.items ≡ tickets.old.items) × Changes locks.old locks.new ticket None) }
-{
-    match tickets.push(ticket) {
-        Ok(()) => Ok(()),
-        Err(AllocFailed { value }) => {
-            locks.give(value);
-            Err(NoMemory)
-        }
-    }
-}
-
-fn is_of_call(snapshot: &Pending, client: ClientId, number: u64) -> bool
-    ensures { result ≡ not (not ((client.0 == snapshot.now.client) && (number == snapshot.now.number))) }
-{
-    client.0 == snapshot.client().0 && number == snapshot.number()
 }

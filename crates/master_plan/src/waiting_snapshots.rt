@@ -1,6 +1,7 @@
 //! Lists of snapshots that wait (section 3.4).
 
-ghost use Rattle.std.specs.Prelude.{◌≡◌, IfOk};
+ghost use Rattle.std.specs.Prelude.{◌≡◌, true, IfOk};
+ghost use Rattle.master_plan.specs.Due.{are_due_from};
 
 use crate::waiting::{Awaited, Pending};
 use gfs_types::ids::ClientId;
@@ -17,6 +18,17 @@ pub fn note_at_call(snapshots: &mut Vec<Pending>, client: ClientId, number: u64,
             snapshot.awaited = awaited.take();
         }
     }
+}
+
+/// The earliest deadline; of no snapshot the last moment.
+pub fn earliest_of(snapshots: &[Pending]) -> u64
+    ensures { are_due_from result snapshots.now ≡ true }
+{
+    let mut earliest = u64::MAX;
+    for snapshot in snapshots {
+        earliest = earliest.min(snapshot.deadline().0);
+    }
+    earliest
 }
 
 /// A copy of a list.

@@ -8,6 +8,7 @@ use Rattle.master_plan.specs.Concerned.{AreConcerned, IfKnown}
 use Rattle.master_plan.specs.Watched.{IsWholeAt}
 use Rattle.master_plan.proofs.Concerning.{same_files}
 use Rattle.master_plan.proofs.Watching.{ended_if}
+use Rattle.master_plan.proofs.Waits.{extended_if}
 use Rattle.master_plan.proofs.plan.Plan.extend_lease.Goals as goal
 
 pub invariant_of-self : goal.invariant_of-self
@@ -22,8 +23,13 @@ invariant_of-self g c =
     let until = end_from i.clock i.config.lease_ms in
     let ended : Logged = after (record (table_of l) { table = set_end l.table h until }) in
     let both = subst holds (sym c.extend_lease.ensures)
-    (by_end (table_of l) h i.clock (λ t. holds (after t)) i.config.lease_ms (c.self.invariant.0.1, c.self.invariant.1) (
+    (by_end (table_of l) h i.clock (λ t. holds (after t)) i.config.lease_ms (c.self.invariant.0.1, c.self.invariant.1.0) (
       same_files l ended i.snapshots i.concerned_files i.concerned_chunks i.knows_concerned refl refl c.self.invariant.0.1,
-      ended_if i.config i.server_count i.holders i.reported i.doubted i.whole_until l ended h until refl c.self.invariant.1,
-    )) in
-    ((c.self.invariant.0.0, both.0), both.1)
+      ended_if i.config i.server_count i.holders i.reported i.doubted i.whole_until l ended h until refl c.self.invariant.1.0,
+    )) in (
+      (c.self.invariant.0.0, both.0),
+      (
+        both.1,
+        extended_if i.snapshots l c.extend_lease.new.self h i.clock i.config.lease_ms i.all_wait_until c.extend_lease.ensures c.self.invariant.1.1,
+      ),
+    )

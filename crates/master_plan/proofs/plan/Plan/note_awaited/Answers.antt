@@ -1,6 +1,7 @@
-use Rattle.std.proofs.Common.{List, sym, subst}
+use Rattle.std.proofs.Common.{List, sym, subst, IfSome}
 use Rattle.protocol.specs.Master.{PendingSnapshot}
 use Rattle.master_plan.specs.Concerned.{AreConcerned, IfKnown}
+use Rattle.master_plan.specs.Due.{WaitAt}
 use Rattle.master_plan.proofs.plan.Plan.note_awaited.Goals as goal
 
 pub invariant_of-self : goal.invariant_of-self
@@ -10,5 +11,8 @@ invariant_of-self g c =
         c.self.invariant.0.0,
         subst (λ (ss : List PendingSnapshot). IfKnown i.knows_concerned (AreConcerned i.state ss i.concerned_files i.concerned_chunks)) (sym c.note.ensures) c.self.invariant.0.1,
       ),
-      c.self.invariant.1,
+      (
+        c.self.invariant.1.0,
+        subst (λ (ss : List PendingSnapshot). IfSome i.all_wait_until (WaitAt i.state ss)) (sym c.note.ensures) c.self.invariant.1.1,
+      ),
     )

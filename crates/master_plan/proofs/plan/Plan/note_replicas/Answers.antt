@@ -17,6 +17,9 @@ pub invariant_of-self-2 : goal.invariant_of-self-2
 invariant_of-self-2 g c =
     let i = c.self.inside in (
       c.self.invariant.0,
-      held_if i.config i.server_count i.reported i.whole_until c.doubt_changed-until.result c.doubt_changed-until.ensures.kept i.state i.holders c.insert.new.self i.doubted c.doubt_changed-until.new.doubted
-          c.args.server _ c.in_ok-held.held c.get-old.ensures c.doubt_changed-until.ensures.doubted c.in_ok-insert.ensures.ok c.self.invariant.1,
+      (
+        held_if i.config i.server_count i.reported i.whole_until c.doubt_changed-until.result c.doubt_changed-until.ensures.kept i.state i.holders c.insert.new.self i.doubted c.doubt_changed-until.new.doubted
+            c.args.server _ c.in_ok-held.held c.get-old.ensures c.doubt_changed-until.ensures.doubted c.in_ok-insert.ensures.ok c.self.invariant.1.0,
+        c.self.invariant.1.1,
+      ),
     )

@@ -4,7 +4,7 @@ use Rattle.name_locks.specs.Locks.{sets_clash}
 use Rattle.protocol.specs.Master.{PendingSnapshot}
 use Rattle.master_plan.specs.CallLocks.{locks_of_snapshot}
 use Rattle.master_plan.proofs.Locked.{conflicts_are}
-use Rattle.master_plan.proofs.waiting_list.WaitingSnapshots.conflicts.Goals as goal
+use Rattle.master_plan.proofs.locked_list.LockedSnapshots.conflicts.Goals as goal
 
 pub returns-clause-answer : goal.returns-clause-answer
 returns-clause-answer c =

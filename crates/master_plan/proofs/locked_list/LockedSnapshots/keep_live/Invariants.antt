@@ -1,6 +1,6 @@
 use Rattle.std.proofs.Common.{◌≡◌, ℕ, length}
 use Rattle.protocol.specs.MasterSnapshots.{live_snapshots}
-use Rattle.master_plan.proofs.waiting_list.WaitingSnapshots.keep_live.Given as goal
+use Rattle.master_plan.proofs.locked_list.LockedSnapshots.keep_live.Given as goal
 
 -- those that stay are the same
 abbrev pub invariant-loop-index : goal.invariant-loop-index

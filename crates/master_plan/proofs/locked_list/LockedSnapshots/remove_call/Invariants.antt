@@ -1,5 +1,5 @@
 use Rattle.std.proofs.Common.{◌≡◌, ℕ, ◌==◌, ◌&&◌, not, filter, length}
-use Rattle.master_plan.proofs.waiting_list.WaitingSnapshots.remove_call.Given as goal
+use Rattle.master_plan.proofs.locked_list.LockedSnapshots.remove_call.Given as goal
 
 -- those that stay are the same
 abbrev pub invariant-loop-index : goal.invariant-loop-index

@@ -1,10 +1,10 @@
 -- The locks of a call and of a snapshot conflict where the definitions say so.
-use Rattle.std.proofs.Common.{◌≡◌, ℕ, zero, suc, ◌+◌, ◌<◌, ◌≤◌, Bool, true, false, not, cond, ◌&&◌, ◌||◌, List, [], ◌∷◌, ◌++◌, map, flat_map, length, length-append, refl, sym, ap, ◌∙◌, subst, arith}
+use Rattle.std.proofs.Common.{◌≡◌, ℕ, zero, suc, ◌+◌, ◌<◌, ◌≤◌, Bool, true, false, not, cond, ◌&&◌, ◌||◌, List, [], ◌∷◌, ◌++◌, map, flat_map, length, length-append, append-nil, refl, sym, ap, ◌∙◌, subst, arith}
 use Rattle.std.specs.List.{list_any, list_all}
 use Rattle.std.specs.Str.{bytes_eq}
 use Rattle.std.proofs.lemmas.Bool.{true≢false, and_parts, false_from_ne_true}
-use Rattle.gfs_types.specs.Paths.{Path, root, is_path, is_slash, parent, is_below, is_at_or_below}
 use Rattle.gfs_types.specs.declared.call.Call.{Call}
+use Rattle.gfs_types.specs.Paths.{Path, root, is_path, is_slash, parent, is_below, is_at_or_below}
 use Rattle.relaxed_file.specs.Locks.{paths_of, writes, conflict_at, conflict}
 use Rattle.relaxed_file.proofs.PathParts.{same_paths, equal_paths, other_paths, Parted, at_slash, whole, parted, parent_of, parent_at_top, below_is, at_or_below_is}
 use Rattle.machine_names.proofs.PathsApart.{parent_below, parent_at}
@@ -20,7 +20,7 @@ alike true b f g = sym (f refl)
 alike false true f g = g refl
 alike false false f g = refl
 
-bytes_sym : (a b : List ℕ) → bytes_eq a b ≡ bytes_eq b a
+pub bytes_sym : (a b : List ℕ) → bytes_eq a b ≡ bytes_eq b a
 bytes_sym a b = alike (bytes_eq a b) (bytes_eq b a) (λ e. same_paths b a (sym (equal_paths a b e))) (λ e. same_paths a b (sym (equal_paths b a e)))
 
 same_head : (x y : ℕ) (xs ys : List ℕ) → x ∷ xs ≡ y ∷ ys → x ≡ y
@@ -114,7 +114,7 @@ slash_first (c ∷ r) path = (r, ap (λ (x : ℕ). x ∷ r) (first c (and_parts 
 ancestors_are : (q p : Path) → is_path q ≡ true → is_path p ≡ true → list_any (λ b. bytes_eq q b) (ancestors p) ≡ is_below q p
 ancestors_are q p path_q path_p = let s = slash_first p path_p in above_are (length p) q p s.0 path_q s.1 (omega arith)
 
-abbrev mode : Bool → Mode
+abbrev pub mode : Bool → Mode
 mode w = cond w Write Read
 
 mode_writes : (w : Bool) → is_write (mode w) ≡ w
@@ -138,7 +138,7 @@ none_read : (x : Path) (ys : List Path) → list_any (λ b. clash (x, Read) b) (
 none_read x [] = refl
 none_read x (y ∷ ys) = ap (λ b. b || list_any (λ b. clash (x, Read) b) (map reading ys)) (and_false (bytes_eq x y)) ∙ none_read x ys
 
-or_false : (b : Bool) → (b || false) ≡ b
+pub or_false : (b : Bool) → (b || false) ≡ b
 or_false true = refl
 or_false false = refl
 
@@ -176,7 +176,7 @@ arranged false false x true = refl
 arranged false false x false = refl
 
 -- the locks on two paths, the second of which is written
-pair : (w : Bool) (p q : Path) → is_path p ≡ true → is_path q ≡ true → sets_clash (locks_on Write q) (locks_on (mode w) p) ≡ conflict_at w p true q
+pub pair : (w : Bool) (p q : Path) → is_path p ≡ true → is_path q ≡ true → sets_clash (locks_on Write q) (locks_on (mode w) p) ≡ conflict_at w p true q
 pair w p q path_p path_q =
     ap (λ b. ((bytes_eq q p && true) || b) || list_any (λ a. list_any (λ b. clash a b) (locks_on (mode w) p)) (map reading (ancestors q))) (written q (ancestors p) ∙ ancestors_are q p path_q path_p)
     ∙ ap (λ b. ((bytes_eq q p && true) || is_below q p) || b) (reads w p (ancestors p) (ancestors q) ∙ ap (λ b. w && b) (ancestors_are p q path_p path_q))
@@ -187,7 +187,7 @@ or_assoc : (a b c : Bool) → ((a || b) || c) ≡ (a || (b || c))
 or_assoc true b c = refl
 or_assoc false b c = refl
 
-any_append : {X : Type 0} (f : X → Bool) (xs ys : List X) → list_any f (xs ++ ys) ≡ (list_any f xs || list_any f ys)
+pub any_append : {X : Type 0} (f : X → Bool) (xs ys : List X) → list_any f (xs ++ ys) ≡ (list_any f xs || list_any f ys)
 any_append f [] ys = refl
 any_append f (x ∷ xs) ys = ap (λ b. f x || b) (any_append f xs ys) ∙ sym (or_assoc (f x) (list_any f xs) (list_any f ys))
 
@@ -239,3 +239,12 @@ none_busy m c e = none m.snapshots e
     none : (ss : List PendingSnapshot) → length ss ≡ 0 → false ≡ list_any (λ s. conflict c (snapshot_call s)) ss
     none [] e = refl
     none (s ∷ ss) e = absurd (omega (arith, e))
+
+-- one that no other makes busy has no lock that conflicts
+pub none_clashes : (m : MasterState) (s : PendingSnapshot) → list_all has_paths m.snapshots ≡ true → has_paths s ≡ true → is_busy m (snapshot_call s) ≡ false
+    → list_any (λ o. sets_clash (locks_of_snapshot o) (locks_of_snapshot s)) m.snapshots ≡ false
+none_clashes m s paths own free =
+    let both = and_parts (is_path s.from) (is_path s.to) own in
+    let lawful : are_paths (snapshot_call s) ≡ true = ap (λ b. b && (is_path s.to && true)) both.0 ∙ ap (λ b. b && true) both.1 in
+    let same : locks_of (snapshot_call s) ≡ locks_of_snapshot s = ap (λ (ls : List Lock). locks_on Write s.from ++ ls) (append-nil (locks_on Write s.to)) in
+    ap (λ (ls : List Lock). list_any (λ o. sets_clash (locks_of_snapshot o) ls) m.snapshots) (sym same) ∙ busy_is m (snapshot_call s) m.snapshots paths lawful ∙ free

@@ -2,7 +2,7 @@ use Rattle.std.proofs.Common.{◌<◌, length, sym, subst}
 use Rattle.std.specs.List.{remove}
 use Rattle.master_plan.specs.CallLocks.{AreLocked}
 use Rattle.master_plan.proofs.Locked.{locked_less}
-use Rattle.master_plan.proofs.waiting_list.WaitingSnapshots.remove_at.Goals as goal
+use Rattle.master_plan.proofs.locked_list.LockedSnapshots.remove_at.Goals as goal
 
 pub invariant_of-self : goal.invariant_of-self
 invariant_of-self c =
