@@ -1,14 +1,17 @@
 //! The client: its state, its calls and its steps.
 
-ghost use Rattle.std.specs.Prelude.{◌≡◌, ◌<◌, false, IfOk};
+ghost use Rattle.std.specs.Prelude.{◌≡◌, ◌<◌, true, false, IfOk};
 ghost use Rattle.std.specs.Option.{option_copied};
 ghost use Rattle.protocol.specs.Client.{ClientState, new_client};
 ghost use Rattle.protocol.specs.ClientCache.{cached, is_fresh, cache_after_look};
 ghost use Rattle.protocol.specs.ClientStep.{may_call, may_step, has_room_to_count, client_at};
 ghost use Rattle.protocol.specs.Conforms.{ClientCalls};
+ghost use Rattle.protocol.specs.Seen.{no_output};
 
+use crate::effects::ClientEffects;
 use crate::locations::Locations;
 use crate::open_files::OpenFiles;
+use crate::sent::Sent;
 use client_state::call::CurrentCall;
 use client_state::kept::{Cached, Place};
 use gfs_types::answer::Answer;
@@ -149,8 +152,24 @@ impl Client {
         self.current = None;
     }
 
-    /// A call. For want of memory it may be refused before its first message; nothing else has changed then.
+    /// A call. One while another is open, or of a client that is down, changes nothing and is not answered.
     pub fn call(&mut self, now: Moment, call: Call) -> StepOut
+        ensures taken { may_call self.old ≡ true → ClientCalls self.old now.0 call result self.new }
+        ensures void { may_call self.old ≡ false → self.new ≡ self.old }
+        ensures unanswered { may_call self.old ≡ false → result ≡ no_output }
+    {
+        if self.may_call() {
+            return self.takes_call(now, call);
+        }
+        ClientEffects {
+            sent: Sent::none(self.alloc),
+            answer: None,
+        }
+        .into_out()
+    }
+
+    /// A call of a client that may take one. For want of memory it may be refused before its first message; nothing else has changed then.
+    pub fn takes_call(&mut self, now: Moment, call: Call) -> StepOut
         ensures { ClientCalls self.old now.0 call result self.new }
     {
         self.move_clock(now);
