@@ -1,11 +1,13 @@
 //! The master as a cell wants it: with the chunks of all files as they stood when it was last up.
 
-ghost use Rattle.std.specs.Prelude.{◌≡◌, ◌≤◌, true, [], IfOk};
+ghost use Rattle.std.specs.Prelude.{◌≡◌, ◌≤◌, true, [], IfErr, IfOk};
 ghost use Rattle.std.specs.Coded.{→_prop, Coded-set, coded_ℕ, coded_list};
 ghost use Rattle.std.specs.FinMap as table;
 ghost use Rattle.protocol.specs.Logged.{new_log};
 ghost use Rattle.protocol.specs.MasterStep.{new_master};
+ghost use Rattle.master_cell.specs.Opens.{OpensNot, OpensUp, down_over};
 ghost use Rattle.master_cell.specs.Shown.{shown_in};
+ghost use Rattle.protocol.specs.Tables.{moment_limit};
 
 use cell_world::master::CellMaster;
 use gfs_types::config::Config;
@@ -53,6 +55,36 @@ impl<L: OperationLog + Drop, A: Allocator + Clone> SeatedMaster<L, A> {
             master,
             files: ShownFiles::new(alloc),
         })
+    }
+
+    /// Opens it over a log that an earlier one may have left, as a restart does. Where it can't be up, its log comes back. The settings are
+    /// within their ranges.
+    pub fn open(
+        alloc: Global,
+        config: Config,
+        server_count: u16,
+        log: L,
+        now: Moment,
+        names: A,
+    ) -> Result<Self, L>
+        requires lease { config.lease_ms ≤ 3600000 }
+        requires skew { config.skew_ms ≤ 60000 }
+        requires moment { now.0 ≤ moment_limit }
+        requires decided { L.under_way log ≡ [] }
+        ensures opens { IfOk result (λ m. OpensUp (down_over config server_count (L.disk log) []) now.0 m.master) }
+        ensures fails { IfErr result (λ l. OpensNot (down_over config server_count (L.disk log) []) now.0 (L.disk l) (L.under_way l)) }
+    {
+        let mut files = ShownFiles::new(alloc);
+        let master = Master::open(alloc, config, server_count, log, now, names, &mut files)?;
+        Ok(SeatedMaster { master, files })
+    }
+
+    /// The log as it is, with what is under way on it.
+    pub fn into_log(self) -> L
+        ensures disk { L.disk result ≡ self.master.disk }
+        ensures under_way { L.under_way result ≡ self.master.under_way }
+    {
+        self.master.into_log()
     }
 }
 

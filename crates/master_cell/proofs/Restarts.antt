@@ -15,7 +15,7 @@ use Rattle.master_cell.specs.Commits.{IsStopped}
 use Rattle.master_cell.specs.Standing.{standing, IsResting}
 use Rattle.master_cell.specs.Ends.{AllMade}
 use Rattle.master_cell.proofs.Steps.{gives, left_down}
-use Rattle.master_cell.specs.Opens.{Opens, ending_of, opened}
+use Rattle.master_cell.specs.Opens.{Opens, OpensNot, down_over, ending_of, opened}
 
 same_opening : (m : MasterState) (disk : LogDisk) (moment : ℕ) (choice : Choice) (went : Bool) (made : ℕ)
     → (let started : MasterState = started_master m.config m.server_count disk moment in opens_as m started (opening started) choice (ending_of went made)) ≡ opened m.config m.server_count disk moment went made
@@ -140,3 +140,18 @@ pub restarts_as : (m : MasterState) (disk new_disk : LogDisk) (under_way new_und
 restarts_as m disk new_disk under_way new_under_way config count q moment out new s decided o =
     restarts m (standing false new_disk new_under_way config count q) moment out new s.config_is s.count_is
     (subst (λ (d : LogDisk). IsDecided d m.under_way new_disk) s.disk_is (subst (λ (u : List LogChange). IsDecided disk u new_disk) s.under_way_is decided)) o
+
+-- A master that could not be made over a log opens as one that gave up: nothing of its log has changed.
+pub not_opened : (config : Config) (count : ℕ) (disk : LogDisk) (moment : ℕ) → OpensNot (down_over config count disk []) moment disk []
+not_opened config count disk moment = record {
+  new = down_over config count disk [];
+  is_down = refl;
+  out = down_output;
+  opens = record {
+    went = false;
+    made = 0;
+    gives = record { out_is = refl; seen_is = refl; left_as = record { but_under_way = refl; under_way = inr (refl, refl) } };
+  };
+  disk_is = refl;
+  under_way_is = refl;
+}

@@ -1,6 +1,6 @@
 //! The master.
 
-ghost use Rattle.std.specs.Prelude.{◌≡◌, ◌≤◌, [], true, false, IfOk, if◌then◌else◌, Some, None};
+ghost use Rattle.std.specs.Prelude.{◌≡◌, ◌≤◌, [], true, false, IfErr, IfOk, if◌then◌else◌, Some, None};
 ghost use Rattle.std.specs.Option.{option_copied};
 ghost use Rattle.protocol.specs.Tables.{moment_limit};
 ghost use Rattle.protocol.specs.Logged.{new_log};
@@ -10,7 +10,7 @@ ghost use Rattle.protocol.specs.Master.{stopped_master};
 ghost use Rattle.protocol.specs.World.{files_seen};
 ghost use Rattle.master_cell.specs.Shown.{shown_in};
 ghost use Rattle.master_cell.specs.Inputs.{input_of};
-ghost use Rattle.master_cell.specs.Opens.{Opens};
+ghost use Rattle.master_cell.specs.Opens.{Opens, OpensNot, OpensUp, down_over};
 
 use crate::drafted::drafts;
 use crate::ended::{makes, makes_all, outcome_of};
@@ -103,6 +103,77 @@ impl<L: OperationLog + Drop, A: Allocator + Clone> Master<L, A> {
             up: true,
             plan,
         })
+    }
+}
+
+impl<L: OperationLog + Drop, A: Allocator + Clone> Master<L, A> {
+    // A master that is down, over a log on which nothing is under way.
+    fn down(alloc: Global, config: Config, server_count: u16, log: L, names: A) -> Result<Self, L>
+        requires lease { config.lease_ms ≤ 3600000 }
+        requires skew { config.skew_ms ≤ 60000 }
+        ensures down { IfOk result (λ m. m ≡ down_over config server_count (L.disk log) (L.under_way log)) }
+        ensures back { IfErr result (λ l. l ≡ log) }
+    {
+        let Ok(kept) = names.clone() else {
+            return Err(log);
+        };
+        let Ok(plan) = first_plan(alloc, config, server_count, names) else {
+            return Err(log);
+        };
+        Ok(Master {
+            config,
+            server_count,
+            log,
+            names: kept,
+            up: false,
+            plan,
+        })
+    }
+
+    /// Opens the master over a log that an earlier one may have left, as a restart does: it reads the log, and logs a new epoch. An empty log
+    /// is that of a new cell. The chunks of its files are put into `shown`. Where it can't be up, its log comes back, with the epoch under way
+    /// or without it. The settings are within their ranges.
+    #[tactic(auto, using(crate::proofs::Restarts::not_opened))]
+    pub fn open(
+        alloc: Global,
+        config: Config,
+        server_count: u16,
+        log: L,
+        now: Moment,
+        names: A,
+        shown: &mut ShownFiles,
+    ) -> Result<Self, L>
+        requires lease { config.lease_ms ≤ 3600000 }
+        requires skew { config.skew_ms ≤ 60000 }
+        requires moment { now.0 ≤ moment_limit }
+        requires decided { L.under_way log ≡ [] }
+        ensures opens { IfOk result (λ m. OpensUp (down_over config server_count (L.disk log) []) now.0 m) }
+        ensures fails { IfErr result (λ l. OpensNot (down_over config server_count (L.disk log) []) now.0 (L.disk l) (L.under_way l)) }
+        ensures files { IfOk result (λ m. shown_in shown.new ≡ m.logged.table.files) }
+    {
+        let mut master = Master::down(alloc, config, server_count, log, names)?;
+        let _ = master.opens(alloc, now, shown);
+        if master.up {
+            Ok(master)
+        } else {
+            Err(master.into_log())
+        }
+    }
+
+    /// The log as it is, with what is under way on it.
+    pub fn into_log(self) -> L
+        ensures disk { L.disk result ≡ self.disk }
+        ensures under_way { L.under_way result ≡ self.under_way }
+    {
+        let Self {
+            config: _,
+            server_count: _,
+            log,
+            names: _names,
+            up: _,
+            plan: _plan,
+        } = self;
+        log
     }
 }
 

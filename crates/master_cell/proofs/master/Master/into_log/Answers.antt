@@ -1,0 +1,10 @@
+use Rattle.master_cell.proofs.Restarts.{shows}
+use Rattle.master_cell.proofs.master.Master.into_log.Goals as goal
+
+pub returns-clause-disk : goal.returns-clause-disk
+returns-clause-disk g c =
+    (shows c.self.inside.up (g.L.OperationLog.disk c.self.inside.log) (g.L.OperationLog.under_way c.self.inside.log) c.self.inside.config c.self.inside.server_count c.self.inside.plan c.args.self c.self.view_is c.self.invariant.2).disk_is
+
+pub returns-clause-under_way : goal.returns-clause-under_way
+returns-clause-under_way g c =
+    (shows c.self.inside.up (g.L.OperationLog.disk c.self.inside.log) (g.L.OperationLog.under_way c.self.inside.log) c.self.inside.config c.self.inside.server_count c.self.inside.plan c.args.self c.self.view_is c.self.invariant.2).under_way_is
