@@ -235,22 +235,6 @@ impl<L: OperationLog, A: Allocator + Clone> Master<L, A> {
         outcome_of(&mut self.plan)
     }
 
-    /// It begins again, whether it was up or down: it reads its log, and logs a new epoch. Where the master is up after it, the
-    /// chunks of its files are put into `shown`, which else stays.
-    #[tactic(auto, using(crate::proofs::Restarts::not_begun, crate::proofs::Restarts::restarts))]
-    pub fn restart(&mut self, now: Moment, shown: &mut ShownFiles) -> StepOut
-        requires { now.0 ≤ moment_limit }
-        ensures steps { MasterRestarts self.old now.0 result self.new }
-        ensures files { shown_in shown.new ≡ files_seen self.new (shown_in shown.old) }
-    {
-        let alloc = self.plan.alloc();
-        self.up = false;
-        let Ok(()) = self.log.reopen() else {
-            return down_output(alloc);
-        };
-        self.opens(alloc, now, shown)
-    }
-
     // It reads its log, and logs a new epoch. Nothing is under way.
     #[tactic(auto, using(crate::proofs::Restarts::given_up, crate::proofs::Restarts::cut_off, crate::proofs::Restarts::no_room, crate::proofs::Restarts::is_up))]
     fn opens(&mut self, alloc: Global, now: Moment, shown: &mut ShownFiles) -> StepOut
@@ -295,7 +279,23 @@ impl<L: OperationLog, A: Allocator + Clone> Master<L, A> {
     }
 }
 
-impl<L: StoppableLog, A: Allocator> Master<L, A> {
+impl<L: StoppableLog, A: Allocator + Clone> Master<L, A> {
+    /// It begins again, whether it was up or down: it reads its log, and logs a new epoch. Where the master is up after it, the
+    /// chunks of its files are put into `shown`, which else stays.
+    #[tactic(auto, using(crate::proofs::Restarts::not_begun, crate::proofs::Restarts::restarts))]
+    pub fn restart(&mut self, now: Moment, shown: &mut ShownFiles) -> StepOut
+        requires { now.0 ≤ moment_limit }
+        ensures steps { MasterRestarts self.old now.0 result self.new }
+        ensures files { shown_in shown.new ≡ files_seen self.new (shown_in shown.old) }
+    {
+        let alloc = self.plan.alloc();
+        self.up = false;
+        let Ok(()) = self.log.reopen() else {
+            return down_output(alloc);
+        };
+        self.opens(alloc, now, shown)
+    }
+
     /// Its log's disk lets so many calls pass and fails each later one until the next restart, which finds what was under way as `torn`
     /// says. That of a master that is down does so once the next restart has begun.
     pub fn fuse(&mut self, calls: u64, torn: Torn)

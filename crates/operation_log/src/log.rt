@@ -6,14 +6,14 @@ ghost use Rattle.log_codec.specs.Payloads.{IsWritable};
 ghost use Rattle.protocol.specs.Logged.{LogDisk, LogChange, AppendRecord, WriteCheckpoint, log_changed};
 ghost use Rattle.protocol.specs.LogSizes.{used_size, record_fits, checkpoint_fits};
 ghost use Rattle.operation_log.specs.declared.fault.OperationLogFault.TheVariants.{Full, Unwritable};
-ghost use Rattle.operation_log.specs.Logs.{MayBeUnderWay, IsDecided};
+ghost use Rattle.operation_log.specs.Logs.{MayBeUnderWay};
 
 use crate::fault::OperationLogFault;
 use log_records::record::Record;
 
 /// The master's operation log: the items of the last checkpoint, and the records after it.
 ///
-/// A call that fails on the way may leave its change under way: only `reopen` decides whether it was made. A checkpoint is
+/// A call that fails on the way may leave its change under way: only an opening decides whether it was made. A checkpoint is
 /// written item by item beside the log that stands; the log changes at its end alone.
 pub trait OperationLog {
     /// The last checkpoint's items, and the records after it.
@@ -78,14 +78,6 @@ pub trait OperationLog {
         ensures done { OnOk result (under_way self.new ≡ []) }
         ensures err { OnErr result (disk self.new ≡ disk self.old) }
         ensures begun { OnErr result (MayBeUnderWay (WriteCheckpoint (writing self.old)) (under_way self.new)) }
-        ensures size { log_bytes self.new ≡ log_bytes self.old };
-
-    /// Decides which of the changes under way were made, as a restart does, and finds the log. After an error nothing is decided.
-    fn reopen(&mut self) -> Result<(), OperationLogFault>
-        ensures ok { OnOk result (IsDecided (disk self.old) (under_way self.old) (disk self.new)) }
-        ensures done { OnOk result (under_way self.new ≡ []) }
-        ensures err { OnErr result (disk self.new ≡ disk self.old) }
-        ensures undecided { OnErr result (under_way self.new ≡ under_way self.old) }
         ensures size { log_bytes self.new ≡ log_bytes self.old };
 
     /// How many items and records there are.

@@ -139,10 +139,6 @@ impl OperationLog for MemoryLog {
         Ok(())
     }
 
-    fn reopen(&mut self) -> Result<(), OperationLogFault> {
-        Ok(())
-    }
-
     #[tactic(auto, using(crate::proofs::Growth::count_within, crate::proofs::Growth::count_is))]
     fn len(&self) -> u64 {
         self.items.len() as u64 + self.records.len() as u64

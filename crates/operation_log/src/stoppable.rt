@@ -1,13 +1,24 @@
 //! Logs whose disk a script can stop.
 
-ghost use Rattle.std.specs.Prelude.{◌≡◌};
+ghost use Rattle.std.specs.Prelude.{◌≡◌, [], OnErr, OnOk};
+ghost use Rattle.operation_log.specs.Logs.{IsDecided};
 
+use crate::fault::OperationLogFault;
 use crate::log::OperationLog;
 use crate::memory::MemoryLog;
 use gfs_types::torn::Torn;
 
-/// A log whose disk can be told to stop.
+/// A log whose disk can be told to stop, and that begins again in its place.
 pub trait StoppableLog: OperationLog {
+    /// Its disk begins again: which of the changes under way were made is decided, and the log is found. After an error nothing is
+    /// decided.
+    fn reopen(&mut self) -> Result<(), OperationLogFault>
+        ensures ok { OnOk result (IsDecided (Self.disk self.old) (Self.under_way self.old) (Self.disk self.new)) }
+        ensures done { OnOk result (Self.under_way self.new ≡ []) }
+        ensures err { OnErr result (Self.disk self.new ≡ Self.disk self.old) }
+        ensures undecided { OnErr result (Self.under_way self.new ≡ Self.under_way self.old) }
+        ensures size { Self.log_bytes self.new ≡ Self.log_bytes self.old };
+
     /// Its disk lets so many calls pass and fails each later one until the log is opened again, which then finds what was under way as
     /// `torn` says.
     fn stop_after(&mut self, calls: u64, torn: Torn)
@@ -26,6 +37,10 @@ pub trait StoppableLog: OperationLog {
 
 /// A log in memory has no disk that could stop.
 impl StoppableLog for MemoryLog {
+    fn reopen(&mut self) -> Result<(), OperationLogFault> {
+        Ok(())
+    }
+
     fn stop_after(&mut self, _calls: u64, _torn: Torn) {}
 
     fn stop_after_restart(&mut self, _calls: u64, _torn: Torn) {}

@@ -13,7 +13,7 @@ ghost use Rattle.stored_log.specs.Kept.{all_entries, closed, HasDiskSize, IsDisk
 
 use crate::entries::{entry_at, fault_of};
 use crate::standing::LogStanding;
-use disk::StoppableDisk;
+use disk::{Disk, StoppableDisk};
 use gfs_types::torn::Torn;
 use log_codec::{is_item, is_writable};
 use log_records::record::Record;
@@ -37,7 +37,7 @@ const AROUND_ITEM: u64 = 4;
 
 /// The operation log on a disk. Its items and records are counted, and lie on the disk alone.
 #[derive(Drop)]
-pub struct DiskLog<D: StoppableDisk> {
+pub struct DiskLog<D: Disk> {
     alloc: Global,
     log: Log<D>,
     log_bytes: u64,
@@ -51,7 +51,7 @@ pub struct DiskLog<D: StoppableDisk> {
     standing: LogStanding,
 }
 
-impl<D: StoppableDisk> Model for DiskLog<D> {
+impl<D: Disk> Model for DiskLog<D> {
     ghost use Rattle.stored_log.specs.Kept.{all_entries, changes_of, DiskLogState, HasDiskSize, IsKept, IsWritten, KeepsWalk, Takes};
 
     ghost Value = { DiskLogState };
@@ -87,7 +87,7 @@ fn if_more(walk: Walk, has_more: bool) -> Option<Walk>
     if has_more { Some(walk) } else { None }
 }
 
-impl<D: StoppableDisk> DiskLog<D> {
+impl<D: Disk> DiskLog<D> {
     /// Opens the log that stands on a disk; a disk whose head is closed holds an empty one. An error hands the disk back.
     pub fn open(disk: D, alloc: Global) -> Result<DiskLog<D>, (D, OperationLogFault)>
         requires { IsDiskSize (length (D.seen disk)) }
@@ -156,7 +156,7 @@ impl<D: StoppableDisk> DiskLog<D> {
     }
 }
 
-impl<D: StoppableDisk> OperationLog for DiskLog<D> {
+impl<D: Disk> OperationLog for DiskLog<D> {
     ghost disk = { λ l. l.disk };
 
     ghost under_way = { λ l. l.under_way };
@@ -250,22 +250,6 @@ impl<D: StoppableDisk> OperationLog for DiskLog<D> {
         }
     }
 
-    // The disk begins again and is read. It says what it said before the change that was under way, or after it.
-    fn reopen(&mut self) -> Result<(), OperationLogFault> {
-        let _is_open = self.log.is_open();
-        self.standing = closed(mem::replace(&mut self.standing, LogStanding::Unread));
-        self.walk = None;
-        match self.log.reopen(self.alloc) {
-            Ok(walk) => {
-                self.used = self.log.used() as u64;
-                self.walk = walk;
-                self.standing = LogStanding::Open;
-                Ok(())
-            }
-            Err(fault) => Err(fault_of(fault)),
-        }
-    }
-
     #[tactic(auto, using(operation_log::proofs::Growth::count_within, operation_log::proofs::Growth::count_is))]
     fn len(&self) -> u64 {
         self.log.item_count() as u64 + self.log.record_count() as u64
@@ -287,6 +271,22 @@ impl<D: StoppableDisk> OperationLog for DiskLog<D> {
 }
 
 impl<D: StoppableDisk> StoppableLog for DiskLog<D> {
+    // The disk begins again and is read. It says what it said before the change that was under way, or after it.
+    fn reopen(&mut self) -> Result<(), OperationLogFault> {
+        let _is_open = self.log.is_open();
+        self.standing = closed(mem::replace(&mut self.standing, LogStanding::Unread));
+        self.walk = None;
+        match self.log.reopen(self.alloc) {
+            Ok(walk) => {
+                self.used = self.log.used() as u64;
+                self.walk = walk;
+                self.standing = LogStanding::Open;
+                Ok(())
+            }
+            Err(fault) => Err(fault_of(fault)),
+        }
+    }
+
     fn stop_after(&mut self, calls: u64, torn: Torn) {
         self.log.stop_after(calls, torn);
     }

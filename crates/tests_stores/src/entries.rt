@@ -8,6 +8,7 @@ use gfs_types::ids::{FileId, Handle};
 use log_records::record::Record;
 use operation_log::fault::OperationLogFault;
 use operation_log::log::OperationLog;
+use operation_log::stoppable::StoppableLog;
 use std::alloc::Global;
 use std::test::Fail;
 
@@ -43,7 +44,7 @@ fn append<L: OperationLog>(log: &mut L, epoch: u64) -> Result<(), OperationLogFa
 }
 
 // A checkpoint of one item, and a record.
-fn fill<L: OperationLog>(log: &mut L) -> Result<(), OperationLogFault>
+fn fill<L: StoppableLog>(log: &mut L) -> Result<(), OperationLogFault>
     requires { L.under_way log.old ≡ [] }
     ensures { OnOk result (L.under_way log.new ≡ []) }
 {
@@ -73,7 +74,7 @@ fn read<L: OperationLog>(log: &mut L) -> Result<[Option<u64>; 6], OperationLogFa
     Ok([first, second, again, none, third, before])
 }
 
-fn filled_and_read<L: OperationLog>(log: &mut L) -> Result<[Option<u64>; 6], OperationLogFault>
+fn filled_and_read<L: StoppableLog>(log: &mut L) -> Result<[Option<u64>; 6], OperationLogFault>
     requires { L.under_way log.old ≡ [] }
 {
     fill(log)?;

@@ -10,6 +10,7 @@ use gfs_types::no_memory::NoMemory;
 use log_records::record::Record;
 use operation_log::fault::OperationLogFault;
 use operation_log::log::OperationLog;
+use operation_log::stoppable::StoppableLog;
 use std::alloc::Global;
 use std::test::Fail;
 use stored_log::disk_log::DiskLog;
@@ -18,7 +19,7 @@ use stored_log::disk_log::DiskLog;
 const APPENDS: u64 = 3;
 
 // The log is opened again, if need be once more.
-fn open_again<L: OperationLog>(log: &mut L) -> Result<(), OperationLogFault>
+fn open_again<L: StoppableLog>(log: &mut L) -> Result<(), OperationLogFault>
     ensures { OnOk result (L.under_way log.new ≡ []) }
 {
     if log.reopen().is_ok() {
@@ -28,7 +29,7 @@ fn open_again<L: OperationLog>(log: &mut L) -> Result<(), OperationLogFault>
 }
 
 // An append. Where memory is refused the log is opened again, which has the record or not, and then it is appended.
-fn grow<L: OperationLog>(log: &mut L, record: &Record) -> Result<(), OperationLogFault>
+fn grow<L: StoppableLog>(log: &mut L, record: &Record) -> Result<(), OperationLogFault>
     requires { L.under_way log.old ≡ [] }
     ensures { OnOk result (L.under_way log.new ≡ []) }
 {
@@ -57,7 +58,7 @@ pub(crate) fn checkpoint<L: OperationLog>(
 }
 
 // A checkpoint of one item. Where memory is refused the log is opened again, and it is written once more.
-fn shrink<L: OperationLog>(log: &mut L, item: &Record) -> Result<(), OperationLogFault>
+fn shrink<L: StoppableLog>(log: &mut L, item: &Record) -> Result<(), OperationLogFault>
     requires { L.under_way log.old ≡ [] }
     ensures { OnOk result (L.under_way log.new ≡ []) }
 {
@@ -69,7 +70,7 @@ fn shrink<L: OperationLog>(log: &mut L, item: &Record) -> Result<(), OperationLo
 }
 
 // Appends, a checkpoint, an append and an opening: how many entries there are before the checkpoint, after it, and at the end.
-fn go_on<L: OperationLog>(
+fn go_on<L: StoppableLog>(
     log: &mut L,
     record: &Record,
     item: &Record,

@@ -4,7 +4,7 @@ use Rattle.stored_log.specs.Kept.{all_entries, closed, DiskLogState, HasDiskSize
 use Rattle.stored_log.proofs.Keeping.{area_taken, closed_kept, closed_leaves, walk_kept}
 use Rattle.stored_log.proofs.Reopening.{found_decided, log_of, reopened_leaves}
 use Rattle.stored_log.proofs.Sizes.{end_taken}
-use Rattle.stored_log.proofs.disk_log.DiskLogOperationLog.reopen.Goals as goal
+use Rattle.stored_log.proofs.disk_log.DiskLogStoppableLog.reopen.Goals as goal
 
 pub invariant_of-self : goal.invariant_of-self
 invariant_of-self g c =
