@@ -15,7 +15,7 @@ use gfs_types::ids::{FileId, Handle, Moment};
 use gfs_types::path::Path;
 use gfs_types::torn::Torn;
 use master_cell::fault::MasterFault;
-use master_cell::master::Master;
+use master_cell::logged_master::LoggedMaster;
 use master_cell::shown::ShownFiles;
 use messages::event::StepOut;
 use messages::message::Message;
@@ -28,7 +28,7 @@ use step_outcome::Outcome;
 /// A master over a log, and what is shown of its files: while it is up, these are its files. Its names lie in `A`.
 #[derive(Drop)]
 pub struct SeatedMaster<L: OperationLog, A: Allocator> {
-    master: Master<L, A>,
+    master: LoggedMaster<L, A>,
     files: ShownFiles,
     ghost shown: { master.up ≡ true → shown_in files ≡ master.logged.table.files } by { →_prop (Coded-set (table.code coded_ℕ (coded_list coded_ℕ)) _ _) },
 }
@@ -50,7 +50,7 @@ impl<L: OperationLog + Drop, A: Allocator + Clone> SeatedMaster<L, A> {
         ensures master { IfOk result (λ m. m.master ≡ new_master config server_count) }
         ensures files { IfOk result (λ m. shown_in m.files ≡ table.empty) }
     {
-        let master = Master::new(alloc, config, server_count, log, names)?;
+        let master = LoggedMaster::new(alloc, config, server_count, log, names)?;
         Ok(SeatedMaster {
             master,
             files: ShownFiles::new(alloc),
@@ -75,7 +75,7 @@ impl<L: OperationLog + Drop, A: Allocator + Clone> SeatedMaster<L, A> {
         ensures fails { IfErr result (λ l. OpensNot (down_over config server_count (L.disk log) []) now.0 (L.disk l) (L.under_way l)) }
     {
         let mut files = ShownFiles::new(alloc);
-        let master = Master::open(alloc, config, server_count, log, now, names, &mut files)?;
+        let master = LoggedMaster::open(alloc, config, server_count, log, now, names, &mut files)?;
         Ok(SeatedMaster { master, files })
     }
 

@@ -28,7 +28,7 @@ use Rattle.master_plan.specs.contracts.plan.Plan as Plan
 use Rattle.operation_log.proofs.memory.MemoryLog.TheSendSync as memory
 use Rattle.operation_log.specs.contracts.memory.MemoryLogOperationLog.TheImpl as on_log
 use Rattle.operation_log.specs.contracts.memory.MemoryLog as Log
-use Rattle.master_cell.specs.contracts.master.Master as Master
+use Rattle.master_cell.specs.contracts.logged_master.LoggedMaster as Master
 use Rattle.master_cell.proofs.shown.ShownFiles.TheSendSync as shown
 use Rattle.cell_core.specs.contracts.cell_master.SeatedMaster as Seated
 use Rattle.cell_run.specs.contracts.master_stepper.MasterNode as Node

@@ -8,5 +8,6 @@ pub mod Commits
 pub mod Standing
 pub mod Ends
 pub mod Opens
+pub mod Disks
 pub mod Inputs
 pub mod Drafts

@@ -1,310 +1,116 @@
-//! The master.
+//! The master over a disk.
 
-ghost use Rattle.std.specs.Prelude.{◌≡◌, ◌≤◌, [], true, false, IfErr, IfOk, if◌then◌else◌, Some, None};
-ghost use Rattle.std.specs.Option.{option_copied};
+ghost use Rattle.std.specs.Prelude.{◌≡◌, ◌≤◌, List, IfErr, IfOk, length};
+ghost use Rattle.protocol.specs.Conforms.{MasterSteps};
 ghost use Rattle.protocol.specs.Tables.{moment_limit};
-ghost use Rattle.protocol.specs.Logged.{new_log};
-ghost use Rattle.protocol.specs.MasterStep.{new_master};
-ghost use Rattle.protocol.specs.Conforms.{MasterSteps, MasterRestarts};
-ghost use Rattle.protocol.specs.Master.{stopped_master};
-ghost use Rattle.protocol.specs.World.{files_seen};
-ghost use Rattle.master_cell.specs.Shown.{shown_in};
-ghost use Rattle.master_cell.specs.Inputs.{input_of};
-ghost use Rattle.master_cell.specs.Opens.{Opens, OpensNot, OpensUp, down_over};
+ghost use Rattle.protocol.specs.declared.seen.Seen.{Seen};
+ghost use Rattle.stored_log.specs.Kept.{IsDiskSize, LeavesDecided};
+ghost use Rattle.master_cell.specs.Disks.{FailsOver, OpensOver};
 
-use crate::drafted::drafts;
-use crate::ended::{makes, makes_all, outcome_of};
-use crate::fault::MasterFault;
-use crate::shown::{ShownFiles, shown_of};
-use crate::started::{first_plan, opens};
+use crate::logged_master::LoggedMaster;
+use crate::opening_fault::OpeningFault;
+use crate::shown::ShownFiles;
+use disk::Disk;
 use gfs_types::config::Config;
 use gfs_types::ids::Moment;
-use gfs_types::lists::Sequence;
-use gfs_types::torn::Torn;
-use log_records::record::Record;
-use master_plan::plan::Plan;
-use master_state::state::State;
-use messages::event::StepOut;
-use messages::message::Message;
-use operation_log::log::OperationLog;
-use operation_log::stoppable::StoppableLog;
+use messages::event::{NodeInput, StepOut};
 use std::alloc::{Allocator, Global};
 use std::marker::Model;
-use step_outcome::{Outcome, down_output, no_output};
+use step_outcome::Outcome;
+use stored_log::disk_log::DiskLog;
 
-/// The master over a log. While it is up, nothing is under way on the log's disk. Its names lie in `A`.
-pub struct Master<L: OperationLog, A: Allocator> {
-    config: Config,
-    server_count: u16,
-    log: L,
-    names: A,
-    up: bool,
-    plan: Plan<A>,
+/// What the master takes a step on.
+pub type MasterIn = NodeInput;
+
+/// The master over the disk of its log. Its names lie in `A`.
+#[derive(Drop)]
+pub struct Master<A: Allocator, D: Disk> {
+    master: LoggedMaster<DiskLog<D>, A>,
+    files: ShownFiles,
 }
 
-// Stands here, once, so that no function that lets one go, here or above, takes its fields apart.
-impl<L: OperationLog + Drop, A: Allocator> Drop for Master<L, A> {
-    fn drop(self) {
-        let Self {
-            config: _,
-            server_count: _,
-            log: _log,
-            names: _names,
-            up: _,
-            plan: _plan,
-        } = self;
-    }
-}
-
-impl<L: OperationLog, A: Allocator> Model for Master<L, A> {
-    ghost use Rattle.std.specs.Prelude.{◌≡◌, ◌≤◌, true, []};
+impl<A: Allocator, D: Disk> Model for Master<A, D> {
+    ghost use Rattle.std.specs.Prelude.{◌≡◌, true};
     ghost use Rattle.std.specs.Coded.{codes, coded_ℕ, coded_list};
     ghost use Rattle.std.specs.FinMap as map;
     ghost use Rattle.protocol.specs.Master.{MasterState};
-    ghost use Rattle.master_cell.specs.Standing.{standing, IsResting};
+    ghost use Rattle.master_cell.specs.Shown.{shown_in};
 
     ghost Value = { MasterState };
 
     ghost coded = { Prim.hlevel (codes, map.code, coded_list, coded_ℕ) };
 
-    ghost view = { λ m. standing m.up (L.disk m.log) (L.under_way m.log) m.config m.server_count m.plan };
+    ghost view = { λ m. m.master };
 
-    ghost invariant = { λ m. (m.config.lease_ms ≤ 3600000) × (m.config.skew_ms ≤ 60000) × (m.up ≡ true → IsResting (L.under_way m.log) m.config m.server_count m.plan) };
+    ghost invariant = { λ m. m.master.up ≡ true → shown_in m.files ≡ m.master.logged.table.files };
 }
 
-impl<L: OperationLog + Drop, A: Allocator + Clone> Master<L, A> {
-    /// The master of a new cell, whose log is new: the first epoch is logged. The settings are within their ranges.
-    pub fn new(
-        alloc: Global,
-        config: Config,
-        server_count: u16,
-        log: L,
-        names: A,
-    ) -> Result<Self, MasterFault>
-        requires lease { config.lease_ms ≤ 3600000 }
-        requires skew { config.skew_ms ≤ 60000 }
-        requires new { L.disk log ≡ new_log }
-        requires decided { L.under_way log ≡ [] }
-        ensures { IfOk result (λ m. m ≡ new_master config server_count) }
-    {
-        let kept = names.clone()?;
-        let Ok(plan) = first_plan(alloc, config, server_count, names) else {
-            return Err(MasterFault::NoMemory);
-        };
-        let mut log = log;
-        if let Err(fault) = log.append(&Record::Epoch { epoch: 1 }) {
-            return Err(MasterFault::Log(fault));
-        }
-        Ok(Master {
-            config,
-            server_count,
-            log,
-            names: kept,
-            up: true,
-            plan,
-        })
-    }
-}
-
-impl<L: OperationLog + Drop, A: Allocator + Clone> Master<L, A> {
-    // A master that is down, over a log on which nothing is under way.
-    fn down(alloc: Global, config: Config, server_count: u16, log: L, names: A) -> Result<Self, L>
-        requires lease { config.lease_ms ≤ 3600000 }
-        requires skew { config.skew_ms ≤ 60000 }
-        ensures down { IfOk result (λ m. m ≡ down_over config server_count (L.disk log) (L.under_way log)) }
-        ensures back { IfErr result (λ l. l ≡ log) }
-    {
-        let Ok(kept) = names.clone() else {
-            return Err(log);
-        };
-        let Ok(plan) = first_plan(alloc, config, server_count, names) else {
-            return Err(log);
-        };
-        Ok(Master {
-            config,
-            server_count,
-            log,
-            names: kept,
-            up: false,
-            plan,
-        })
-    }
-
-    /// Opens the master over a log that an earlier one may have left, as a restart does: it reads the log, and logs a new epoch. An empty log
-    /// is that of a new cell. The chunks of its files are put into `shown`. Where it can't be up, its log comes back, with the epoch under way
-    /// or without it. The settings are within their ranges.
-    #[tactic(auto, using(crate::proofs::Restarts::not_opened))]
+impl<A: Allocator + Clone, D: Disk + Drop> Master<A, D> {
+    /// Opens the master over a disk of 4,096 bytes to 1 GiB that an earlier one may have left: it reads the log, and logs a new epoch. A disk
+    /// on which no log stands is that of a new cell. Where it can't be up, the disk comes back. The settings are within their ranges.
     pub fn open(
         alloc: Global,
         config: Config,
-        server_count: u16,
-        log: L,
+        servers: u16,
+        disk: D,
         now: Moment,
         names: A,
-        shown: &mut ShownFiles,
-    ) -> Result<Self, L>
+    ) -> Result<Master<A, D>, (D, OpeningFault)>
         requires lease { config.lease_ms ≤ 3600000 }
         requires skew { config.skew_ms ≤ 60000 }
         requires moment { now.0 ≤ moment_limit }
-        requires decided { L.under_way log ≡ [] }
-        ensures opens { IfOk result (λ m. OpensUp (down_over config server_count (L.disk log) []) now.0 m) }
-        ensures fails { IfErr result (λ l. OpensNot (down_over config server_count (L.disk log) []) now.0 (L.disk l) (L.under_way l)) }
-        ensures files { IfOk result (λ m. shown_in shown.new ≡ m.logged.table.files) }
+        requires size { IsDiskSize (length (D.seen disk)) }
+        ensures opens { IfOk result (λ m. OpensOver config servers (D.seen disk) now.0 m) }
+        ensures fails { IfErr result (λ e. FailsOver D.seen D.may_leave config servers disk now.0 e.0) }
     {
-        let mut master = Master::down(alloc, config, server_count, log, names)?;
-        let _ = master.opens(alloc, now, shown);
-        if master.up {
-            Ok(master)
-        } else {
-            Err(master.into_log())
+        let log = match DiskLog::open(disk, alloc) {
+            Ok(log) => log,
+            Err((disk, fault)) => return Err((disk, OpeningFault::Log(fault))),
+        };
+        let mut files = ShownFiles::new(alloc);
+        match LoggedMaster::open(alloc, config, servers, log, now, names, &mut files) {
+            Ok(master) => Ok(Master { master, files }),
+            Err(log) => Err((log.into_disk(), OpeningFault::Down)),
         }
     }
 
-    /// The log as it is, with what is under way on it.
-    pub fn into_log(self) -> L
-        ensures disk { L.disk result ≡ self.disk }
-        ensures under_way { L.under_way result ≡ self.under_way }
+    /// The disk as it is. A stop leaves the log on it, with what is under way or without it.
+    pub fn into_disk(self) -> D
+        ensures { LeavesDecided D.may_leave result self.disk self.under_way }
     {
         let Self {
-            config: _,
-            server_count: _,
-            log,
-            names: _names,
-            up: _,
-            plan: _plan,
+            master,
+            files: _files,
         } = self;
-        log
+        master.into_log().into_disk()
     }
 }
 
-impl<L: OperationLog, A: Allocator + Clone> Master<L, A> {
+impl<A: Allocator + Clone, D: Disk> Master<A, D> {
     /// Whether it is up. One that is down takes no step.
     pub fn is_up(&self) -> bool
         ensures { result ≡ self.now.up }
     {
-        self.up
+        self.master.is_up()
     }
 
-    /// What the log keeps, while it is up.
-    pub fn state(&self) -> Option<&State<A>>
-        ensures { option_copied result ≡ (if self.now.up then Some self.now.logged else None) }
-    {
-        if self.up {
-            Some(self.plan.state())
-        } else {
-            None
-        }
-    }
-
-    /// It is put down in a step, before it changed anything. Takes no memory.
-    #[tactic(auto, using(crate::proofs::Files::stopped))]
-    pub fn stop(&mut self)
-        requires { self.old.up ≡ true }
-        ensures { self.new ≡ stopped_master self.old self.old.disk [] }
-    {
-        self.up = false;
-    }
-
-    /// A step on a message, or on a tick. While the master is up the chunks of its files are shown. Where it is up after the
-    /// step, those that were changed are shown anew; else all that was shown stays.
-    #[tactic(auto, using(crate::proofs::Steps::stays, crate::proofs::Steps::lost, crate::proofs::Steps::drafted_cut_off, crate::proofs::Steps::drafted_rests))]
-    pub fn step(
-        &mut self,
-        now: Moment,
-        message: Option<&Message>,
-        shown: &mut ShownFiles,
-    ) -> Outcome
-        requires moment { now.0 ≤ moment_limit }
-        requires shown { self.old.up ≡ true → shown_in shown.old ≡ self.old.logged.table.files }
-        ensures steps { MasterSteps self.old now.0 (input_of (option_copied message.entry)) result.out result.seen self.new }
-        ensures files { shown_in shown.new ≡ files_seen self.new (shown_in shown.old) }
-    {
-        let alloc = self.plan.alloc();
-        if !self.up {
-            return Outcome::nothing(alloc);
-        }
-        self.up = false;
-        let Ok(draft) = drafts(&self.log, &mut self.plan, now, message, shown) else {
-            return Outcome::down(alloc, Sequence::empty(alloc));
-        };
-        if !makes_all(&mut self.log, &self.plan, &draft.changes) {
-            return Outcome::down(alloc, Sequence::empty(alloc));
-        }
-        self.up = true;
-        shown.put(draft.copies);
-        outcome_of(&mut self.plan)
-    }
-
-    // It reads its log, and logs a new epoch. Nothing is under way.
-    #[tactic(auto, using(crate::proofs::Restarts::given_up, crate::proofs::Restarts::cut_off, crate::proofs::Restarts::no_room, crate::proofs::Restarts::is_up))]
-    fn opens(&mut self, alloc: Global, now: Moment, shown: &mut ShownFiles) -> StepOut
-        requires moment { now.0 ≤ moment_limit }
-        requires down { self.old.up ≡ false }
-        requires decided { self.old.under_way ≡ [] }
-        ensures opens { Opens self.old now.0 result self.new }
-        ensures files { shown_in shown.new ≡ files_seen self.new (shown_in shown.old) }
-    {
-        self.up = false;
-        let Ok(names) = self.names.clone() else {
-            return down_output(alloc);
-        };
-        let Ok(none) = self.names.clone() else {
-            return down_output(alloc);
-        };
-        self.plan.forget_names(none);
-        let opened = opens(
-            &mut self.log,
-            alloc,
-            self.config,
-            self.server_count,
-            names,
-            now,
-        );
-        let Ok(opening) = opened else {
-            return down_output(alloc);
-        };
-        self.plan = opening.plan;
-        let Ok(files) = shown_of(alloc, self.plan.state().table()) else {
-            return down_output(alloc);
-        };
-        if !makes(&mut self.log, &mut self.plan) {
-            return down_output(alloc);
-        }
-        if !opening.is_logged {
-            return down_output(alloc);
-        }
-        self.up = true;
-        *shown = files;
-        no_output(alloc)
-    }
-}
-
-impl<L: StoppableLog, A: Allocator + Clone> Master<L, A> {
-    /// It begins again, whether it was up or down: it reads its log, and logs a new epoch. Where the master is up after it, the
-    /// chunks of its files are put into `shown`, which else stays.
-    #[tactic(auto, using(crate::proofs::Restarts::not_begun, crate::proofs::Restarts::restarts))]
-    pub fn restart(&mut self, now: Moment, shown: &mut ShownFiles) -> StepOut
+    /// A step on a message, or on a tick.
+    pub fn step(&mut self, now: Moment, input: MasterIn) -> StepOut
         requires { now.0 ≤ moment_limit }
-        ensures steps { MasterRestarts self.old now.0 result self.new }
-        ensures files { shown_in shown.new ≡ files_seen self.new (shown_in shown.old) }
+        ensures { (seen : List Seen) × MasterSteps self.old now.0 input result seen self.new }
     {
-        let alloc = self.plan.alloc();
-        self.up = false;
-        let Ok(()) = self.log.reopen() else {
-            return down_output(alloc);
+        let outcome = match &input {
+            NodeInput::Deliver(message) => self.master.step(now, Some(message), &mut self.files),
+            NodeInput::Tick => self.master.step(now, None, &mut self.files),
         };
-        self.opens(alloc, now, shown)
+        let Outcome { out, seen: _seen } = outcome;
+        out
     }
 
-    /// Its log's disk lets so many calls pass and fails each later one until the next restart, which finds what was under way as `torn`
-    /// says. That of a master that is down does so once the next restart has begun.
-    pub fn fuse(&mut self, calls: u64, torn: Torn)
+    /// Lets so many calls of the disk pass and fails each later one, where the disk can be told to fail. Changes no byte.
+    pub fn arm(&mut self, calls: u64)
         ensures { self.new ≡ self.old }
     {
-        if self.up {
-            self.log.stop_after(calls, torn);
-        } else {
-            self.log.stop_after_restart(calls, torn);
-        }
+        self.master.arm(calls);
     }
 }

@@ -4,6 +4,7 @@ ghost use Rattle.std.specs.Prelude.{◌≡◌, ◌<◌, ◌≤◌, ◌+◌, ◌*
 ghost use Rattle.log_records.specs.declared.record.Record.{Record};
 ghost use Rattle.oplog.specs.NewLogs.{IsLogOf};
 ghost use Rattle.oplog.specs.Opening.{WalksThrough};
+ghost use Rattle.oplog.specs.Reopening.{IsReopened};
 ghost use Rattle.oplog.specs.Walks.{IsWalk};
 ghost use Rattle.protocol.specs.Logged.{new_log};
 ghost use Rattle.protocol.specs.LogSizes.{checkpoint_fits, checkpoint_size, payload_size, used_size};
@@ -88,12 +89,14 @@ fn if_more(walk: Walk, has_more: bool) -> Option<Walk>
 }
 
 impl<D: Disk> DiskLog<D> {
-    /// Opens the log that stands on a disk; a disk whose head is closed holds an empty one. An error hands the disk back.
+    /// Opens the log that stands on a disk; a disk whose head is closed holds an empty one. An error hands the disk back, which then reads as
+    /// it did, or as an empty log where none stood.
     pub fn open(disk: D, alloc: Global) -> Result<DiskLog<D>, (D, OperationLogFault)>
         requires { IsDiskSize (length (D.seen disk)) }
         ensures opened { IfOk result (λ l. IsLogOf l.disk.items l.disk.records (D.seen disk)) }
         ensures decided { IfOk result (λ l. l.under_way ≡ []) }
         ensures size { IfOk result (λ l. l.log_bytes ≡ length (D.seen disk)) }
+        ensures read_of_error { IfErr result (λ e. IsReopened (D.seen disk) (D.seen e.0)) }
     {
         let log_bytes = disk.size() as u64;
         match Log::open_with_walk(disk, alloc) {
@@ -144,6 +147,13 @@ impl<D: Disk> DiskLog<D> {
     {
         let _is_open = self.log.is_open();
         self.log.into_disk()
+    }
+
+    /// Lets so many calls of the disk pass and fails each later one, where the disk can be told to fail. Changes no byte.
+    pub fn arm(&mut self, calls: u64)
+        ensures { self.new ≡ self.old }
+    {
+        self.log.arm(calls);
     }
 
     // The bytes of the checkpoint that is being written once an item stands there too; None where they don't fit.

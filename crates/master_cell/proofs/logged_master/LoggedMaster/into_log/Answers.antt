@@ -1,5 +1,5 @@
 use Rattle.master_cell.proofs.Restarts.{shows}
-use Rattle.master_cell.proofs.master.Master.into_log.Goals as goal
+use Rattle.master_cell.proofs.logged_master.LoggedMaster.into_log.Goals as goal
 
 pub returns-clause-disk : goal.returns-clause-disk
 returns-clause-disk g c =

@@ -12,7 +12,7 @@ use Rattle.master_cell.proofs.Steady.{settings_of}
 use Rattle.master_cell.proofs.Settings.{opening_stays}
 use Rattle.master_cell.proofs.Steps.{is_down_as}
 use Rattle.master_cell.proofs.Restarts.{as_made, given_up, cut_off, no_room, is_up}
-use Rattle.master_cell.proofs.master.Master.opens.Goals as goal
+use Rattle.master_cell.proofs.logged_master.LoggedMaster.opens.Goals as goal
 
 pub returns-in_default-shown_of-clause-opens : goal.returns-in_default-shown_of-clause-opens
 returns-in_default-shown_of-clause-opens g c =

@@ -1,5 +1,5 @@
 use Rattle.master_cell.proofs.Restarts.{shows, restarts_as}
-use Rattle.master_cell.proofs.master.Master.restart.Goals as goal
+use Rattle.master_cell.proofs.logged_master.LoggedMaster.restart.Goals as goal
 
 pub returns-clause-steps : goal.returns-clause-steps
 returns-clause-steps g c =

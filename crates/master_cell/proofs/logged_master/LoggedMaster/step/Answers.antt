@@ -8,7 +8,7 @@ use Rattle.master_cell.specs.Inputs.{input_of}
 use Rattle.master_cell.specs.Standing.{standing}
 use Rattle.master_cell.proofs.Steps.{stays_down, drafted_went, drafted_rests, is_up_as, up_is}
 use Rattle.master_cell.proofs.Files.{shown_down, shown_before, step_shows}
-use Rattle.master_cell.proofs.master.Master.step.Goals as goal
+use Rattle.master_cell.proofs.logged_master.LoggedMaster.step.Goals as goal
 
 pub returns-then-not-self-clause-steps : goal.returns-then-not-self-clause-steps
 returns-then-not-self-clause-steps g c =

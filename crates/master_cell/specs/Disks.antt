@@ -1,0 +1,28 @@
+-- How a master begins over a disk.
+use Rattle.std.specs.Prelude.{◌⊎◌, ℕ, List, []}
+use Rattle.gfs_types.specs.declared.config.Config.{Config}
+use Rattle.oplog.specs.NewLogs.{IsLogOf}
+use Rattle.oplog.specs.Reopening.{IsReopened}
+use Rattle.stored_log.specs.Kept.{LeavesDecided}
+use Rattle.protocol.specs.Logged.{LogDisk, LogChange}
+use Rattle.protocol.specs.Master.{MasterState}
+use Rattle.master_cell.specs.Opens.{OpensNot, OpensUp, down_over}
+
+-- the log that stood on the disk was read, and the master is up over it
+pub record OpensOver (config : Config) (count : ℕ) (disk : List ℕ) (moment : ℕ) (new : MasterState) : Type 0 where
+  pub log : LogDisk
+  pub stood : IsLogOf log.items log.records disk
+  pub opens : OpensUp (down_over config count log []) moment new
+
+-- The log that stood on the disk was read, and the master could not be up. A stop leaves the log as the opening left it, with what is under way or without it.
+pub record StopsOver {D : Type 0} (may_leave : D → List ℕ → Type 0) (config : Config) (count : ℕ) (disk : List ℕ) (moment : ℕ) (left : D) : Type 0 where
+  pub log : LogDisk
+  pub stood : IsLogOf log.items log.records disk
+  pub new_log : LogDisk
+  pub under_way : List LogChange
+  pub opens : OpensNot (down_over config count log []) moment new_log under_way
+  pub leaves : LeavesDecided may_leave left new_log under_way
+
+-- The master could not be opened. The disk reads as it did, or as an empty log where none stood; or its log was read.
+abbrev pub FailsOver : {D : Type 0} (seen : D → List ℕ) (may_leave : D → List ℕ → Type 0) → Config → ℕ → (disk : D) (moment : ℕ) (left : D) → Type 0
+FailsOver seen may_leave config count disk moment left = IsReopened (seen disk) (seen left) ⊎ StopsOver may_leave config count (seen disk) moment left
