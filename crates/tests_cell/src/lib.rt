@@ -19,6 +19,8 @@ mod model;
 #[cfg(test)]
 mod nul;
 #[cfg(test)]
+mod opened;
+#[cfg(test)]
 mod outcome;
 #[cfg(test)]
 mod primary;
@@ -36,6 +38,8 @@ mod refused;
 mod refused_events;
 #[cfg(test)]
 mod region;
+#[cfg(test)]
+mod restarts;
 #[cfg(test)]
 mod rows;
 #[cfg(test)]

@@ -89,6 +89,11 @@ impl Watched {
         self.cell.world.has_open_call(client)
     }
 
+    /// How many records were answered to stand somewhere.
+    pub fn count(&self) -> usize {
+        self.placed.len()
+    }
+
     fn stands_at(&self, offset: u64) -> bool {
         self.placed.iter().any(|p| p.offset == offset)
     }
@@ -162,7 +167,7 @@ impl Watched {
     }
 
     /// A node begins again.
-    fn restart(&mut self, node: Node) -> Result<(), NoMemory> {
+    pub fn restart(&mut self, node: Node) -> Result<(), NoMemory> {
         let now = self.clock;
         self.take(Event::Restart { node, now })
     }

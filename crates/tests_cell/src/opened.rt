@@ -1,0 +1,125 @@
+//! A master that is opened over a disk, which it hands back.
+
+use disk::{Disk, FuseDisk, MemDisk};
+use gfs_types::answer::Answer;
+use gfs_types::call::Call;
+use gfs_types::config::Config;
+use gfs_types::ids::{ClientId, Moment, Node};
+use gfs_types::lists::Text;
+use gfs_types::no_memory::NoMemory;
+use gfs_types::torn::Torn;
+use master_cell::master::Master;
+use messages::event::{NodeInput, StepOut};
+use messages::message::{Body, Message, NameReply};
+use std::alloc::Global;
+
+const SIZE: usize = 65_536;
+
+const NOW: Moment = Moment(0);
+
+const DEADLINE: Moment = Moment(1_000);
+
+type DiskMaster = Master<Global, FuseDisk>;
+
+/// The master of three chunkservers over a disk; none where it can't be up.
+fn open_master(alloc: Global, disk: FuseDisk) -> Option<DiskMaster> {
+    let config = Config::default();
+    if config.lease_ms > 3_600_000 || config.skew_ms > 60_000 {
+        return None;
+    }
+    let size = disk.size();
+    if size < 4_096 || size > 1_073_741_824 {
+        return None;
+    }
+    Master::open(alloc, config, 3, disk, NOW, alloc).ok()
+}
+
+/// What a step answers a request on names.
+fn answer_in(out: &StepOut) -> Option<Answer> {
+    for message in out.sent.as_slice() {
+        if let Body::Named {
+            reply: NameReply::Answered(answer),
+            ..
+        } = &message.body
+        {
+            return answer.clone().ok();
+        }
+    }
+    None
+}
+
+/// What the master answers a client's message.
+fn ask(master: &mut DiskMaster, body: Body) -> Option<Answer> {
+    let message = Message {
+        number: 1,
+        sender: Node::Client(ClientId(1)),
+        receiver: Node::Master,
+        body,
+    };
+    let out = master.step(NOW, NodeInput::Deliver(message));
+    answer_in(&out)
+}
+
+/// What a Mkdir is answered.
+fn make(
+    master: &mut DiskMaster,
+    alloc: Global,
+    call_number: u64,
+    path: &str,
+) -> Result<Option<Answer>, NoMemory> {
+    let call = Call::Mkdir(Text::from_str(path, alloc)?);
+    Ok(ask(
+        master,
+        Body::Name {
+            call_number,
+            deadline: DEADLINE,
+            call,
+        },
+    ))
+}
+
+/// Whether just this name is listed below the root.
+fn lists_one(master: &mut DiskMaster, alloc: Global, name: &str) -> Result<bool, NoMemory> {
+    let call = Call::List(Text::from_str("/", alloc)?);
+    let listed = ask(
+        master,
+        Body::Look {
+            call_number: 3,
+            call,
+        },
+    );
+    Ok(match &listed {
+        Some(Answer::Names(names)) => match names.as_slice() {
+            [one] => one.as_str() == name,
+            _ => false,
+        },
+        _ => false,
+    })
+}
+
+/// Whether a directory that was answered is there once its master was opened again, and one that its disk took no record of isn't.
+fn outlasts_a_stop(alloc: Global) -> Result<bool, NoMemory> {
+    let Ok(disk) = MemDisk::new(alloc, SIZE) else {
+        return Ok(false);
+    };
+    let Some(first) = open_master(alloc, FuseDisk::new(disk)) else {
+        return Ok(false);
+    };
+    let mut master = first;
+    let made = make(&mut master, alloc, 1, "/d")?;
+    master.arm(0);
+    let lost = make(&mut master, alloc, 2, "/e")?;
+    let is_down = !master.is_up();
+    let disk = master.into_disk().stop(Torn::Old);
+    let Some(second) = open_master(alloc, FuseDisk::new(disk)) else {
+        return Ok(false);
+    };
+    let mut again = second;
+    let is_listed = lists_one(&mut again, alloc, "d")?;
+    Ok(made == Some(Answer::Done) && lost.is_none() && is_down && is_listed)
+}
+
+#[test]
+fn a_master_is_opened_over_the_disk_of_an_earlier_one(rt: HostRuntime) {
+    assert!(rt; matches!(outlasts_a_stop(rt.alloc()), Ok(true)));
+}

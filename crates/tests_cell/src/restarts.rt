@@ -1,0 +1,80 @@
+//! A restart of the master after each event of a list in turn.
+
+use crate::recorded::{Recorded, record_row};
+use crate::rows::{CUT_PRIMARY, LOST_FORWARD, PAD, Row, SNAPSHOT};
+use crate::watched::Watched;
+use gfs_types::ids::Node;
+use script::script_fault::ScriptFault;
+use std::alloc::Global;
+
+/// How many records were answered to stand somewhere where the master begins again after so many events. None: an append has no answer,
+/// or one that none may have, two records are to stand at one place, or one isn't read back.
+fn records_over(
+    alloc: Global,
+    row: &Row,
+    recorded: &Recorded,
+    place: usize,
+) -> Result<Option<usize>, ScriptFault> {
+    let mut watched = Watched::new(alloc, row)?;
+    let (before, after) = recorded
+        .events
+        .as_slice()
+        .split_at(place.min(recorded.events.len()));
+    for event in before {
+        watched.take(event.copy(alloc)?)?;
+    }
+    watched.restart(Node::Master)?;
+    for event in after {
+        watched.take(event.copy(alloc)?)?;
+    }
+    let is_over = watched.go_on()?;
+    let count = watched.count();
+    let are_found = watched.finds_all(row.path)?;
+    Ok(if is_over && are_found && watched.faults == 0 && watched.lost == 0 {
+        Some(count)
+    } else {
+        None
+    })
+}
+
+/// The sum of these counts over restarts after every so many events, or the first place at which something is wrong.
+fn records_over_all(
+    alloc: Global,
+    row: &Row,
+    every: usize,
+) -> Result<Result<usize, usize>, ScriptFault> {
+    let Some(recorded) = record_row(alloc, row)? else {
+        return Ok(Err(0));
+    };
+    let mut count: usize = 0;
+    for place in 0..=recorded.events.len() {
+        if !place.is_multiple_of(every) {
+            continue;
+        }
+        match records_over(alloc, row, &recorded, place)? {
+            Some(found) => count = count.saturating_add(found),
+            None => return Ok(Err(place)),
+        }
+    }
+    Ok(Ok(count))
+}
+
+#[test]
+fn records_that_fill_a_chunk_outlast_a_restart(rt: HostRuntime) {
+    assert!(rt; matches!(records_over_all(rt.alloc(), &PAD, 1), Ok(Ok(1..))));
+}
+
+#[test]
+fn a_record_over_a_lost_forward_outlasts_a_restart(rt: HostRuntime) {
+    assert!(rt; matches!(records_over_all(rt.alloc(), &LOST_FORWARD, 4), Ok(Ok(1..))));
+}
+
+#[test]
+fn records_over_a_cut_primary_outlast_a_restart(rt: HostRuntime) {
+    assert!(rt; matches!(records_over_all(rt.alloc(), &CUT_PRIMARY, 16), Ok(Ok(1..))));
+}
+
+#[test]
+fn records_beside_a_snapshot_outlast_a_restart(rt: HostRuntime) {
+    assert!(rt; matches!(records_over_all(rt.alloc(), &SNAPSHOT, 1), Ok(Ok(1..))));
+}
