@@ -42,3 +42,7 @@ pub shown_before : (disk : LogDisk) (under_way : List LogChange) (config : Confi
     → (m.up ≡ true → files ≡ m.logged.table.files) → files ≡ p.logged.table.files
 shown_before disk under_way config count p m files view shown =
     shown (ap (λ (x : MasterState). x.up) (sym view)) ∙ ap (λ (x : MasterState). x.logged.table.files) (sym view)
+
+-- up: what is shown are its files
+pub shown_open : (m : MasterState) (files before : Table (List ℕ)) → files ≡ files_seen m before → m.up ≡ true → files ≡ m.logged.table.files
+shown_open m files before is up = is ∙ ap (λ (b : Bool). cond b m.logged.table.files before) up

@@ -15,7 +15,7 @@ use Rattle.master_cell.specs.Commits.{IsStopped}
 use Rattle.master_cell.specs.Standing.{standing, IsResting}
 use Rattle.master_cell.specs.Ends.{AllMade}
 use Rattle.master_cell.proofs.Steps.{gives, left_down}
-use Rattle.master_cell.specs.Opens.{Opens, OpensNot, down_over, ending_of, opened}
+use Rattle.master_cell.specs.Opens.{Opens, OpensNot, OpensUp, down_over, ending_of, opened}
 
 same_opening : (m : MasterState) (disk : LogDisk) (moment : ℕ) (choice : Choice) (went : Bool) (made : ℕ)
     → (let started : MasterState = started_master m.config m.server_count disk moment in opens_as m started (opening started) choice (ending_of went made)) ≡ opened m.config m.server_count disk moment went made
@@ -141,17 +141,41 @@ restarts_as m disk new_disk under_way new_under_way config count q moment out ne
     restarts m (standing false new_disk new_under_way config count q) moment out new s.config_is s.count_is
     (subst (λ (d : LogDisk). IsDecided d m.under_way new_disk) s.disk_is (subst (λ (u : List LogChange). IsDecided disk u new_disk) s.under_way_is decided)) o
 
--- A master that could not be made over a log opens as one that gave up: nothing of its log has changed.
-pub not_opened : (config : Config) (count : ℕ) (disk : LogDisk) (moment : ℕ) → OpensNot (down_over config count disk []) moment disk []
-not_opened config count disk moment = record {
-  new = down_over config count disk [];
-  is_down = refl;
-  out = down_output;
-  opens = record {
-    went = false;
-    made = 0;
-    gives = record { out_is = refl; seen_is = refl; left_as = record { but_under_way = refl; under_way = inr (refl, refl) } };
-  };
-  disk_is = refl;
-  under_way_is = refl;
-}
+-- A master that could not be made over a log is one that gave up: nothing of its log has changed.
+pub not_made : (config : Config) (count : ℕ) (disk left : LogDisk) (under_way : List LogChange) (moment : ℕ) → left ≡ disk → under_way ≡ [] → OpensNot (down_over config count disk []) moment left under_way
+not_made config count disk left under_way moment same none =
+    subst (λ (d : LogDisk). OpensNot (down_over config count disk []) moment d under_way) (sym same)
+    (subst (λ (u : List LogChange). OpensNot (down_over config count disk []) moment disk u) (sym none) unchanged)
+  where
+    unchanged : OpensNot (down_over config count disk []) moment disk []
+    unchanged =
+        record {
+          new = down_over config count disk [];
+          is_down = refl;
+          out = down_output;
+          opens = record {
+            went = false;
+            made = 0;
+            gives = record { out_is = refl; seen_is = refl; left_as = record { but_under_way = refl; under_way = inr (refl, refl) } };
+          };
+          disk_is = refl;
+          under_way_is = refl;
+        }
+
+-- one that is down over a log begins from it
+from_down : (config : Config) (count : ℕ) (disk : LogDisk) (under_way : List LogChange) (m : MasterState) (moment : ℕ) (out : StepOut) (new : MasterState) → m ≡ down_over config count disk under_way → under_way ≡ [] → Opens m moment out new
+    → Opens (down_over config count disk []) moment out new
+from_down config count disk under_way m moment out new is none o =
+    subst (λ (x : MasterState). Opens x moment out new) (is ∙ ap (λ (u : List LogChange). down_over config count disk u) none) o
+
+-- it is up after its opening
+pub opens_up : (config : Config) (count : ℕ) (disk : LogDisk) (under_way : List LogChange) (m : MasterState) (moment : ℕ) (out : StepOut) (new : MasterState) → m ≡ down_over config count disk under_way → under_way ≡ [] → Opens m moment out new
+    → new.up ≡ true → OpensUp (down_over config count disk []) moment new
+opens_up config count disk under_way m moment out new is none o up = record { is_up = up; out = out; opens = from_down config count disk under_way m moment out new is none o }
+
+-- or down, and this is left of its log
+pub opens_not : (config : Config) (count : ℕ) (disk : LogDisk) (under_way : List LogChange) (m : MasterState) (moment : ℕ) (out : StepOut) (new : MasterState) (left : LogDisk) (left_under_way : List LogChange)
+    → m ≡ down_over config count disk under_way → under_way ≡ [] → Opens m moment out new → new.up ≡ false → left ≡ new.disk → left_under_way ≡ new.under_way
+    → OpensNot (down_over config count disk []) moment left left_under_way
+opens_not config count disk under_way m moment out new left left_under_way is none o down disk_is under_way_is =
+    record { new = new; is_down = down; out = out; opens = from_down config count disk under_way m moment out new is none o; disk_is = disk_is; under_way_is = under_way_is }

@@ -135,7 +135,7 @@ impl<L: OperationLog + Drop, A: Allocator + Clone> LoggedMaster<L, A> {
     /// Opens the master over a log that an earlier one may have left, as a restart does: it reads the log, and logs a new epoch. An empty log
     /// is that of a new cell. The chunks of its files are put into `shown`. Where it can't be up, its log comes back, with the epoch under way
     /// or without it. The settings are within their ranges.
-    #[tactic(auto, using(crate::proofs::Restarts::not_opened))]
+    #[tactic(auto, using(crate::proofs::Restarts::not_made, crate::proofs::Restarts::opens_up, crate::proofs::Restarts::opens_not, crate::proofs::Files::shown_open))]
     pub fn open(
         alloc: Global,
         config: Config,
@@ -155,7 +155,7 @@ impl<L: OperationLog + Drop, A: Allocator + Clone> LoggedMaster<L, A> {
     {
         let mut master = LoggedMaster::down(alloc, config, server_count, log, names)?;
         let _ = master.opens(alloc, now, shown);
-        if master.up {
+        if master.is_up() {
             Ok(master)
         } else {
             Err(master.into_log())

@@ -1,11 +1,13 @@
 //! The master over a disk.
 
 ghost use Rattle.std.specs.Prelude.{◌≡◌, ◌≤◌, List, IfErr, IfOk, length};
+ghost use Rattle.std.specs.Option.{option_copied};
 ghost use Rattle.protocol.specs.Conforms.{MasterSteps};
 ghost use Rattle.protocol.specs.Tables.{moment_limit};
 ghost use Rattle.protocol.specs.declared.seen.Seen.{Seen};
 ghost use Rattle.stored_log.specs.Kept.{IsDiskSize, LeavesDecided};
 ghost use Rattle.master_cell.specs.Disks.{FailsOver, OpensOver};
+ghost use Rattle.master_cell.specs.Inputs.{input_of};
 
 use crate::logged_master::LoggedMaster;
 use crate::opening_fault::OpeningFault;
@@ -14,6 +16,7 @@ use disk::Disk;
 use gfs_types::config::Config;
 use gfs_types::ids::Moment;
 use messages::event::{NodeInput, StepOut};
+use messages::message::Message;
 use std::alloc::{Allocator, Global};
 use std::marker::Model;
 use step_outcome::Outcome;
@@ -21,6 +24,16 @@ use stored_log::disk_log::DiskLog;
 
 /// What the master takes a step on.
 pub type MasterIn = NodeInput;
+
+// The message that a step is taken on; none at a tick.
+fn message_in(input: &MasterIn) -> Option<&Message>
+    ensures { input_of (option_copied result) ≡ input.now }
+{
+    match input {
+        NodeInput::Deliver(message) => Some(message),
+        NodeInput::Tick => None,
+    }
+}
 
 /// The master over the disk of its log. Its names lie in `A`.
 #[derive(Drop)]
@@ -48,6 +61,7 @@ impl<A: Allocator, D: Disk> Model for Master<A, D> {
 impl<A: Allocator + Clone, D: Disk + Drop> Master<A, D> {
     /// Opens the master over a disk of 4,096 bytes to 1 GiB that an earlier one may have left: it reads the log, and logs a new epoch. A disk
     /// on which no log stands is that of a new cell. Where it can't be up, the disk comes back. The settings are within their ranges.
+    #[tactic(auto, using(crate::proofs::Disks::opens_over, crate::proofs::Disks::not_read, crate::proofs::Disks::not_up))]
     pub fn open(
         alloc: Global,
         config: Config,
@@ -75,6 +89,7 @@ impl<A: Allocator + Clone, D: Disk + Drop> Master<A, D> {
     }
 
     /// The disk as it is. A stop leaves the log on it, with what is under way or without it.
+    #[tactic(auto, using(crate::proofs::Disks::leaves_as))]
     pub fn into_disk(self) -> D
         ensures { LeavesDecided D.may_leave result self.disk self.under_way }
     {
@@ -95,15 +110,13 @@ impl<A: Allocator + Clone, D: Disk> Master<A, D> {
     }
 
     /// A step on a message, or on a tick.
+    #[tactic(auto, using(crate::proofs::Disks::steps_seen, crate::proofs::Files::shown_open))]
     pub fn step(&mut self, now: Moment, input: MasterIn) -> StepOut
         requires { now.0 ≤ moment_limit }
         ensures { (seen : List Seen) × MasterSteps self.old now.0 input result seen self.new }
     {
-        let outcome = match &input {
-            NodeInput::Deliver(message) => self.master.step(now, Some(message), &mut self.files),
-            NodeInput::Tick => self.master.step(now, None, &mut self.files),
-        };
-        let Outcome { out, seen: _seen } = outcome;
+        let message = message_in(&input);
+        let Outcome { out, seen: _seen } = self.master.step(now, message, &mut self.files);
         out
     }
 
