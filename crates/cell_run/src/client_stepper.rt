@@ -58,7 +58,7 @@ fn calls(client: &mut Client, now: Moment, asked: &Call, copy: Option<Call>) -> 
     let id = client.id();
     match copy {
         Some(call) => {
-            let out = client.takes_call(now, call);
+            let out = client.take_call(now, call);
             with_copy(client, config, id, out)
         }
         None => unreachable!(),

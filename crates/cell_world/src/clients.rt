@@ -88,7 +88,7 @@ pub(crate) fn client_calls(
         stop(&mut clients[place]);
         return None;
     }
-    let StepOut { sent, answer, .. } = clients[place].takes_call(now, call);
+    let StepOut { sent, answer, .. } = clients[place].take_call(now, call);
     kept.takes(sent, SeenList::empty(alloc));
     answer
 }

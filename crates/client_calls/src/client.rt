@@ -159,7 +159,7 @@ impl Client {
         ensures unanswered { may_call self.old ≡ false → result ≡ no_output }
     {
         if self.may_call() {
-            return self.takes_call(now, call);
+            return self.take_call(now, call);
         }
         ClientEffects {
             sent: Sent::none(self.alloc),
@@ -169,7 +169,7 @@ impl Client {
     }
 
     /// A call of a client that may take one. For want of memory it may be refused before its first message; nothing else has changed then.
-    pub fn takes_call(&mut self, now: Moment, call: Call) -> StepOut
+    pub fn take_call(&mut self, now: Moment, call: Call) -> StepOut
         ensures { ClientCalls self.old now.0 call result self.new }
     {
         self.move_clock(now);

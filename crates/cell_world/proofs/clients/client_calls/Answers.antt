@@ -25,12 +25,12 @@ returns c =
     let s : ClientState = c.index_mut-2.result.now in
     record {
       old = s;
-      new = c.takes_call-sent.new.self;
-      out = c.takes_call-sent.result;
+      new = c.take_call-sent.new.self;
+      out = c.take_call-sent.result;
       seen = [];
       is_there = at c.args.clients.now.items c.args.place s c.requires.place c.index_mut-2.ensures.value;
-      steps = record { calls = c.takes_call-sent.ensures; unseen = refl };
+      steps = record { calls = c.take_call-sent.ensures; unseen = refl };
       nodes_are = refl;
-      recorded = recorded_so c.args.kept.now c.reserve.new.self c.takes.new.self c.takes_call-sent.result [] c.reserve.ensures.sent c.reserve.ensures.seen c.takes.ensures.sent
+      recorded = recorded_so c.args.kept.now c.reserve.new.self c.takes.new.self c.take_call-sent.result [] c.reserve.ensures.sent c.reserve.ensures.seen c.takes.ensures.sent
           (c.takes.ensures.seen ∙ ap (λ xs. c.reserve.new.self.sights.seen ++ map blank_seen xs) c.empty.ensures);
     }
