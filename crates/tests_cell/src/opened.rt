@@ -23,7 +23,10 @@ type DiskMaster = Master<Global, FuseDisk>;
 
 /// The master of three chunkservers over a disk; none where it can't be up.
 fn open_master(alloc: Global, disk: FuseDisk) -> Option<DiskMaster> {
-    let config = Config::default();
+    let config = Config {
+        log_bytes: SIZE as u64,
+        ..Config::default()
+    };
     if config.lease_ms > 3_600_000 || config.skew_ms > 60_000 {
         return None;
     }
