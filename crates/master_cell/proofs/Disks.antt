@@ -3,7 +3,9 @@ use Rattle.std.proofs.Common.{◌≡◌, ◌⊎◌, ℕ, List, [], inl, inr, sub
 use Rattle.gfs_types.specs.declared.config.Config.{Config}
 use Rattle.messages.specs.declared.event.NodeInput.{NodeInput}
 use Rattle.messages.specs.declared.event.StepOut.{StepOut}
+use Rattle.disk_redo.specs.GateMoments.{LeavesOnly}
 use Rattle.oplog.specs.NewLogs.{IsLogOf}
+use Rattle.oplog.specs.Opening.{IsOpening}
 use Rattle.oplog.specs.Reopening.{IsReopened}
 use Rattle.stored_log.specs.Kept.{LeavesDecided}
 use Rattle.protocol.specs.Conforms.{MasterSteps}
@@ -17,14 +19,14 @@ use Rattle.master_cell.specs.Disks.{FailsOver, OpensOver}
 pub opens_over : (config : Config) (count : ℕ) (disk : List ℕ) (moment : ℕ) (new : MasterState) (log : LogDisk) → IsLogOf log.items log.records disk → OpensUp (down_over config count log []) moment new → OpensOver config count disk moment new
 opens_over config count disk moment new log stood up = record { log = log; stood = stood; opens = up }
 
-module _ {D : Type 0} (seen : D → List ℕ) (may_leave : D → List ℕ → Type 0) (config : Config) (count : ℕ) (disk : D) (moment : ℕ) (left : D) where
+module _ {D : Type 0} (seen : D → List ℕ) (may_leave : D → List ℕ → Type 0) (moment_of : D → ℕ) (left_since : D → ℕ → List ℕ → Type 0) (config : Config) (count : ℕ) (disk : D) (moment : ℕ) (left : D) where
   -- its log could not be opened
-  pub not_read : IsReopened (seen disk) (seen left) → FailsOver seen may_leave config count disk moment left
-  not_read read = inl read
+  pub not_read : IsReopened (seen disk) (seen left) → LeavesOnly moment_of left_since disk left (IsOpening (seen disk) (may_leave disk)) → FailsOver seen may_leave moment_of left_since config count disk moment left
+  not_read read stops = inl (record { reads = read; stops = stops })
 
   -- it could not be up
   pub not_up : (log new_log : LogDisk) (under_way : List LogChange) → IsLogOf log.items log.records (seen disk) → OpensNot (down_over config count log []) moment new_log under_way → LeavesDecided may_leave left new_log under_way
-      → FailsOver seen may_leave config count disk moment left
+      → FailsOver seen may_leave moment_of left_since config count disk moment left
   not_up log new_log under_way stood opens leaves = inr (record { log = log; stood = stood; new_log = new_log; under_way = under_way; opens = opens; leaves = leaves })
 
 -- a stop leaves the log that the master has

@@ -1,7 +1,9 @@
 -- How a master begins over a disk.
 use Rattle.std.specs.Prelude.{◌⊎◌, ℕ, List, []}
 use Rattle.gfs_types.specs.declared.config.Config.{Config}
+use Rattle.disk_redo.specs.GateMoments.{LeavesOnly}
 use Rattle.oplog.specs.NewLogs.{IsLogOf}
+use Rattle.oplog.specs.Opening.{IsOpening}
 use Rattle.oplog.specs.Reopening.{IsReopened}
 use Rattle.stored_log.specs.Kept.{LeavesDecided}
 use Rattle.protocol.specs.Logged.{LogDisk, LogChange}
@@ -23,6 +25,11 @@ pub record StopsOver {D : Type 0} (may_leave : D → List ℕ → Type 0) (confi
   pub opens : OpensNot (down_over config count log []) moment new_log under_way
   pub leaves : LeavesDecided may_leave left new_log under_way
 
--- The master could not be opened. The disk reads as it did, or as an empty log where none stood; or its log was read.
-abbrev pub FailsOver : {D : Type 0} (seen : D → List ℕ) (may_leave : D → List ℕ → Type 0) → Config → ℕ → (disk : D) (moment : ℕ) (left : D) → Type 0
-FailsOver seen may_leave config count disk moment left = IsReopened (seen disk) (seen left) ⊎ StopsOver may_leave config count (seen disk) moment left
+-- The log could not be opened. The disk reads as it did, or as an empty log where none stood; and so does what a stop leaves.
+pub record NotRead {D : Type 0} (seen : D → List ℕ) (may_leave : D → List ℕ → Type 0) (moment_of : D → ℕ) (left_since : D → ℕ → List ℕ → Type 0) (disk left : D) : Type 0 where
+  pub reads : IsReopened (seen disk) (seen left)
+  pub stops : LeavesOnly moment_of left_since disk left (IsOpening (seen disk) (may_leave disk))
+
+-- The master could not be opened: its log couldn't, or it could not be up over it.
+abbrev pub FailsOver : {D : Type 0} (seen : D → List ℕ) (may_leave : D → List ℕ → Type 0) (moment_of : D → ℕ) (left_since : D → ℕ → List ℕ → Type 0) → Config → ℕ → (disk : D) (moment : ℕ) (left : D) → Type 0
+FailsOver seen may_leave moment_of left_since config count disk moment left = NotRead seen may_leave moment_of left_since disk left ⊎ StopsOver may_leave config count (seen disk) moment left

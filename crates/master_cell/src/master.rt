@@ -75,7 +75,7 @@ impl<A: Allocator + Clone, D: Disk + Drop> Master<A, D> {
         requires moment { now.0 ≤ moment_limit }
         requires size { IsDiskSize (length (D.seen disk)) }
         ensures opens { IfOk result (λ m. OpensOver config servers (D.seen disk) now.0 m) }
-        ensures fails { IfErr result (λ e. FailsOver D.seen D.may_leave config servers disk now.0 e.0) }
+        ensures fails { IfErr result (λ e. FailsOver D.seen D.may_leave D.moment D.left_since config servers disk now.0 e.0) }
     {
         let log = match DiskLog::open(disk, alloc) {
             Ok(log) => log,

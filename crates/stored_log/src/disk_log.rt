@@ -1,9 +1,10 @@
 //! The log over its disk.
 
 ghost use Rattle.std.specs.Prelude.{◌≡◌, ◌<◌, ◌≤◌, ◌+◌, ◌*◌, ◌^◌, ◌++◌, ◌∷◌, [], true, List, length, is_some, nat_le, slice_get, IfErr, IfOk, IfSome, OnOk};
+ghost use Rattle.disk_redo.specs.GateMoments.{LeavesOnly};
 ghost use Rattle.log_records.specs.declared.record.Record.{Record};
 ghost use Rattle.oplog.specs.NewLogs.{IsLogOf};
-ghost use Rattle.oplog.specs.Opening.{WalksThrough};
+ghost use Rattle.oplog.specs.Opening.{IsOpening, WalksThrough};
 ghost use Rattle.oplog.specs.Reopening.{IsReopened};
 ghost use Rattle.oplog.specs.Walks.{IsWalk};
 ghost use Rattle.protocol.specs.Logged.{new_log};
@@ -97,6 +98,7 @@ impl<D: Disk> DiskLog<D> {
         ensures decided { IfOk result (λ l. l.under_way ≡ []) }
         ensures size { IfOk result (λ l. l.log_bytes ≡ length (D.seen disk)) }
         ensures read_of_error { IfErr result (λ e. IsReopened (D.seen disk) (D.seen e.0)) }
+        ensures any_moment_of_error { IfErr result (λ e. LeavesOnly D.moment D.left_since disk e.0 (IsOpening (D.seen disk) (D.may_leave disk))) }
     {
         let log_bytes = disk.size() as u64;
         match Log::open_with_walk(disk, alloc) {
