@@ -1,5 +1,5 @@
 pub mod Sources
-pub mod Waits
+pub mod LeasedChunks
 pub mod Parts
 pub mod Snapshots
 pub mod Refused

@@ -23,7 +23,7 @@ pub fn notes_wait<A: Allocator + Clone>(plan: &mut Plan<A>)
 }
 
 // A moment at which none of these is ready.
-#[tactic(auto, using(crate::proofs::Waits::whole_list))]
+#[tactic(auto, using(crate::proofs::LeasedChunks::whole_list))]
 fn all_wait_until<A: Allocator + Clone>(plan: &Plan<A>, snapshots: &[Pending]) -> Option<u64>
     ensures { IfSome result (WaitAt plan.now.logged snapshots.now) }
 {
@@ -74,7 +74,7 @@ fn leased_until<A: Allocator + Clone>(plan: &Plan<A>, file: FileId, index: usize
 }
 
 // The last moment of a chunk's lease.
-#[tactic(auto, using(crate::proofs::Waits::beyond))]
+#[tactic(auto, using(crate::proofs::LeasedChunks::beyond))]
 fn lease_until<A: Allocator + Clone>(plan: &Plan<A>, handle: Handle) -> Option<u64>
     ensures { IfSome result (λ moment. row_has_ended moment (chunk_of plan.now.logged.table handle.0) ≡ false) }
 {

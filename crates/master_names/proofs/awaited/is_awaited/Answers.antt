@@ -1,6 +1,6 @@
 use Rattle.std.proofs.Common.{sym, ◌∙◌}
 use Rattle.master_plan.specs.Plans.{known}
-use Rattle.master_names.proofs.Waits.{must_wait}
+use Rattle.master_names.proofs.LeasedChunks.{must_wait}
 use Rattle.master_names.proofs.awaited.is_awaited.Goals as goal
 
 pub returns : goal.returns

@@ -2,7 +2,7 @@ use Rattle.std.proofs.Common.{rules, ◌≡◌, false, Some, slice_get}
 use Rattle.std.specs.List.{list_all}
 use Rattle.chunk_table.specs.ChunkTable.{chunk_of, handles_of}
 use Rattle.protocol.specs.MasterSnapshots.{row_has_ended}
-use Rattle.master_names.proofs.Waits.{lasts, some_weaker}
+use Rattle.master_names.proofs.LeasedChunks.{lasts, some_weaker}
 use Rattle.master_names.proofs.waits.leased_until.Goals as goal
 
 pub returns : goal.returns
