@@ -3,7 +3,7 @@
 ghost use Rattle.std.specs.Prelude.{◌≡◌, ◌<◌, true, false, IfOk};
 ghost use Rattle.std.specs.Option.{option_copied};
 ghost use Rattle.protocol.specs.Client.{ClientState, new_client};
-ghost use Rattle.protocol.specs.ClientCache.{cached, is_fresh, cache_after_look};
+ghost use Rattle.protocol.specs.ClientCache.{cached, is_fresh, is_new_enough, cache_after_look};
 ghost use Rattle.protocol.specs.ClientStep.{may_call, may_step, has_room_to_count, client_at};
 ghost use Rattle.protocol.specs.Conforms.{ClientCalls};
 ghost use Rattle.protocol.specs.Seen.{no_output};
