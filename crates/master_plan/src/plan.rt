@@ -110,8 +110,8 @@ impl<A: Allocator> Model for Plan<A> {
 
     ghost invariant = { λ p. (((p.clock ≤ moment_limit) × (p.config.lease_ms ≤ 3600000))
         × IfKnown p.knows_concerned (AreConcerned p.state p.snapshots p.concerned_files p.concerned_chunks))
-        × IfSome p.whole_until (IsWholeAt p.config p.server_count p.state p.holders p.reported p.doubted)
-        × IfSome p.all_wait_until (WaitAt p.state p.snapshots) };
+        × (IfSome p.whole_until (IsWholeAt p.config p.server_count p.state p.holders p.reported p.doubted)
+        × IfSome p.all_wait_until (WaitAt p.state p.snapshots)) };
 }
 
 impl<A: Allocator + Clone> Plan<A> {

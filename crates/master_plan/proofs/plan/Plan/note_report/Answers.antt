@@ -18,10 +18,10 @@ invariant_of-self-2 g c =
     let i = c.self.inside in
     let told : Inside g.row.A.Denot → Type 0 = λ y. (
     (((y.clock ≤ moment_limit) × (y.config.lease_ms ≤ 3600000)) × IfKnown y.knows_concerned (AreConcerned y.state y.snapshots y.concerned_files y.concerned_chunks))
-    × IfSome y.whole_until (IsWholeAt y.config y.server_count y.state y.holders (insert y.reported s y.clock) y.doubted)
-    × IfSome y.all_wait_until (WaitAt y.state y.snapshots)) in
+    × (IfSome y.whole_until (IsWholeAt y.config y.server_count y.state y.holders (insert y.reported s y.clock) y.doubted)
+    × IfSome y.all_wait_until (WaitAt y.state y.snapshots))) in
     subst (λ r. (((x.clock ≤ moment_limit) × (x.config.lease_ms ≤ 3600000)) × IfKnown x.knows_concerned (AreConcerned x.state x.snapshots x.concerned_files x.concerned_chunks))
-    × IfSome x.whole_until (IsWholeAt x.config x.server_count x.state x.holders r x.doubted) × IfSome x.all_wait_until (WaitAt x.state x.snapshots))
+    × (IfSome x.whole_until (IsWholeAt x.config x.server_count x.state x.holders r x.doubted) × IfSome x.all_wait_until (WaitAt x.state x.snapshots)))
     (sym c.in_ok-insert.ensures.ok)
     (elim c.if-reported_after.branch [
       | then-reported_after w ↦ subst told (sym w.self-inside-is) (c.self.invariant.0, (tt, c.self.invariant.1.1))
