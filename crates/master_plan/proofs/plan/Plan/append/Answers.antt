@@ -1,4 +1,4 @@
-use Rattle.std.proofs.Common.{sym}
+use Rattle.std.proofs.Common.{sym, ◌∙◌}
 use Rattle.master_plan.proofs.Followed.{appended_if as concerned_if}
 use Rattle.master_plan.proofs.Watching.{appended_if}
 use Rattle.master_plan.proofs.Waits.{logged_if}
