@@ -34,7 +34,7 @@ pub struct WaitingSnapshots {
 }
 
 impl Model for WaitingSnapshots {
-    ghost use Rattle.std.specs.Prelude.{List};
+    ghost use Rattle.std.specs.Prelude.{◌≡◌, true, List};
     ghost use Rattle.protocol.specs.Master.{PendingSnapshot};
     ghost use Rattle.master_plan.specs.Due.{are_due_from, are_from};
 
