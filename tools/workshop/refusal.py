@@ -1,5 +1,8 @@
-"""A library that refuses one allocation of a program that it is loaded before."""
+"""A library that refuses one allocation of a program that it is loaded before, and tests that run with it."""
+import os
 import subprocess
+
+MOST = 100_000
 
 # Refuses the allocation whose number is REFUSED, whichever thread asks for it, and tells so on the file TOLD. The first one is the main thread's.
 SHIM = r"""
@@ -37,3 +40,39 @@ def built_shim(folder):
         it.write(SHIM)
     subprocess.run(["cc", "-O1", "-shared", "-fPIC", "-o", shim, source, "-ldl"], check=True)
     return shim
+
+
+def run(program, test, shim, number):
+    """Runs one test with that allocation refused. Gives whether one was, the exit status and what was printed."""
+    told, tell = os.pipe()
+    env = {"LD_PRELOAD": shim, "REFUSED": str(number), "TOLD": str(tell)}
+    done = subprocess.run(
+        [program, test], env=env, pass_fds=[tell], timeout=60,
+        stdout=subprocess.PIPE, stderr=subprocess.STDOUT, check=False,
+    )
+    os.close(tell)
+    with os.fdopen(told, "rb") as it:
+        was_refused = it.read() != b""
+    return was_refused, done.returncode, done.stdout.decode(errors="replace")
+
+
+def try_test(program, test, shim):
+    """Gives how many of the runs failed."""
+    failed = 0
+    for number in range(1, MOST):
+        was_refused, status, text = run(program, test, shim, number)
+        if status != 0:
+            failed += 1
+            print(f"{test}: allocation {number}: status {status}\n{text}")
+        if not was_refused:
+            print(f"{test}: {number - 1} allocations refused in turn, {failed} runs failed")
+            return failed
+    return failed + 1
+
+
+def try_tests(program, shim):
+    """Runs the tests of a program whose names begin with `a_refused_`. Gives how many there are, and how many runs failed."""
+    listed = subprocess.run([program, "--list"], stdout=subprocess.PIPE, check=True)
+    names = [word.rstrip(":") for word in listed.stdout.decode().split()]
+    names = [name for name in names if name.rpartition("::")[2].startswith("a_refused_")]
+    return len(names), sum(try_test(program, name, shim) for name in names)
