@@ -131,7 +131,6 @@ impl WaitingSnapshots {
     }
 
     /// Whether that of a client's call of this number waits. Takes no memory.
-    #[tactic(auto, using(crate::proofs::Bounds::no_call))]
     pub fn has_call(&self, client: ClientId, number: u64) -> bool
         ensures { result ≡ list_any (λ s. (s.client == client.0) && (s.number == number)) self.now }
     {
@@ -169,7 +168,7 @@ impl WaitingSnapshots {
     }
 
     /// Whether the hidden name of a deleted file may lie at a source or below it.
-    #[tactic(auto, using(crate::proofs::Sources::not_by_trash, crate::proofs::Sources::none_there))]
+    #[tactic(auto, using(crate::proofs::Sources::none_there))]
     pub fn are_by_trash(&self) -> Result<bool, NoMemory>
         ensures { IfOk result (λ b. b ≡ list_any (λ s. is_by_trash s.from) self.now) }
     {
@@ -191,6 +190,7 @@ impl WaitingSnapshots {
         ensures paths { list_all has_paths self.now ≡ true }
         ensures path { OnOk result (is_path path.now ≡ true) }
     {
+        self.have_paths();
         let locks = path_locks(self.alloc, path, mode)?;
         Ok(self.conflicts(&locks))
     }
