@@ -1,6 +1,7 @@
 use Rattle.std.proofs.Common.{◌≡◌, None, refl, subst}
 use Rattle.std.proofs.lemmas.Result.{on_ok_weaker}
 use Rattle.gfs_types.specs.declared.call.Call.{Call}
+use Rattle.gfs_types.specs.declared.call.Call.TheVariants as call
 use Rattle.protocol.specs.MasterNames.{master_refusal}
 use Rattle.master_plan.specs.Plans.{known}
 use Rattle.master_names.proofs.Snapshots.{not_busy, performs_snapshot}
@@ -15,4 +16,4 @@ returns-in-Snapshot g c =
 pub waits-requires : goal.waits-requires
 waits-requires g c =
     let m = known c.args.plan.now in
-    not_busy m _ (subst (λ (x : Call). master_refusal m x ≡ None) c.in-Snapshot.is c.requires)
+    not_busy m (call.Snapshot c.in-Snapshot.from c.in-Snapshot.to) (subst (λ (x : Call). master_refusal m x ≡ None) c.in-Snapshot.is c.requires)
