@@ -81,7 +81,7 @@ fn make(
     ))
 }
 
-/// Whether just this name is listed below the root.
+/// Whether the root lists just this name, beside the directory of deleted files.
 fn lists_one(master: &mut DiskMaster, alloc: Global, name: &str) -> Result<bool, NoMemory> {
     let call = Call::List(Text::from_str("/", alloc)?);
     let listed = ask(
@@ -93,7 +93,7 @@ fn lists_one(master: &mut DiskMaster, alloc: Global, name: &str) -> Result<bool,
     );
     Ok(match &listed {
         Some(Answer::Names(names)) => match names.as_slice() {
-            [one] => one.as_str() == name,
+            [deleted, one] => deleted.as_str() == ".gone/" && one.as_str() == name,
             _ => false,
         },
         _ => false,
@@ -118,7 +118,7 @@ fn outlasts_a_stop(alloc: Global) -> Result<bool, NoMemory> {
         return Ok(false);
     };
     let mut again = second;
-    let is_listed = lists_one(&mut again, alloc, "d")?;
+    let is_listed = lists_one(&mut again, alloc, "d/")?;
     Ok(made == Some(Answer::Done) && lost.is_none() && is_down && is_listed)
 }
 
