@@ -1,6 +1,6 @@
 -- What the master's code does at a restart is a restart of the definitions.
-use Rattle.std.proofs.Common.{◌≡◌, ℕ, Bool, true, false, List, [], refl, sym, ap, ◌∙◌, subst, inl, inr}
-use Rattle.std.specs.Prelude.{if◌then◌else◌, ◌&&◌}
+use Rattle.std.proofs.Common.{◌≡◌, ℕ, Bool, true, false, List, [], Result, Ok, Err, refl, sym, ap, ◌∙◌, subst, inl, inr}
+use Rattle.std.specs.Prelude.{if◌then◌else◌, ◌&&◌, IfErr, IsErrAnd}
 use Rattle.gfs_types.specs.declared.config.Config.{Config}
 use Rattle.messages.specs.declared.event.StepOut.{StepOut}
 use Rattle.protocol.specs.Choice.{Choice, Lost, decided_changes, made_changes, change_under_way}
@@ -161,6 +161,14 @@ not_made config count disk left under_way moment same none =
           disk_is = refl;
           under_way_is = refl;
         }
+
+-- the log of one that could not be made comes back as it was
+pub handed_back : {M L : Type 0} (disk_of : L → LogDisk) (under_way_of : L → List LogChange) (config : Config) (count : ℕ) (moment : ℕ) (log back : L) (r : Result M L)
+    → IsErrAnd r (λ l. l ≡ back) → back ≡ log → under_way_of log ≡ []
+    → IfErr r (λ l. OpensNot (down_over config count (disk_of log) []) moment (disk_of l) (under_way_of l))
+handed_back disk_of under_way_of config count moment log back (Ok m) is same none = absurd is
+handed_back disk_of under_way_of config count moment log back (Err l) is same none =
+    not_made config count (disk_of log) (disk_of l) (under_way_of l) moment (ap disk_of (is ∙ same)) (ap under_way_of (is ∙ same) ∙ none)
 
 -- one that is down over a log begins from it
 from_down : (config : Config) (count : ℕ) (disk : LogDisk) (under_way : List LogChange) (m : MasterState) (moment : ℕ) (out : StepOut) (new : MasterState) → m ≡ down_over config count disk under_way → under_way ≡ [] → Opens m moment out new
