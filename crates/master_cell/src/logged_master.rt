@@ -135,7 +135,7 @@ impl<L: OperationLog + Drop, A: Allocator + Clone> LoggedMaster<L, A> {
     /// Opens the master over a log that an earlier one may have left, as a restart does: it reads the log, and logs a new epoch. An empty log
     /// is that of a new cell. The chunks of its files are put into `shown`. Where it can't be up, its log comes back, with the epoch under way
     /// or without it. The settings are within their ranges.
-    #[tactic(auto, using(crate::proofs::Restarts::opens_up, crate::proofs::Files::shown_open))]
+    #[tactic(auto, using(crate::proofs::Restarts::not_made, crate::proofs::Restarts::opens_up, crate::proofs::Restarts::opens_not, crate::proofs::Files::shown_open))]
     pub fn open(
         alloc: Global,
         config: Config,
@@ -153,10 +153,7 @@ impl<L: OperationLog + Drop, A: Allocator + Clone> LoggedMaster<L, A> {
         ensures fails { IfErr result (λ l. OpensNot (down_over config server_count (L.disk log) []) now.0 (L.disk l) (L.under_way l)) }
         ensures files { IfOk result (λ m. shown_in shown.new ≡ m.logged.table.files) }
     {
-        let mut master = match LoggedMaster::down(alloc, config, server_count, log, names) {
-            Ok(master) => master,
-            Err(left) => return Err(left),
-        };
+        let mut master = LoggedMaster::down(alloc, config, server_count, log, names)?;
         let _ = master.opens(alloc, now, shown);
         if master.is_up() {
             Ok(master)

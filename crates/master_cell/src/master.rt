@@ -61,7 +61,7 @@ impl<A: Allocator, D: Disk> Model for Master<A, D> {
 impl<A: Allocator + Clone, D: Disk + Drop> Master<A, D> {
     /// Opens the master over a disk of 4,096 bytes to 1 GiB that an earlier one may have left: it reads the log, and logs a new epoch. A disk
     /// on which no log stands is that of a new cell. Where it can't be up, the disk comes back. The settings are within their ranges.
-    #[tactic(auto, using(crate::proofs::Disks::opens_over, crate::proofs::Disks::not_up))]
+    #[tactic(auto, using(crate::proofs::Disks::opens_over, crate::proofs::Disks::not_read, crate::proofs::Disks::not_up))]
     pub fn open(
         alloc: Global,
         config: Config,
@@ -79,7 +79,7 @@ impl<A: Allocator + Clone, D: Disk + Drop> Master<A, D> {
     {
         let log = match DiskLog::open(disk, alloc) {
             Ok(log) => log,
-            Err(failed) => return Err((failed.0, OpeningFault::Log(failed.1))),
+            Err((disk, fault)) => return Err((disk, OpeningFault::Log(fault))),
         };
         let mut files = ShownFiles::new(alloc);
         match LoggedMaster::open(alloc, config, servers, log, now, names, &mut files) {

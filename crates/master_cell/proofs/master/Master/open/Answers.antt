@@ -3,5 +3,5 @@ use Rattle.master_cell.proofs.master.Master.open.Goals as goal
 
 pub returns-in-Err-clause-fails : goal.returns-in-Err-clause-fails
 returns-in-Err-clause-fails g c =
-    not_read g.D.Disk.seen g.D.Disk.may_leave g.D.Disk.moment g.D.Disk.left_since c.args.config c.args.servers c.args.disk c.args.now.0 c.in-Err.failed.0
-    c.in-Err.ensures.read_of_error c.in-Err.ensures.any_moment_of_error
+    not_read g.D.Disk.seen g.D.Disk.may_leave g.D.Disk.moment g.D.Disk.left_since c.args.config c.args.servers c.args.disk c.args.now.0 c.in-Err.disk c.in-Err.ensures.read_of_error
+    c.in-Err.ensures.any_moment_of_error
