@@ -22,7 +22,6 @@ use Rattle.master_state.proofs.kept.CopyRow.TheSendSync as copy
 use Rattle.master_state.specs.contracts.state.State as State
 use Rattle.master_plan.proofs.change.PlannedChange.TheSendSync as change
 use Rattle.master_plan.proofs.waiting.VersionAttempt.TheSendSync as attempt
-use Rattle.master_plan.proofs.waiting.Pending.TheSendSync as pending
 use Rattle.master_plan.proofs.waiting_list.WaitingSnapshots.TheSendSync as waiting
 use Rattle.master_plan.specs.contracts.plan.Plan as Plan
 use Rattle.operation_log.proofs.memory.MemoryLog.TheSendSync as memory
@@ -38,7 +37,7 @@ state_send : IsSend (State.the_row Heap.the_row ghosts)
 state_send = search (sendable, crosses, maps.crosses, heap.the_send, heap.the_field_send, knot.crosses, knot.send-Tree, knot.send-Link, node.the_send, node.the_field_send, name.the_send, table.the_send, ordered.the_send, kept.the_send, copy.the_send) depth 60
 
 plan_send : IsSend (Plan.the_row Heap.the_row ghosts)
-plan_send = search (sendable, crosses, maps.crosses, state_send, heap.the_field_send, config.the_field_send, number.the_send, ordered.the_send, option.the_field_send, sequence.the_send, change.the_send, attempt.the_send, pending.the_send, waiting.the_send, message.the_send, seen.the_send) depth 40
+plan_send = search (sendable, crosses, maps.crosses, state_send, heap.the_field_send, config.the_field_send, number.the_send, ordered.the_send, option.the_field_send, sequence.the_send, change.the_send, attempt.the_send, waiting.the_send, message.the_send, seen.the_send) depth 40 fits 100000
 
 log_send : IsSend Log.the_row
 log_send = memory.the_send
