@@ -145,7 +145,8 @@ class AnswerFacts:
             # an ask that comes late may still add a chunk
             is_open = (client, message.body[1]) in self.asks
             if has_changed and message.body[3][0] == 'Append' and handles:
-                if all(entry.offset + len(entry.content) < self.chunk for entry in self.facts.entries_of(handles[-1])):
+                size = self.facts.size_of(state.number(message.body[2]))
+                if all(entry.offset + len(entry.content) < size for entry in self.facts.entries_of(handles[-1])):
                     raise Broken(f'a chunk is added for an append of client {client}, and the last one is not full')
         if has_changed and not is_open:
             raise Broken(f'a step of the master for a call of client {client} that is over')
@@ -153,6 +154,7 @@ class AnswerFacts:
     def check_placed(self, handle, entry, now):
         """A new entry is of an attempt of its client's last call, before its deadline, and has that call's bytes; a part has no more than its attempts allow, and the parts before are settled."""
         call = self.calls[entry.client]
+        size = self.facts.size_of(call.file)
         attempt = [a for a in call.attempts if a.number == entry.attempt]
         if not attempt or attempt[0].deadline <= now or attempt[0].version != entry.round:
             raise Broken(f'chunk {handle}: an entry of no attempt of the call of client {entry.client}, or after its deadline')
@@ -161,11 +163,11 @@ class AnswerFacts:
             is_right = entry.kind == 'Pad' or (entry.kind, entry.content) == ('Append', list(call.call[2]))
             handles = self.handles_of(call)[0]
         else:
-            begin = indexes and max(call.call[2], indexes[0] * self.chunk)
-            part = indexes and list(call.call[3][begin - call.call[2]:(indexes[0] + 1) * self.chunk - call.call[2]])
-            is_right = not indexes or (entry.kind, entry.offset, entry.content) == ('Write', begin - indexes[0] * self.chunk, part)
+            begin = indexes and max(call.call[2], indexes[0] * size)
+            part = indexes and list(call.call[3][begin - call.call[2]:(indexes[0] + 1) * size - call.call[2]])
+            is_right = not indexes or (entry.kind, entry.offset, entry.content) == ('Write', begin - indexes[0] * size, part)
             handles = [handle]
-            for index in range(call.call[2] // self.chunk, indexes[0] if indexes else 0):
+            for index in range(call.call[2] // size, indexes[0] if indexes else 0):
                 self.check_settled(entry.client, call, index)
         mine = [e for one in handles for e in self.facts.entries_of(one) if (e.client, e.call) == (entry.client, call.number) and e.kind != 'Pad']
         if not is_right:
@@ -177,6 +179,7 @@ class AnswerFacts:
 
     def check_answer(self, client, call, answer, delivered):
         kind = answer[0]
+        size = self.facts.size_of(call.file)
         if call.call[0] in ('write', 'append'):
             self.check_dead(client, call)
         if call.call[0] in NAME_CALLS and call.name and not call.is_named:
@@ -186,9 +189,9 @@ class AnswerFacts:
             file = state.descriptors(state.client(self.cell.world, client)).get(state.number(answer[1]))
             self.told = {of: when for of, when in self.told.items() if of[:2] != (client, file)}
         elif kind == 'At':
-            self.check_settled(client, call, answer[1] // self.chunk, answer[1] % self.chunk)
+            self.check_settled(client, call, answer[1] // size, answer[1] % size)
         elif kind == 'Done' and call.call[0] == 'write' and call.call[3]:
-            for index in range(call.call[2] // self.chunk, (call.call[2] + len(call.call[3]) - 1) // self.chunk + 1):
+            for index in range(call.call[2] // size, (call.call[2] + len(call.call[3]) - 1) // size + 1):
                 self.check_settled(client, call, index)
         elif kind == 'Bytes':
             self.check_bytes(call, answer)
@@ -220,14 +223,15 @@ class AnswerFacts:
 
     def check_bytes(self, call, answer):
         """Each part of a read is of a selection, up to the round that it names or a later one, that leaves out nothing that was settled as the call was made."""
-        begin, size = call.call[2:4]
+        size = self.facts.size_of(call.file)
+        begin, count = call.call[2:4]
         place = begin
         for round_ in answer[2]:
-            index = place // self.chunk
-            end = min(begin + size, (index + 1) * self.chunk)
+            index = place // size
+            end = min(begin + count, (index + 1) * size)
             part = list(answer[1][place - begin:end - begin])
             lists = [handles[index] for handles in self.handles_of(call) if index < len(handles)]
-            if lists and not any(self.is_read(call, handle, round_, part, place - index * self.chunk, end - index * self.chunk) for handle in lists):
+            if lists and not any(self.is_read(call, handle, round_, part, place - index * size, end - index * size) for handle in lists):
                 raise Broken('a read is part of no selection')
             place = end
 
@@ -239,6 +243,7 @@ class AnswerFacts:
 
     def check_length(self, client, call, length, delivered):
         """A length is that of the last chunk's replica, after the chunks before."""
+        size = self.facts.size_of(call.file)
         now, then = self.handles_of(call)
         if delivered.kind == 'Told':
             if length != 0 or then:
@@ -246,5 +251,5 @@ class AnswerFacts:
             return
         handle = self.lengths[client, delivered.body[1]]
         indexes = [handles.index(handle) for handles in (now, then) if handle in handles]
-        if indexes and (length != indexes[0] * self.chunk + delivered.body[2] or indexes[0] + 1 < len(then)):
+        if indexes and (length != indexes[0] * size + delivered.body[2] or indexes[0] + 1 < len(then)):
             raise Broken(f'client {client} answers a length that leaves out chunks')

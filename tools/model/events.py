@@ -41,6 +41,8 @@ def random_settings(rnd):
 
 # the goals of files that are made with a shape, by how much larger or smaller than the settings' their chunks would be: some don't fit
 SHAPES = [(0, 1), (0, 2), (0, 3), (0, 1), (0, 3), (0, 2), (0, 3), (8, 2), (-16, 2), (16, 2), (0, 0), (0, 9)]
+# the same where the settings' chunks are of 128 bytes
+SIZES = [(-64, 1), (-64, 2), (-64, 3), (-48, 2), (-32, 2), (-16, 1), (0, 3), (-56, 2), (-80, 2), (16, 2), (-64, 0), (-64, 9)]
 
 
 class Explorer:
@@ -53,7 +55,10 @@ class Explorer:
         # in two of three lists files are made with shapes; what these are doesn't change what else happens
         self.shaping = random.Random(seed + 1_000_003)
         self.has_shapes = seed % 3 != 0
-        self.cell = Cell(random_settings(rnd), rnd.choice([2, 3, 3, 4]), 2, program=program)
+        # in one of these two, of sizes of their own
+        self.has_sizes = seed % 3 == 2
+        settings = random_settings(rnd) | ({'chunk': 128} if self.has_sizes else {})
+        self.cell = Cell(settings, rnd.choice([2, 3, 3, 4]), 2, program=program)
         self.facts = Facts(self.cell)
         self.answer_facts = AnswerFacts(self.cell, self.facts)
         # how often a later message comes first, one is lost or comes late, how often time passes, how often a call is on names
@@ -164,8 +169,11 @@ class Explorer:
             call, self.first_calls = self.first_calls[0], self.first_calls[1:]
         if call[0] == 'create' and self.has_shapes and self.shaping.random() < .8:
             # the first ones fit
-            more, goal = self.shaping.choice(SHAPES[:7] if self.first_calls else SHAPES)
+            shapes = SIZES if self.has_sizes else SHAPES
+            more, goal = self.shaping.choice(shapes[:7] if self.first_calls else shapes)
             call = (*call, self.cell.settings['chunk'] + more, goal)
+        if call[0] == 'append' and self.has_sizes and self.shaping.random() < .4:
+            call = (*call[:2], call[2][:1] * self.shaping.choice([17, 20, 24, 28, 32, 33]))
         file = descriptors.get(call[1]) if call[0] in ('append', 'write', 'read', 'length', 'close') else None
         self.answer_facts.called(client, call, state.calls_made(world, client) + 1, file)
         return ('Call', wrapped(client), call_of(call), wrapped(now))

@@ -74,6 +74,8 @@ class Facts:
         self.check_log(before)
         self.check_shapes(event, before)
         self.check_told_shapes(new)
+        if state.orders(self.world()) is not state.orders(before):
+            self.check_entry_ends(before)
         self.check_open_files()
         self.check_chunks()
         self.check_expired(event, before)
@@ -232,6 +234,17 @@ class Facts:
                 raise Broken(f'chunk {handle} has another shape than file {file}')
             if self.chunk_shapes.setdefault(handle, shapes[file]) != shapes[file]:
                 raise Broken(f'the shape of chunk {handle} changes')
+
+    def size_of(self, file):
+        """How large the chunks of a file are."""
+        return self.shapes[file]['chunk'] if file in self.shapes else self.chunk
+
+    def check_entry_ends(self, before):
+        """A new entry ends within its chunk, and a pad with it; also where the file is collected since."""
+        for handle, entry in self.new_entries(before):
+            end, size = entry.offset + len(entry.content), self.chunk_shapes[handle]['chunk']
+            if end > size or (entry.kind == 'Pad' and end != size):
+                raise Broken(f'chunk {handle}: an entry goes past its end, or a pad ends before it')
 
     def check_told_shapes(self, new):
         """Named and Told tell the shape of their file, Grant and Forward the size of their chunk; also where the file is collected since."""

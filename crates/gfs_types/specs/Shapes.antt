@@ -8,9 +8,9 @@ use Rattle.gfs_types.specs.Settings.{is_within}
 abbrev pub usual_shape : Config → Shape
 usual_shape c = record { chunk = c.chunk; goal = min c.goal 255 }
 
--- A chunk is made of whole blocks, and has room where one of the settings' has it. Files don't have chunks of their own size yet: it is the settings'.
+-- A chunk is made of whole blocks, and has room where one of the settings' has it.
 abbrev pub fits : Config → Shape → Bool
-fits c s = is_within 64 c.chunk s.chunk && s.chunk % c.block == 0 && is_within 1 8 s.goal && s.chunk == c.chunk
+fits c s = is_within 64 c.chunk s.chunk && s.chunk % c.block == 0 && is_within 1 8 s.goal
 
 -- whether a file may be asked for so
 abbrev pub may_have : Config → Option Shape → Bool

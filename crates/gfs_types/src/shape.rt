@@ -45,6 +45,5 @@ impl Shape {
             && self.chunk % config.block == 0
             && self.goal >= 1
             && self.goal <= 8
-            && self.chunk == config.chunk
     }
 }

@@ -14,7 +14,7 @@ use Rattle.relaxed_file.specs.Order.{CallId, same_call, Entry}
 use Rattle.relaxed_file.specs.Parts.{has_part, part_start, part_bytes, part_length, is_range_too_long}
 use Rattle.relaxed_file.specs.Names.{Node, Dir, File, copied_entries}
 use Rattle.relaxed_file.specs.NameStep.{is_name_call, is_refused, outcome_of, HasNameStepLeft, MayBeFull}
-use Rattle.relaxed_file.specs.Machine.{Machine, Asked, OpenCall, Outcome, Replies, Piece, chunk_at, chunk_count}
+use Rattle.relaxed_file.specs.Machine.{Machine, Asked, OpenCall, Outcome, Replies, Piece, chunk_size, chunk_at, chunk_count}
 use Rattle.relaxed_file.specs.Locks.{MayLock, MayBeBusy}
 use Rattle.relaxed_file.specs.Chunks.{is_success, is_last_chunk_full, is_an_end, IsPastAll, tries_in, tries_below, MayOpenRound, MayCloseRound, MaySettle}
 use Rattle.relaxed_file.specs.Reads.{MayOffer, MayNote, MayLookPast, MayMeasureNone, IsOn, reads_part, is_length_call}
@@ -30,26 +30,26 @@ OnOpenCall m client P = IsSomeAnd (m.clients client).open_call P
 -- each part of a write in an earlier chunk has a settled entry
 abbrev pub AreEarlierSettled : Machine → CallId → ℕ → ℕ → ℕ → ℕ → Type 0
 AreEarlierSettled m id file offset count index =
-    EachNumber index (λ earlier. IsTrue (has_part m.config.chunk offset count earlier) → IsTrue (list_any (is_success id) (chunk_at m file earlier).order))
+    EachNumber index (λ earlier. IsTrue (has_part (chunk_size m file) offset count earlier) → IsTrue (list_any (is_success id) (chunk_at m file earlier).order))
 
 abbrev pub NeedsOne : Machine → CallId → ℕ → Call → Type 0
 NeedsOne m id file (call.Write fd offset bytes) =
-    IsFalse (is_range_too_long offset (length bytes)) × IsTrue (has_part m.config.chunk offset (length bytes) (chunk_count m file))
+    IsFalse (is_range_too_long offset (length bytes)) × IsTrue (has_part (chunk_size m file) offset (length bytes) (chunk_count m file))
     × AreEarlierSettled m id file offset (length bytes) (chunk_count m file)
-NeedsOne m id file (call.Append fd bytes) = (4 * length bytes ≤ m.config.chunk) × IsTrue (is_last_chunk_full m file (chunk_count m file))
+NeedsOne m id file (call.Append fd bytes) = (4 * length bytes ≤ chunk_size m file) × IsTrue (is_last_chunk_full m file (chunk_count m file))
 NeedsOne m id file other = ⊥
 
 abbrev pub AsksHere : Machine → CallId → ℕ → ℕ → Call → Mutation → Type 0
 AsksHere m id file index (call.Write fd offset bytes) (Write at content) =
-    IsFalse (is_range_too_long offset (length bytes)) × IsTrue (has_part m.config.chunk offset (length bytes) index)
-    × (at ≡ part_start m.config.chunk offset index) × (content ≡ part_bytes m.config.chunk offset bytes index)
+    IsFalse (is_range_too_long offset (length bytes)) × IsTrue (has_part (chunk_size m file) offset (length bytes) index)
+    × (at ≡ part_start (chunk_size m file) offset index) × (content ≡ part_bytes (chunk_size m file) offset bytes index)
     × AreEarlierSettled m id file offset (length bytes) index × (tries_in id (chunk_at m file index) < m.config.attempts)
 AsksHere m id file index (call.Append fd bytes) (Append at content) =
-    (content ≡ bytes) × (4 * length bytes ≤ m.config.chunk) × (at < m.config.chunk) × IsTrue (is_an_end (chunk_at m file index).order at)
-    × IsPastAll m.config.chunk (chunk_at m file index) (Append at content) × (tries_below (m.files file).chunks id (chunk_count m file) < m.config.attempts)
+    (content ≡ bytes) × (4 * length bytes ≤ chunk_size m file) × (at < chunk_size m file) × IsTrue (is_an_end (chunk_at m file index).order at)
+    × IsPastAll (chunk_size m file) (chunk_at m file index) (Append at content) × (tries_below (m.files file).chunks id (chunk_count m file) < m.config.attempts)
 AsksHere m id file index (call.Append fd bytes) (Pad at end) =
-    (4 * length bytes ≤ m.config.chunk) × (at < m.config.chunk) × (m.config.chunk < at + length bytes)
-    × IsTrue (is_an_end (chunk_at m file index).order at) × IsPastAll m.config.chunk (chunk_at m file index) (Pad at end) × (end ≡ m.config.chunk)
+    (4 * length bytes ≤ chunk_size m file) × (at < chunk_size m file) × (chunk_size m file < at + length bytes)
+    × IsTrue (is_an_end (chunk_at m file index).order at) × IsPastAll (chunk_size m file) (chunk_at m file index) (Pad at end) × (end ≡ chunk_size m file)
 AsksHere m id file index other mutation = ⊥
 
 abbrev pub same_mutation : Mutation → Mutation → Bool
@@ -128,18 +128,19 @@ is_read_as (suc fuel) size offset count found index bytes rounds =
 abbrev pub IsAnswer : Machine → ℕ → OpenCall → Call → Answer → Type 0
 IsAnswer m client current (call.Close fd) answer.Done = IsSome current.asked.file
 IsAnswer m client current (call.Write fd offset bytes) answer.Done =
-    IsFalse (is_range_too_long offset (length bytes)) × IsSomeAnd current.asked.file (λ file. EachNumber (suc ((offset + length bytes) / m.config.chunk)) (λ index.
-    IsTrue (has_part m.config.chunk offset (length bytes) index) → HasOne m client (record { client = client; number = current.number }) file index is_write))
-IsAnswer m client current (call.Append fd bytes) (answer.At x) = IsSomeAnd current.asked.file (λ file. (x / m.config.chunk < chunk_count m file)
-    × HasOne m client (record { client = client; number = current.number }) file (x / m.config.chunk) (is_append_at (x % m.config.chunk)))
+    IsFalse (is_range_too_long offset (length bytes)) × IsSomeAnd current.asked.file (λ file. EachNumber (suc ((offset + length bytes) / chunk_size m file)) (λ index.
+    IsTrue (has_part (chunk_size m file) offset (length bytes) index) → HasOne m client (record { client = client; number = current.number }) file index is_write))
+IsAnswer m client current (call.Append fd bytes) (answer.At x) = IsSomeAnd current.asked.file (λ file. (x / chunk_size m file < chunk_count m file)
+    × HasOne m client (record { client = client; number = current.number }) file (x / chunk_size m file) (is_append_at (x % chunk_size m file)))
 IsAnswer m client current (call.Read fd offset count) (answer.Bytes bytes rounds) =
-    IsFalse (is_range_too_long offset count) × IsSome current.asked.file × IsTrue (is_read_as (suc (suc ((offset + count) / m.config.chunk))) m.config.chunk offset count current.pieces (offset / m.config.chunk) bytes rounds)
+    IsFalse (is_range_too_long offset count) × IsSomeAnd current.asked.file (λ file.
+    IsTrue (is_read_as (suc (suc ((offset + count) / chunk_size m file))) (chunk_size m file) offset count current.pieces (offset / chunk_size m file) bytes rounds))
 IsAnswer m client current (call.Length fd) (answer.Length n) = Contains current.lengths n
 IsAnswer m client current other reply = Contains current.outcomes (Replies reply)
 
 abbrev pub IsCauseOf : Machine → ℕ → OpenCall → Refusal → Type 0
 IsCauseOf m client current BadFd = IsFalse (is_name_call current.asked.call) × (current.asked.file ≡ None)
-IsCauseOf m client current TooLong = IsSomeAnd current.asked.file (λ file. IsTrue (is_too_long m.config.chunk current.asked.chunks_before current.asked.call)
+IsCauseOf m client current TooLong = IsSomeAnd current.asked.file (λ file. IsTrue (is_too_long (chunk_size m file) current.asked.chunks_before current.asked.call)
     × (tries_below (m.files file).chunks (record { client = client; number = current.number }) (chunk_count m file) ≡ 0))
 IsCauseOf m client current Collected = IsSomeAnd current.asked.file (λ file. IsTrue (m.files file).is_collected × IsTrue (uses_chunks current.asked.call))
 IsCauseOf m client current NoMemory = IsFalse current.has_begun
@@ -168,7 +169,7 @@ IsAllowed m (Place client file index mutation) = OnOpenCall m client (λ current
 IsAllowed m (Settle file index place) = MaySettle m file index place
 IsAllowed m (Tell client file index) = OnOpenCall m client (λ current. MayOffer m current file)
 IsAllowed m (Note client file index round count) = OnOpenCall m client (λ current. MayNote m client current file index round count)
-IsAllowed m (Look client file index least last chosen) = OnOpenCall m client (λ current. IsOn current file × IsTrue (reads_part m.config.chunk index current.asked.call) × IsLookAt m client file index least last chosen)
+IsAllowed m (Look client file index least last chosen) = OnOpenCall m client (λ current. IsOn current file × IsTrue (reads_part (chunk_size m file) index current.asked.call) × IsLookAt m client file index least last chosen)
 IsAllowed m (LookPast client index) = OnOpenCall m client (λ current. MayLookPast current index)
 IsAllowed m (Measure client file index told least last chosen) = OnOpenCall m client (λ current. IsOn current file × IsTrue (is_length_call current.asked.call)
     × Contains current.offers (machine.Told index told (suc index)) × (told ≤ least) × IsLookAt m client file index least last chosen)

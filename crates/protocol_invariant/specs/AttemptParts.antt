@@ -126,16 +126,16 @@ pub record AreAttempts (w : WorldState) (g : Ghost) : Type 0 where
   pub entries : EachEntry w.observer.orders (λ handle order. AllByRecursion (IsOfAttempt g) order × AreOnce order)
   pub kept : EachServer w (λ server s. EachEntry s.leases (λ handle p. IsKeeping w g handle p))
 
--- the chunk's order has an entry that ends at its end
-abbrev pub is_full : WorldState → ℕ → Bool
-is_full w handle = list_any (λ p. end_of p.entry.mutation == w.config.chunk) (order_of w.observer handle)
+-- the order of a chunk of this size has an entry that ends at its end
+abbrev pub is_full : WorldState → ℕ → ℕ → Bool
+is_full w handle chunk = list_any (λ p. end_of p.entry.mutation == chunk) (order_of w.observer handle)
 
 -- A server's refusal of an attempt: it is over, unless it says that there is no lease or no replica.
 abbrev pub IsRefusedAs : WorldState → Ghost → ℕ → ℕ → Mutated → Refusal → Type 0
 IsRefusedAs w g client seq a NoLease = Unit {0}
 IsRefusedAs w g client seq a NoChunk = Unit {0}
 IsRefusedAs w g client seq a ChunkFull =
-    IsDead w g client seq a × IsTrue (is_full w a.handle) × IfSome (entry_of w a.handle client seq) (λ e. IsTrue (is_pad e.entry.mutation))
+    IsDead w g client seq a × IsSomeAnd (grant_of g.sent a.handle a.version) (λ grant. IsTrue (is_full w a.handle grant.chunk)) × IfSome (entry_of w a.handle client seq) (λ e. IsTrue (is_pad e.entry.mutation))
 IsRefusedAs w g client seq a other = IsDead w g client seq a
 
 abbrev pub IsRefusedBy : WorldState → Ghost → Node → ℕ → ℕ → Refusal → Type 0

@@ -19,7 +19,7 @@ use Rattle.relaxed_file.specs.Order.{CallId}
 use Rattle.relaxed_file.specs.Parts.{has_part, is_range_too_long}
 use Rattle.relaxed_file.specs.Chunks.{is_last_chunk_full}
 use Rattle.relaxed_file.specs.NameStep.{refusal_of}
-use Rattle.relaxed_file.specs.Machine.{Machine, OpenCall, Outcome, Replies, Opens, Offer, Told, NoSuchChunk, chunk_at, chunk_count}
+use Rattle.relaxed_file.specs.Machine.{Machine, OpenCall, Outcome, Replies, Opens, Offer, Told, NoSuchChunk, chunk_size, chunk_at, chunk_count}
 use Rattle.protocol.specs.Tables.{element_at}
 use Rattle.protocol.specs.Sending.{client_number}
 use Rattle.protocol.specs.Logged.{KeptCall}
@@ -105,7 +105,7 @@ IsStage w m g client c o other = Unit {0}
 -- earlier parts of a write are settled
 abbrev pub HasDone : WorldState → Machine → ℕ → CurrentCall → OpenCall → Call → Type 0
 HasDone w m client c o (call.Write fd offset bytes) =
-    EachNumber c.index (λ index. IsTrue (has_part w.config.chunk offset (length bytes) index) → HasOne m client (record { client = client; number = o.number }) c.file.0 index is_write)
+    EachNumber c.index (λ index. IsTrue (has_part (chunk_size m c.file.0) offset (length bytes) index) → HasOne m client (record { client = client; number = o.number }) c.file.0 index is_write)
 HasDone w m client c o other = Unit {0}
 
 -- A call that is open, at the client and at the machine.
@@ -147,11 +147,11 @@ pub record IsNameRequest (w : WorldState) (m : Machine) (g : Ghost) (client numb
 
 -- What a call asks the master for: a part of it, before which all earlier ones are settled; of an append the last chunk, or one past a chunk that is full.
 abbrev pub IsWantedBy : Machine → CallId → ℕ → Wanted → Call → Type 0
-IsWantedBy m id file (wanted.Read index) (call.Read fd offset count) = IsTrue (has_part m.config.chunk offset count index)
+IsWantedBy m id file (wanted.Read index) (call.Read fd offset count) = IsTrue (has_part (chunk_size m file) offset count index)
 IsWantedBy m id file (wanted.Write index) (call.Write fd offset bytes) =
-    IsFalse (is_range_too_long offset (length bytes)) × IsTrue (has_part m.config.chunk offset (length bytes) index) × AreEarlierSettled m id file offset (length bytes) index
+    IsFalse (is_range_too_long offset (length bytes)) × IsTrue (has_part (chunk_size m file) offset (length bytes) index) × AreEarlierSettled m id file offset (length bytes) index
 IsWantedBy m id file (wanted.Append after) (call.Append fd bytes) =
-    (4 * length bytes ≤ m.config.chunk) × (after ≤ chunk_count m file) × (chunk_count m file ≡ after → IsTrue (is_last_chunk_full m file after))
+    (4 * length bytes ≤ chunk_size m file) × (after ≤ chunk_count m file) × (chunk_count m file ≡ after → IsTrue (is_last_chunk_full m file after))
 IsWantedBy m id file wanted.Last (call.Length fd) = Unit {0}
 IsWantedBy m id file other c = ⊥
 
@@ -189,7 +189,7 @@ MasterRefuses w m client number other refusal = Unit {0}
 abbrev pub ClientSays : WorldState → Machine → Ghost → Message → Body → Type 0
 ClientSays w m g x (body.Name number deadline c) = IsNameRequest w m g (client_number x.sender) number deadline.0 c
 ClientSays w m g x (body.Ask number file asked_for deadline lost) = IsAsk m g (client_number x.sender) number file.0 asked_for
-ClientSays w m g x (body.Read number handle version offset count) = IsReadingOf w m g (client_number x.sender) number handle.0 version.0 (IsRangeOf w.config.chunk offset count)
+ClientSays w m g x (body.Read number handle version offset count) = IsReadingOf w m g (client_number x.sender) number handle.0 version.0 (λ p c. IsRangeOf (chunk_size m p.file) offset count p c)
 ClientSays w m g x (body.Len number handle version) = IsReadingOf w m g (client_number x.sender) number handle.0 version.0 (λ p c. IsTrue (is_length c.asked))
 ClientSays w m g x (body.Named number reply) = WhileAt w m (client_number x.receiver) (λ c o. IsAskedNames number c c.stage → Contains o.outcomes (outcome_told reply) × IsShapeTold m reply)
 ClientSays w m g x (body.Told number location) = WhileAt w m (client_number x.receiver) (λ c o. IsAskedWhere number c.stage → IsTold w m c o location)
@@ -197,7 +197,7 @@ ClientSays w m g x (body.Refused number refusal) = MasterRefuses w m (client_num
 ClientSays w m g x (body.Bytes number bytes) = WhileAt w m (client_number x.receiver) (λ c o. IsSentRead number c.stage → IsSomeAnd (purpose_of g (client_number x.receiver) number) (λ p.
     Contains o.pieces (record { index = p.index; bytes = bytes; round = Some p.round })))
 ClientSays w m g x (body.LenIs number count) = WhileAt w m (client_number x.receiver) (λ c o. IsSentRead number c.stage → IsSomeAnd (purpose_of g (client_number x.receiver) number) (λ p.
-    Contains o.lengths (p.index * w.config.chunk + count)))
+    Contains o.lengths (p.index * chunk_size m p.file + count)))
 ClientSays w m g x other = Unit {0}
 
 abbrev pub ClientInFlight : WorldState → Machine → Ghost → Message → Type 0

@@ -1,8 +1,10 @@
 -- The machine beside the world: names, files and chunks are what the master keeps, or what its log says while it is down; and a round is open whose lease may count.
 use Rattle.std.specs.Prelude.{◌≡◌, ◌⊎◌, ℕ, suc, ◌≤◌, ◌<◌, List, length, None, IfSome, IsSomeAnd, IsTrue, IsFalse, true}
 use Rattle.std.specs.FinMap as table
+use Rattle.std.specs.List.{AllByRecursion}
+use Rattle.gfs_types.specs.Mutations.{end_of}
 use Rattle.chunk_table.specs.ChunkTable.{ChunkRow, chunk_of}
-use Rattle.relaxed_file.specs.Machine.{Machine, chunk_at, chunk_count}
+use Rattle.relaxed_file.specs.Machine.{Machine, chunk_size, chunk_at, chunk_count}
 use Rattle.protocol.specs.Tables.{Table}
 use Rattle.primary_order.specs.SerialOrder.{SerialOrder}
 use Rattle.protocol.specs.Client.{ClientState}
@@ -12,10 +14,11 @@ use Rattle.protocol.specs.Each.{EachEntry, EachPlace, EachNumber, EachServer, Ea
 use Rattle.protocol_invariant.specs.Ghost.{logged_of}
 use Rattle.protocol_invariant.specs.Actions.{Spot}
 
--- a file's chunk at the master and at the machine; a shared one is closed
+-- a file's chunk at the master and at the machine; its entries end within it; a shared one is closed
 pub record IsChunkAt (w : WorldState) (m : Machine) (file index handle : ℕ) (row : ChunkRow) : Type 0 where
   pub order_is : entries_of w.observer handle ≡ (chunk_at m file index).order
   pub round_is : (chunk_at m file index).round ≡ row.granted
+  pub within : AllByRecursion (λ e. end_of e.mutation ≤ chunk_size m file) (chunk_at m file index).order
   pub shared : 1 < row.references → IsFalse (chunk_at m file index).is_open
 
 -- a file that is there
@@ -29,7 +32,7 @@ pub record IsFileAt (w : WorldState) (m : Machine) (file : ℕ) (handles : List 
 abbrev pub IsOpenRound : WorldState → Machine → Table Spot → ℕ → SerialOrder → Type 0
 IsOpenRound w m spots handle p =
     w.observer.greatest < p.held.until → IsSomeAnd (table.get spots handle) (λ s.
-    ((chunk_at m s.file s.index).round ≡ p.held.version) × (p.chunk ≡ (m.files s.file).shape.chunk) × IsTrue (chunk_at m s.file s.index).is_open
+    ((chunk_at m s.file s.index).round ≡ p.held.version) × (p.chunk ≡ chunk_size m s.file) × IsTrue (chunk_at m s.file s.index).is_open
     × (entries_of w.observer handle ≡ (chunk_at m s.file s.index).order))
 
 -- a client's descriptors, the shapes of its open files and its calls are the machine's while it is up, and it waits for its open call

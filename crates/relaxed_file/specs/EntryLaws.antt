@@ -9,7 +9,7 @@ use Rattle.gfs_types.specs.declared.config.Config.{Config}
 use Rattle.gfs_types.specs.Mutations.{start_of, end_of, is_placed_by_system}
 use Rattle.relaxed_file.specs.Order.{Entry, mutations_of}
 use Rattle.relaxed_file.specs.Parts.{is_range_too_long}
-use Rattle.relaxed_file.specs.Machine.{Machine, Asked, chunk_at}
+use Rattle.relaxed_file.specs.Machine.{Machine, Asked, chunk_size, chunk_at}
 use Rattle.relaxed_file.specs.Run.{IsReached}
 
 -- the call that asked for the entry was made, and this holds of it
@@ -26,7 +26,7 @@ IsOfLawfulLength size other = ⊥
 abbrev pub TooLongIsNeverPlaced : Type 0
 TooLongIsNeverPlaced =
     (config : Config) (m : Machine) → IsReached config m → (file index : ℕ)
-    → AllByRecursion (IsOfCall m (IsOfLawfulLength config.chunk)) (chunk_at m file index).order
+    → AllByRecursion (IsOfCall m (IsOfLawfulLength (chunk_size m file))) (chunk_at m file index).order
 
 -- a pad is of an append whose record doesn't fit behind it
 abbrev pub IsNeededBy : ℕ → Mutation → Call → Type 0
@@ -38,7 +38,7 @@ IsNeededBy size mutation c = Unit {0}
 abbrev pub PadsAreNeeded : Type 0
 PadsAreNeeded =
     (config : Config) (m : Machine) → IsReached config m → (file index : ℕ)
-    → AllByRecursion (λ e. IsOfCall m (IsNeededBy config.chunk e.mutation) e) (chunk_at m file index).order
+    → AllByRecursion (λ e. IsOfCall m (IsNeededBy (chunk_size m file) e.mutation) e) (chunk_at m file index).order
 
 -- the place is the chunk's beginning, or the end of one of these mutations
 abbrev pub is_end_of_some : List Mutation → ℕ → Bool

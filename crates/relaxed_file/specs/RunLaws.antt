@@ -61,12 +61,12 @@ IsAskedOf size index (call.Append fd bytes) (Pad at end) = (at < size) × (end �
 IsAskedOf size index other mutation = ⊥
 
 -- a call that was made asked for the entry
-abbrev pub WasAskedFor : Machine → ℕ → Entry → Type 0
-WasAskedFor m index e = (asked : Asked) × ((m.clients e.call.client).calls e.call.number ≡ Some asked) × IsAskedOf m.config.chunk index asked.call e.mutation
+abbrev pub WasAskedFor : Machine → ℕ → ℕ → Entry → Type 0
+WasAskedFor m file index e = (asked : Asked) × ((m.clients e.call.client).calls e.call.number ≡ Some asked) × IsAskedOf (chunk_size m file) index asked.call e.mutation
 
 -- In every run each mutation in an order is one that a call asked for.
 abbrev pub EntriesWereAskedFor : Type 0
-EntriesWereAskedFor = (config : Config) (m : Machine) → IsReached config m → (file index : ℕ) → AllByRecursion (WasAskedFor m index) (chunk_at m file index).order
+EntriesWereAskedFor = (config : Config) (m : Machine) → IsReached config m → (file index : ℕ) → AllByRecursion (WasAskedFor m file index) (chunk_at m file index).order
 
 -- A settled entry stays at its place in every later state.
 abbrev pub SettledEntriesStay : Type 0
@@ -89,17 +89,17 @@ abbrev pub AnsweredAppendsStay : Type 0
 AnsweredAppendsStay =
     (config : Config) (m : Machine) (client file : ℕ) (fd : Fd) (bytes : List ℕ) (x : ℕ)
     → IsReached config m → MayAnswer m client file (call.Append fd bytes) (answer.At x)
-    → (index : ℕ) × (offset : ℕ) × (place : ℕ) × (x ≡ index * config.chunk + offset) × (offset + length bytes ≤ config.chunk)
+    → (index : ℕ) × (offset : ℕ) × (place : ℕ) × (x ≡ index * chunk_size m file + offset) × (offset + length bytes ≤ chunk_size m file)
     × ((n : Machine) → LeadsTo (after m (Return client (answer.At x))) n → StandsAt n file index place (Append offset bytes))
 
 -- Each part of a write that was answered stands at one place of its chunk's order in every later state (section 3.1).
 abbrev pub AnsweredWritesStay : Type 0
 AnsweredWritesStay =
     (config : Config) (m : Machine) (client file : ℕ) (fd : Fd) (offset : ℕ) (bytes : List ℕ) (index : ℕ)
-    → IsReached config m → MayAnswer m client file (call.Write fd offset bytes) answer.Done → IsTrue (has_part config.chunk offset (length bytes) index)
+    → IsReached config m → MayAnswer m client file (call.Write fd offset bytes) answer.Done → IsTrue (has_part (chunk_size m file) offset (length bytes) index)
     → (place : ℕ)
     × ((n : Machine) → LeadsTo (after m (Return client answer.Done)) n
-    → StandsAt n file index place (Write (part_start config.chunk offset index) (part_bytes config.chunk offset bytes index)))
+    → StandsAt n file index place (Write (part_start (chunk_size m file) offset index) (part_bytes (chunk_size m file) offset bytes index)))
 
 -- Two records whose appends to one file were answered share no place of it, so that their offsets differ where both have a byte (section 3.3).
 abbrev pub AnsweredOffsetsDiffer : Type 0
@@ -126,7 +126,7 @@ OwnSuccessesAreRead =
 abbrev pub WasPutBy : Machine → List ℕ → ℕ → Entry → Type 0
 WasPutBy m sources index e =
     (asked : Asked) × ((m.clients e.call.client).calls e.call.number ≡ Some asked)
-    × (from : ℕ) × (asked.file ≡ Some from) × Contains sources from × IsAskedOf m.config.chunk index asked.call e.mutation
+    × (from : ℕ) × (asked.file ≡ Some from) × Contains sources from × IsAskedOf (chunk_size m from) index asked.call e.mutation
 
 -- what a selection has at a place: nothing, which reads as zero, or the byte of one of its entries, put there by a call on the file or on one that it goes back to
 abbrev pub ComesFrom : Machine → List ℕ → ℕ → List Entry → List Entry → ℕ → Type 0
