@@ -66,7 +66,7 @@ fn succeeds(
 ) -> Result<ClientEffects, NoMemory>
     ensures { IfOk result (λ e. succeeds (client_begins client.old) current chunk place ≡ doing client.new e) }
 {
-    let size = client.chunk_size();
+    let size = client.chunk_size(current.file.0);
     if is_append(&current.asked) {
         client.found_end(current.file, chunk.index)?;
         let place = place_in_file(size, chunk.index, place);

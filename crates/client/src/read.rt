@@ -65,7 +65,7 @@ pub fn gets(
 ) -> Result<ClientEffects, NoMemory>
     ensures { IfOk result (λ e. gets (client_begins client.old) current found.now round ≡ doing client.new e) }
 {
-    let size = client.chunk_size();
+    let size = client.chunk_size(current.file.0);
     let wanted = read_count(size, current.index, &current.asked)?;
     let has_next = has_next_part(size, current.index, &current.asked)?;
     let got = with_found(client.alloc(), current, found, round)?;
@@ -130,7 +130,7 @@ pub fn takes_len_is(
             number: asked,
         } => {
             if *asked == number && is_length(&current.asked) {
-                let length = place_in_file(client.chunk_size(), chunk.index, count);
+                let length = place_in_file(client.chunk_size(current.file.0), chunk.index, count);
                 client.completes(current, Answer::Length(length))
             } else {
                 client.waits(current)

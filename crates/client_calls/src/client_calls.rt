@@ -94,7 +94,7 @@ impl Client {
         ensures ok { IfOk result (λ e. calls_file (client_begins self.old) call file ≡ doing self.new e) }
         ensures err { OnErr result (self.new ≡ self.old) }
     {
-        let size = u64::from(self.config.chunk);
+        let size = self.chunk_size(file);
         match &call {
             Call::Close(fd) => {
                 let fd = fd.0;

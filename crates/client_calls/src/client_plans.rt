@@ -1,8 +1,8 @@
 //! What an attempt sends next. A plan takes all the memory that it needs, and changes nothing.
 
-ghost use Rattle.std.specs.Prelude.{◌≡◌, suc, IfOk, None};
+ghost use Rattle.std.specs.Prelude.{◌≡◌, ◌<◌, suc, IfOk, None};
 ghost use Rattle.std.specs.Option.{option_copied};
-ghost use Rattle.protocol.specs.Client.{from_client};
+ghost use Rattle.protocol.specs.Client.{file_chunk, from_client};
 ghost use Rattle.protocol.specs.ClientAttempts.{ask_planned, read_body, read_planned, again_planned, push_planned, push_planned_to, mutate_planned, name_planned, chunk_of, will_do};
 ghost use Rattle.client_calls.specs.Attempts.{next_read, planned_at, asking, with_kept, attempt_at, before_attempt, planned_attempt};
 
@@ -43,10 +43,12 @@ impl Client {
         )
     }
 
-    pub fn chunk_size(&self) -> u64
-        ensures { result ≡ self.now.config.chunk }
+    /// The size of the chunks of a file that is open, as its Open was told it. It is never 0, whatever was told.
+    pub fn chunk_size(&self, file: u64) -> u64
+        ensures size { result ≡ file_chunk self.now file }
+        ensures some { 0 < result }
     {
-        u64::from(self.config.chunk)
+        u64::from(self.files.chunk(file).unwrap_or(self.config.chunk)).max(1)
     }
 
     /// The master is asked for a chunk.
@@ -85,7 +87,7 @@ impl Client {
                 version: holder.version,
             });
         }
-        let size = self.chunk_size();
+        let size = self.chunk_size(current.file.0);
         Ok(Body::Read {
             number,
             handle: chunk.handle,
@@ -161,7 +163,7 @@ impl Client {
         let number = self.next_number()?;
         let body = Body::Push {
             data: self.data_id(number),
-            bytes: bytes_to_send(self.chunk_size(), current.index, &current.asked)?,
+            bytes: bytes_to_send(self.chunk_size(current.file.0), current.index, &current.asked)?,
             rest: hops_after(self.alloc, group.members.as_slice(), first.0)?,
         };
         Ok(CallPlan {
@@ -214,7 +216,7 @@ impl Client {
             data: self.data_id(number),
             handle: chunk.handle,
             version: chunk.round,
-            target: target_of(self.chunk_size(), current.index, &current.asked),
+            target: target_of(self.chunk_size(current.file.0), current.index, &current.asked),
             deadline: current.deadline,
         };
         Ok(CallPlan {

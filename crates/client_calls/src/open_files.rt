@@ -1,7 +1,7 @@
 //! The files that a client has open (section 2.4).
 
 ghost use Rattle.std.specs.Prelude.{◌≡◌, OnOk, OnErr};
-ghost use Rattle.std.specs.Option.{option_copied};
+ghost use Rattle.std.specs.Option.{option_copied, option_map};
 ghost use Rattle.std.specs.FinMap as table;
 ghost use Rattle.protocol.specs.ClientCache.{last_opened_of};
 ghost use Rattle.protocol.specs.ClientFiles.{files_after_open, files_after_close, last_append, with_last_append};
@@ -56,6 +56,16 @@ impl OpenFiles {
         match self.get(file) {
             None => 0,
             Some(open) => open.last_opened.0,
+        }
+    }
+
+    /// The size of a file's chunks.
+    pub fn chunk(&self, file: u64) -> Option<u32>
+        ensures { result ≡ option_map (λ f. f.shape.chunk) (table.get self.now file) }
+    {
+        match self.get(file) {
+            None => None,
+            Some(open) => Some(open.shape.chunk),
         }
     }
 

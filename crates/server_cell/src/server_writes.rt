@@ -4,7 +4,7 @@
 ghost use Rattle.std.specs.Prelude.{◌≡◌, ◌+◌, [], length, nat_lt, if◌then◌else◌, OnOk};
 ghost use Rattle.primary_order.specs.SerialOrder.{IsNew, attempted};
 ghost use Rattle.gfs_types.specs.declared.mutation.Mutation.TheVariants as mutation;
-ghost use Rattle.protocol.specs.Server.{frame};
+ghost use Rattle.protocol.specs.Server.{chunk_limit, frame};
 ghost use Rattle.protocol.specs.ServerWrites.{takes_mutate, mutates_as, appends_as, places};
 ghost use Rattle.record_append.specs.Placing.{placing};
 ghost use Rattle.server_handlers.specs.Doing.{doing, OnCounting, OnNew};
@@ -119,10 +119,10 @@ fn writes<S: ReplicaStore>(
     bytes: Bytes,
 ) -> Result<(), ReplicaStoreFault>
     requires { server.old.under_way ≡ [] }
-    ensures goes { OnOk result (OnNew server.old handle.0 id (λ p. (if nat_lt server.old.config.chunk (offset + length bytes) then doing server.old effects.old else places (doing server.old effects.old) handle.0 p id (mutation.Write offset bytes)) ≡ doing server.new effects.new)) }
+    ensures goes { OnOk result (OnNew server.old handle.0 id (λ p. (if nat_lt (chunk_limit server.old p.chunk) (offset + length bytes) then doing server.old effects.old else places (doing server.old effects.old) handle.0 p id (mutation.Write offset bytes)) ≡ doing server.new effects.new)) }
     ensures frame { frame server.new ≡ frame server.old }
 {
-    let chunk = server.chunk();
+    let chunk = server.leased_limit(handle);
     let count = bytes.len() as u64;
     if count > chunk || offset > chunk - count {
         return Ok(());
@@ -140,10 +140,10 @@ fn appends<S: ReplicaStore>(
     bytes: Bytes,
 ) -> Result<(), ReplicaStoreFault>
     requires { server.old.under_way ≡ [] }
-    ensures goes { OnOk result (OnNew server.old handle.0 id (λ p. appends_as (doing server.old effects.old) handle.0 p id bytes (placing count (length bytes) server.old.config.chunk) ≡ doing server.new effects.new)) }
+    ensures goes { OnOk result (OnNew server.old handle.0 id (λ p. appends_as (doing server.old effects.old) handle.0 p id bytes (placing count (length bytes) (chunk_limit server.old p.chunk)) ≡ doing server.new effects.new)) }
     ensures frame { frame server.new ≡ frame server.old }
 {
-    let chunk = server.chunk();
+    let chunk = server.leased_limit(handle);
     match place(count, bytes.len() as u64, chunk) {
         Placing::At(offset) => {
             places(server, effects, id, handle, Mutation::Append(offset, bytes))

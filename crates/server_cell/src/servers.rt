@@ -31,7 +31,7 @@ pub(crate) fn takes_of_servers<S: ReplicaStore>(
             version,
             serial,
             data,
-            chunk: _,
+            chunk,
             change,
         } => {
             let asked = MemberRequest {
@@ -40,6 +40,7 @@ pub(crate) fn takes_of_servers<S: ReplicaStore>(
                 version: *version,
                 serial: *serial,
                 id: *data,
+                chunk: *chunk,
             };
             server.takes_forward(effects, asked, *change)
         }

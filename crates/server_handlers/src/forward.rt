@@ -3,7 +3,7 @@
 ghost use Rattle.std.specs.Prelude.{◌≡◌, ◌+◌, ◌-◌, [], length, nat_le, OnOk};
 ghost use Rattle.data_push.specs.Buffers.{data_of};
 ghost use Rattle.replica_store.specs.Replicas.{is_writable_at};
-ghost use Rattle.protocol.specs.Server.{frame, takes_data};
+ghost use Rattle.protocol.specs.Server.{chunk_limit, frame, takes_data};
 ghost use Rattle.protocol.specs.ServerWrites.{takes_forward, applies_change, applies_data, applies_pad, member_stores, nacks};
 ghost use Rattle.server_handlers.specs.Doing.{doing};
 
@@ -24,6 +24,8 @@ pub struct MemberRequest {
     pub version: Version,
     pub serial: Serial,
     pub id: DataId,
+    /// Bytes of the chunk, at most, as the primary tells.
+    pub chunk: u32,
 }
 
 impl<S: ReplicaStore> Server<S> {
@@ -35,7 +37,7 @@ impl<S: ReplicaStore> Server<S> {
         change: Change,
     ) -> Result<(), ReplicaStoreFault>
         requires { self.old.under_way ≡ [] }
-        ensures goes { OnOk result (takes_forward (doing self.old effects.old) asked.primary asked.handle.0 asked.version.0 asked.serial.0 asked.id change ≡ doing self.new effects.new) }
+        ensures goes { OnOk result (takes_forward (doing self.old effects.old) asked.primary asked.handle.0 asked.version.0 asked.serial.0 asked.id asked.chunk change ≡ doing self.new effects.new) }
         ensures frame { frame self.new ≡ frame self.old }
     {
         let Some(row) = self.store.row(asked.handle) else {
@@ -81,7 +83,7 @@ impl<S: ReplicaStore> Server<S> {
         change: Change,
     ) -> Result<(), ReplicaStoreFault>
         requires { self.old.under_way ≡ [] }
-        ensures goes { OnOk result (applies_change (doing self.old effects.old) asked.primary asked.handle.0 asked.version.0 asked.serial.0 asked.id change ≡ doing self.new effects.new) }
+        ensures goes { OnOk result (applies_change (doing self.old effects.old) asked.primary asked.handle.0 asked.version.0 asked.serial.0 asked.id asked.chunk change ≡ doing self.new effects.new) }
         ensures frame { frame self.new ≡ frame self.old }
     {
         match change {
@@ -99,7 +101,7 @@ impl<S: ReplicaStore> Server<S> {
         offset: u64,
     ) -> Result<(), ReplicaStoreFault>
         requires { self.old.under_way ≡ [] }
-        ensures goes { OnOk result (applies_data (doing self.old effects.old) asked.primary asked.handle.0 asked.version.0 asked.serial.0 asked.id offset (data_of self.old.pushed asked.id) ≡ doing self.new effects.new) }
+        ensures goes { OnOk result (applies_data (doing self.old effects.old) asked.primary asked.handle.0 asked.version.0 asked.serial.0 asked.id asked.chunk offset (data_of self.old.pushed asked.id) ≡ doing self.new effects.new) }
         ensures frame { frame self.new ≡ frame self.old }
     {
         let Some(bytes) = self.pushed.get(asked.id) else {
@@ -107,7 +109,7 @@ impl<S: ReplicaStore> Server<S> {
         };
         let bytes = bytes.clone()?;
         let count = bytes.len() as u64;
-        if !self.is_within(offset, count) {
+        if !self.is_within(asked.chunk, offset, count) {
             return Ok(());
         }
         let change = StoreChange::Write {
@@ -127,11 +129,11 @@ impl<S: ReplicaStore> Server<S> {
         end: u64,
     ) -> Result<(), ReplicaStoreFault>
         requires { self.old.under_way ≡ [] }
-        ensures goes { OnOk result (applies_pad (doing self.old effects.old) asked.primary asked.handle.0 asked.version.0 asked.serial.0 asked.id offset (end - offset) ≡ doing self.new effects.new) }
+        ensures goes { OnOk result (applies_pad (doing self.old effects.old) asked.primary asked.handle.0 asked.version.0 asked.serial.0 asked.id asked.chunk offset (end - offset) ≡ doing self.new effects.new) }
         ensures frame { frame self.new ≡ frame self.old }
     {
         let count = end.saturating_sub(offset);
-        if !self.is_within(offset, count) {
+        if !self.is_within(asked.chunk, offset, count) {
             return Ok(());
         }
         let change = StoreChange::Zero {
@@ -178,11 +180,11 @@ impl<S: ReplicaStore> Server<S> {
         self.send(effects, primary, body)
     }
 
-    /// Whether so many bytes lie within the chunk.
-    pub fn is_within(&self, offset: u64, count: u64) -> bool
-        ensures { result ≡ nat_le (offset + count) self.now.config.chunk }
+    /// Whether so many bytes lie within a chunk of a size that was told.
+    pub fn is_within(&self, told: u32, offset: u64, count: u64) -> bool
+        ensures { result ≡ nat_le (offset + count) (chunk_limit self.now told) }
     {
-        let chunk = u64::from(self.config.chunk);
+        let chunk = self.chunk_limit(told);
         count <= chunk && offset <= chunk - count
     }
 }

@@ -9,7 +9,7 @@ ghost use Rattle.leases.specs.LeaseHeld.{counts_at};
 ghost use Rattle.primary_order.specs.SerialOrder.{SerialOrder, order_of};
 ghost use Rattle.replica_store.specs.Replicas.{row_at, is_writable_at};
 ghost use Rattle.protocol.specs.Tables.{moment_limit};
-ghost use Rattle.protocol.specs.Server.{sends, refuses, drops_corrupt, primary_of, frame};
+ghost use Rattle.protocol.specs.Server.{chunk_limit, sends, refuses, drops_corrupt, primary_of, frame};
 ghost use Rattle.protocol.specs.ServerStep.{server_at};
 ghost use Rattle.protocol.specs.ServerWrites.{refuses_attempt, answers_settled};
 ghost use Rattle.server_handlers.specs.Doing.{doing, held_at};
@@ -103,12 +103,23 @@ impl<S: ReplicaStore> Server<S> {
         self.id
     }
 
-    /// The bytes of a chunk.
-    pub fn chunk(&self) -> u64
-        ensures size { result ≡ self.now.config.chunk }
+    /// How far a chunk of a size that was told may go: a replica has room for one of the settings' chunks.
+    pub fn chunk_limit(&self, told: u32) -> u64
+        ensures size { result ≡ chunk_limit self.now told }
         ensures bound { result ≤ largest_chunk }
     {
-        u64::from(self.config.chunk)
+        u64::from(told.min(self.config.chunk))
+    }
+
+    /// How far a chunk goes, by the size that came with the lease of it.
+    pub fn leased_limit(&self, handle: Handle) -> u64
+        ensures size { (p : SerialOrder) → held_at self.now handle.0 ≡ Some p → result ≡ chunk_limit self.now p.chunk }
+        ensures bound { result ≤ largest_chunk }
+    {
+        match self.leases.get(handle) {
+            None => 0,
+            Some(primary) => self.chunk_limit(primary.chunk()),
+        }
     }
 
     /// The greatest moment that it was given.
