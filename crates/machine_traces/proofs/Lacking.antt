@@ -13,7 +13,7 @@ use Rattle.gfs_types.specs.Image.{newer, last_that, bytes_from}
 use Rattle.gfs_types.specs.declared.config.Config.{Config}
 use Rattle.relaxed_file.specs.Order.{Entry, IsSelection, empty, takes, leaves, mutations_of}
 use Rattle.relaxed_file.specs.Parts.{part_length}
-use Rattle.relaxed_file.specs.Machine.{Machine, new_machine, Asked, FileState, Chunk, new_chunk, OpenCall, chunk_at, chunk_count, put}
+use Rattle.relaxed_file.specs.Machine.{Machine, new_machine, Asked, FileState, Chunk, new_chunk, OpenCall, chunk_size, chunk_at, chunk_count, put}
 use Rattle.relaxed_file.specs.Chunks.{settled_at, chunk_added, placed}
 use Rattle.relaxed_file.specs.Reads.{read_slice}
 use Rattle.relaxed_file.specs.Run.{Action, Return, Add, OpenRound, CloseRound, Place, Settle, Visible, Called, Answered, Passed, shown, visible, Allows, after, after_all, IsLawful, asked_file, asked_now, IsReached}
@@ -95,12 +95,12 @@ module _ (x : ℕ) where
 
   all_step : (m : Machine) (action : Action) → Allows m action → SeenWritesNone (shown action) → AllLack m → AllLack (after m action)
   all_step m action allowed seen h = record {
-    chunks = chunk_step m (λ i chunk. AreLacking chunk.order)
-        (λ i. tt) (λ i chunk round later all. all) (λ i chunk all. all)
+    chunks = chunk_step m (λ size i chunk. AreLacking chunk.order)
+        (λ size i. tt) (λ size i chunk round later all. all) (λ size i chunk all. all)
         (λ client current file i mutation is may all. all_pushed (λ e. LackedBy e.mutation) _ _ all
-        (asked_lacks m.config.chunk i current.asked.call mutation (asked_here m (record { client = client; number = current.number }) file i current.asked.call mutation may.3)
+        (asked_lacks (chunk_size m file) i current.asked.call mutation (asked_here m (record { client = client; number = current.number }) file i current.asked.call mutation may.3)
         (subst OpenWritesNone is (h.calls client))))
-        (λ i chunk place at all. settled_lacking place chunk.order all)
+        (λ size i chunk place at all. settled_lacking place chunk.order all)
         action allowed h.chunks;
     calls = λ client. open_goes m client (shown action) _ _ (call_step m client action allowed) seen (h.calls client);
   }

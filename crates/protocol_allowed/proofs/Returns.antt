@@ -1,5 +1,5 @@
 -- How a call may be answered.
-use Rattle.std.proofs.Common.{◌≡◌, inl, inr, ℕ, suc, ◌+◌, ◌*◌, ◌/◌, ◌%◌, ◌<◌, List, length, Option, Some, None, refl, sym, ◌∙◌}
+use Rattle.std.proofs.Common.{◌≡◌, inl, inr, ℕ, suc, ◌+◌, ◌*◌, ◌/◌, ◌%◌, ◌<◌, List, length, Option, Some, None, sym, ◌∙◌}
 use Rattle.std.specs.Prelude.{IsTrue, IsSome, IsSomeAnd, IfSome}
 use Rattle.std.proofs.Math.Nat.{add_comm, mod-add-div'}
 use Rattle.gfs_types.specs.declared.ids.Fd.{Fd}
@@ -15,7 +15,7 @@ use Rattle.relaxed_file.specs.Machine.{Machine, OpenCall, chunk_size, chunk_coun
 use Rattle.relaxed_file.specs.Chunks.{tries_below}
 use Rattle.relaxed_file.specs.Answers.{HasSuccess, IsWrite, IsAppendAt, IsDone, IsCause, MayReturn, is_too_long, uses_chunks}
 use Rattle.protocol.specs.Each.{EachNumber}
-use Rattle.protocol_invariant.specs.Allowed.{HasOne, is_write, is_append_at, IsAnswer, IsCauseOf, IsReturn}
+use Rattle.protocol_invariant.specs.Allowed.{HasOne, is_write, is_append_at, is_read_as, IsAnswer, IsCauseOf, IsReturn}
 use Rattle.protocol_allowed.proofs.Tests.{on_some, is_there}
 use Rattle.protocol_allowed.proofs.Successes.{write_is, append_is, has_success, part_below}
 use Rattle.protocol_allowed.proofs.Pieces.{AreRead, are_read}
@@ -26,35 +26,38 @@ module _ (m : Machine) (client : ℕ) (current : OpenCall) where
 
   -- each part of a write stands settled, on the call's file
   abbrev AreWritten : ℕ → ℕ → ℕ → Type 0
-  AreWritten offset count file = EachNumber (suc ((offset + count) / m.config.chunk)) (λ index. IsTrue (has_part m.config.chunk offset count index) → HasOne m client id file index is_write)
+  AreWritten offset count file = EachNumber (suc ((offset + count) / chunk_size m file)) (λ index. IsTrue (has_part (chunk_size m file) offset count index) → HasOne m client id file index is_write)
 
   written : (offset count : ℕ) (o : Option ℕ) → IsSomeAnd o (AreWritten offset count)
       → IfSome o (λ file. (index : ℕ) → IsTrue (has_part (chunk_size m file) offset count index) → HasSuccess m client id file index IsWrite)
   written offset count None h = absurd h
-  written offset count (Some file) h = λ index part. has_success m client id file index is_write IsWrite write_is (h index (part_below m.config.chunk offset count index part) part)
+  written offset count (Some file) h = λ index part. has_success m client id file index is_write IsWrite write_is (h index (part_below (chunk_size m file) offset count index part) part)
 
   appended : (fd : Fd) (bytes : List ℕ) (x : ℕ) → IsAnswer m client current (call.Append fd bytes) (answer.At x) → IsDone m client current (call.Append fd bytes) (answer.At x)
   appended fd bytes x h =
-      let at : (file : ℕ) × (current.asked.file ≡ Some file) × ((x / m.config.chunk < chunk_count m file) × HasOne m client id file (x / m.config.chunk) (is_append_at (x % m.config.chunk))) =
-      on_some (λ file. (x / m.config.chunk < chunk_count m file) × HasOne m client id file (x / m.config.chunk) (is_append_at (x % m.config.chunk))) current.asked.file h in (
+      let at : (file : ℕ) × (current.asked.file ≡ Some file) × ((x / chunk_size m file < chunk_count m file) × HasOne m client id file (x / chunk_size m file) (is_append_at (x % chunk_size m file))) =
+      on_some (λ file. (x / chunk_size m file < chunk_count m file) × HasOne m client id file (x / chunk_size m file) (is_append_at (x % chunk_size m file))) current.asked.file h in
+      let size : ℕ = chunk_size m at.0 in (
         at.0,
         at.1,
-        x / m.config.chunk,
-        x % m.config.chunk,
-        sym (add_comm (x / m.config.chunk * m.config.chunk) (x % m.config.chunk) ∙ mod-add-div' x m.config.chunk),
+        x / size,
+        x % size,
+        sym (add_comm (x / size * size) (x % size) ∙ mod-add-div' x size),
         at.2.0,
-        has_success m client id at.0 (x / m.config.chunk) (is_append_at (x % m.config.chunk)) (IsAppendAt (x % m.config.chunk)) (append_is (x % m.config.chunk)) at.2.1,
+        has_success m client id at.0 (x / size) (is_append_at (x % size)) (IsAppendAt (x % size)) (append_is (x % size)) at.2.1,
       )
+
+  -- what was read is so of this file's size
+  abbrev Reads : ℕ → ℕ → List ℕ → List ℕ → ℕ → Type 0
+  Reads offset count bytes rounds file =
+      IsTrue (is_read_as (suc (suc ((offset + count) / chunk_size m file))) (chunk_size m file) offset count current.pieces (offset / chunk_size m file) bytes rounds)
 
   read : (fd : Fd) (offset count : ℕ) (bytes rounds : List ℕ) → IsAnswer m client current (call.Read fd offset count) (answer.Bytes bytes rounds) → IsDone m client current (call.Read fd offset count) (answer.Bytes bytes rounds)
   read fd offset count bytes rounds h =
-      let on : (file : ℕ) × (current.asked.file ≡ Some file) = there current.asked.file h.1 in
-      let got : AreRead m.config.chunk offset count current.pieces (offset / m.config.chunk) bytes rounds = are_read m.config.chunk offset count current.pieces (suc (suc ((offset + count) / m.config.chunk))) (offset / m.config.chunk) bytes rounds h.2 in
+      let on : (file : ℕ) × (current.asked.file ≡ Some file) × Reads offset count bytes rounds file = on_some (Reads offset count bytes rounds) current.asked.file h.1 in
+      let size : ℕ = chunk_size m on.0 in
+      let got : AreRead size offset count current.pieces (offset / size) bytes rounds = are_read size offset count current.pieces (suc (suc ((offset + count) / size))) (offset / size) bytes rounds on.2 in
       (on.0, on.1, got.0, got.1, got.2, got.3, h.0)
-    where
-      there : (o : Option ℕ) → IsSome o → (file : ℕ) × (o ≡ Some file)
-      there None g = absurd (cc)
-      there (Some file) g = (file, refl)
 
   done : (c : Call) (reply : Answer) → IsAnswer m client current c reply → IsDone m client current c reply
   done (call.Close fd) answer.Done h = h
@@ -67,8 +70,8 @@ module _ (m : Machine) (client : ℕ) (current : OpenCall) where
   cause : (reason : Refusal) → IsCauseOf m client current reason → IsCause m client current reason
   cause BadFd h = h
   cause TooLong h =
-      let at : (file : ℕ) × (current.asked.file ≡ Some file) × (IsTrue (is_too_long m.config.chunk current.asked.chunks_before current.asked.call) × (tries_below (m.files file).chunks id (chunk_count m file) ≡ 0)) =
-      on_some (λ file. IsTrue (is_too_long m.config.chunk current.asked.chunks_before current.asked.call) × (tries_below (m.files file).chunks id (chunk_count m file) ≡ 0)) current.asked.file h in
+      let at : (file : ℕ) × (current.asked.file ≡ Some file) × (IsTrue (is_too_long (chunk_size m file) current.asked.chunks_before current.asked.call) × (tries_below (m.files file).chunks id (chunk_count m file) ≡ 0)) =
+      on_some (λ file. IsTrue (is_too_long (chunk_size m file) current.asked.chunks_before current.asked.call) × (tries_below (m.files file).chunks id (chunk_count m file) ≡ 0)) current.asked.file h in
       (at.0, at.1, at.2.0, at.2.1)
   cause Collected h =
       let at : (file : ℕ) × (current.asked.file ≡ Some file) × (IsTrue (m.files file).is_collected × IsTrue (uses_chunks current.asked.call)) =

@@ -18,7 +18,6 @@ use Rattle.relaxed_file.specs.Answers.{HasSuccess, IsWrite, IsAppendAt, IsDone, 
 use Rattle.relaxed_file.specs.Run.{IsReached}
 use Rattle.protocol.specs.Each.{EachNumber}
 use Rattle.protocol_invariant.specs.Allowed.{HasOne, is_write, is_append_at, is_read_as, IsAnswer, IsCauseOf, IsReturn}
-use Rattle.protocol_allowed.proofs.Tests.{has_value}
 use Rattle.protocol_allowed.proofs.SuccessesBack.{write_passes, append_passes, has_one, place_within}
 use Rattle.protocol_allowed.proofs.ReadsBack.{read_as, bytes_of, rounds_of}
 
@@ -27,7 +26,7 @@ module _ (config : Config) (m : Machine) (way : IsReached config m) (client : �
   id = record { client = client; number = current.number }
 
   abbrev AreWritten : ℕ → ℕ → ℕ → Type 0
-  AreWritten offset count file = EachNumber (suc ((offset + count) / m.config.chunk)) (λ index. IsTrue (has_part m.config.chunk offset count index) → HasOne m client id file index is_write)
+  AreWritten offset count file = EachNumber (suc ((offset + count) / chunk_size m file)) (λ index. IsTrue (has_part (chunk_size m file) offset count index) → HasOne m client id file index is_write)
 
   written : (offset count : ℕ) (o : Option ℕ) → IsSome o
       → IfSome o (λ file. (index : ℕ) → IsTrue (has_part (chunk_size m file) offset count index) → HasSuccess m client id file index IsWrite) → IsSomeAnd o (AreWritten offset count)
@@ -39,22 +38,29 @@ module _ (config : Config) (m : Machine) (way : IsReached config m) (client : �
 
   appended : (fd : Fd) (bytes : List ℕ) (x : ℕ) → IsDone m client current (call.Append fd bytes) (answer.At x) → IsAnswer m client current (call.Append fd bytes) (answer.At x)
   appended fd bytes x h =
-      let small : h.3 < m.config.chunk = place_within config m way client id h.0 h.2 h.3 h.6 in
-      let index : x / m.config.chunk ≡ h.2 = ap (λ y. y / m.config.chunk) h.4 ∙ div-mul-add h.2 m.config.chunk h.3 small in
-      let place : x % m.config.chunk ≡ h.3 = ap (λ y. y % m.config.chunk) h.4 ∙ mod-mul-add h.2 m.config.chunk h.3 small in
+      let size : ℕ = chunk_size m h.0 in
+      let small : h.3 < size = place_within config m way client id h.0 h.2 h.3 h.6 in
+      let index : x / size ≡ h.2 = ap (λ y. y / size) h.4 ∙ div-mul-add h.2 size h.3 small in
+      let place : x % size ≡ h.3 = ap (λ y. y % size) h.4 ∙ mod-mul-add h.2 size h.3 small in
       let there : IsAppended h.0 h.2 h.3 = (h.5, has_one m client id h.0 h.2 (is_append_at h.3) (IsAppendAt h.3) (append_passes h.3) h.6) in
-      subst (λ o. IsSomeAnd o (λ file. IsAppended file (x / m.config.chunk) (x % m.config.chunk))) (sym h.1)
-      (subst (λ p. IsAppended h.0 (x / m.config.chunk) p) (sym place) (subst (λ i. IsAppended h.0 i h.3) (sym index) there))
+      subst (λ o. IsSomeAnd o (λ file. IsAppended file (x / chunk_size m file) (x % chunk_size m file))) (sym h.1)
+      (subst (λ p. IsAppended h.0 (x / size) p) (sym place) (subst (λ i. IsAppended h.0 i h.3) (sym index) there))
+
+  -- what was read is so of this file's size
+  abbrev Reads : ℕ → ℕ → List ℕ → List ℕ → ℕ → Type 0
+  Reads offset count bytes rounds file =
+      IsTrue (is_read_as (suc (suc ((offset + count) / chunk_size m file))) (chunk_size m file) offset count current.pieces (offset / chunk_size m file) bytes rounds)
 
   read : (fd : Fd) (offset count : ℕ) (bytes rounds : List ℕ) → IsDone m client current (call.Read fd offset count) (answer.Bytes bytes rounds) → IsAnswer m client current (call.Read fd offset count) (answer.Bytes bytes rounds)
   read fd offset count bytes rounds h =
-      let parts : ℕ = suc ((offset + count) / m.config.chunk) in
-      let same : IsTrue (is_read_as (suc parts) m.config.chunk offset count current.pieces (offset / m.config.chunk) (bytes_of h.2) (rounds_of h.2)) =
-      read_as m.config.chunk offset count current.pieces parts (offset / m.config.chunk) h.2 (omega arith) h.3 in (
+      let size : ℕ = chunk_size m h.0 in
+      let parts : ℕ = suc ((offset + count) / size) in
+      let same : IsTrue (is_read_as (suc parts) size offset count current.pieces (offset / size) (bytes_of h.2) (rounds_of h.2)) =
+      read_as size offset count current.pieces parts (offset / size) h.2 (omega arith) h.3 in (
         h.6,
-        has_value current.asked.file h.0 h.1,
-        subst (λ bs. IsTrue (is_read_as (suc parts) m.config.chunk offset count current.pieces (offset / m.config.chunk) bs rounds)) (sym h.4)
-            (subst (λ rs. IsTrue (is_read_as (suc parts) m.config.chunk offset count current.pieces (offset / m.config.chunk) (bytes_of h.2) rs)) (sym h.5) same),
+        subst (λ o. IsSomeAnd o (Reads offset count bytes rounds)) (sym h.1)
+            (subst (λ bs. IsTrue (is_read_as (suc parts) size offset count current.pieces (offset / size) bs rounds)) (sym h.4)
+            (subst (λ rs. IsTrue (is_read_as (suc parts) size offset count current.pieces (offset / size) (bytes_of h.2) rs)) (sym h.5) same)),
       )
 
   done : (c : Call) (reply : Answer) → IsDone m client current c reply → IsAnswer m client current c reply
@@ -68,7 +74,7 @@ module _ (config : Config) (m : Machine) (way : IsReached config m) (client : �
   cause : (reason : Refusal) → IsCause m client current reason → IsCauseOf m client current reason
   cause BadFd h = h
   cause TooLong h =
-      subst (λ o. IsSomeAnd o (λ file. IsTrue (is_too_long m.config.chunk current.asked.chunks_before current.asked.call) × (tries_below (m.files file).chunks id (chunk_count m file) ≡ 0))) (sym h.1) (h.2, h.3)
+      subst (λ o. IsSomeAnd o (λ file. IsTrue (is_too_long (chunk_size m file) current.asked.chunks_before current.asked.call) × (tries_below (m.files file).chunks id (chunk_count m file) ≡ 0))) (sym h.1) (h.2, h.3)
   cause Collected h = subst (λ o. IsSomeAnd o (λ file. IsTrue (m.files file).is_collected × IsTrue (uses_chunks current.asked.call))) (sym h.1) (h.2, h.3)
   cause NoMemory h = h
   cause other h = absurd h

@@ -7,7 +7,7 @@ use Rattle.gfs_types.specs.declared.config.Config.{Config}
 use Rattle.gfs_types.specs.declared.mutation.Mutation.{Mutation}
 use Rattle.gfs_types.specs.declared.mutation.Mutation.TheVariants.{Write, Append}
 use Rattle.relaxed_file.specs.Order.{CallId, same_call, Entry}
-use Rattle.relaxed_file.specs.Machine.{Machine, chunk_at}
+use Rattle.relaxed_file.specs.Machine.{Machine, chunk_size, chunk_at}
 use Rattle.relaxed_file.specs.Answers.{HasSuccess, IsWrite, IsAppendAt}
 use Rattle.relaxed_file.specs.Run.{IsReached}
 use Rattle.relaxed_file.proofs.Tables.{contained}
@@ -35,6 +35,6 @@ begins_at size place (Append offset bytes) within at = subst (λ n. n < size) at
 begins_at size place other within at = absurd at
 
 -- in every run an append's place lies within its chunk
-pub place_within : (config : Config) (m : Machine) → IsReached config m → (client : ℕ) (id : CallId) (file index place : ℕ) → HasSuccess m client id file index (IsAppendAt place) → place < m.config.chunk
+pub place_within : (config : Config) (m : Machine) → IsReached config m → (client : ℕ) (id : CallId) (file index place : ℕ) → HasSuccess m client id file index (IsAppendAt place) → place < chunk_size m file
 place_within config m way client id file index place h =
-    begins_at m.config.chunk place (h.2).mutation (contained (λ (e : Entry). BeginsWithin m.config.chunk e.mutation) (chunk_at m file index).order h.2 (begins_when_reached config m way file index) h.3) h.5
+    begins_at (chunk_size m file) place (h.2).mutation (contained (λ (e : Entry). BeginsWithin (chunk_size m file) e.mutation) (chunk_at m file index).order h.2 (begins_when_reached config m way file index) h.3) h.5

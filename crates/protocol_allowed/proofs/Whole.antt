@@ -58,7 +58,7 @@ what_is_computed_is_allowed m (Tell client file index) h = on_call m client (λ 
 what_is_computed_is_allowed m (Note client file index round count) h =
     on_call m client (λ current. MayNote m client current file index round count) (λ current. MayNote m client current file index round count) (λ current g. g) h
 what_is_computed_is_allowed m (Look client file index least last chosen) h =
-    on_call m client (λ current. IsOn current file × IsTrue (reads_part m.config.chunk index current.asked.call) × IsLookAt m client file index least last chosen)
+    on_call m client (λ current. IsOn current file × IsTrue (reads_part (machine.chunk_size m file) index current.asked.call) × IsLookAt m client file index least last chosen)
     (λ current. MayLook m client current file index least last chosen) (λ current g. (g.0, g.1, look m client file index least last chosen g.2)) h
 what_is_computed_is_allowed m (LookPast client index) h = on_call m client (λ current. MayLookPast current index) (λ current. MayLookPast current index) (λ current g. g) h
 what_is_computed_is_allowed m (Measure client file index told least last chosen) h =

@@ -10,7 +10,7 @@ use Rattle.gfs_types.specs.declared.mutation.Mutation.{Mutation}
 use Rattle.gfs_types.specs.declared.mutation.Mutation.TheVariants.{Write, Append, Pad}
 use Rattle.gfs_types.specs.Mutations.{start_of, end_of, is_placed_by_system}
 use Rattle.relaxed_file.specs.Order.{Entry, CallId, mutations_of}
-use Rattle.relaxed_file.specs.Machine.{Machine, new_machine, chunk_at}
+use Rattle.relaxed_file.specs.Machine.{Machine, new_machine, chunk_size, chunk_at}
 use Rattle.relaxed_file.specs.Chunks.{AsksFor, settled_at, is_an_end}
 use Rattle.relaxed_file.specs.Run.{Action, Allows, after, IsReached}
 use Rattle.relaxed_file.specs.EntryLaws.{IsOfCall, IsOfLawfulLength, IsNeededBy, TooLongIsNeverPlaced, PadsAreNeeded, is_end_of_some, BeginAtEnds, AppendsLeaveNoGap}
@@ -25,53 +25,49 @@ use Rattle.relaxed_file.proofs.Reached.{kept_to}
 abbrev FitsCall : ℕ → Mutation → Call → Type 0
 FitsCall size mutation c = IsOfLawfulLength size c × IsNeededBy size mutation c
 
-abbrev Fits : Machine → Entry → Type 0
-Fits m e = IsOfCall m (FitsCall m.config.chunk e.mutation) e
+abbrev Fits : Machine → (size : ℕ) → Entry → Type 0
+Fits m size e = IsOfCall m (FitsCall size e.mutation) e
 
-fits_settled : (m : Machine) (place : ℕ) (order : List Entry) → AllByRecursion (Fits m) order → AllByRecursion (Fits m) (settled_at place order)
-fits_settled m place [] all = tt
-fits_settled m zero (e ∷ rest) all = all
-fits_settled m (suc place) (e ∷ rest) all = (all.0, fits_settled m place rest all.1)
+fits_settled : (m : Machine) (size place : ℕ) (order : List Entry) → AllByRecursion (Fits m size) order → AllByRecursion (Fits m size) (settled_at place order)
+fits_settled m size place [] all = tt
+fits_settled m size zero (e ∷ rest) all = all
+fits_settled m size (suc place) (e ∷ rest) all = (all.0, fits_settled m size place rest all.1)
 
-fits_here : (m : Machine) (id : CallId) (file index : ℕ) (c : Call) (mutation : Mutation) → AsksFor m id file index c mutation → FitsCall m.config.chunk mutation c
+fits_here : (m : Machine) (id : CallId) (file index : ℕ) (c : Call) (mutation : Mutation) → AsksFor m id file index c mutation → FitsCall (chunk_size m file) mutation c
 fits_here m id file index (call.Write fd offset bytes) (Write at content) asks = (asks.0, tt)
 fits_here m id file index (call.Append fd bytes) (Append at content) asks = (asks.1, tt)
 fits_here m id file index (call.Append fd bytes) (Pad at end) asks = (asks.0, asks.2)
 fits_here m id file index other mutation asks = absurd asks
 
-fits_later : (m n : Machine) (e : Entry) → Grows m n → Fits m e → Fits n e
-fits_later m n e g h = (h.0, (g.clients e.call.client).calls e.call.number h.0 h.1, subst (λ (c : Config). FitsCall c.chunk e.mutation (h.0).call) (sym g.config) h.2)
+fits_later : (m n : Machine) (size : ℕ) (e : Entry) → Grows m n → Fits m size e → Fits n size e
+fits_later m n size e g h = (h.0, (g.clients e.call.client).calls e.call.number h.0 h.1, h.2)
 
-record Holding (config : Config) (m : Machine) : Type 0 where
+record Holding (m : Machine) : Type 0 where
   known : Known m
-  same_config : m.config ≡ config
-  each : (file index : ℕ) → AllByRecursion (Fits m) (chunk_at m file index).order
+  each : (file index : ℕ) → AllByRecursion (Fits m (chunk_size m file)) (chunk_at m file index).order
 
-fits_step : (config : Config) (m : Machine) (action : Action) → Allows m action → Holding config m → Holding config (after m action)
-fits_step config m action allowed h = record {
+fits_step : (m : Machine) (action : Action) → Allows m action → Holding m → Holding (after m action)
+fits_step m action allowed h = record {
   known = known_step m action allowed h.known;
-  same_config = (grows_step m action allowed h.known).config ∙ h.same_config;
-  each = λ file index. all_more _ (λ e. fits_later m (after m action) e (grows_step m action allowed h.known))
-      (chunk_step m (λ i chunk. AllByRecursion (Fits m) chunk.order)
-      (λ i. tt) (λ i chunk round later all. all) (λ i chunk all. all)
-      (λ client current f i mutation is may all. all_pushed (Fits m) _ _ all
+  each = λ file index. all_more _ (λ e. fits_later m (after m action) (chunk_size (after m action) file) e (grows_step m action allowed h.known))
+      (chunk_step m (λ size i chunk. AllByRecursion (Fits m size) chunk.order)
+      (λ size i. tt) (λ size i chunk round later all. all) (λ size i chunk all. all)
+      (λ client current f i mutation is may all. all_pushed (Fits m (chunk_size m f)) _ _ all
       (current.asked, open_is_made m client current h.known is, fits_here m (record { client = client; number = current.number }) f i current.asked.call mutation may.3))
-      (λ i chunk place at all. fits_settled m place chunk.order all)
+      (λ size i chunk place at all. fits_settled m size place chunk.order all)
       action allowed h.each file index);
 }
 
-fits_when_reached : (config : Config) (m : Machine) → IsReached config m → Holding config m
-fits_when_reached config m way = kept_to (Holding config) (fits_step config) (new_machine config) m way (record { known = known_at_first config; same_config = refl; each = λ file index. tt })
+fits_when_reached : (config : Config) (m : Machine) → IsReached config m → Holding m
+fits_when_reached config m way = kept_to Holding fits_step (new_machine config) m way (record { known = known_at_first config; each = λ file index. tt })
 
 pub too_long_is_never_placed : TooLongIsNeverPlaced
 too_long_is_never_placed config m way file index =
-    let h : Holding config m = fits_when_reached config m way in
-    all_more _ (λ e (f : Fits m e). (f.0, f.1, subst (λ (c : Config). IsOfLawfulLength c.chunk (f.0).call) h.same_config (f.2).0)) (h.each file index)
+    all_more _ (λ e (f : Fits m (chunk_size m file) e). (f.0, f.1, (f.2).0)) ((fits_when_reached config m way).each file index)
 
 pub pads_are_needed : PadsAreNeeded
 pads_are_needed config m way file index =
-    let h : Holding config m = fits_when_reached config m way in
-    all_more _ (λ e (f : Fits m e). (f.0, f.1, subst (λ (c : Config). IsNeededBy c.chunk e.mutation (f.0).call) h.same_config (f.2).1)) (h.each file index)
+    all_more _ (λ e (f : Fits m (chunk_size m file) e). (f.0, f.1, (f.2).1)) ((fits_when_reached config m way).each file index)
 
 -- an end of entries is one of their mutations
 same_ends : (order : List Entry) (at : ℕ) → list_any (λ e. end_of e.mutation == at) order ≡ list_any (λ m. end_of m == at) (mutations_of order)
@@ -107,12 +103,12 @@ asked_at_end m id file index other mutation asks placed = absurd asks
 
 pub appends_leave_no_gap : AppendsLeaveNoGap
 appends_leave_no_gap config m way file index =
-    every_chunk config (λ i chunk. BeginAtEnds [] (mutations_of chunk.order))
-    (λ i. tt) (λ i chunk round later h. h) (λ i chunk h. h)
+    every_chunk config (λ size i chunk. BeginAtEnds [] (mutations_of chunk.order))
+    (λ size i. tt) (λ size i chunk round later h. h) (λ size i chunk h. h)
     (λ n client current f i mutation same may h.
     subst (BeginAtEnds []) (sym (mutations_pushed (chunk_at n f i).order _))
     (pushed_at_end [] (mutations_of (chunk_at n f i).order) mutation h (λ placed.
     end_is (chunk_at n f i).order (start_of mutation)
     (asked_at_end n (record { client = client; number = current.number }) f i current.asked.call mutation may.3 placed))))
-    (λ i chunk place at h. subst (BeginAtEnds []) (sym (mutations_settled place chunk.order)) h)
+    (λ size i chunk place at h. subst (BeginAtEnds []) (sym (mutations_settled place chunk.order)) h)
     m way file index

@@ -54,10 +54,10 @@ settle_keeps id (suc place) (e ∷ rest) =
 
 pub tries_are_limited : TriesAreLimited
 tries_are_limited config m way id file index =
-    every_chunk config (λ i chunk. (own : CallId) → tries_in own chunk ≤ config.attempts)
-    (λ i own. omega arith)
-    (λ i chunk round later h. h)
-    (λ i chunk h. h)
+    every_chunk config (λ size i chunk. (own : CallId) → tries_in own chunk ≤ config.attempts)
+    (λ size i own. omega arith)
+    (λ size i chunk round later h. h)
+    (λ size i chunk h. h)
     (λ k client current f i mutation settings may h own. place_keeps config k client current f i mutation settings may own (h own))
-    (λ i chunk place at h own. subst (λ n. n ≤ config.attempts) (sym (settle_keeps own place chunk.order)) (h own))
+    (λ size i chunk place at h own. subst (λ n. n ≤ config.attempts) (sym (settle_keeps own place chunk.order)) (h own))
     m way file index id

@@ -9,21 +9,23 @@ use Rattle.gfs_types.specs.declared.answer.Answer.{Answer}
 use Rattle.gfs_types.specs.declared.answer.Answer.TheVariants as answer
 use Rattle.gfs_types.specs.declared.ids.Fd.{Fd}
 use Rattle.gfs_types.specs.declared.config.Config.{Config}
+use Rattle.gfs_types.specs.declared.shape.Shape.{Shape}
 use Rattle.gfs_types.specs.declared.mutation.Mutation.{Mutation}
 use Rattle.gfs_types.specs.declared.mutation.Mutation.TheVariants.{Write, Append, Pad}
 use Rattle.gfs_types.specs.Mutations.{start_of, end_of, is_placed_by_system}
 use Rattle.relaxed_file.specs.Order.{Entry, CallId, same_call}
 use Rattle.relaxed_file.specs.Parts.{has_part, part_start, part_bytes}
-use Rattle.relaxed_file.specs.Machine.{Machine, new_machine, Client, Asked, OpenCall, IsOpen, chunk_at, chunk_count}
+use Rattle.relaxed_file.specs.Machine.{Machine, new_machine, Client, Asked, OpenCall, IsOpen, chunk_size, chunk_at, chunk_count}
 use Rattle.relaxed_file.specs.Answers.{IsSuccess, HasSuccess, IsWrite, IsAppendAt, IsDone, MayReturn, returned}
 use Rattle.relaxed_file.specs.Run.{Return, Allows, after, LeadsTo, IsReached}
 use Rattle.relaxed_file.specs.RunLaws.{IsAskedOf, WasAskedFor, StandsAt, MayAnswer, SettledEntriesStay, AnsweredAppendsStay, AnsweredWritesStay, AnsweredOffsetsDiffer, LiePastSettled}
 use Rattle.relaxed_file.proofs.Tables.{contained, from_some, put_same, at_some}
 use Rattle.relaxed_file.proofs.Reached.{leads_on, leads_by}
-use Rattle.relaxed_file.proofs.Known.{Known, known_step}
+use Rattle.relaxed_file.proofs.Known.{Known, known_step, made_by_count}
 use Rattle.relaxed_file.proofs.Grows.{Grows, EntryGrows, OrderGrows, OpenGrows, IsSameCall, grows_to, known_when_reached, known_at_first}
 use Rattle.relaxed_file.proofs.AskedFor.{entries_were_asked_for, open_is_made}
 use Rattle.relaxed_file.proofs.Apart.{appends_lie_apart}
+use Rattle.relaxed_file.proofs.ShapesKept.{shapes_stay}
 
 settled_same : (e f : Entry) → EntryGrows e f → IsTrue e.settled → f ≡ e
 settled_same e f g s = λ i. record { call = (sym g.0) i; round = (sym g.1) i; mutation = (sym g.2) i; settled = (g.3 s ∙ sym s) i }
@@ -50,17 +52,15 @@ same_id a b h = let both = and_parts _ _ h in λ i. record { client = (eqb-true 
 -- a success of a call is what the call asked for
 pub success_asked : (config : Config) (m : Machine) (client : ℕ) (current : OpenCall) (file index noted : ℕ) (e : Entry)
     → IsReached config m → IsOpen m client current → Contains (chunk_at m file index).order e → IsSuccess (record { client = client; number = current.number }) noted e
-    → IsAskedOf config.chunk index current.asked.call e.mutation
+    → IsAskedOf (chunk_size m file) index current.asked.call e.mutation
 success_asked config m client current file index noted e reached is_open there success =
     let known : Known m = known_when_reached config m reached in
-    let asked : WasAskedFor m index e = contained (WasAskedFor m index) _ e (entries_were_asked_for config m reached file index) there in
+    let asked : WasAskedFor m file index e = contained (WasAskedFor m file index) _ e (entries_were_asked_for config m reached file index) there in
     let made : (m.clients client).calls current.number ≡ Some current.asked = open_is_made m client current known is_open in
     let id : record { client = client; number = current.number } ≡ e.call = same_id _ e.call success.0 in
     let found : (m.clients client).calls current.number ≡ Some asked.0 = subst (λ (c : CallId). (m.clients c.client).calls c.number ≡ Some asked.0) (sym id) asked.1 in
     let same : asked.0 ≡ current.asked = from_some (sym found ∙ made) in
-    let settings : m.config ≡ config = (grows_to (new_machine config) m reached (known_at_first config)).config in
-    subst (λ (c : Config). IsAskedOf c.chunk index current.asked.call e.mutation) settings
-    (subst (λ (a : Asked). IsAskedOf m.config.chunk index a.call e.mutation) same asked.2)
+    subst (λ (a : Asked). IsAskedOf (chunk_size m file) index a.call e.mutation) same asked.2
 
 -- the append that a success is
 append_is : (size index offset : ℕ) (fd : Fd) (bytes : List ℕ) (mutation : Mutation) → IsAskedOf size index (call.Append fd bytes) mutation → IsAppendAt offset mutation
@@ -88,13 +88,13 @@ pub record AnsweredAppend (config : Config) (m : Machine) (client file : ℕ) (b
   pub open_now : IsOpen m client current
   pub index : ℕ
   pub offset : ℕ
-  pub is : x ≡ index * config.chunk + offset
+  pub is : x ≡ index * chunk_size m file + offset
   pub entry : Entry
   pub there : Contains (chunk_at m file index).order entry
   pub call_is : entry.call ≡ record { client = client; number = current.number }
   pub settled : IsTrue entry.settled
   pub what : entry.mutation ≡ Append offset bytes
-  pub room : offset + length bytes ≤ config.chunk
+  pub room : offset + length bytes ≤ chunk_size m file
   pub has_chunk : index < chunk_count m file
   pub noted : ℕ
   pub note_is : (m.clients client).notes file index ≡ Some noted
@@ -108,16 +108,15 @@ answered config m client file fd bytes x reached a =
     let same : done.0 ≡ file = from_some (sym done.1 ∙ a.2) in
     let found : HasSuccess m client (record { client = client; number = current.number }) file done.2 (IsAppendAt done.3) =
     subst (λ f. HasSuccess m client (record { client = client; number = current.number }) f done.2 (IsAppendAt done.3)) same done.6 in
-    let asked : IsAskedOf config.chunk done.2 (call.Append fd bytes) (found.2).mutation =
-    subst (λ c. IsAskedOf config.chunk done.2 c (found.2).mutation) a.3 (success_asked config m client current file done.2 found.0 found.2 reached a.1 found.3 found.4) in
-    let settings : m.config ≡ config = (grows_to (new_machine config) m reached (known_at_first config)).config in
-    let both = append_is config.chunk done.2 done.3 fd bytes (found.2).mutation asked found.5 in
+    let asked : IsAskedOf (chunk_size m file) done.2 (call.Append fd bytes) (found.2).mutation =
+    subst (λ c. IsAskedOf (chunk_size m file) done.2 c (found.2).mutation) a.3 (success_asked config m client current file done.2 found.0 found.2 reached a.1 found.3 found.4) in
+    let both = append_is (chunk_size m file) done.2 done.3 fd bytes (found.2).mutation asked found.5 in
     record {
       current = current;
       open_now = a.1;
       index = done.2;
       offset = done.3;
-      is = subst (λ (c : Config). x ≡ done.2 * c.chunk + done.3) settings done.4;
+      is = subst (λ f. x ≡ done.2 * chunk_size m f + done.3) same done.4;
       entry = found.2;
       there = found.3;
       call_is = sym (same_id _ _ (found.4).0);
@@ -147,17 +146,16 @@ answered_appends_stay config m client file fd bytes x reached a =
 pub answered_writes_stay : AnsweredWritesStay
 answered_writes_stay config m client file fd offset bytes index reached a part =
     let current : OpenCall = a.0 in
-    let settings : m.config ≡ config = (grows_to (new_machine config) m reached (known_at_first config)).config in
     let done : IsDone m client current (call.Write fd offset bytes) answer.Done = subst (λ c. IsDone m client current c answer.Done) a.3 a.4 in
-    let each : (i : ℕ) → IsTrue (has_part m.config.chunk offset (length bytes) i) → HasSuccess m client (record { client = client; number = current.number }) file i IsWrite =
-    subst (λ (o : Option ℕ). IfSome o (λ f. (i : ℕ) → IsTrue (has_part m.config.chunk offset (length bytes) i) → HasSuccess m client (record { client = client; number = current.number }) f i IsWrite)) a.2 done.0 in
-    let found : HasSuccess m client (record { client = client; number = current.number }) file index IsWrite = each index (subst (λ (c : Config). IsTrue (has_part c.chunk offset (length bytes) index)) (sym settings) part) in
-    let asked : IsAskedOf config.chunk index (call.Write fd offset bytes) (found.2).mutation =
-    subst (λ c. IsAskedOf config.chunk index c (found.2).mutation) a.3 (success_asked config m client current file index found.0 found.2 reached a.1 found.3 found.4) in (
+    let each : (i : ℕ) → IsTrue (has_part (chunk_size m file) offset (length bytes) i) → HasSuccess m client (record { client = client; number = current.number }) file i IsWrite =
+    subst (λ (o : Option ℕ). IfSome o (λ f. (i : ℕ) → IsTrue (has_part (chunk_size m f) offset (length bytes) i) → HasSuccess m client (record { client = client; number = current.number }) f i IsWrite)) a.2 done.0 in
+    let found : HasSuccess m client (record { client = client; number = current.number }) file index IsWrite = each index part in
+    let asked : IsAskedOf (chunk_size m file) index (call.Write fd offset bytes) (found.2).mutation =
+    subst (λ c. IsAskedOf (chunk_size m file) index c (found.2).mutation) a.3 (success_asked config m client current file index found.0 found.2 reached a.1 found.3 found.4) in (
       (found.3).0,
       λ n way.
           stands_later config m n file index (found.3).0 found.2 _ reached (leads_on m _ n (leads_by m (Return client answer.Done) (current, a.1, a.4)) way)
-          (found_at _ found.2 found.3) (found.4).1 (write_is config.chunk index offset fd bytes (found.2).mutation asked found.5),
+          (found_at _ found.2 found.3) (found.4).1 (write_is (chunk_size m file) index offset fd bytes (found.2).mutation asked found.5),
     )
 
 -- two entries of an order, the first of them settled and the second an append
@@ -244,13 +242,26 @@ module _ (config : Config) (m n : Machine) (client other file : ℕ) (fd fe : Fd
   second_there : slice_get (chunk_at n file second.index).order second.there.0 ≡ Some second.entry
   second_there = found_at _ second.entry second.there
 
+  -- the file was made, so that it keeps its size
+  size : ℕ
+  size = chunk_size m file
+
+  size_is : chunk_size n file ≡ size
+  size_is = ap (λ (shape : Shape). shape.chunk) (shapes_stay config m n file reached whole (made_by_count m file first.index (known_when_reached config m reached) first.has_chunk))
+
+  second_is : y ≡ second.index * size + second.offset
+  second_is = second.is ∙ ap (λ s. second.index * s + second.offset) size_is
+
+  second_room : second.offset + length two ≤ size
+  second_room = let room = second.room in omega (arith, room, size_is)
+
   in_one_chunk : first.index ≡ second.index → (x + length one ≤ y) ⊎ (y + length two ≤ x)
   in_one_chunk same =
       let at_first : slice_get (chunk_at n file second.index).order first.there.0 ≡ Some first.entry =
       subst (λ i. slice_get (chunk_at n file i).order first.there.0 ≡ Some first.entry) same first_there in
       let lie : LiePastSettled (chunk_at n file second.index).order = appends_lie_apart config n reached_later file second.index in
-      let x_is : x ≡ second.index * config.chunk + first.offset = subst (λ i. x ≡ i * config.chunk + first.offset) same first.is in
-      let y_is : y ≡ second.index * config.chunk + second.offset = second.is in
+      let x_is : x ≡ second.index * size + first.offset = subst (λ i. x ≡ i * size + first.offset) same first.is in
+      let y_is : y ≡ second.index * size + second.offset = second_is in
       elim (cases_lt first.there.0 second.there.0) [
         | inl before ↦ inl (let l : first.offset + length one ≤ second.offset = past_append _ first.there.0 second.there.0 first.entry second.entry first.offset second.offset one two lie before at_first second_there first.settled first.what second.what in omega (arith, l, x_is, y_is))
         | inr after ↦ elim (cases_lt second.there.0 first.there.0) [
@@ -268,12 +279,12 @@ module _ (config : Config) (m n : Machine) (client other file : ℕ) (fd fe : Fd
 
   differ : (x + length one ≤ y) ⊎ (y + length two ≤ x)
   differ = elim (cases_lt first.index second.index) [
-    | inl below ↦ inl (let l : first.index * config.chunk + first.offset + length one ≤ second.index * config.chunk + second.offset = apart_by_index config.chunk first.index second.index first.offset second.offset (length one) below first.room in
-        omega (arith, l, first.is, second.is))
+    | inl below ↦ inl (let l : first.index * size + first.offset + length one ≤ second.index * size + second.offset = apart_by_index size first.index second.index first.offset second.offset (length one) below first.room in
+        omega (arith, l, first.is, second_is))
     | inr above ↦ elim (cases_eq first.index second.index) [
       | inl same ↦ in_one_chunk same
-      | inr other ↦ inr (let l : second.index * config.chunk + second.offset + length two ≤ first.index * config.chunk + first.offset = apart_by_index config.chunk second.index first.index second.offset first.offset (length two) (omega arith) second.room in
-          omega (arith, l, first.is, second.is))
+      | inr other ↦ inr (let l : second.index * size + second.offset + length two ≤ first.index * size + first.offset = apart_by_index size second.index first.index second.offset first.offset (length two) (omega arith) second_room in
+          omega (arith, l, first.is, second_is))
     ]
   ]
 
