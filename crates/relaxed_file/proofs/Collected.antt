@@ -16,7 +16,7 @@ use Rattle.relaxed_file.proofs.Tables.{put_other, put_look, at_some}
 use Rattle.relaxed_file.proofs.Reached.{kept_to}
 use Rattle.relaxed_file.proofs.Known.{Known, known_step, asked_is}
 use Rattle.relaxed_file.proofs.Grows.{grows_step, known_when_reached}
-use Rattle.relaxed_file.proofs.FilesApart.{copies_other}
+use Rattle.relaxed_file.proofs.CopiedFiles.{copies_other}
 
 -- a file that is collected was made
 made_by_collection : (m : Machine) (file : ℕ) → Known m → IsTrue (m.files file).is_collected → file ≤ m.file_count

@@ -23,8 +23,9 @@ use Rattle.relaxed_file.specs.Answers.{IsCause, MayReturn, may_give_up, is_too_l
 use Rattle.relaxed_file.specs.Run.{Action, Invoke, Return, ReturnFd, Step, Place, Pass, Answered, shown, Allows, after, after_all, IsLawful, asked_now}
 use Rattle.relaxed_file.specs.RunLaws.{IsAnswerTo, IsEffectFor, DeniesNothing, RefusedCallsHadNoEffect, NameStepsComeOnce}
 use Rattle.relaxed_file.proofs.Tables.{put_same, at_some, contained, from_some}
-use Rattle.relaxed_file.proofs.Known.{Known, known_step}
+use Rattle.relaxed_file.proofs.Known.{Known, known_step, made_by_count}
 use Rattle.relaxed_file.proofs.Grows.{Grows, grows_step, known_when_reached}
+use Rattle.relaxed_file.proofs.ShapesKept.{KeepsSizes, sizes_step}
 use Rattle.relaxed_file.proofs.OwnReads.{performed_clients}
 use Rattle.relaxed_file.proofs.CallSteps.{GetsOutcome, Goes, CallStep, call_step, fresh_call}
 use Rattle.relaxed_file.proofs.Moments.{who_of, called_not, passed_not, no_cons}
@@ -75,7 +76,7 @@ IsShortAppend size other = ⊥
 
 -- only a write or append places anything, and a pad only an append that is short enough
 asks_of : (m : Machine) (id : CallId) (file index : ℕ) (c : Call) (mutation : Mutation) → AsksFor m id file index c mutation
-    → IsFalse (is_name_call c) × (IsFalse (is_pad mutation) ⊎ IsShortAppend m.config.chunk c)
+    → IsFalse (is_name_call c) × (IsFalse (is_pad mutation) ⊎ IsShortAppend (chunk_size m file) c)
 asks_of m id file index (call.Write fd offset bytes) (Write at content) asks = (refl, inl refl)
 asks_of m id file index (call.Append fd bytes) (Append at content) asks = (refl, inl refl)
 asks_of m id file index (call.Append fd bytes) (Pad at end) asks = (refl, inr asks.0)
@@ -95,7 +96,8 @@ record IsPlaceMark (m : Machine) (client : ℕ) (c : OpenCall) : Type 0 where
   nothing : c.outcomes ≡ []
   file : ℕ
   on : c.asked.file ≡ Some file
-  tried : (0 < tries_below (m.files file).chunks (record { client = client; number = c.number }) (chunk_count m file)) ⊎ IsShortAppend m.config.chunk c.asked.call
+  made : file ≤ m.file_count
+  tried : (0 < tries_below (m.files file).chunks (record { client = client; number = c.number }) (chunk_count m file)) ⊎ IsShortAppend (chunk_size m file) c.asked.call
 
 abbrev IsMark : Machine → ℕ → OpenCall → Type 0
 IsMark m client c = IsTrue c.has_begun × (IsStepMark c ⊎ IsPlaceMark m client c)
@@ -118,27 +120,29 @@ step_mark_goes m client c d same (inl kept) h = record {
 step_mark_goes m client c d same (inr (named, inl look, outcome, comes, more)) h = absurd (true≢false (sym look ∙ h.no_look))
 step_mark_goes m client c d same (inr (named, inr none, outcome, comes, more)) h = absurd (no_cons h.outcome [] (sym none ∙ h.is))
 
-place_mark_goes : (m n : Machine) (client : ℕ) (c d : OpenCall) → Grows m n → c.number ≡ d.number → c.asked ≡ d.asked → GetsOutcome m client c d → IsPlaceMark m client c → IsPlaceMark n client d
-place_mark_goes m n client c d g number same (inl kept) h = record {
+place_mark_goes : (m n : Machine) (client : ℕ) (c d : OpenCall) → Grows m n → KeepsSizes m n → c.number ≡ d.number → c.asked ≡ d.asked → GetsOutcome m client c d → IsPlaceMark m client c
+    → IsPlaceMark n client d
+place_mark_goes m n client c d g sizes number same (inl kept) h = record {
   unnamed = subst (λ a. IsFalse (is_name_call a.call)) same h.unnamed;
   nothing = kept ∙ h.nothing;
   file = h.file;
   on = ap (λ a. a.file) (sym same) ∙ h.on;
+  made = (let more = g.file_count in let was = h.made in omega (arith, more, was));
   tried = stays h.tried;
 }
   where
-    stays : (0 < tries_below (m.files h.file).chunks (record { client = client; number = c.number }) (chunk_count m h.file)) ⊎ IsShortAppend m.config.chunk c.asked.call
-        → (0 < tries_below (n.files h.file).chunks (record { client = client; number = d.number }) (chunk_count n h.file)) ⊎ IsShortAppend n.config.chunk d.asked.call
+    stays : (0 < tries_below (m.files h.file).chunks (record { client = client; number = c.number }) (chunk_count m h.file)) ⊎ IsShortAppend (chunk_size m h.file) c.asked.call
+        → (0 < tries_below (n.files h.file).chunks (record { client = client; number = d.number }) (chunk_count n h.file)) ⊎ IsShortAppend (chunk_size n h.file) d.asked.call
     stays (inl some) =
         let rose : tries_below (m.files h.file).chunks (record { client = client; number = c.number }) (chunk_count m h.file) ≤ tries_below (n.files h.file).chunks (record { client = client; number = c.number }) (chunk_count n h.file) =
         tries_rise m n (record { client = client; number = c.number }) h.file g in
         inl (subst (λ k. 0 < tries_below (n.files h.file).chunks (record { client = client; number = k }) (chunk_count n h.file)) number (omega (arith, some, rose)))
-    stays (inr short) = inr (subst (λ (s : Config). IsShortAppend s.chunk d.asked.call) (sym g.config) (subst (λ a. IsShortAppend m.config.chunk a.call) same short))
-place_mark_goes m n client c d g number same (inr more) h = absurd (true≢false (sym more.0 ∙ h.unnamed))
+    stays (inr short) = inr (subst (λ (s : ℕ). IsShortAppend s d.asked.call) (sym (sizes h.file h.made)) (subst (λ a. IsShortAppend (chunk_size m h.file) a.call) same short))
+place_mark_goes m n client c d g sizes number same (inr more) h = absurd (true≢false (sym more.0 ∙ h.unnamed))
 
-mark_goes : (m n : Machine) (client : ℕ) (c d : OpenCall) → Grows m n → Goes m client c d → IsMark m client c → IsMark n client d
-mark_goes m n client c d g goes (begins, inl h) = (goes.5 begins, inl (step_mark_goes m client c d goes.1 goes.4 h))
-mark_goes m n client c d g goes (begins, inr h) = (goes.5 begins, inr (place_mark_goes m n client c d g goes.0 goes.1 goes.4 h))
+mark_goes : (m n : Machine) (client : ℕ) (c d : OpenCall) → Grows m n → KeepsSizes m n → Goes m client c d → IsMark m client c → IsMark n client d
+mark_goes m n client c d g sizes goes (begins, inl h) = (goes.5 begins, inl (step_mark_goes m client c d goes.1 goes.4 h))
+mark_goes m n client c d g sizes goes (begins, inr h) = (goes.5 begins, inr (place_mark_goes m n client c d g sizes goes.0 goes.1 goes.4 h))
 
 pub plain_goes : (m : Machine) (client : ℕ) (c d : OpenCall) → c.asked ≡ d.asked → GetsOutcome m client c d → IsPlain c → IsPlain d
 plain_goes m client c d same (inl kept) plain = λ unnamed. kept ∙ plain (subst (λ a. IsFalse (is_name_call a.call)) (sym same) unnamed)
@@ -208,13 +212,15 @@ module _ (n : Machine) (client : ℕ) (c : OpenCall) (begins : IsTrue c.has_begu
   too_long (inl h) cause = named_not_long (chunk_size n cause.0) c.asked.chunks_before c.asked.call h.named cause.2
   too_long (inr h) cause = by_kind h.tried
     where
-      by_kind : (0 < tries_below (n.files h.file).chunks (record { client = client; number = c.number }) (chunk_count n h.file)) ⊎ IsShortAppend n.config.chunk c.asked.call → ⊥
+      by_kind : (0 < tries_below (n.files h.file).chunks (record { client = client; number = c.number }) (chunk_count n h.file)) ⊎ IsShortAppend (chunk_size n h.file) c.asked.call → ⊥
       by_kind (inl some) =
           let same : cause.0 ≡ h.file = from_some (sym cause.1 ∙ h.on) in
           let none : tries_below (n.files h.file).chunks (record { client = client; number = c.number }) (chunk_count n h.file) ≡ 0 =
           subst (λ f. tries_below (n.files f).chunks (record { client = client; number = c.number }) (chunk_count n f) ≡ 0) same cause.3 in
           omega (arith, some, none)
-      by_kind (inr short) = short_not_long n.config.chunk c.asked.chunks_before c.asked.call short cause.2
+      by_kind (inr short) =
+          let same : cause.0 ≡ h.file = from_some (sym cause.1 ∙ h.on) in
+          short_not_long (chunk_size n h.file) c.asked.chunks_before c.asked.call short (subst (λ f. IsTrue (is_too_long (chunk_size n f) c.asked.chunks_before c.asked.call)) same cause.2)
 
   no_cause : (reason : Refusal) → (IsStepMark c ⊎ IsPlaceMark n client c) → (DeniesNothing reason → ⊥) → IsCause n client c reason → ⊥
   no_cause BadFd h denies cause = bad_fd h cause
@@ -252,15 +258,21 @@ place_marks : (m : Machine) (client file index : ℕ) (mutation : Mutation) (c :
     → IsMarked (after m (Place client file index mutation)) client
 place_marks m client file index mutation c a known is plain =
     let id : CallId = record { client = client; number = (a.0).number } in
-    let asks : IsFalse (is_name_call (a.0).asked.call) × (IsFalse (is_pad mutation) ⊎ IsShortAppend m.config.chunk (a.0).asked.call) = asks_of m id file index (a.0).asked.call mutation (a.2).3 in
+    let asks : IsFalse (is_name_call (a.0).asked.call) × (IsFalse (is_pad mutation) ⊎ IsShortAppend (chunk_size m file) (a.0).asked.call) = asks_of m id file index (a.0).asked.call mutation (a.2).3 in
     let plain_here : IsPlain a.0 = subst IsPlain (from_some (sym is ∙ a.1)) plain in
-    (begun a.0, after_place m client file index mutation a, (refl, inr (record { unnamed = asks.0; nothing = plain_here asks.0; file = file; on = (a.2).0; tried = tried asks.1 })))
+    (begun a.0, after_place m client file index mutation a, (refl, inr (record { unnamed = asks.0; nothing = plain_here asks.0; file = file; on = (a.2).0; made = made_later; tried = tried asks.1 })))
   where
-    tried : (IsFalse (is_pad mutation) ⊎ IsShortAppend m.config.chunk (a.0).asked.call)
+    made : file ≤ m.file_count
+    made = made_by_count m file index known (a.2).1
+
+    made_later : file ≤ (after m (Place client file index mutation)).file_count
+    made_later = let more = (grows_step m (Place client file index mutation) a known).file_count in omega (arith, made, more)
+
+    tried : (IsFalse (is_pad mutation) ⊎ IsShortAppend (chunk_size m file) (a.0).asked.call)
         → (0 < tries_below ((after m (Place client file index mutation)).files file).chunks (record { client = client; number = (a.0).number }) (chunk_count (after m (Place client file index mutation)) file))
-        ⊎ IsShortAppend (after m (Place client file index mutation)).config.chunk (a.0).asked.call
+        ⊎ IsShortAppend (chunk_size (after m (Place client file index mutation)) file) (a.0).asked.call
     tried (inl no_pad) = inl (place_tries m client file index mutation a no_pad)
-    tried (inr short) = inr (subst (λ (s : Config). IsShortAppend s.chunk (a.0).asked.call) (sym (grows_step m (Place client file index mutation) a known).config) short)
+    tried (inr short) = inr (subst (λ (s : ℕ). IsShortAppend s (a.0).asked.call) (sym (sizes_step m (Place client file index mutation) a file made)) short)
 
 marks : (m : Machine) (action : Action) (client : ℕ) (c : OpenCall) → Allows m action → Known m → IsOpen m client c → IsPlain c → IsFalse (is_look c.asked.call) → IsEffectFor client action
     → IsMarked (after m action) client
@@ -281,7 +293,7 @@ module _ (client : ℕ) (reason : Refusal) (denies : DeniesNothing reason → �
       denied m client h.0 (h.2).0 reason (h.2).1 denies (subst (λ d. MayReturn m client d (answer.Refused reason)) same ends.2)
   never m (x ∷ xs) known lawful others h ends =
       let on : GoesOn m (after m x) client h.0 = goes_on m x client h.0 lawful.0 others.0 h.1 in
-      never (after m x) xs (known_step m x lawful.0 known) lawful.1 others.1 (on.0, on.1, mark_goes m (after m x) client h.0 on.0 (grows_step m x lawful.0 known) on.2 h.2) ends
+      never (after m x) xs (known_step m x lawful.0 known) lawful.1 others.1 (on.0, on.1, mark_goes m (after m x) client h.0 on.0 (grows_step m x lawful.0 known) (sizes_step m x lawful.0) on.2 h.2) ends
 
   no_effect : (m : Machine) (actions : List Action) (c : OpenCall) → Known m → IsLawful m actions → Unanswered client actions → IsOpen m client c → IsPlain c → IsFalse (is_look c.asked.call)
       → Allows (after_all m actions) (Return client (answer.Refused reason)) → AllByRecursion (λ action. IsEffectFor client action → ⊥) actions

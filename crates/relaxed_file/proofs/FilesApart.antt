@@ -2,31 +2,20 @@
 use Rattle.std.proofs.Common.{◌≡◌, ℕ, suc, ◌<◌, ◌≤◌, true, false, cond, List, [], ◌∷◌, Some, refl, sym, ◌∙◌, ap, arith}
 use Rattle.gfs_types.specs.declared.call.Call.{Call}
 use Rattle.gfs_types.specs.declared.call.Call.TheVariants as call
-use Rattle.gfs_types.specs.Paths.{Path}
-use Rattle.relaxed_file.specs.Names.{Node, Dir, File, copied_entries, id_after}
+use Rattle.relaxed_file.specs.Names.{copied_entries}
 use Rattle.relaxed_file.specs.Machine.{Machine, FileState, chunk_at, put}
-use Rattle.relaxed_file.specs.NameStep.{performed, is_refused, stepped, with_outcome, with_copied_file, with_copied_files, made_file}
+use Rattle.relaxed_file.specs.NameStep.{performed, is_refused, stepped, with_outcome, made_file}
 use Rattle.relaxed_file.specs.Chunks.{chunk_added, placed}
 use Rattle.relaxed_file.specs.Answers.{returned}
 use Rattle.relaxed_file.specs.Reads.{looked}
 use Rattle.relaxed_file.specs.Run.{Action, Return, Step, Expire, Add, OpenRound, CloseRound, Place, Settle, Look, Allows, after, after_all, IsLawful, asked_file}
 use Rattle.relaxed_file.specs.RunLaws.{file_changed_by, NoneChanges, FilesStayApart, PlacesAreOwn, ReadsSkipNothing}
 use Rattle.relaxed_file.proofs.Tables.{put_other, put_look, at_some}
-use Rattle.relaxed_file.proofs.Known.{Known, known_step, asked_is, id_after_rises}
+use Rattle.relaxed_file.proofs.Known.{Known, known_step, asked_is}
 use Rattle.relaxed_file.proofs.Grows.{grows_step, known_when_reached}
+use Rattle.relaxed_file.proofs.CopiedFiles.{copies_other}
 use Rattle.relaxed_file.proofs.Successes.{found_at}
 use Rattle.relaxed_file.proofs.OwnReads.{selected, has_place}
-
--- copies come under new ids
-copy_other : (files : ℕ → FileState) (next : ℕ) (node : Node) (k : ℕ) → k < next → with_copied_file files next node k ≡ files k
-copy_other files next Dir k l = refl
-copy_other files next (File id) k l = put_other next (files id) files k (λ same. absurd (omega arith))
-
-pub copies_other : (entries : List (Path × Node)) (files : ℕ → FileState) (next k : ℕ) → k < next → with_copied_files files next entries k ≡ files k
-copies_other [] files next k l = refl
-copies_other (e ∷ rest) files next k l =
-    let more : next ≤ id_after next e.1 = id_after_rises next e.1 in
-    copies_other rest (with_copied_file files next e.1) (id_after next e.1) k (omega arith) ∙ copy_other files next e.1 k l
 
 module _ (m : Machine) (file : ℕ) (made : file ≤ m.file_count) where
   abbrev Same : Machine → Type 0

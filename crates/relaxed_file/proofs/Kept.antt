@@ -15,7 +15,7 @@ use Rattle.relaxed_file.specs.Run.{Action, Return, Step, Expire, Add, OpenRound,
 use Rattle.relaxed_file.specs.RunLaws.{CollectedFilesWereKept}
 use Rattle.relaxed_file.proofs.Tables.{put_other, put_look, at_some}
 use Rattle.relaxed_file.proofs.Known.{asked_is}
-use Rattle.relaxed_file.proofs.FilesApart.{copies_other}
+use Rattle.relaxed_file.proofs.CopiedFiles.{copies_other}
 
 module _ (m : Machine) (file : ℕ) (made : file ≤ m.file_count) (before : IsFalse (m.files file).is_collected) where
   -- the file isn't collected in this state either, or it was kept long enough

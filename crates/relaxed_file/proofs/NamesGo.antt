@@ -21,7 +21,7 @@ use Rattle.relaxed_file.proofs.Tables.{at_some, from_some, put_same, all_more, c
 use Rattle.relaxed_file.proofs.Known.{Known, NodeBelow, asked_is, id_after_rises}
 use Rattle.relaxed_file.proofs.Grows.{known_when_reached}
 use Rattle.relaxed_file.proofs.PathParts.{IsTail, at_or_below_is, same_paths}
-use Rattle.relaxed_file.proofs.FilesApart.{copies_other}
+use Rattle.relaxed_file.proofs.CopiedFiles.{copies_other}
 use Rattle.relaxed_file.proofs.NamesTree.{HasAt, copied_of, entry_is, inserted_there, inserted_other, removed_other, same_or_other, unrefused, tests_passed}
 
 -- a name that is gone after another was added was not there before

@@ -7,7 +7,7 @@ use Rattle.gfs_types.specs.declared.shape.Shape.{Shape}
 use Rattle.gfs_types.specs.Shapes.{usual_shape, fits, may_have, shape_or}
 use Rattle.gfs_types.specs.Paths.{Path}
 use Rattle.relaxed_file.specs.Names.{Node, Dir, File, copied_entries, id_after}
-use Rattle.relaxed_file.specs.Machine.{Machine, FileState, new_machine, put}
+use Rattle.relaxed_file.specs.Machine.{Machine, FileState, new_machine, chunk_size, put}
 use Rattle.relaxed_file.specs.NameStep.{performed, is_refused, stepped, with_outcome, path_tests, name_tests, refusal_of, with_copied_file, with_copied_files, made_file}
 use Rattle.relaxed_file.specs.Chunks.{chunk_added, placed}
 use Rattle.relaxed_file.specs.Answers.{returned}
@@ -18,7 +18,7 @@ use Rattle.relaxed_file.proofs.Tables.{put_other, put_keeps, put_look, at_some}
 use Rattle.relaxed_file.proofs.Reached.{kept_to}
 use Rattle.relaxed_file.proofs.Known.{Known, known_step, asked_is}
 use Rattle.relaxed_file.proofs.Grows.{grows_step, known_when_reached}
-use Rattle.relaxed_file.proofs.FilesApart.{copies_other}
+use Rattle.relaxed_file.proofs.CopiedFiles.{copies_other}
 use Rattle.relaxed_file.proofs.NamesTree.{unrefused, tests_passed, true_from}
 
 module _ (m : Machine) (file : ℕ) (made : file ≤ m.file_count) where
@@ -49,6 +49,13 @@ module _ (m : Machine) (file : ℕ) (made : file ≤ m.file_count) where
   shape_step (Settle f i place) a = same_shape f _ refl
   shape_step (Look client f i least last chosen) a = at_some HasShape (λ current. looked m client current f i least chosen) m _ a.0 a.1 refl
   shape_step other a = refl
+
+-- files that were made keep their sizes
+abbrev pub KeepsSizes : Machine → Machine → Type 0
+KeepsSizes m n = (file : ℕ) → file ≤ m.file_count → chunk_size n file ≡ chunk_size m file
+
+pub sizes_step : (m : Machine) (action : Action) → Allows m action → KeepsSizes m (after m action)
+sizes_step m action allowed file made = ap (λ (shape : Shape). shape.chunk) (shape_step m file made action allowed)
 
 -- a file that was made has this shape
 record IsShaped (file : ℕ) (shape : Shape) (m : Machine) : Type 0 where

@@ -1,17 +1,16 @@
 -- No look gives a byte that no mutation of the file, or of one that it goes back to, put there.
-use Rattle.std.proofs.Common.{◌≡◌, ℕ, zero, suc, ◌⊎◌, Bool, true, false, cond, List, [], ◌∷◌, Option, Some, None, refl, sym, ◌∙◌, ap, subst, inl, inr, arith}
+use Rattle.std.proofs.Common.{◌≡◌, ℕ, zero, suc, ◌≤◌, ◌<◌, ◌⊎◌, Bool, true, false, cond, List, [], ◌∷◌, Option, Some, None, refl, sym, ◌∙◌, ap, subst, inl, inr, arith}
 use Rattle.std.specs.Prelude.{Contains, option_map, unwrap_or, ◌==◌}
 use Rattle.std.specs.List.{AllByRecursion}
 use Rattle.std.proofs.lemmas.Option.{none-some}
 use Rattle.gfs_types.specs.declared.call.Call.{Call}
 use Rattle.gfs_types.specs.declared.call.Call.TheVariants as call
-use Rattle.gfs_types.specs.declared.config.Config.{Config}
 use Rattle.gfs_types.specs.Paths.{Path}
 use Rattle.gfs_types.specs.Mutations.{covers, byte_of}
 use Rattle.gfs_types.specs.Image.{newer, last_that, byte_at}
 use Rattle.relaxed_file.specs.Names.{Node, Dir, File, copied_entries, id_after}
 use Rattle.relaxed_file.specs.Order.{Entry, IsSelection, empty, takes, leaves, last_cover, mutations_of}
-use Rattle.relaxed_file.specs.Machine.{Machine, new_machine, FileState, Chunk, new_chunk, OpenCall, Outcome, chunk_at, chunk_count, with_chunk}
+use Rattle.relaxed_file.specs.Machine.{Machine, new_machine, Asked, FileState, Chunk, new_chunk, OpenCall, Outcome, chunk_at, chunk_count, with_chunk}
 use Rattle.relaxed_file.specs.NameStep.{performed, is_refused, stepped, with_outcome, with_copied_file, with_copied_files, made_file}
 use Rattle.relaxed_file.specs.Chunks.{settled_at, chunk_added, placed}
 use Rattle.relaxed_file.specs.Answers.{returned}
@@ -20,8 +19,9 @@ use Rattle.relaxed_file.specs.Run.{Action, Return, Step, Expire, Add, OpenRound,
 use Rattle.relaxed_file.specs.Sources.{with_source, with_sources, sources_by_call, sources_by, sources_after, sources_of}
 use Rattle.relaxed_file.specs.RunLaws.{IsAskedOf, WasPutBy, ComesFrom, NoOtherByte}
 use Rattle.relaxed_file.proofs.Tables.{put_at, at_some, all_more, from_some}
-use Rattle.relaxed_file.proofs.Known.{Known, known_step, asked_is}
+use Rattle.relaxed_file.proofs.Known.{Known, known_step, asked_is, FileBelow, AskedBelow, file_below}
 use Rattle.relaxed_file.proofs.Grows.{Grows, grows_step, known_at_first}
+use Rattle.relaxed_file.proofs.ShapesKept.{KeepsSizes, sizes_step}
 use Rattle.relaxed_file.proofs.AskedFor.{all_pushed, asked_here, open_is_made}
 
 -- each file goes back to itself
@@ -114,16 +114,24 @@ module _ (m : Machine) where
       ]
   selves_step other sources h = h
 
-put_later : (m n : Machine) (sources : List ℕ) (index : ℕ) (e : Entry) → Grows m n → WasPutBy m sources index e → WasPutBy n sources index e
-put_later m n sources index e g h =
-    (h.0, (g.clients e.call.client).calls e.call.number h.0 h.1, h.2, h.3, h.4, subst (λ (c : Config). IsAskedOf c.chunk index (h.0).call e.mutation) (sym g.config) h.5)
+-- a file on which a call was made was made before
+made_of_call : (m : Machine) (client number file : ℕ) (asked : Asked) → Known m → (m.clients client).calls number ≡ Some asked → asked.file ≡ Some file → file ≤ m.file_count
+made_of_call m client number file asked known is on =
+    let its : FileBelow (suc m.file_count) asked.file = subst (AskedBelow (suc m.file_count)) is ((known.clients client).calls number) in
+    let low : file < suc m.file_count = file_below (suc m.file_count) file asked.file on its in
+    omega (arith, low)
+
+put_later : (m n : Machine) (sources : List ℕ) (index : ℕ) (e : Entry) → Grows m n → KeepsSizes m n → Known m → WasPutBy m sources index e → WasPutBy n sources index e
+put_later m n sources index e g sizes known h =
+    (h.0, (g.clients e.call.client).calls e.call.number h.0 h.1, h.2, h.3, h.4,
+    subst (λ (s : ℕ). IsAskedOf s index (h.0).call e.mutation) (sym (sizes h.2 (made_of_call m e.call.client e.call.number h.2 h.0 known h.1 h.3))) h.5)
 
 all_put : (m : Machine) (actions : List Action) (sources : ℕ → List ℕ) → IsLawful m actions → Known m → HaveSelves sources → ArePut m sources m.files
     → ArePut (after_all m actions) (sources_after sources m actions) (after_all m actions).files
 all_put m [] sources lawful known selves h = h
 all_put m (x ∷ xs) sources lawful known selves h =
     all_put (after m x) xs (sources_by m x sources) lawful.1 (known_step m x lawful.0 known) (selves_step m x sources selves)
-    (λ file index. all_more _ (λ e. put_later m (after m x) (sources_by m x sources file) index e (grows_step m x lawful.0 known)) (put_step m x sources lawful.0 known selves h file index))
+    (λ file index. all_more _ (λ e. put_later m (after m x) (sources_by m x sources file) index e (grows_step m x lawful.0 known) (sizes_step m x lawful.0) known) (put_step m x sources lawful.0 known selves h file index))
 
 -- what a selection has at a place, by its entries
 abbrev Has : List Entry → Entry → Type 0

@@ -9,6 +9,7 @@ use Rattle.gfs_types.specs.declared.call.Call.TheVariants as call
 use Rattle.gfs_types.specs.declared.answer.Answer.TheVariants as answer
 use Rattle.gfs_types.specs.declared.ids.Fd.{Fd}
 use Rattle.gfs_types.specs.declared.config.Config.{Config}
+use Rattle.gfs_types.specs.declared.shape.Shape.{Shape}
 use Rattle.gfs_types.specs.declared.mutation.Mutation.{Mutation}
 use Rattle.gfs_types.specs.Mutations.{end_of}
 use Rattle.gfs_types.specs.Image.{image_length, image_slice, bytes_from}
@@ -22,8 +23,9 @@ use Rattle.relaxed_file.specs.RunLaws.{IsOwnSuccess}
 use Rattle.relaxed_file.specs.NotRuns.{NoStaleRead}
 use Rattle.relaxed_file.proofs.Tables.{from_some, contained}
 use Rattle.relaxed_file.proofs.Reached.{leads_on, leads_by}
-use Rattle.relaxed_file.proofs.Known.{Known}
-use Rattle.relaxed_file.proofs.Grows.{grows_to, known_when_reached, known_at_first}
+use Rattle.relaxed_file.proofs.Known.{Known, made_by_count}
+use Rattle.relaxed_file.proofs.Grows.{grows_to, known_when_reached}
+use Rattle.relaxed_file.proofs.ShapesKept.{shapes_stay}
 use Rattle.relaxed_file.proofs.Successes.{AnsweredAppend, answered}
 use Rattle.relaxed_file.proofs.OwnReads.{own_successes_are_read}
 use Rattle.relaxed_file.proofs.CallSteps.{IsPieceOf, by_look, by_none}
@@ -90,9 +92,6 @@ module _ (config : Config) (m n : Machine) (client : ℕ) (fd : Fd) (bytes round
   known : Known a.answered
   known = known_when_reached config a.answered reached_answer
 
-  settings : (k : Machine) → LeadsTo a.answered k → k.config ≡ config
-  settings k way = (grows_to a.answered k way known).config ∙ (grows_to (new_machine config) a.answered reached_answer (known_at_first config)).config
-
   append_asked : (a.inside).call.asked ≡ asked_now a.at client (call.Append fd bytes)
   append_asked = (a.inside).asked_is
 
@@ -136,13 +135,16 @@ module _ (config : Config) (m n : Machine) (client : ℕ) (fd : Fd) (bytes round
       from_some (sym append_file ∙ ((grows_to a.at b.at to_call first).clients client).descriptors fd.0 read_done.0 counted read_file)
 
   -- where the record lies
-  size_is : (k : Machine) → LeadsTo a.answered k → k.config.chunk ≡ config.chunk
-  size_is k way = ap (λ (c : Config). c.chunk) (settings k way)
+  size : ℕ
+  size = chunk_size a.answered file
 
-  index_is : (k : Machine) → LeadsTo a.answered k → x / k.config.chunk ≡ it.index
+  size_is : (k : Machine) → LeadsTo a.answered k → chunk_size k file ≡ size
+  size_is k way = ap (λ (shape : Shape). shape.chunk) (shapes_stay config a.answered k file reached_answer way (made_by_count a.answered file it.index known it.has_chunk))
+
+  index_is : (k : Machine) → LeadsTo a.answered k → x / chunk_size k file ≡ it.index
   index_is k way =
-      let small : it.offset < config.chunk = let room : it.offset + length bytes ≤ config.chunk = it.room in omega arith in
-      ap (λ s. x / s) (size_is k way) ∙ ap (λ y. y / config.chunk) it.is ∙ div-mul-add it.index config.chunk it.offset small
+      let small : it.offset < size = let room : it.offset + length bytes ≤ size = it.room in omega arith in
+      ap (λ s. x / s) (size_is k way) ∙ ap (λ y. y / size) it.is ∙ div-mul-add it.index size it.offset small
 
   -- what a look of the read gives isn't empty
   look_gives : (k : Machine) (c : OpenCall) (index least last : ℕ) (chosen : List Entry) → LeadsTo after_append k → c.asked ≡ asked_now b.at client (call.Read fd x (length bytes))
@@ -155,14 +157,14 @@ module _ (config : Config) (m n : Machine) (client : ℕ) (fd : Fd) (bytes round
       let whole : LeadsTo a.answered k = leads_on a.answered after_append k (leads_by a.answered (Return client (answer.At x)) answers) way in
       let far : end_of (it.entry).mutation ≤ image_length (mutations_of chosen) = reaches_end there.0 chosen it.entry there.1 there.2 in
       let end_is : end_of (it.entry).mutation ≡ it.offset + length bytes = ap end_of it.what in
-      let enough : 0 < min (part_length config.chunk x (length bytes) it.index) (image_length (mutations_of chosen) - part_start config.chunk x it.index) =
-      part_bytes_there config.chunk it.index it.offset (length bytes) x _ it.is it.room some (omega (arith, far, end_is)) in
-      let count : length (image_slice (mutations_of chosen) (part_start config.chunk x it.index) (part_length config.chunk x (length bytes) it.index))
-      ≡ min (part_length config.chunk x (length bytes) it.index) (image_length (mutations_of chosen) - part_start config.chunk x it.index) = length_from (mutations_of chosen) _ _ in
-      let given : 0 < length (read_slice config.chunk it.index (call.Read fd x (length bytes)) chosen) = omega (arith, enough, count) in
+      let enough : 0 < min (part_length size x (length bytes) it.index) (image_length (mutations_of chosen) - part_start size x it.index) =
+      part_bytes_there size it.index it.offset (length bytes) x _ it.is it.room some (omega (arith, far, end_is)) in
+      let count : length (image_slice (mutations_of chosen) (part_start size x it.index) (part_length size x (length bytes) it.index))
+      ≡ min (part_length size x (length bytes) it.index) (image_length (mutations_of chosen) - part_start size x it.index) = length_from (mutations_of chosen) _ _ in
+      let given : 0 < length (read_slice size it.index (call.Read fd x (length bytes)) chosen) = omega (arith, enough, count) in
       subst (λ s. 0 < length (read_slice s index c.asked.call chosen)) (sym (size_is k whole))
-      (subst (λ i. 0 < length (read_slice config.chunk i c.asked.call chosen)) (sym same)
-      (subst (λ (w : Asked). 0 < length (read_slice config.chunk it.index w.call chosen)) (sym asked) given))
+      (subst (λ i. 0 < length (read_slice size i c.asked.call chosen)) (sym same)
+      (subst (λ (w : Asked). 0 < length (read_slice size it.index w.call chosen)) (sym asked) given))
 
   abbrev start : Machine
   start = after b.at b.action
@@ -196,8 +198,8 @@ module _ (config : Config) (m n : Machine) (client : ℕ) (fd : Fd) (bytes round
           absurd (offered_there told.0 file index it.index (omega arith)
           (subst (λ j. NoSuchChunk index ≡ offer_of told.0 file j) at_index (subst (λ g. NoSuchChunk index ≡ offer_of told.0 g told.5) f_is told.7)))
 
-  no_pieces : (pieces : List Piece) → ArePieces config.chunk x (length bytes) (b.inside).call.pieces it.index pieces → [] ≡ flat_map (λ piece. piece.bytes) pieces → ⊥
-  no_pieces [] are none = true≢false (sym (part_there config.chunk it.index it.offset (length bytes) x it.is it.room some) ∙ are)
+  no_pieces : (pieces : List Piece) → ArePieces size x (length bytes) (b.inside).call.pieces it.index pieces → [] ≡ flat_map (λ piece. piece.bytes) pieces → ⊥
+  no_pieces [] are none = true≢false (sym (part_there size it.index it.offset (length bytes) x it.is it.room some) ∙ are)
   no_pieces (piece ∷ rest) are none =
       let read : WasRead start client (asked_now b.at client (call.Read fd x (length bytes))) piece =
       contained (WasRead start client (asked_now b.at client (call.Read fd x (length bytes)))) (b.inside).call.pieces piece (b.inside).pieces are.1 in
@@ -208,9 +210,10 @@ module _ (config : Config) (m n : Machine) (client : ℕ) (fd : Fd) (bytes round
   stale : ⊥
   stale =
       let pieces : List Piece = read_done.2 in
-      let are : ArePieces config.chunk x (length bytes) (b.inside).call.pieces it.index pieces =
-      subst (λ i. ArePieces config.chunk x (length bytes) (b.inside).call.pieces i pieces) (index_is b.answered to_read)
-      (subst (λ s. ArePieces s x (length bytes) (b.inside).call.pieces (x / b.answered.config.chunk) pieces) (size_is b.answered to_read) read_done.3) in
+      let are : ArePieces size x (length bytes) (b.inside).call.pieces it.index pieces =
+      subst (λ i. ArePieces size x (length bytes) (b.inside).call.pieces i pieces) (index_is b.answered to_read)
+      (subst (λ s. ArePieces s x (length bytes) (b.inside).call.pieces (x / chunk_size b.answered file) pieces) (size_is b.answered to_read)
+      (subst (λ f. ArePieces (chunk_size b.answered f) x (length bytes) (b.inside).call.pieces (x / chunk_size b.answered f) pieces) (sym same_file) read_done.3)) in
       no_pieces pieces are read_done.4
 
 pub no_stale_read : NoStaleRead
