@@ -1,6 +1,6 @@
 -- How a call may be answered.
 use Rattle.std.proofs.Common.{◌≡◌, inl, inr, ℕ, suc, ◌+◌, ◌*◌, ◌/◌, ◌%◌, ◌<◌, List, length, Option, Some, None, sym, ◌∙◌}
-use Rattle.std.specs.Prelude.{IsTrue, IsSome, IsSomeAnd, IfSome}
+use Rattle.std.specs.Prelude.{IsTrue, IsSomeAnd, IfSome}
 use Rattle.std.proofs.Math.Nat.{add_comm, mod-add-div'}
 use Rattle.gfs_types.specs.declared.ids.Fd.{Fd}
 use Rattle.gfs_types.specs.declared.call.Call.{Call}

@@ -22,7 +22,7 @@ use Rattle.relaxed_file.specs.RunLaws.{IsAskedOf, WasAskedFor, StandsAt, MayAnsw
 use Rattle.relaxed_file.proofs.Tables.{contained, from_some, put_same, at_some}
 use Rattle.relaxed_file.proofs.Reached.{leads_on, leads_by}
 use Rattle.relaxed_file.proofs.Known.{Known, known_step, made_by_count}
-use Rattle.relaxed_file.proofs.Grows.{Grows, EntryGrows, OrderGrows, OpenGrows, IsSameCall, grows_to, known_when_reached, known_at_first}
+use Rattle.relaxed_file.proofs.Grows.{Grows, EntryGrows, OrderGrows, OpenGrows, IsSameCall, grows_to, known_when_reached}
 use Rattle.relaxed_file.proofs.AskedFor.{entries_were_asked_for, open_is_made}
 use Rattle.relaxed_file.proofs.Apart.{appends_lie_apart}
 use Rattle.relaxed_file.proofs.ShapesKept.{shapes_stay}
