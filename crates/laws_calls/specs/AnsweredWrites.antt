@@ -14,7 +14,7 @@ use Rattle.relaxed_file.specs.Parts.{part_start, has_part, part_bytes}
 use Rattle.protocol.specs.Tables.{element_at}
 use Rattle.protocol.specs.Sending.{data_id}
 use Rattle.protocol.specs.Choice.{Choice}
-use Rattle.protocol.specs.Client.{ClientState}
+use Rattle.protocol.specs.Client.{ClientState, file_chunk}
 use Rattle.protocol.specs.ClientStep.{client_step}
 use Rattle.protocol.specs.World.{WorldState, IsReached}
 use Rattle.laws_steps.specs.Reads.{IsTold}
@@ -50,5 +50,5 @@ AnsweredWritesHaveTheirBytes =
     (config : Config) (servers clients : ℕ) (w : WorldState) → IsReached config servers clients w
     → (index moment : ℕ) (s : ClientState) (i : NodeInput) (choice : Choice) (a : AnswersDone w index moment s i choice) (fd : Fd) (offset : ℕ) (bytes : List ℕ) → a.current.asked ≡ call.Write fd offset bytes
     → (numbers : ℕ → ℕ)
-    × ((part : ℕ) → IsTrue (has_part config.chunk offset (length bytes) part) → IsPartPlaced w config.chunk (suc index) a.current.file.0 offset bytes part (numbers part))
-    × ((part later : ℕ) → part < later → IsTrue (has_part config.chunk offset (length bytes) part) → IsTrue (has_part config.chunk offset (length bytes) later) → numbers part < numbers later)
+    × ((part : ℕ) → IsTrue (has_part (file_chunk s a.current.file.0) offset (length bytes) part) → IsPartPlaced w (file_chunk s a.current.file.0) (suc index) a.current.file.0 offset bytes part (numbers part))
+    × ((part later : ℕ) → part < later → IsTrue (has_part (file_chunk s a.current.file.0) offset (length bytes) part) → IsTrue (has_part (file_chunk s a.current.file.0) offset (length bytes) later) → numbers part < numbers later)

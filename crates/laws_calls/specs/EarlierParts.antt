@@ -6,7 +6,7 @@ use Rattle.gfs_types.specs.declared.call.Call.TheVariants as call
 use Rattle.client_state.specs.declared.call.CurrentCall.{CurrentCall}
 use Rattle.relaxed_file.specs.Parts.{has_part}
 use Rattle.protocol.specs.Tables.{element_at}
-use Rattle.protocol.specs.Client.{ClientState}
+use Rattle.protocol.specs.Client.{ClientState, file_chunk}
 use Rattle.protocol.specs.World.{WorldState, IsReached}
 use Rattle.laws_calls.specs.AnsweredWrites.{IsPartPlaced}
 
@@ -16,5 +16,5 @@ EarlierPartsAreSettled =
     (config : Config) (servers clients : ℕ) (w : WorldState) → IsReached config servers clients w → (index : ℕ) (s : ClientState) → element_at w.clients index ≡ Some s
     → (c : CurrentCall) (fd : Fd) (offset : ℕ) (bytes : List ℕ) → s.current ≡ Some c → c.asked ≡ call.Write fd offset bytes
     → (numbers : ℕ → ℕ)
-    × ((part : ℕ) → part < c.index → IsTrue (has_part config.chunk offset (length bytes) part) → IsPartPlaced w config.chunk (suc index) c.file.0 offset bytes part (numbers part))
-    × ((part later : ℕ) → part < later → later < c.index → IsTrue (has_part config.chunk offset (length bytes) part) → IsTrue (has_part config.chunk offset (length bytes) later) → numbers part < numbers later)
+    × ((part : ℕ) → part < c.index → IsTrue (has_part (file_chunk s c.file.0) offset (length bytes) part) → IsPartPlaced w (file_chunk s c.file.0) (suc index) c.file.0 offset bytes part (numbers part))
+    × ((part later : ℕ) → part < later → later < c.index → IsTrue (has_part (file_chunk s c.file.0) offset (length bytes) part) → IsTrue (has_part (file_chunk s c.file.0) offset (length bytes) later) → numbers part < numbers later)

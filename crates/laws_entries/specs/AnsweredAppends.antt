@@ -9,7 +9,7 @@ use Rattle.messages.specs.declared.message.Message.{Message}
 use Rattle.client_state.specs.declared.call.CurrentCall.{CurrentCall}
 use Rattle.protocol.specs.Tables.{element_at}
 use Rattle.protocol.specs.Choice.{Choice}
-use Rattle.protocol.specs.Client.{ClientState, place_in_file}
+use Rattle.protocol.specs.Client.{ClientState, file_chunk, place_in_file}
 use Rattle.protocol.specs.ClientAttempts.{is_append}
 use Rattle.protocol.specs.ClientStep.{client_step}
 use Rattle.protocol.specs.World.{WorldState, IsReached}
@@ -39,4 +39,4 @@ pub record IsPlaceOfEntry (w : WorldState) (size client offset : ℕ) : Type 0 w
 abbrev pub AnsweredAppendsHaveEntries : Type 0
 AnsweredAppendsHaveEntries =
     (config : Config) (servers clients : ℕ) (w : WorldState) → IsReached config servers clients w
-    → (index moment : ℕ) (s : ClientState) (i : NodeInput) (choice : Choice) (offset : ℕ) → AnswersAppend w index moment s i choice offset → IsPlaceOfEntry w config.chunk (suc index) offset
+    → (index moment : ℕ) (s : ClientState) (i : NodeInput) (choice : Choice) (offset : ℕ) (a : AnswersAppend w index moment s i choice offset) → IsPlaceOfEntry w (file_chunk s a.current.file.0) (suc index) offset

@@ -8,7 +8,7 @@ use Rattle.gfs_types.specs.declared.mutation.Mutation.{Mutation}
 use Rattle.gfs_types.specs.declared.mutation.Mutation.TheVariants as mutation
 use Rattle.messages.specs.declared.event.NodeInput.{NodeInput}
 use Rattle.protocol.specs.Choice.{Choice}
-use Rattle.protocol.specs.Client.{ClientState, place_in_file}
+use Rattle.protocol.specs.Client.{ClientState, file_chunk, place_in_file}
 use Rattle.protocol.specs.World.{WorldState, IsReached}
 use Rattle.laws_entries.specs.SettledEntries.{HasSettledEntry}
 use Rattle.laws_entries.specs.AnsweredAppends.{AnswersAppend}
@@ -36,4 +36,4 @@ abbrev pub AnsweredAppendsHaveTheirBytes : Type 0
 AnsweredAppendsHaveTheirBytes =
     (config : Config) (servers clients : ℕ) (w : WorldState) → IsReached config servers clients w
     → (index moment : ℕ) (s : ClientState) (i : NodeInput) (choice : Choice) (offset : ℕ) (a : AnswersAppend w index moment s i choice offset) (fd : Fd) (bytes : List ℕ) → a.current.asked ≡ call.Append fd bytes
-    → IsPlaceOfBytes w config.chunk (suc index) offset bytes
+    → IsPlaceOfBytes w (file_chunk s a.current.file.0) (suc index) offset bytes

@@ -9,7 +9,7 @@ use Rattle.gfs_types.specs.Image.{image_length}
 use Rattle.messages.specs.declared.message.Holder.{Holder}
 use Rattle.messages.specs.declared.message.Location.{Location}
 use Rattle.relaxed_file.specs.Order.{Entry, IsSelection, mutations_of}
-use Rattle.relaxed_file.specs.Machine.{Machine, OpenCall, IsOpen, chunk_at, chunk_count}
+use Rattle.relaxed_file.specs.Machine.{Machine, OpenCall, IsOpen, chunk_size, chunk_at, chunk_count}
 use Rattle.relaxed_file.specs.Reads.{read_slice}
 use Rattle.relaxed_file.specs.Answers.{IsWrite, IsAppendAt}
 use Rattle.relaxed_file.specs.Run.{Action, Tell, Look, Measure, Allows, after, IsReached}
@@ -65,7 +65,7 @@ ReadsAreLooks =
     (m : Machine) (client : ℕ) (x : CurrentCall) (o : OpenCall) → IsFileCall m client x o → (chunk : ToldChunk) (left : List Holder) (number : ℕ) → x.stage ≡ SentRead chunk left number
     → IsFalse (is_length x.asked) → chunk.index ≡ x.index → (version : ℕ) (chosen : List Entry) → IsSeenAt m x.file.0 chunk.index chunk.round.0 version chosen
     → Gives m client (Look client x.file.0 x.index chunk.round.0 version chosen)
-    (λ n p. Contains p.pieces (record { index = x.index; bytes = read_slice m.config.chunk x.index x.asked chosen; round = Some chunk.round.0 }))
+    (λ n p. Contains p.pieces (record { index = x.index; bytes = read_slice (chunk_size m x.file.0) x.index x.asked chosen; round = Some chunk.round.0 }))
 
 -- Its length is a length of the file.
 abbrev pub LengthsAreMeasured : Type 0
@@ -73,7 +73,7 @@ LengthsAreMeasured =
     (m : Machine) (client : ℕ) (x : CurrentCall) (o : OpenCall) → IsFileCall m client x o → (chunk : ToldChunk) (left : List Holder) (number : ℕ) → x.stage ≡ SentRead chunk left number
     → IsTrue (is_length x.asked) → (version : ℕ) (chosen : List Entry) → IsSeenAt m x.file.0 chunk.index chunk.round.0 version chosen
     → Gives m client (Measure client x.file.0 chunk.index chunk.round.0 chunk.round.0 version chosen)
-    (λ n p. Contains p.lengths (chunk.index * m.config.chunk + image_length (mutations_of chosen)))
+    (λ n p. Contains p.lengths (chunk.index * chunk_size m x.file.0 + image_length (mutations_of chosen)))
 
 -- the mutation is what the call asked for in the chunk of this index, at this place if it is an append
 abbrev pub IsOfPart : ℕ → ℕ → ℕ → ℕ → Call → Mutation → Type 0
@@ -86,4 +86,4 @@ abbrev pub SettledEntriesAreSuccesses : Type 0
 SettledEntriesAreSuccesses =
     (m : Machine) (client : ℕ) (x : CurrentCall) (o : OpenCall) → IsFileCall m client x o → (chunk : ToldChunk) (number : ℕ) → x.stage ≡ SentMutate chunk number → chunk.index < chunk_count m x.file.0
     → (e : Entry) → Contains (chunk_at m x.file.0 chunk.index).order e → e.call ≡ id_of client o → IsTrue e.settled → e.round ≤ chunk.round.0
-    → (place : ℕ) → IsOfPart m.config.chunk x.index chunk.index place x.asked e.mutation → IsPartSettled m (id_of client o) x.file.0 x.index chunk.index place x.asked
+    → (place : ℕ) → IsOfPart (chunk_size m x.file.0) x.index chunk.index place x.asked e.mutation → IsPartSettled m (id_of client o) x.file.0 x.index chunk.index place x.asked

@@ -15,7 +15,7 @@ use Rattle.messages.specs.declared.message.Body.TheVariants as body
 use Rattle.messages.specs.declared.message.Location.{Location}
 use Rattle.relaxed_file.specs.Order.{CallId}
 use Rattle.relaxed_file.specs.Parts.{has_part, part_length, is_range_too_long}
-use Rattle.relaxed_file.specs.Machine.{Machine, OpenCall, IsOpen, Told, NoSuchChunk, Piece, chunk_count}
+use Rattle.relaxed_file.specs.Machine.{Machine, OpenCall, IsOpen, Told, NoSuchChunk, Piece, chunk_size, chunk_count}
 use Rattle.relaxed_file.specs.Answers.{HasSuccess, IsWrite, IsAppendAt, IsCause, MayReturn}
 use Rattle.relaxed_file.specs.Run.{Action, IsLawful, visible, after_all, Note, LookPast, MeasureNone, Return}
 use Rattle.machine_names.specs.NameProjections.{AreNamesOf}
@@ -74,11 +74,11 @@ pub record IsReadSoFar (size offset count part : ℕ) (bytes rounds : List ℕ) 
 -- The part in hand is one of the call's; of a write each earlier part is settled, under a round that was noted, and of a read each earlier part is read.
 abbrev pub IsDoneSoFar : Machine → CallId → ℕ → ℕ → List ℕ → List ℕ → List Piece → Call → Type 0
 IsDoneSoFar m id file part bytes rounds found (call.Write fd offset content) =
-    IsFalse (is_range_too_long offset (length content)) × IsTrue (has_part m.config.chunk offset (length content) part)
-    × ((earlier : ℕ) → earlier < part → IsTrue (has_part m.config.chunk offset (length content) earlier) → HasSuccess m id.client id file earlier IsWrite)
-IsDoneSoFar m id file part bytes rounds found (call.Append fd content) = IsFalse (nat_lt (m.config.chunk / 4) (length content))
+    IsFalse (is_range_too_long offset (length content)) × IsTrue (has_part (chunk_size m file) offset (length content) part)
+    × ((earlier : ℕ) → earlier < part → IsTrue (has_part (chunk_size m file) offset (length content) earlier) → HasSuccess m id.client id file earlier IsWrite)
+IsDoneSoFar m id file part bytes rounds found (call.Append fd content) = IsFalse (nat_lt (chunk_size m file / 4) (length content))
 IsDoneSoFar m id file part bytes rounds found (call.Read fd offset count) =
-    IsFalse (is_range_too_long offset count) × IsTrue (has_part m.config.chunk offset count part) × IsReadSoFar m.config.chunk offset count part bytes rounds found
+    IsFalse (is_range_too_long offset count) × IsTrue (has_part (chunk_size m file) offset count part) × IsReadSoFar (chunk_size m file) offset count part bytes rounds found
 IsDoneSoFar m id file part bytes rounds found (call.Length fd) = Unit {0}
 IsDoneSoFar m id file part bytes rounds found other = ⊥
 
@@ -115,11 +115,12 @@ abbrev pub IsCallAlike : Machine → ℕ → Option CurrentCall → Type 0
 IsCallAlike m client None = (m.clients client).open_call ≡ None
 IsCallAlike m client (Some x) = (x.stage ≡ AskedNames) ⊎ ((o : OpenCall) × IsFileCall m client x o)
 
--- A client that is up, at the machine.
+-- A client that is up, at the machine; its open files have the shapes that they have there.
 pub record IsFileClient (m : Machine) (client : ℕ) (s : ClientState) : Type 0 where
   pub settings : s.config ≡ m.config
   pub fds : s.fd_count ≡ (m.clients client).fd_count
   pub descriptors : (fd : ℕ) → table.get s.descriptors fd ≡ (m.clients client).descriptors fd
+  pub shapes : (file : ℕ) (f : OpenFile) → table.get s.files file ≡ Some f → f.shape ≡ (m.files file).shape
   pub kept : AllByRecursion (IsKeptNote (m.clients client).notes s.files s.fd_count) s.cache.entries
   pub places : AreOfPlaces s.cache.entries
   pub call : IsCallAlike m client s.current
@@ -151,7 +152,7 @@ IsWithinPlaces size index place = index * size + place ≤ 18_446_744_073_709_55
 abbrev pub IsPartSettled : Machine → CallId → ℕ → ℕ → ℕ → ℕ → Call → Type 0
 IsPartSettled m id file part index place (call.Write fd offset content) = HasSuccess m id.client id file part IsWrite
 IsPartSettled m id file part index place (call.Append fd content) =
-    IsWithinPlaces m.config.chunk index place × (index < chunk_count m file) × HasSuccess m id.client id file index (IsAppendAt place)
+    IsWithinPlaces (chunk_size m file) index place × (index < chunk_count m file) × HasSuccess m id.client id file index (IsAppendAt place)
 IsPartSettled m id file part index place other = Unit {0}
 
 abbrev pub IsSaidAt : Machine → ℕ → ℕ → OpenCall → CurrentCall → Stage → Body → Type 0
@@ -162,7 +163,7 @@ IsSaidAt m client own o x (SentMutate chunk asked) (body.Done id place) =
 IsSaidAt m client own o x (SentRead chunk left asked) (body.Bytes number bytes) =
     asked ≡ number → IsFalse (is_length x.asked) → Contains o.pieces (record { index = x.index; bytes = bytes; round = Some chunk.round.0 })
 IsSaidAt m client own o x (SentRead chunk left asked) (body.LenIs number count) =
-    asked ≡ number → IsTrue (is_length x.asked) → IsWithinPlaces m.config.chunk chunk.index count × Contains o.lengths (chunk.index * m.config.chunk + count)
+    asked ≡ number → IsTrue (is_length x.asked) → IsWithinPlaces (chunk_size m x.file.0) chunk.index count × Contains o.lengths (chunk.index * chunk_size m x.file.0 + count)
 IsSaidAt m client own o x stage other = Unit {0}
 
 -- what comes to a client that waits is so at the machine

@@ -92,7 +92,7 @@ AreRequestsOf start steps m = (client place : ℕ) (x : Message) → element_at 
 
 -- The range of a call that was refused for its length is too long at the machine; none of its attempts is live, and in these steps its client asked no primary for it.
 pub record IsRefusedCall (start : WorldState) (steps : List (Event × Choice)) (m : Machine) (index : ℕ) (x : CurrentCall) : Type 0 where
-  pub long : (asked : Asked) → (m.clients (suc index)).calls (calls_made (after_events start steps).observer.trace (suc index)) ≡ Some asked → IsTrue (is_too_long m.config.chunk asked.chunks_before asked.call)
+  pub long : (asked : Asked) → (m.clients (suc index)).calls (calls_made (after_events start steps).observer.trace (suc index)) ≡ Some asked → IsTrue (is_too_long (chunk_size m x.file.0) asked.chunks_before asked.call)
   pub none_live : x.live ≡ []
   pub none_asked : (part : Option ℕ) (number : ℕ) → WasAsked index start steps (calls_made (after_events start steps).observer.trace (suc index)) part number → ⊥
 

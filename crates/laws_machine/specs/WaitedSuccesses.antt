@@ -5,7 +5,7 @@ use Rattle.gfs_types.specs.declared.ids.DataId.{DataId}
 use Rattle.messages.specs.declared.event.Event.{Event}
 use Rattle.messages.specs.declared.message.Message.{Message}
 use Rattle.messages.specs.declared.message.Body.TheVariants as body
-use Rattle.relaxed_file.specs.Machine.{OpenCall}
+use Rattle.relaxed_file.specs.Machine.{OpenCall, chunk_size}
 use Rattle.relaxed_file.specs.Run.{IsReached}
 use Rattle.client_state.specs.declared.call.CurrentCall.{CurrentCall}
 use Rattle.client_state.specs.declared.call.ToldChunk.{ToldChunk}
@@ -47,5 +47,5 @@ abbrev pub WaitedSuccessesAreSettled : Type 0
 WaitedSuccessesAreSettled =
     (config : Config) (servers clients : ℕ) (steps : List (Event × Choice)) → IsTrue (after_events (new_world config servers clients) steps).observer.are_clocks_kept
     → (index : ℕ) (x : CurrentCall) (chunk : ToldChunk) (number place : ℕ) → WaitsForDone (after_events (new_world config servers clients) steps) index x chunk number place
-    → (k : ChunkSides) (o : OpenCall) → HasTheCall (after_events (new_world config servers clients) steps) k index x o chunk → IsReached config k.machine → IsWithinPlaces k.machine.config.chunk chunk.index place
+    → (k : ChunkSides) (o : OpenCall) → HasTheCall (after_events (new_world config servers clients) steps) k index x o chunk → IsReached config k.machine → IsWithinPlaces (chunk_size k.machine x.file.0) chunk.index place
     → IsPartSettled k.machine (id_of (suc index) o) x.file.0 x.index chunk.index place x.asked

@@ -19,7 +19,7 @@ use Rattle.replica_store.specs.Replicas.{ServerDisk, row_at, read_at}
 use Rattle.protocol.specs.Tables.{element_at}
 use Rattle.protocol.specs.Sending.{the_server, the_client}
 use Rattle.protocol.specs.Choice.{Choice}
-use Rattle.protocol.specs.Client.{ClientState}
+use Rattle.protocol.specs.Client.{ClientState, file_chunk}
 use Rattle.protocol.specs.ClientAttempts.{is_length, read_start, read_count, chunk_of}
 use Rattle.protocol.specs.Server.{ServerState}
 use Rattle.protocol.specs.World.{WorldState, new_world, happens, after_events}
@@ -106,7 +106,7 @@ ReadsAreOfTheToldVersion =
     (config : Config) (servers clients : ℕ) (steps : List (Event × Choice))
     → (index : ℕ) (s : ClientState) (c : CurrentCall) (chunk : ToldChunk) (left : List Holder) (number : ℕ)
     → element_at (after_events (new_world config servers clients) steps).clients index ≡ Some s → s.current ≡ Some c → c.stage ≡ SentRead chunk left number
-    → (r : IsReading (after_events (new_world config servers clients) steps).sent (suc index) config.chunk c chunk left number)
+    → (r : IsReading (after_events (new_world config servers clients) steps).sent (suc index) (file_chunk s c.file.0) c chunk left number)
     × (r.told.told.sender ≡ node.Master) × (chunk.round.0 ≤ r.holder.version.0)
     × ((place : ℕ) (m : Message) → element_at (after_events (new_world config servers clients) steps).sent place ≡ Some m → m.receiver ≡ the_client (suc index) → IsTrue (is_answer number m.body)
-    → WasSo (new_world config servers clients) steps index config.chunk c chunk r.holder r.request place m)
+    → WasSo (new_world config servers clients) steps index (file_chunk s c.file.0) c chunk r.holder r.request place m)

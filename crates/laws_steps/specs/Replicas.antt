@@ -15,7 +15,7 @@ use Rattle.primary_order.specs.SerialOrder.{SerialOrder}
 use Rattle.protocol.specs.Tables.{element_at}
 use Rattle.protocol.specs.Choice.{Choice}
 use Rattle.protocol.specs.declared.seen.Seen.TheVariants.{Numbered}
-use Rattle.protocol.specs.Server.{ServerState}
+use Rattle.protocol.specs.Server.{chunk_limit, ServerState}
 use Rattle.protocol.specs.ServerStep.{found_disk, server_step}
 use Rattle.protocol.specs.World.{WorldState, IsReached}
 
@@ -46,7 +46,7 @@ IsPlacedBehind size count bytes (Append offset written) = (written ≡ bytes) ×
 IsPlacedBehind size count bytes (Pad offset end) = (offset ≡ count) × (offset < size) × (size < offset + length bytes) × (end ≡ size)
 
 -- how a server numbers a mutation: under a lease that it holds, of data that it keeps, and by its own replica of that version
-pub record IsPlacedByReplica (size : ℕ) (s : ServerState) (handle version serial : ℕ) (id : DataId) (m : Mutation) : Type 0 where
+pub record IsPlacedByReplica (s : ServerState) (handle version serial : ℕ) (id : DataId) (m : Mutation) : Type 0 where
   pub lease : SerialOrder
   pub lease_is : table.get s.leases handle ≡ Some lease
   pub version_is : version ≡ lease.held.version
@@ -56,7 +56,8 @@ pub record IsPlacedByReplica (size : ℕ) (s : ServerState) (handle version seri
   pub replica_version : replica.version ≡ version
   pub bytes : List ℕ
   pub pushed : data_of s.pushed id ≡ Some bytes
-  pub placed : IsPlacedBehind size (length replica.bytes) bytes m
+  -- within the size that came with the lease, and within a slot
+  pub placed : IsPlacedBehind (chunk_limit s lease.chunk) (length replica.bytes) bytes m
 
 -- Each mutation is numbered so: within the chunk, a record or a pad just behind what the primary's replica has (sections 3.1 and 3.3).
 abbrev pub MutationsArePlacedByReplicas : Type 0
@@ -64,7 +65,7 @@ MutationsArePlacedByReplicas =
     (config : Config) (servers clients : ℕ) (w : WorldState) → IsReached config servers clients w → (index : ℕ) (s : ServerState) → element_at w.servers index ≡ Some s
     → (moment : ℕ) (i : NodeInput) (choice : Choice) (place : ℕ) (handle : Handle) (version : Version) (serial : Serial) (id : DataId) (m : Mutation)
     → element_at (server_step s moment i choice).seen place ≡ Some (Numbered handle version serial id m)
-    → IsPlacedByReplica config.chunk s handle.0 version.0 serial.0 id m
+    → IsPlacedByReplica s handle.0 version.0 serial.0 id m
 
 -- what a mutation makes of a replica
 abbrev pub applied : (serial : ℕ) → Mutation → Replica → Replica
