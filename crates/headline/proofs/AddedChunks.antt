@@ -49,6 +49,7 @@ use Rattle.headline.proofs.FullAsks.{asks_are_full}
 use Rattle.headline.proofs.AskSenders.{asks_come_from_clients}
 use Rattle.headline.proofs.AskedAdds.{asks_add_the_next_chunk}
 use Rattle.headline.proofs.AskedChunks.{asked_chunks_may_be_added}
+use Rattle.machine_names.proofs.Effects.{same_collected}
 
 -- a full chunk stays full
 
@@ -129,7 +130,7 @@ module _ (config : Config) (servers clients : ℕ) (w : WorldState) (r : IsReach
         uncollected : IsFalse (j.machine.files file.0).is_collected
         uncollected =
             let known : is_there n file.0 ≡ true = sym (has file.0) ∙ ap (λ (o : Option (List ℕ)). is_some o) here in
-            sym ((whole.names).collected file.0) ∙ not_true (n.files file.0).is_collected (and_parts (nat_lt 0 file.0 && nat_le file.0 n.file_count) (not (n.files file.0).is_collected) known).1
+            sym (same_collected j.machine n whole.names file.0) ∙ not_true (n.files file.0).is_collected (and_parts (nat_lt 0 file.0 && nat_le file.0 n.file_count) (not (n.files file.0).is_collected) known).1
 
         grows : Grows k.machine j.machine
         grows = grows_to k.machine j.machine led (known_when_reached config k.machine (beside.run.0, beside.run.1, beside.run.3))

@@ -68,6 +68,7 @@ use Rattle.headline.proofs.CountsBefore.{HasCount, counts_are_before}
 use Rattle.headline.proofs.LiveAttempts.{LivesWereTold, lives_were_told}
 use Rattle.headline.proofs.RefusalEvents.{IsShortFor}
 use Rattle.headline.proofs.SentNow.{stamped_sent}
+use Rattle.machine_names.proofs.Effects.{same_collected}
 
 -- parts
 
@@ -248,7 +249,7 @@ module _ (config : Config) (servers clients : ℕ) (steps : List (Event × Choic
       uncollected : IsFalse (m.files x.file.0).is_collected
       uncollected =
           let there : is_there beside.names x.file.0 ≡ true = sym (beside.named.alike.files x.file.0) ∙ ap (λ (l : Option (List ℕ)). is_some l) here in
-          sym (beside.same.collected x.file.0)
+          sym (same_collected m beside.names beside.same x.file.0)
           ∙ not_true (beside.names.files x.file.0).is_collected (and_parts (nat_lt 0 x.file.0 && nat_le x.file.0 beside.names.file_count) (not (beside.names.files x.file.0).is_collected) there).1
 
       counted : HasCount m o.asked x.file.0

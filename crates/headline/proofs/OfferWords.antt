@@ -66,6 +66,7 @@ use Rattle.laws_machine.proofs.WholeWorlds.{files_stay}
 use Rattle.headline.proofs.AskedWords.{IsPast, IsToldBy, IsNoneBy, IsToldIn, IsRefusedIn}
 use Rattle.headline.proofs.MadeFiles.{asked_files_are_made}
 use Rattle.headline.proofs.StepWords.{IsWord, IsNewWord}
+use Rattle.machine_names.proofs.Effects.{same_collected}
 
 -- offers change clients alone, and clients see nothing of them
 
@@ -107,7 +108,7 @@ pub files_at_both : (l : Logged) (m n : Machine) → AreNamesOf m n → HasFiles
 files_at_both l m n same has file =
     has file
     ∙ (ap (λ (count : ℕ). nat_lt 0 file && nat_le file count && not (n.files file).is_collected) same.count
-    ∙ ap (λ (is_collected : Bool). nat_lt 0 file && nat_le file m.file_count && not is_collected) (same.collected file))
+    ∙ ap (λ (is_collected : Bool). nat_lt 0 file && nat_le file m.file_count && not is_collected) (same_collected m n same file))
 
 there_is : (m : Machine) (file : ℕ) → is_there m file ≡ true → IsFalse (m.files file).is_collected
 there_is m file is = by_flag (m.files file).is_collected (and_parts (nat_lt 0 file && nat_le file m.file_count) (not (m.files file).is_collected) is).1

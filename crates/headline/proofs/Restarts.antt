@@ -48,6 +48,7 @@ use Rattle.headline.proofs.Quiet as quiet
 use Rattle.std.specs.FinMap as table
 use Rattle.log_records.specs.declared.record.Record.TheVariants as log
 use Rattle.laws_machine.proofs.OpenRounds.{ungranted_is_over}
+use Rattle.laws_base.proofs.ShapesTold.{log_has_the_shapes}
 
 module _ (config : Config) (servers clients : ℕ) (w : WorldState) (r : IsReached config servers clients w) (e : Event) (choice : Choice) (clocks : IsTrue (happens w e choice).world.observer.are_clocks_kept)
     (ss : List PendingSnapshot) (k : ChunkSides) (h : IsBeside config w ss k) (moment : ℕ) (copies : AreCopiesOver w) (decided0 : List Bool)
@@ -98,7 +99,7 @@ module _ (config : Config) (servers clients : ℕ) (w : WorldState) (r : IsReach
           subst (λ (l : Logged). IsNamesBeside config trace greatest w.sent l ss n h.requests) is (passes config servers clients w r e choice clocks ss k h moment).named in
           let names = log_has_the_names config servers clients w r up in
           subst Named (sym found_is)
-          (relogged config trace greatest w.sent w.master.logged ss n h.requests here_named (replayed w.master.disk) names.0 names.1 (log_has_the_files config servers clients w r up) names.4)
+          (relogged config trace greatest w.sent w.master.logged ss n h.requests here_named (replayed w.master.disk) names.0 names.1 (log_has_the_files config servers clients w r up) (λ file has. (log_has_the_shapes config servers clients w r up file has).0) names.4)
 
     -- from a log of one that is down
     module _ (is : k.log ≡ replayed found) (none : ss ≡ []) where

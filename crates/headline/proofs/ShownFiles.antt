@@ -29,6 +29,7 @@ use Rattle.laws_machine.proofs.ChunkReadings.{length_of}
 use Rattle.laws_machine.proofs.ShownChunks.{files_are_seen}
 use Rattle.laws_machine.specs.WholeWorlds.{IsBeside}
 use Rattle.headline.specs.Explanations.{WholeWorldsAreExplained}
+use Rattle.machine_names.proofs.Effects.{same_collected}
 
 -- each file that is shown has no more chunks than the machine's, and each has the order of the machine's chunk
 
@@ -163,7 +164,7 @@ module _ (config : Config) (servers clients : ℕ) (w : WorldState) (r : IsReach
               ap (λ (t : Table (List ℕ)). table.contains_key t (suc n)) files ∙ b.named.alike.files (suc n)
               ∙ ap (λ (x : Bool). x && nat_le (suc n) b.names.file_count && not (b.names.files (suc n)).is_collected) (lt-ltb 0 (suc n) (omega arith))
               ∙ ap (λ (x : Bool). x && not (b.names.files (suc n)).is_collected) (le-leb (suc n) b.names.file_count (subst (λ (m : ℕ). n < m) (sym b.same.count) below))
-              ∙ ap (λ (x : Bool). not x) (b.same.collected (suc n) ∙ there);
+              ∙ ap (λ (x : Bool). not x) (same_collected k.machine b.names b.same (suc n) ∙ there);
           orders_are = λ file handles is. (shown ss k b file handles is).1;
         }
 

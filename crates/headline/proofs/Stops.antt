@@ -48,6 +48,7 @@ use Rattle.laws_names.specs.Beside as names
 use Rattle.laws_machine.specs.OverRounds as over
 use Rattle.headline.proofs.Quiet as quiet
 use Rattle.headline.proofs.Steps as steps
+use Rattle.laws_base.proofs.ShapesTold.{log_has_the_shapes}
 
 -- a log that gives up its copies has none
 pub none_under_way : (d : LogDisk) (handle : ℕ) → IsCopy (replayed d) handle → ⊥
@@ -55,7 +56,7 @@ none_under_way d handle copy = none_some copy.0 (sym (no_copies (log_read d).cop
 
 -- names stay as copies are given up
 pub given_up_alike : (d : LogDisk) (n : Machine) (requests : Requests) → AreAlike (log_read d) [] n requests → AreAlike (replayed d) [] n requests
-given_up_alike d n requests a = record { names = a.names; next = a.next; files = a.files; kept = a.kept; untaken = a.untaken; locks = a.locks }
+given_up_alike d n requests a = record { names = a.names; next = a.next; files = a.files; shapes = a.shapes; kept = a.kept; untaken = a.untaken; locks = a.locks }
 
 -- the last of all stops
 pub last_stop : (P : LogDisk → Type 0) (d : LogDisk) (xs : List LogChange) → AllStops P d xs → P (log_changed_by_all d xs)
@@ -137,7 +138,7 @@ module _ (config : Config) (servers clients : ℕ) (w : WorldState) (r : IsReach
         subst (λ (l : Logged). Here l []) log_is
         (quiet.quiet config servers clients w r e choice clocks ss k h moment t same refl refl (replayed w.master.disk) [] (record on_disk { log = replayed w.master.disk }) n refl (inr (down, decided, log_is)) refl
         moves
-        (relogged config trace greatest w.sent w.master.logged ss n h.requests named (replayed w.master.disk) names.0 names.1 (log_has_the_files config servers clients w r up) names.4) (λ q. left_same (n.clients q)))
+        (relogged config trace greatest w.sent w.master.logged ss n h.requests named (replayed w.master.disk) names.0 names.1 (log_has_the_files config servers clients w r up) (λ file has. (log_has_the_shapes config servers clients w r up file has).0) names.4) (λ q. left_same (n.clients q)))
 
     -- it stops in the step
 

@@ -1,11 +1,12 @@
 -- Each file has one name, and each name's file is there: what each change of the names and the files keeps.
 use Rattle.std.proofs.Common.{◌≡◌, ◌⊎◌, ⊎_elim, ℕ, suc, ◌≤◌, ◌<◌, Bool, true, false, cond, List, [], ◌∷◌, Option, Some, None, is_some, refl, sym, ap, subst, ◌∙◌, inl, inr, arith}
-use Rattle.std.specs.Prelude.{◌==◌, find}
+use Rattle.std.specs.Prelude.{◌==◌, map, filter, find}
+use Rattle.std.specs.List.{AllByRecursion}
 use Rattle.std.specs.Cmp.{nat_cmp_total, unsigned_tied}
 use Rattle.std.proofs.lemmas.Bool.{true≢false, eqb-true, eqb-false}
 use Rattle.std.specs.FinMap as table
 use Rattle.gfs_types.specs.Paths.{Path, last_digits, hidden_name}
-use Rattle.relaxed_file.specs.Names.{Names, Node, Dir, File, node_at, is_dir_node, is_taken, is_dir, with_copies, id_after, id_after_all, copy_of_node}
+use Rattle.relaxed_file.specs.Names.{Names, Node, Dir, File, node_at, is_dir_node, is_taken, is_dir, copied_entries, with_copies, id_after, id_after_all, copy_of_node}
 use Rattle.relaxed_file.specs.NameStep.{is_in_trash}
 use Rattle.relaxed_file.proofs.NamesTree.{Tree, HasAt, inserted_there, inserted_other, removed_other, removed_there, same_or_other, not_hidden, entry_is, found_at}
 use Rattle.gfs_types.specs.Counters.{counter_limit}
@@ -290,3 +291,22 @@ copies_named (e ∷ es) names next t new distinct h =
     one : (n : Node) → AreNamed (table.insert names e.0 (copy_of_node next n)) (id_after next n) (with_copied_node t next n).files
     one Dir = dir_put names next t.files e.0 new.0.0 h
     one (File id) = file_put names next (suc next) t.files e.0 (handles_of t id) new.0.0 new.0.1 (omega arith) h
+
+-- the nodes that are copied are some of the names
+
+some_nodes : (P : Node → Type 0) (test : Path × Node → Bool) (there : Path × Node → Path) (es : List (Path × Node)) → AllByRecursion (λ (e : Path × Node). P e.1) es
+    → AllByRecursion (λ (e : Path × Node). P e.1) (map (λ (e : Path × Node). (there e, e.1)) (filter test es))
+some_nodes P test there [] all = tt
+some_nodes P test there (e ∷ rest) all = by_test (test e) (some_nodes P test there rest all.1)
+  where
+    by_test : (b : Bool) → AllByRecursion (λ (x : Path × Node). P x.1) (map (λ (x : Path × Node). (there x, x.1)) (filter test rest))
+        → AllByRecursion (λ (x : Path × Node). P x.1) (map (λ (x : Path × Node). (there x, x.1)) (cond b (e ∷ filter test rest) (filter test rest)))
+    by_test true more = (all.0, more)
+    by_test false more = more
+
+all_at_entries : (P : Node → Type 0) (es : List (Path × Node)) → ((p : Path) (v : Node) → HasAt es p v → P v) → AllByRecursion (λ (e : Path × Node). P e.1) es
+all_at_entries P [] f = tt
+all_at_entries P (e ∷ rest) f = (f e.0 e.1 (inl (refl, refl)), all_at_entries P rest (λ p v h. f p v (inr h)))
+
+pub copied_nodes : (P : Node → Type 0) (names : Names) (from to : Path) → ((p : Path) (v : Node) → node_at names p ≡ Some v → P v) → AllByRecursion (λ (e : Path × Node). P e.1) (copied_entries names from to)
+copied_nodes P names from to f = some_nodes P _ _ (table.entries names) (all_at_entries P (table.entries names) (λ p v h. f p v (entry_is names p v h)))

@@ -33,6 +33,7 @@ pub mod Owners
 pub mod CountsLogged
 pub mod CountsKept
 pub mod ShapesKept
+pub mod ShapesTold
 pub mod RowsSame
 pub mod RowsLogged
 pub mod RowsKept

@@ -129,7 +129,7 @@ module _ (Asks : Type 0) (Told : ℕ → ℕ → ℕ → Type 0) (Ended : ℕ �
       changes_keeps d client number (call.Rmdir p) (log.Rmdir (client_id client) number p) tt tt (λ asks. rmdir_named d.master (client_id client) number p d.master.logged.next_file may (h.2 asks)) h
   performs_keeps d client number deadline (call.Create p shape) may new bound h =
       changes_keeps d client number (call.Create p shape) (log.Create (client_id client) number (file_id d.master.logged.next_file) (told_shape d.master.config shape) p) refl tt
-      (λ asks. create_named d.master (client_id client) number (file_id d.master.logged.next_file) shape (told_shape d.master.config shape) p d.master.logged.next_file may (h.2 asks)) h
+      (λ asks. create_named d.master (client_id client) number (file_id d.master.logged.next_file) shape p d.master.logged.next_file may (h.2 asks)) h
   performs_keeps d client number deadline (call.Delete p) may new bound h =
       changes_keeps d client number (call.Delete p) (log.Delete (client_id client) number (moment_of d.master.now) p) tt tt
       (λ asks. delete_named d.master (client_id client) number (moment_of d.master.now) p d.master.logged.next_file (bound asks) may (h.2 asks)) h

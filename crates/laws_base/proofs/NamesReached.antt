@@ -1,5 +1,5 @@
 -- In each world that is reached, a master that is up has the names, counters, epoch and kept answers of its log, and what else its records keep of them.
-use Rattle.std.proofs.Common.{◌≡◌, ℕ, suc, ◌+◌, ◌≤◌, Bool, true, false, cond, List, [], ◌∷◌, map, take, drop, Option, Some, None, refl, sym, ap, subst, ◌∙◌, inl, inr, arith}
+use Rattle.std.proofs.Common.{◌≡◌, ◌⊎◌, ℕ, suc, ◌+◌, ◌≤◌, Bool, true, false, cond, List, [], ◌∷◌, map, take, drop, Option, Some, None, refl, sym, ap, subst, ◌∙◌, inl, inr, arith}
 use Rattle.std.specs.Prelude.{◌==◌, ◌&&◌, not, option_map, IsTrue}
 use Rattle.std.specs.Ordering.{nat_cmp, eq_by_cmp}
 use Rattle.std.specs.Cmp.{nat_cmp_total, unsigned_tied}
@@ -44,9 +44,19 @@ without_end row = record row { shape = no_shape; lease_end = 0 }
 abbrev pub AreSameButEnds : Table ChunkRow → Table ChunkRow → Type 0
 AreSameButEnds t u = (handle : ℕ) → option_map without_end (table.get t handle) ≡ option_map without_end (table.get u handle)
 
--- shapes of files, and of chunks with them, become others
+-- a shape that is known stays
+pub known_stays : (usual s : Shape) → (known_shape usual s ≡ s) ⊎ (s.chunk ≡ 0)
+known_stays usual s = by_test (s.chunk == 0) refl
+  where
+    by_test : (b : Bool) → (s.chunk == 0) ≡ b → (cond b usual s ≡ s) ⊎ (s.chunk ≡ 0)
+    by_test true none = inr (eqb-true s.chunk 0 none)
+    by_test false some = inl refl
+
+-- shapes of files, and of chunks with them, become others, where they weren't known
 pub record AreShapedBy (f : Shape → Shape) (t : ChunkTable) (shapes : Table Shape) (chunks : Table ChunkRow) : Type 0 where
+  pub stays : (s : Shape) → (f s ≡ s) ⊎ (s.chunk ≡ 0)
   pub files : (file : ℕ) (shape : Shape) → table.get t.shapes file ≡ Some shape → table.get shapes file ≡ Some (f shape)
+  pub back : (file : ℕ) (shape : Shape) → table.get shapes file ≡ Some shape → (old : Shape) × (table.get t.shapes file ≡ Some old) × (f old ≡ shape)
   pub rows : (handle : ℕ) (row : ChunkRow) → table.get chunks handle ≡ Some row → (old : ChunkRow) × (table.get t.chunks handle ≡ Some old) × (f old.shape ≡ row.shape)
 
 -- What is needed to hold in each reached world of what the master keeps and what its log says, with what it says of the log alone.
@@ -159,7 +169,7 @@ module _ (G : Logged → Type 0) (R : Logged → Logged → Type 0) (b : IsKeptB
   ended : (start : LogDisk) (c : Core) (handle moment : ℕ) → IsNaming start c → IsNaming start (core_ended c handle moment)
   ended start c handle moment h =
       let rows : Table ChunkRow = changed_by c.logged.table.chunks handle (λ row. record row { lease_end = moment }) (table.get c.logged.table.chunks handle) in
-      let shaped : AreShapedBy (λ shape. shape) c.logged.table c.logged.table.shapes rows = record { files = λ file shape is. is; rows = ended_shape c.logged.table.chunks handle moment } in
+      let shaped : AreShapedBy (λ shape. shape) c.logged.table c.logged.table.shapes rows = record { stays = λ s. inl refl; files = λ file shape is. is; back = λ file shape is. (shape, is, refl); rows = ended_shape c.logged.table.chunks handle moment } in
       quieter start c (record c.logged { table = record c.logged.table { chunks = rows } }) refl (b.rows c.logged (state_of c.disk) (λ shape. shape) c.logged.table.shapes rows (ended_same c.logged.table.chunks handle moment) shaped h.tied) h
 
   pub naming_keeps : (start : LogDisk) → (Ended : ℕ → ℕ → Type 0) → Keeps (Unit {0}) Nothing Ended (IsNaming start)
@@ -240,7 +250,9 @@ module _ (G : Logged → Type 0) (R : Logged → Logged → Type 0) (b : IsKeptB
       let known : Shape → Shape = known_shape (usual_shape config) in
       let shaped : AreShapedBy known given_up.table shapes rows =
       record {
+        stays = known_stays (usual_shape config);
         files = λ file shape is. mapped_at known given_up.table.shapes file shape is;
+        back = λ file shape is. mapped_cases known given_up.table.shapes file shape is;
         rows = λ handle row is. let old = mapped_cases (row_after_restart config moment) given_up.table.chunks handle row is in (old.0, old.1, ap (λ (r : ChunkRow). r.shape) old.2);
       } in
       let kept : R (record given_up { table = record given_up.table { shapes = shapes; chunks = rows } }) (state_of found) =

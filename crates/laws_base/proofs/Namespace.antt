@@ -1,9 +1,9 @@
 -- The names at the master: a tree, in which the target of each snapshot that waits stays free, apart from those of the others.
 use Rattle.std.proofs.Common.{◌≡◌, ◌⊎◌, ⊎_elim, ℕ, ◌≤◌, Bool, true, false, not, cond, List, [], ◌∷◌, ◌++◌, Option, Some, None, is_some, refl, sym, ap, subst, ◌∙◌, inl, inr}
-use Rattle.std.specs.Prelude.{◌==◌, ◌&&◌, ◌||◌, filter, find}
+use Rattle.std.specs.Prelude.{◌==◌, ◌&&◌, ◌||◌, nat_le, filter, find}
 use Rattle.std.specs.List.{list_any}
 use Rattle.std.specs.Str.{bytes_eq}
-use Rattle.std.proofs.lemmas.Bool.{true≢false, or_parts, and_from, eqb-true}
+use Rattle.std.proofs.lemmas.Bool.{true≢false, or_parts, and_parts, and_from, leb-true, eqb-true}
 use Rattle.std.specs.FinMap as table
 use Rattle.gfs_types.specs.declared.ids.ClientId.{ClientId}
 use Rattle.gfs_types.specs.declared.ids.FileId.{FileId}
@@ -24,11 +24,13 @@ use Rattle.gfs_types.specs.Counters.{counter_limit}
 use Rattle.protocol.specs.Logged.{Logged, Copy, after_record, swapped_in, is_this_file, name_removed, without_file}
 use Rattle.protocol.specs.Master.{MasterState, PendingSnapshot}
 use Rattle.protocol.specs.MasterSnapshots.{is_same_snapshot}
-use Rattle.protocol.specs.MasterNames.{snapshot_call, is_busy, master_refusal}
+use Rattle.protocol.specs.MasterNames.{snapshot_call, is_busy, master_refusal, told_shape}
 use Rattle.laws_base.proofs.Steps.{on_cond, none_some, same_some}
 use Rattle.laws_base.proofs.Entries.{AllOf, all_filtered, all_joined, same_number}
 use Rattle.gfs_types.specs.declared.config.Config.{Config}
 use Rattle.gfs_types.specs.declared.shape.Shape.{Shape}
+use Rattle.gfs_types.specs.Shapes.{usual_shape, fits, shape_or, may_have}
+use Rattle.chunk_table.specs.ChunkTable.{no_shape}
 
 -- a snapshot's paths, and its target, which is free
 pub record IsFree (names : Names) (from to : Path) : Type 0 where
@@ -429,11 +431,25 @@ names_are_after l other = refl
 abbrev pub IsNameDue : Names → ℕ → Record → Type 0
 IsNameDue names next (log.Mkdir client n path) = TestsOf names (call.Mkdir path)
 IsNameDue names next (log.Rmdir client n path) = TestsOf names (call.Rmdir path)
-IsNameDue names next (log.Create client n file shape path) = (asked : Option Shape) × TestsOf names (call.Create path asked)
+IsNameDue names next (log.Create client n file shape path) = (asked : Option Shape) × (tests : TestsOf names (call.Create path asked)) × (shape ≡ told_shape tests.0 asked)
 IsNameDue names next (log.Delete client n moment path) = TestsOf names (call.Delete path) × (next ≤ counter_limit)
 IsNameDue names next (log.Rename client n from to) = TestsOf names (call.Rename from to)
 IsNameDue names next (log.Snapshot client n from to) = IsFree names from to
 IsNameDue names next other = Unit {0}
+
+-- a chunk of a file that fits has 64 bytes at least
+fits_least : (config : Config) (s : Shape) → fits config s ≡ true → 64 ≤ s.chunk
+fits_least config s h =
+    let chunks = (and_parts _ _ (and_parts _ _ h).0).0 in
+    leb-true 64 s.chunk (and_parts (nat_le 64 s.chunk) (nat_le s.chunk config.chunk) chunks).0
+
+-- a file that is made has such a shape, which its record tells
+pub told_least : (names : Names) (client : ClientId) (n next : ℕ) (file : FileId) (shape : Option Shape) (path : Path) → IsNameDue names next (log.Create client n file shape path)
+    → 64 ≤ (shape_or no_shape shape).chunk
+told_least names client n next file shape path due =
+    let config : Config = (due.1).0 in
+    let all = tests_passed (path_tests config (call.Create path due.0) ++ name_tests names (call.Create path due.0)) (due.1).1 in
+    subst (λ (o : Option Shape). 64 ≤ (shape_or no_shape o).chunk) (sym due.2) (fits_least config (shape_or (usual_shape config) due.0) (true_from (may_have config due.0) all.1.0))
 
 -- a record that fits the names, and leaves the targets of snapshots that wait
 pub record IsNamed (names : Names) (next : ℕ) (r : Record) (ss : List PendingSnapshot) : Type 0 where
@@ -452,11 +468,11 @@ rmdir_named m client n p next h is =
     let may = not_refused m (call.Rmdir p) h in
     record { due = (m.config, may.1); after = rmdir_names m.logged.names p m.snapshots (m.config, may.1) (not_busy (call.Rmdir p) refl m.snapshots may.0) is }
 
-pub create_named : (m : MasterState) (client : ClientId) (n : ℕ) (file : FileId) (shape told : Option Shape) (p : Path) (next : ℕ) → master_refusal m (call.Create p shape) ≡ None
-    → IsNamespace m.logged.names m.snapshots → IsNamed m.logged.names next (log.Create client n file told p) m.snapshots
-create_named m client n file shape told p next h is =
+pub create_named : (m : MasterState) (client : ClientId) (n : ℕ) (file : FileId) (shape : Option Shape) (p : Path) (next : ℕ) → master_refusal m (call.Create p shape) ≡ None
+    → IsNamespace m.logged.names m.snapshots → IsNamed m.logged.names next (log.Create client n file (told_shape m.config shape) p) m.snapshots
+create_named m client n file shape p next h is =
     let may = not_refused m (call.Create p shape) h in
-    record { due = (shape, (m.config, may.1)); after = create_names m.logged.names p shape file.0 m.snapshots (m.config, may.1) (not_busy (call.Create p shape) refl m.snapshots may.0) is }
+    record { due = (shape, (m.config, may.1), refl); after = create_names m.logged.names p shape file.0 m.snapshots (m.config, may.1) (not_busy (call.Create p shape) refl m.snapshots may.0) is }
 
 pub delete_named : (m : MasterState) (client : ClientId) (n : ℕ) (moment : Moment) (p : Path) (next : ℕ) → next ≤ counter_limit → master_refusal m (call.Delete p) ≡ None → IsNamespace m.logged.names m.snapshots
     → IsNamed m.logged.names next (log.Delete client n moment p) m.snapshots

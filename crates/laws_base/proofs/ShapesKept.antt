@@ -20,7 +20,7 @@ use Rattle.laws_base.proofs.ChunkRows.{Rows, rows_of, OwnedFrom, removed_owned, 
 use Rattle.laws_base.proofs.MasterMoves.{IsDue}
 use Rattle.laws_base.proofs.OrderNumbers.{state_of, after-append}
 use Rattle.laws_base.proofs.LoggedParts.{Parts, parts_of}
-use Rattle.laws_base.proofs.FilesNamed.{Files, HasFile, split_key}
+use Rattle.laws_base.proofs.FilesNamed.{Files, HasFile, split_key, put_key}
 use Rattle.laws_base.proofs.OneName.{AreCopiesOf, left_copy}
 use Rattle.laws_base.proofs.FilesLogged.{IsFoundLog, AreAmong, checkpoint_no_copies}
 use Rattle.laws_base.proofs.NamesReached.{IsKeptByLog, AreShapedBy, logged_reached}
@@ -28,10 +28,10 @@ use Rattle.laws_base.proofs.Owners.{stands, chunks_at, times_at_least, HasRow, t
 use Rattle.laws_base.proofs.CountsLogged.{IsPlacedIn, IsFoundCounts, IsCountedLog, files_below, with_at_most}
 use Rattle.laws_base.proofs.CountsKept.{counts_kept, state_due, log_due}
 
-abbrev shape_at : Table Shape → ℕ → Shape
+abbrev pub shape_at : Table Shape → ℕ → Shape
 shape_at shapes file = unwrap_or (table.get shapes file) no_shape
 
-abbrev HasShape : Table Shape → ℕ → Type 0
+abbrev pub HasShape : Table Shape → ℕ → Type 0
 HasShape shapes file = (shape : Shape) × (table.get shapes file ≡ Some shape)
 
 -- the handle stands in the file that has this list, if any
@@ -46,16 +46,16 @@ stands_somewhere files file q at = by_file (table.get files file) at
     by_file (Some hs) some = refl
 
 -- each file has a shape, which each of its chunks has
-record AreShaped (files : Files) (shapes : Table Shape) (rows : Rows) : Type 0 where
-  known : (file : ℕ) → HasFile files file → HasShape shapes file
-  chunks : (file q : ℕ) (row : ChunkRow) → 1 ≤ stands q (chunks_at files file) → table.get rows q ≡ Some row → row.shape ≡ shape_at shapes file
+pub record AreShaped (files : Files) (shapes : Table Shape) (rows : Rows) : Type 0 where
+  pub known : (file : ℕ) → HasFile files file → HasShape shapes file
+  pub chunks : (file q : ℕ) (row : ChunkRow) → 1 ≤ stands q (chunks_at files file) → table.get rows q ≡ Some row → row.shape ≡ shape_at shapes file
 
-abbrev AreCopiesShaped : Table Copy → Table Shape → Rows → Type 0
+abbrev pub AreCopiesShaped : Table Copy → Table Shape → Rows → Type 0
 AreCopiesShaped copies shapes rows = (handle : ℕ) (c : Copy) (row : ChunkRow) → table.get copies handle ≡ Some c → table.get rows handle ≡ Some row → row.shape ≡ shape_at shapes c.file
 
-record IsShaped (l : Logged) : Type 0 where
-  files : AreShaped l.table.files l.table.shapes (rows_of l)
-  copies : AreCopiesShaped l.copies l.table.shapes (rows_of l)
+pub record IsShaped (l : Logged) : Type 0 where
+  pub files : AreShaped l.table.files l.table.shapes (rows_of l)
+  pub copies : AreCopiesShaped l.copies l.table.shapes (rows_of l)
 
 -- rows that keep their shapes
 
@@ -420,10 +420,11 @@ due_there l k other same due h = tt
 -- a checkpoint, read again
 
 -- What is read so far: files of the table with their chunks and shapes, and rows of these chunks.
-record IsReadBack (t : ChunkTable) (j : Logged) : Type 0 where
-  lists : (file : ℕ) (hs : List ℕ) → table.get j.table.files file ≡ Some hs → hs ≡ handles_of t file
-  shapes : (file : ℕ) → HasFile j.table.files file → table.get j.table.shapes file ≡ Some (shape_of t file)
-  rows : (q : ℕ) (row : ChunkRow) → table.get (rows_of j) q ≡ Some row → (file : ℕ) × (1 ≤ stands q (handles_of t file)) × (row.shape ≡ shape_of t file)
+pub record IsReadBack (t : ChunkTable) (j : Logged) : Type 0 where
+  pub lists : (file : ℕ) (hs : List ℕ) → table.get j.table.files file ≡ Some hs → hs ≡ handles_of t file
+  pub shapes : (file : ℕ) → HasFile j.table.files file → table.get j.table.shapes file ≡ Some (shape_of t file)
+  pub keys : (file : ℕ) (s : Shape) → table.get j.table.shapes file ≡ Some s → HasFile j.table.files file
+  pub rows : (q : ℕ) (row : ChunkRow) → table.get (rows_of j) q ≡ Some row → (file : ℕ) × (1 ≤ stands q (handles_of t file)) × (row.shape ≡ shape_of t file)
 
 -- a row of a file that is put was there before, or is of this file
 owned_cases : (shape : Shape) (rows : Rows) (hs : List ℕ) (q : ℕ) (row : ChunkRow) → table.get (with_owned shape rows hs) q ≡ Some row
@@ -455,6 +456,9 @@ file_read t j p id h =
             | inr before ↦ h.lists file hs before
           ];
       shapes = λ file has. its_shape file has (same_or_not file id);
+      keys = λ file s is.
+          put_key j.table.files id (handles_of t id) file
+          (elim (put_cases j.table.shapes id (shape_of t id) file s is) [ inl now ↦ inl now.0 | inr before ↦ inr (h.keys file s before) ]);
       rows = λ q row is.
           elim (owned_cases (shape_of t id) (rows_of j) (handles_of t id) q row is) [
             | inl was ↦ let old = h.rows q was.0 was.1 in (old.0, old.1, sym was.2 ∙ old.2)
@@ -476,7 +480,7 @@ items_read t [] j h = h
 items_read t (e ∷ es) j h = items_read t es (after_record j (name_item t e)) (one e.1)
   where
     one : (n : Node) → IsReadBack t (after_record j (node_item t e.0 n))
-    one Dir = record { lists = h.lists; shapes = h.shapes; rows = h.rows }
+    one Dir = record { lists = h.lists; shapes = h.shapes; keys = h.keys; rows = h.rows }
     one (File id) = file_read t j e.0 id h
 
 chunks_read : (t : ChunkTable) (es : List (ℕ × ChunkRow)) (j : Logged) → IsReadBack t j → IsReadBack t (after_records j (map chunk_item es))
@@ -486,6 +490,7 @@ chunks_read t (e ∷ es) j h =
     (record {
       lists = h.lists;
       shapes = h.shapes;
+      keys = h.keys;
       rows = λ q row is.
           let was = changed_keeps (rows_of j) e.0 (λ r. record r { granted = e.1.granted; issued = e.1.issued; primary = e.1.primary; members = e.1.members }) (λ r. refl) q row is in
           let old = h.rows q was.0 was.1 in
@@ -494,9 +499,9 @@ chunks_read t (e ∷ es) j h =
 
 clients_read : (t : ChunkTable) (es : List (ℕ × KeptCall)) (j : Logged) → IsReadBack t j → IsReadBack t (after_records j (map client_item es))
 clients_read t [] j h = h
-clients_read t (e ∷ es) j h = clients_read t es (after_record j (client_item e)) (record { lists = h.lists; shapes = h.shapes; rows = h.rows })
+clients_read t (e ∷ es) j h = clients_read t es (after_record j (client_item e)) (record { lists = h.lists; shapes = h.shapes; keys = h.keys; rows = h.rows })
 
-checkpoint_read : (l : Logged) → IsReadBack l.table (after_records first_logged (checkpoint_of l))
+pub checkpoint_read : (l : Logged) → IsReadBack l.table (after_records first_logged (checkpoint_of l))
 checkpoint_read l =
     let first : Logged = after_record first_logged (log.Counters (file_id l.next_file) (handle_of l.next_handle) l.epoch) in
     let names : List Record = map (name_item l.table) (table.entries l.names) in
@@ -508,6 +513,7 @@ checkpoint_read l =
     record {
       lists = λ file hs is. none_some hs (sym (table.get-empty nat_cmp file) ∙ is);
       shapes = λ file has. absurd (true≢false (sym has ∙ ap is_some (table.get-empty nat_cmp file)));
+      keys = λ file s is. none_some s (sym (table.get-empty nat_cmp file) ∙ is);
       rows = λ q row is. none_some row (sym (table.get-empty nat_cmp q) ∙ is);
     } in
     let read : IsReadBack l.table (after_records two (map client_item clients)) = clients_read l.table clients two (chunks_read l.table rows one (items_read l.table (table.entries l.names) first none)) in
@@ -571,14 +577,14 @@ module _ (l : Logged) (f : Shape → Shape) (shapes : Table Shape) (rows : Rows)
 
 -- in each log
 
-record IsFoundShapes (k : Logged) : Type 0 where
-  base : IsFoundCounts k
-  shaped : IsShaped k
+pub record IsFoundShapes (k : Logged) : Type 0 where
+  pub base : IsFoundCounts k
+  pub shaped : IsShaped k
 
-record IsShapedLog (l k : Logged) : Type 0 where
-  base : IsCountedLog l k
-  log : IsFoundShapes k
-  here : IsShaped l
+pub record IsShapedLog (l k : Logged) : Type 0 where
+  pub base : IsCountedLog l k
+  pub log : IsFoundShapes k
+  pub here : IsShaped l
 
 first_shaped : IsShaped first_logged
 first_shaped =
@@ -590,7 +596,7 @@ first_shaped =
       copies = λ handle c row is at. none_some c (sym (table.get-empty nat_cmp handle) ∙ is);
     }
 
-shapes_kept : IsKeptByLog IsFoundShapes IsShapedLog
+pub shapes_kept : IsKeptByLog IsFoundShapes IsShapedLog
 shapes_kept =
     record {
       good = λ l k h. h.log;

@@ -103,6 +103,12 @@ WasGranted sent server handle chunk held =
     (place : ℕ) × (grant : Message) × (element_at sent place ≡ Some grant) × (grant.receiver ≡ the_server server) × (order : OrderNo) × (end_moment : Moment)
     × (grant.body ≡ body.Grant order (handle_of handle) (version_of held.version) end_moment chunk held.members)
 
+-- one of the messages is a Grant of this version of a chunk, with this size of it
+abbrev pub IsSizeGranted : List Message → (handle version size : ℕ) → Type 0
+IsSizeGranted sent handle version size =
+    (place : ℕ) × (grant : Message) × (element_at sent place ≡ Some grant) × (order : OrderNo) × (end_moment : Moment) × (members : List ℕ)
+    × (grant.body ≡ body.Grant order (handle_of handle) (version_of version) end_moment size members)
+
 -- whether a message tells that the lease of this version of a chunk ends at this moment
 abbrev pub tells_end : ℕ → ℕ → ℕ → Body → Bool
 tells_end handle version until (body.Grant order h v end_moment chunk members) = (h.0 == handle) && (v.0 == version) && (end_moment.0 == until)
@@ -233,6 +239,13 @@ abbrev pub ChunksHaveTheirFilesShapes : Type 0
 ChunksHaveTheirFilesShapes =
     (config : Config) (servers clients : ℕ) (w : WorldState) → IsReached config servers clients w → IsTrue w.master.up
     → HaveFilesShapes w.master.logged × HaveFilesShapes (replayed w.master.disk)
+
+-- The log, replayed, tells the shape of each file of a master that is up, as it is there; no chunk of a file has fewer than 64 bytes (sections 2.3 and 2.6.3).
+abbrev pub LogHasTheShapes : Type 0
+LogHasTheShapes =
+    (config : Config) (servers clients : ℕ) (w : WorldState) → IsReached config servers clients w → IsTrue w.master.up
+    → (file : ℕ) → IsTrue (table.contains_key w.master.logged.table.files file)
+    → (shape_of w.master.logged.table file ≡ shape_of (replayed w.master.disk).table file) × (64 ≤ (shape_of w.master.logged.table file).chunk)
 
 -- What a step of the master gave with what its code has, and what the definitions give: the same output, the same that is seen, and what a stop may leave.
 abbrev pub IsGivenAs : Taken MasterState → Taken MasterState → Type 0

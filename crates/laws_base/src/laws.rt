@@ -1,6 +1,6 @@
 //! Laws of every lawful list of events from a new cell: calls, deliveries, losses, repeats, ticks, restarts, stops in a step, refused memory and rot.
 
-ghost use Rattle.laws_base.specs.Laws.{ChunksHaveTheirFilesShapes, CountingLeasesHaveNotEnded, FilesHaveOneName, GrantedIsAtMostIssued, LastingLeasesAreInTheLog, LastingLeasesAreOfTheMaster, LeasesAreTold, LogHasTheChunks, LogHasTheFiles, LogHasTheNames, MasterNamesAreATree, MembersRecordedWhatIsGranted, OneLeaseLasts, OrderNumbersNeverFall, OrdersAreNumberedOnce, ReferencesAreCounted, RestartsOfWhatIsLeft, VersionsAreGrantedOnce, VersionsHaveOnePrimary};
+ghost use Rattle.laws_base.specs.Laws.{ChunksHaveTheirFilesShapes, CountingLeasesHaveNotEnded, FilesHaveOneName, GrantedIsAtMostIssued, LastingLeasesAreInTheLog, LastingLeasesAreOfTheMaster, LeasesAreTold, LogHasTheChunks, LogHasTheFiles, LogHasTheNames, LogHasTheShapes, MasterNamesAreATree, MembersRecordedWhatIsGranted, OneLeaseLasts, OrderNumbersNeverFall, OrdersAreNumberedOnce, ReferencesAreCounted, RestartsOfWhatIsLeft, VersionsAreGrantedOnce, VersionsHaveOnePrimary};
 
 /// No two orders of the master have one number, over its restarts and stops too.
 pub fn orders_are_numbered_once()
@@ -90,6 +90,11 @@ pub fn log_has_the_chunks()
 /// At a master that is up each file has a shape, which each of its chunks has, and a copy under way has that of the file that it is for; and so in its log, replayed.
 pub fn chunks_have_their_files_shapes()
     ensures { ChunksHaveTheirFilesShapes }
+{}
+
+/// The log, replayed, tells the shape of each file of a master that is up, as it is there; no chunk of a file has fewer than 64 bytes.
+pub fn log_has_the_shapes()
+    ensures { LogHasTheShapes }
 {}
 
 /// A restart of a master as its code has it, which may not have begun the change that a stop names, is a restart of the master of the definitions.

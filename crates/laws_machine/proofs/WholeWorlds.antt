@@ -53,7 +53,7 @@ use Rattle.laws_machine.proofs.WholeMoves.{AllStay, GoesQuietly, quiet_run, entr
 -- a new world
 
 new_same : (config : Config) → AreNamesOf (new_machine config) (new_machine config)
-new_same config = record { config = refl; clock = refl; names = refl; count = refl; collected = λ file. refl; calls = λ client. tt; fds = λ client. refl }
+new_same config = record { config = refl; clock = refl; names = refl; count = refl; files = λ file. refl; calls = λ client. tt; fds = λ client. refl }
 
 new_files : (config : Config) (count : ℕ) → AreFileClients (map (new_client config) (first_numbers count)) (new_machine config)
 new_files config count = λ index s at up.

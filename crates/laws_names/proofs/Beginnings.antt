@@ -67,6 +67,7 @@ module _ (m : Machine) (requests : Requests) (client : ℕ) (number : Option ℕ
         names = h.names;
         next = h.next;
         files = h.files;
+        shapes = h.shapes;
         kept = λ q k is x w. elim (waits_now q k.number x w) [
           | inl new ↦ absurd (unkept k (ap (λ (i : ℕ). table.get l.kept i) (sym new.0) ∙ is) new.1)
           | inr old ↦ h.kept q k is x old.1

@@ -41,6 +41,7 @@ use Rattle.laws_names.specs.OpenRequests.{IsOldOrOpen, AreNotLater}
 use Rattle.laws_names.proofs.OpenRequestsLemmas.{names_stay_old_or_open}
 use Rattle.laws_steps.specs.FileCalls.{IsNoWordOfNames}
 use Rattle.laws_names.specs.Beside.{lasts, lasting, IsKnown, IsNamesBeside, IsClientBeside, AreClientsBeside}
+use Rattle.chunk_table.specs.ChunkTable.{shape_of}
 
 pub all_fewer : (P : PendingSnapshot → Type 0) (p q : PendingSnapshot → Bool) (ss : List PendingSnapshot) → ((s : PendingSnapshot) → p s ≡ true → q s ≡ true) → AllByRecursion P (filter q ss) → AllByRecursion P (filter p ss)
 all_fewer P p q [] more all = tt
@@ -53,7 +54,7 @@ all_fewer P p q (s ∷ ss) more all = by_tests (p s) refl (q s) refl (λ h. all_
     by_tests false is false also rest h = rest h
 
 pub relocked : (l : Logged) (ss others : List PendingSnapshot) (m : Machine) (requests : Requests) → AreAlike l ss m requests → AllByRecursion (HoldsLocks m requests) others → AreAlike l others m requests
-relocked l ss others m requests h locks = record { names = h.names; next = h.next; files = h.files; kept = h.kept; untaken = h.untaken; locks = locks }
+relocked l ss others m requests h locks = record { names = h.names; next = h.next; files = h.files; shapes = h.shapes; kept = h.kept; untaken = h.untaken; locks = locks }
 
 pub settings_of : (config : Config) (trace : List Visible) (greatest : ℕ) (sent : List Message) (l : Logged) (ss : List PendingSnapshot) (m : Machine) (requests : Requests) → IsNamesBeside config trace greatest sent l ss m requests → m.config ≡ config
 settings_of config trace greatest sent l ss m requests h = (clock_and_settings_are_seen (new_machine config) m h.run).1
@@ -243,8 +244,9 @@ module _ (config : Config) (trace : List Visible) (greatest : ℕ) (sent : List 
   says_else k ms silent = says_more k ms (λ x is. silent_heard x x.body (silent x is))
 
   -- a log that says the same
-  pub relogged : (k : Logged) → l.names ≡ k.names → l.next_file ≡ k.next_file → l.table.files ≡ k.table.files → l.kept ≡ k.kept → IsNamesBeside config trace greatest sent k [] m requests
-  relogged k names next files kept =
+  pub relogged : (k : Logged) → l.names ≡ k.names → l.next_file ≡ k.next_file → l.table.files ≡ k.table.files → ((file : ℕ) → table.contains_key l.table.files file ≡ true → shape_of l.table file ≡ shape_of k.table file) → l.kept ≡ k.kept
+      → IsNamesBeside config trace greatest sent k [] m requests
+  relogged k names next files shapes kept =
       record {
         run = h.run;
         seen = h.seen;
@@ -253,6 +255,7 @@ module _ (config : Config) (trace : List Visible) (greatest : ℕ) (sent : List 
           names = sym names ∙ (h.alike).names;
           next = sym next ∙ (h.alike).next;
           files = λ file. ap (λ t. table.contains_key t file) (sym files) ∙ (h.alike).files file;
+          shapes = λ file has. let had = ap (λ t. table.contains_key t file) files ∙ has in sym (shapes file had) ∙ (h.alike).shapes file had;
           kept = subst (λ (t : Table KeptCall). (client : ℕ) (x : KeptCall) → table.get t client ≡ Some x → IsKept m requests client x) kept (h.alike).kept;
           untaken = subst (λ (t : Table KeptCall). AreUntaken t m requests) kept (h.alike).untaken;
           locks = tt;

@@ -33,7 +33,7 @@ alike_keeps m requests =
       records = λ ss l k cs sent r is h. ((chunks_change_no_names l ss m requests h.0).0 r is, h.1);
       checkpoint = λ ss l k cs sent h. ((chunks_change_no_names l ss m requests h.0).1 (table.keys l.copies), h.1);
       less = λ ss l k cs sent handles h. ((chunks_change_no_names l ss m requests h.0).1 handles, h.1);
-      ends = λ ss l k cs sent handle moment h. (record { names = (h.0).names; next = (h.0).next; files = (h.0).files; kept = (h.0).kept; untaken = (h.0).untaken; locks = (h.0).locks }, h.1);
+      ends = λ ss l k cs sent handle moment h. (record { names = (h.0).names; next = (h.0).next; files = (h.0).files; shapes = (h.0).shapes; kept = (h.0).kept; untaken = (h.0).untaken; locks = (h.0).locks }, h.1);
     }
 
 pub chunk_messages_change_no_names : ChunkMessagesChangeNoNames

@@ -64,6 +64,7 @@ module _ (m n : Machine) (requests : Requests) (client : ℕ) (over : IsOver m n
         names = h.names ∙ sym over.names;
         next = h.next ∙ ap suc (sym over.count);
         files = λ file. h.files file ∙ there_still file;
+        shapes = λ file has. h.shapes file has ∙ ap (λ (files : ℕ → FileState). (files file).shape) (sym over.files);
         kept = λ q k is c w. h.kept q k is c (waited q k.number c w);
         untaken = λ q number c w plain. h.untaken q number c (waited q number c w) plain;
         locks = others_hold_on snapshots h.locks;
@@ -109,6 +110,7 @@ moments_pass l snapshots m requests moment h =
         names = h.names;
         next = h.next;
         files = h.files;
+        shapes = h.shapes;
         kept = λ q k is c w. h.kept q k is c (waits_still m n requests q k.number c refl w);
         untaken = λ q number c w plain. h.untaken q number c (waits_still m n requests q number c refl w) plain;
         locks = all_still m n requests snapshots refl h.locks;

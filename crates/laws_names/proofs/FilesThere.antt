@@ -1,16 +1,15 @@
 -- The master's files are those that are there at the machine: at a new file, at copies, and at one that is collected.
 use Rattle.std.proofs.Common.{◌≡◌, ⊎_elim, ℕ, suc, ◌≤◌, ◌<◌, Bool, true, false, cond, List, [], ◌∷◌, Some, None, is_some, refl, sym, ap, subst, ◌∙◌, inl, inr, arith}
-use Rattle.std.specs.Prelude.{◌==◌, ◌&&◌, nat_lt, nat_le, not, map, filter}
+use Rattle.std.specs.Prelude.{◌==◌, ◌&&◌, nat_lt, nat_le, not}
 use Rattle.std.specs.List.{AllByRecursion}
 use Rattle.std.specs.Cmp.{nat_cmp_total, unsigned_tied}
 use Rattle.std.proofs.lemmas.Bool.{true≢false, and_parts, and_from, ltb-true, ltb-false, lt-ltb, leb-true, le-leb, eqb-true, eqb-false}
 use Rattle.std.specs.FinMap as table
 use Rattle.gfs_types.specs.Paths.{Path}
-use Rattle.relaxed_file.specs.Names.{Names, Node, Dir, File, node_at, copied_entries, id_after, id_after_all}
+use Rattle.relaxed_file.specs.Names.{Node, Dir, File, id_after, id_after_all}
 use Rattle.relaxed_file.specs.Machine.{Machine, FileState, put}
 use Rattle.relaxed_file.specs.NameStep.{with_copied_file, with_copied_files}
 use Rattle.relaxed_file.proofs.Tables.{put_is, put_other}
-use Rattle.relaxed_file.proofs.NamesTree.{HasAt, entry_is}
 use Rattle.protocol.specs.Tables.{Table}
 use Rattle.chunk_table.specs.ChunkTable.{ChunkTable}
 use Rattle.protocol.specs.Logged.{with_copied_node, with_copied_nodes}
@@ -74,21 +73,21 @@ key_put files n hs q same = at_put files n hs q ∙ by_key (q == n) refl
     by_key true e = refl
     by_key false e = absurd (eqb-false q n e same)
 
-key_other : (files : Files) (n : ℕ) (hs : List ℕ) (q : ℕ) → (q ≡ n → ⊥) → table.contains_key (table.insert files n hs) q ≡ table.contains_key files q
+pub key_other : (files : Files) (n : ℕ) (hs : List ℕ) (q : ℕ) → (q ≡ n → ⊥) → table.contains_key (table.insert files n hs) q ≡ table.contains_key files q
 key_other files n hs q other = at_put files n hs q ∙ by_key (q == n) refl
   where
     by_key : (b : Bool) → (q == n) ≡ b → is_some (cond b (Some hs) (table.get files q)) ≡ table.contains_key files q
     by_key true e = absurd (other (eqb-true q n e))
     by_key false e = refl
 
-key_gone : (files : Files) (n q : ℕ) → q ≡ n → table.contains_key (table.remove files n) q ≡ false
+pub key_gone : (files : Files) (n q : ℕ) → q ≡ n → table.contains_key (table.remove files n) q ≡ false
 key_gone files n q same = at_removed files n q ∙ by_key (q == n) refl
   where
     by_key : (b : Bool) → (q == n) ≡ b → is_some (cond b None (table.get files q)) ≡ false
     by_key true e = refl
     by_key false e = absurd (eqb-false q n e same)
 
-key_left : (files : Files) (n q : ℕ) → (q ≡ n → ⊥) → table.contains_key (table.remove files n) q ≡ table.contains_key files q
+pub key_left : (files : Files) (n q : ℕ) → (q ≡ n → ⊥) → table.contains_key (table.remove files n) q ≡ table.contains_key files q
 key_left files n q other = at_removed files n q ∙ by_key (q == n) refl
   where
     by_key : (b : Bool) → (q == n) ≡ b → is_some (cond b None (table.get files q)) ≡ table.contains_key files q
@@ -159,22 +158,3 @@ copies_in (e ∷ rest) t states next low nodes h =
           copies_in rest (with_copied_node t next (File id)) (with_copied_file states next (File id)) (suc next) (omega arith) (nodes_stay states next (states id) rest nodes.1)
           (file_in t.files states next _ (states id) low is.2 h)
     ] nodes.0
-
--- the nodes that are copied are some of the names
-
-some_nodes : (P : Node → Type 0) (test : Path × Node → Bool) (there : Path × Node → Path) (es : List (Path × Node)) → AllByRecursion (λ (e : Path × Node). P e.1) es
-    → AllByRecursion (λ (e : Path × Node). P e.1) (map (λ (e : Path × Node). (there e, e.1)) (filter test es))
-some_nodes P test there [] all = tt
-some_nodes P test there (e ∷ rest) all = by_test (test e) (some_nodes P test there rest all.1)
-  where
-    by_test : (b : Bool) → AllByRecursion (λ (x : Path × Node). P x.1) (map (λ (x : Path × Node). (there x, x.1)) (filter test rest))
-        → AllByRecursion (λ (x : Path × Node). P x.1) (map (λ (x : Path × Node). (there x, x.1)) (cond b (e ∷ filter test rest) (filter test rest)))
-    by_test true more = (all.0, more)
-    by_test false more = more
-
-all_at_entries : (P : Node → Type 0) (es : List (Path × Node)) → ((p : Path) (v : Node) → HasAt es p v → P v) → AllByRecursion (λ (e : Path × Node). P e.1) es
-all_at_entries P [] f = tt
-all_at_entries P (e ∷ rest) f = (f e.0 e.1 (inl (refl, refl)), all_at_entries P rest (λ p v h. f p v (inr h)))
-
-pub copied_nodes : (P : Node → Type 0) (names : Names) (from to : Path) → ((p : Path) (v : Node) → node_at names p ≡ Some v → P v) → AllByRecursion (λ (e : Path × Node). P e.1) (copied_entries names from to)
-copied_nodes P names from to f = some_nodes P _ _ (table.entries names) (all_at_entries P (table.entries names) (λ p v h. f p v (entry_is names p v h)))

@@ -1,5 +1,5 @@
 -- A whole step in a reached world: the machine follows it, and each log that a stop may leave.
-use Rattle.std.proofs.Common.{◌≡◌, ℕ, Bool, List, [], refl, sym, ap, subst, ◌∙◌, inl}
+use Rattle.std.proofs.Common.{◌≡◌, ℕ, Bool, true, List, [], refl, sym, ap, subst, ◌∙◌, inl}
 use Rattle.std.specs.Prelude.{IsTrue}
 use Rattle.std.specs.FinMap as table
 use Rattle.gfs_types.specs.declared.config.Config.{Config}
@@ -28,14 +28,18 @@ use Rattle.laws_names.specs.FollowedSteps.{ComesTo, IsAtStep, IsInputOfOpenCall,
 use Rattle.laws_names.specs.NameTrails.{IsBesideLog, StepsGoByRecords}
 use Rattle.laws_names.proofs.Following.{IsGoodLog, IsFollowedTo, IsFollowing, HasLog}
 use Rattle.laws_names.proofs.FollowedStepsWalk.{Comes, goes_at}
+use Rattle.chunk_table.specs.ChunkTable.{shape_of}
+use Rattle.laws_base.proofs.ShapesTold.{log_has_the_shapes}
 
--- a log that has the state's names, counters, answers and files
-log_alike : (l k : Logged) (ss : List PendingSnapshot) (n : Machine) (requests : Requests) → parts_of l ≡ parts_of k → l.table.files ≡ k.table.files → AreAlike l ss n requests → AreAlike k [] n requests
-log_alike l k ss n requests same files a =
+-- a log that has the state's names, counters, answers and files, with their shapes
+log_alike : (l k : Logged) (ss : List PendingSnapshot) (n : Machine) (requests : Requests) → parts_of l ≡ parts_of k → l.table.files ≡ k.table.files
+    → ((file : ℕ) → table.contains_key l.table.files file ≡ true → shape_of l.table file ≡ shape_of k.table file) → AreAlike l ss n requests → AreAlike k [] n requests
+log_alike l k ss n requests same files shapes a =
     record {
       names = ap (λ (p : Parts). p.names) (sym same) ∙ a.names;
       next = ap (λ (p : Parts). p.next_file) (sym same) ∙ a.next;
       files = λ file. ap (λ t. table.contains_key t file) (sym files) ∙ a.files file;
+      shapes = λ file has. let had = ap (λ t. table.contains_key t file) files ∙ has in sym (shapes file had) ∙ a.shapes file had;
       kept = λ client x is. a.kept client x (ap (λ (p : Parts). table.get p.kept client) same ∙ is);
       untaken = subst (λ (t : Table KeptCall). AreUntaken t n requests) (ap (λ (p : Parts). p.kept) same) a.untaken;
       locks = tt;
@@ -54,7 +58,7 @@ module _ (config : Config) (servers clients : ℕ) (w : WorldState) (r : IsReach
     comes = record { run = stays n; told = λ x t. t }
 
     alone : AreAlike (state_of w.master.disk) [] n requests
-    alone = log_alike w.master.logged (state_of w.master.disk) (master_at w.master moment).snapshots n requests known.same known.tied.base.files h.alike
+    alone = log_alike w.master.logged (state_of w.master.disk) (master_at w.master moment).snapshots n requests known.same known.tied.base.files (λ file has. (log_has_the_shapes config servers clients w r up file has).0) h.alike
 
     beside : IsBesideLog requests n w.master.disk w.master.disk n
     beside = record { comes = comes; alike = alone; kept_on = kept_same requests (state_of w.master.disk).kept }

@@ -24,7 +24,7 @@ use Rattle.laws_base.proofs.OneName.{HasOneName}
 use Rattle.laws_base.proofs.CountsLogged.{IsFoundCounts, IsCountedLog}
 use Rattle.laws_base.proofs.CountsKept.{counts_kept}
 use Rattle.laws_base.proofs.NamesReached.{IsGood}
-use Rattle.laws_names.specs.Alike.{Requests, AreUntaken, AreAlike}
+use Rattle.laws_names.specs.Alike.{Requests, AreUntaken, AreAlike, is_there}
 use Rattle.laws_names.specs.NameSteps.{IsOfChunks}
 use Rattle.laws_names.proofs.FilesThere.{same_truth}
 use Rattle.laws_names.proofs.LocksAndFiles.{chunks_change_no_names}
@@ -34,6 +34,9 @@ use Rattle.laws_names.proofs.ChunkWalk.{IsUnnamed, KeepsChunks}
 use Rattle.laws_names.specs.FollowedSteps.{ComesTo}
 use Rattle.laws_names.specs.NameTrails.{AreQuiet, RunsQuietly, IsChunkRecord, IsChangeOf, IsBesideLog, NameTrail}
 use Rattle.relaxed_file.specs.Run.{Action, after}
+use Rattle.laws_base.proofs.ShapesKept.{checkpoint_read}
+use Rattle.laws_base.proofs.ShapesTold.{back_shape}
+use Rattle.chunk_table.specs.ChunkTable.{shape_of}
 
 -- stops
 
@@ -70,13 +73,18 @@ same_keys l k same one two file has =
     let name = one.named.named file has in
     two.named.there name.0 file (ap (λ (names : Names). node_at names name.0) (sym same) ∙ name.1)
 
-pub same_names_alike : (l k : Logged) (n : Machine) (requests : Requests) → parts_of l ≡ parts_of k → HasOneName l → HasOneName k → AreAlike l [] n requests → AreAlike k [] n requests
-same_names_alike l k n requests same one two a =
+-- the shapes of the other one are known
+pub same_names_alike : (l k : Logged) (n : Machine) (requests : Requests) → parts_of l ≡ parts_of k → HasOneName l → HasOneName k → AreAlike l [] n requests
+    → ((file : ℕ) → is_there n file ≡ true → table.contains_key k.table.files file ≡ true → shape_of k.table file ≡ (n.files file).shape) → AreAlike k [] n requests
+same_names_alike l k n requests same one two a shapes =
     let names : l.names ≡ k.names = ap (λ (p : Parts). p.names) same in
+    let files : (file : ℕ) → table.contains_key k.table.files file ≡ is_there n file =
+    λ file. same_truth (table.contains_key k.table.files file) (table.contains_key l.table.files file) (same_keys k l (sym names) two one file) (same_keys l k names one two file) ∙ a.files file in
     record {
       names = sym names ∙ a.names;
       next = ap (λ (p : Parts). p.next_file) (sym same) ∙ a.next;
-      files = λ file. same_truth (table.contains_key k.table.files file) (table.contains_key l.table.files file) (same_keys k l (sym names) two one file) (same_keys l k names one two file) ∙ a.files file;
+      files = files;
+      shapes = λ file has. shapes file (sym (files file) ∙ has) has;
       kept = λ client x is. a.kept client x (ap (λ (p : Parts). table.get p.kept client) same ∙ is);
       untaken = subst (λ (t : Table KeptCall). AreUntaken t n requests) (ap (λ (p : Parts). p.kept) same) a.untaken;
       locks = tt;
@@ -226,9 +234,10 @@ module _ (config : Config) (requests : Requests) (first : Machine) (start : LogD
       }
 
   -- a checkpoint, read again
-  pub checkpoint_log : (n : Machine) (l : Logged) (k : LogDisk) (cs : List LogChange) → ComesTo first n requests → AreKeptOn requests (state_of start).kept l.kept → (AllStops IsGoodLog start cs → HasLog n l k cs) → AllStops IsGoodLog start (cs ++ WriteCheckpoint (checkpoint_of l) ∷ [])
+  pub checkpoint_log : (n : Machine) (l : Logged) (k : LogDisk) (cs : List LogChange) → ComesTo first n requests → AreKeptOn requests (state_of start).kept l.kept → (ss : List PendingSnapshot) → AreAlike l ss n requests
+      → (AllStops IsGoodLog start cs → HasLog n l k cs) → AllStops IsGoodLog start (cs ++ WriteCheckpoint (checkpoint_of l) ∷ [])
       → HasLog n (all_copies_given_up l) (log_changed k (WriteCheckpoint (checkpoint_of l))) (cs ++ WriteCheckpoint (checkpoint_of l) ∷ [])
-  checkpoint_log n l k cs comes kept_on h good =
+  checkpoint_log n l k cs comes kept_on ss alike h good =
       let x : LogChange = WriteCheckpoint (checkpoint_of l) in
       let new : Logged = after_records first_logged (checkpoint_of l) in
       let parts = stops_split IsGoodLog start cs x good in
@@ -238,7 +247,8 @@ module _ (config : Config) (requests : Requests) (first : Machine) (start : LogD
       let tree : Tree l.names = subst (λ (names : Names). Tree names) (sym (ap (λ (p : Parts). p.names) g.same)) here.0 in
       let same : parts_of new ≡ parts_of l = checkpoint_parts l tree in
       grown n n l (all_copies_given_up l) k cs x comes kept_on (sym same)
-      (same_names_alike (state_of k) new n requests (sym g.same ∙ sym same) here.1.base.one_name later.1.base.one_name g.alone) refl g
+      (same_names_alike (state_of k) new n requests (sym g.same ∙ sym same) here.1.base.one_name later.1.base.one_name g.alone
+      (λ file there has. back_shape l.table new file (checkpoint_read l) has ∙ alike.shapes file (alike.files file ∙ there))) refl g
 
   pub checkpointed : (n : Machine) (l : Logged) (k : LogDisk) (cs : List LogChange) (sent : List Message) (ss : List PendingSnapshot) → IsFollowing n l k cs sent ss
       → IsFollowing n (all_copies_given_up l) (log_changed k (WriteCheckpoint (checkpoint_of l))) (cs ++ WriteCheckpoint (checkpoint_of l) ∷ []) sent ss
@@ -249,7 +259,7 @@ module _ (config : Config) (requests : Requests) (first : Machine) (start : LogD
         run = h.run;
         comes = h.comes;
         kept_on = h.kept_on;
-        log = checkpoint_log n l k cs h.comes h.kept_on h.log;
+        log = checkpoint_log n l k cs h.comes h.kept_on ss h.alike h.log;
       }
 
   pub fewer : (n : Machine) (l : Logged) (k : LogDisk) (cs : List LogChange) (sent : List Message) (ss : List PendingSnapshot) (handles : List ℕ) → IsFollowing n l k cs sent ss → IsFollowing n (copies_given_up l handles) k cs sent ss
@@ -289,7 +299,7 @@ module _ (config : Config) (requests : Requests) (first : Machine) (start : LogD
         checkpoint = λ ss l k cs sent h. checkpointed n l k cs sent ss h;
         less = λ ss l k cs sent handles h. fewer n l k cs sent ss handles h;
         ends = λ ss l k cs sent handle moment h. record {
-          alike = record { names = (h.alike).names; next = (h.alike).next; files = (h.alike).files; kept = (h.alike).kept; untaken = (h.alike).untaken; locks = (h.alike).locks };
+          alike = record { names = (h.alike).names; next = (h.alike).next; files = (h.alike).files; shapes = (h.alike).shapes; kept = (h.alike).kept; untaken = (h.alike).untaken; locks = (h.alike).locks };
           told = h.told;
           run = h.run;
           comes = h.comes;

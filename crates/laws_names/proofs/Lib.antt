@@ -2,6 +2,7 @@ pub mod Steps
 pub mod NameRecords
 pub mod OpenCalls
 pub mod FilesThere
+pub mod ShapesThere
 pub mod NameSteps
 pub mod LocksAndFiles
 pub mod Waiting

@@ -1,6 +1,6 @@
 -- Locks that are taken and go back, files that are collected, and records about chunks.
 use Rattle.std.proofs.Common.{◌≡◌, ⊎_elim, ℕ, suc, Bool, true, false, cond, List, [], ◌∷◌, Option, Some, None, refl, sym, ap, subst, ◌∙◌, inl, inr}
-use Rattle.std.specs.Prelude.{IsTrue, IfSome, find}
+use Rattle.std.specs.Prelude.{IsTrue, IfSome, find, unwrap_or}
 use Rattle.std.specs.List.{AllByRecursion}
 use Rattle.std.proofs.lemmas.Option.{none-some}
 use Rattle.std.proofs.lemmas.Bool.{true≢false, eqb-true, eq-eqb}
@@ -13,7 +13,7 @@ use Rattle.relaxed_file.specs.Names.{Names, Node, Dir, File, node_at}
 use Rattle.relaxed_file.specs.Machine.{Machine, FileState, OpenCall, put}
 use Rattle.relaxed_file.specs.NameStep.{refusal_of}
 use Rattle.relaxed_file.specs.Locks.{is_snapshot}
-use Rattle.chunk_table.specs.ChunkTable.{grant}
+use Rattle.chunk_table.specs.ChunkTable.{grant, no_shape}
 use Rattle.relaxed_file.specs.Run.{Lock, after, expired}
 use Rattle.relaxed_file.proofs.Tables.{from_some}
 use Rattle.relaxed_file.proofs.NamesTree.{HasAt, found_at, entry_is}
@@ -24,6 +24,10 @@ use Rattle.laws_names.specs.NameSteps.{LocksAreTaken, LocksGoBack, ExpiredFilesA
 use Rattle.laws_names.proofs.OpenCalls.{GoesOn, step_goes_on, kept_stays, untaken_stays, all_hold_still, none_of_client, some_hold, one_more_holds, waits_still, all_still}
 use Rattle.laws_names.proofs.FilesThere.{AreIn, files_in, files_alike, file_out, put_again}
 use Rattle.laws_names.specs.Names.{snapshot_refusal}
+use Rattle.laws_names.proofs.ShapesThere.{shape_gone}
+use Rattle.laws_base.proofs.ShapesTold.{swapped_shapes}
+use Rattle.gfs_types.specs.declared.shape.Shape.{Shape}
+use Rattle.protocol.specs.Tables.{Table}
 
 pub locks_are_taken : LocksAreTaken
 locks_are_taken l snapshots m requests s h new free =
@@ -47,6 +51,7 @@ locks_are_taken l snapshots m requests s h new free =
         names = h.names;
         next = h.next;
         files = h.files;
+        shapes = h.shapes;
         kept = λ q k is. kept_stays m n requests s.client new.current later g q k (h.kept q k is);
         untaken = untaken_stays m n requests s.client new.current later g l.kept h.untaken (λ number plain. inl new.untaken);
         locks = one_more_holds n requests snapshots s still one;
@@ -54,7 +59,7 @@ locks_are_taken l snapshots m requests s h new free =
     )
 
 pub locks_go_back : LocksGoBack
-locks_go_back l snapshots m requests stays h = record { names = h.names; next = h.next; files = h.files; kept = h.kept; untaken = h.untaken; locks = some_hold m requests stays snapshots h.locks }
+locks_go_back l snapshots m requests stays h = record { names = h.names; next = h.next; files = h.files; shapes = h.shapes; kept = h.kept; untaken = h.untaken; locks = some_hold m requests stays snapshots h.locks }
 
 -- files that are collected
 
@@ -102,6 +107,7 @@ expired_files_are_collected l snapshots m requests file moment h only has kept_l
         names = name_goes l.names (hidden_name moment file) file only ∙ ap (λ (names : Names). table.remove names (hidden_name moment file)) h.names;
         next = h.next;
         files = files_alike (table.remove l.table.files file) n out;
+        shapes = shape_gone l.table.files l.table.shapes m.files file gone h.shapes;
         kept = λ client k is c w. h.kept client k is c (waits_still m n requests client k.number c refl w);
         untaken = λ client number c w plain. h.untaken client number c (waits_still m n requests client number c refl w) plain;
         locks = all_still m n requests snapshots refl h.locks;
@@ -111,12 +117,13 @@ expired_files_are_collected l snapshots m requests file moment h only has kept_l
 -- chunks
 
 same_but_chunks : (l k : Logged) (snapshots : List PendingSnapshot) (m : Machine) (requests : Requests) → l.names ≡ k.names → l.next_file ≡ k.next_file
-    → ((file : ℕ) → table.contains_key k.table.files file ≡ table.contains_key l.table.files file) → l.kept ≡ k.kept → AreAlike l snapshots m requests → AreAlike k snapshots m requests
-same_but_chunks l k snapshots m requests names next files kept h =
+    → ((file : ℕ) → table.contains_key k.table.files file ≡ table.contains_key l.table.files file) → k.table.shapes ≡ l.table.shapes → l.kept ≡ k.kept → AreAlike l snapshots m requests → AreAlike k snapshots m requests
+same_but_chunks l k snapshots m requests names next files shapes kept h =
     record {
       names = sym names ∙ h.names;
       next = sym next ∙ h.next;
       files = λ file. files file ∙ h.files file;
+      shapes = λ file has. ap (λ (t : Table Shape). unwrap_or (table.get t file) no_shape) shapes ∙ h.shapes file (sym (files file) ∙ has);
       kept = λ client c is. h.kept client c (ap (λ t. table.get t client) kept ∙ is);
       untaken = subst (λ t. AreUntaken t m requests) kept h.untaken;
       locks = h.locks;
@@ -131,21 +138,21 @@ swapped_same l handle None = (refl, refl, refl)
 swapped_same l handle (Some copy) = (refl, refl, refl)
 
 chunk_record : (l : Logged) (snapshots : List PendingSnapshot) (m : Machine) (requests : Requests) → AreAlike l snapshots m requests → (entry : Record) → IsOfChunks l entry → AreAlike (after_record l entry) snapshots m requests
-chunk_record l snapshots m requests h (log.Epoch epoch) is = same_but_chunks l (after_record l (log.Epoch epoch)) snapshots m requests refl refl (λ file. refl) refl h
+chunk_record l snapshots m requests h (log.Epoch epoch) is = same_but_chunks l (after_record l (log.Epoch epoch)) snapshots m requests refl refl (λ file. refl) refl refl h
 chunk_record l snapshots m requests h (log.AddChunk file handle) is =
-    same_but_chunks l (after_record l (log.AddChunk file handle)) snapshots m requests refl refl (λ q. put_again l.table.files file.0 _ q is) refl h
-chunk_record l snapshots m requests h (log.Issue handle version) is = same_but_chunks l (after_record l (log.Issue handle version)) snapshots m requests refl refl (λ file. refl) refl h
+    same_but_chunks l (after_record l (log.AddChunk file handle)) snapshots m requests refl refl (λ q. put_again l.table.files file.0 _ q is) refl refl h
+chunk_record l snapshots m requests h (log.Issue handle version) is = same_but_chunks l (after_record l (log.Issue handle version)) snapshots m requests refl refl (λ file. refl) refl refl h
 chunk_record l snapshots m requests h (log.Grant handle version primary members) is =
     let granted : Logged = record l { table = grant l.table handle.0 version.0 primary.0 members } in
     let o : Option Copy = table.get l.copies handle.0 in
     let same = swapped_same granted handle.0 o in
-    same_but_chunks l (after_record l (log.Grant handle version primary members)) snapshots m requests (sym same.0) (sym same.1) (swapped granted handle.0 o is) (sym same.2) h
+    same_but_chunks l (after_record l (log.Grant handle version primary members)) snapshots m requests (sym same.0) (sym same.1) (swapped granted handle.0 o is) (swapped_shapes granted handle.0 o) (sym same.2) h
 chunk_record l snapshots m requests h (log.CopyStart file index handle copy copy_version) is =
-    same_but_chunks l (after_record l (log.CopyStart file index handle copy copy_version)) snapshots m requests refl refl (λ q. refl) refl h
+    same_but_chunks l (after_record l (log.CopyStart file index handle copy copy_version)) snapshots m requests refl refl (λ q. refl) refl refl h
 chunk_record l snapshots m requests h other is = absurd is
 
 pub chunks_change_no_names : ChunksChangeNoNames
 chunks_change_no_names l snapshots m requests h = (
   chunk_record l snapshots m requests h,
-  λ handles. same_but_chunks l (copies_given_up l handles) snapshots m requests refl refl (λ file. refl) refl h,
+  λ handles. same_but_chunks l (copies_given_up l handles) snapshots m requests refl refl (λ file. refl) refl refl h,
 )

@@ -52,6 +52,7 @@ use Rattle.laws_names.proofs.NameWords.{IsUnasked, master_asks_nothing, given_se
 use Rattle.laws_steps.specs.FileCalls.{IsNoWordOfNames}
 use Rattle.laws_names.specs.Beside.{lasts, lasting, IsKnown, IsNamesBeside, Beside}
 use Rattle.laws_names.proofs.BesideClientsBeside.{all_fewer, relocked, settings_of, passed_trace, all_on, passes, moved, says_more, says_else, relogged}
+use Rattle.laws_base.proofs.ShapesTold.{log_has_the_shapes}
 
 -- what the log says as it is decided
 abbrev pub log_of : MasterState → List Bool → Logged
@@ -137,7 +138,7 @@ module _ (config : Config) (servers clients : ℕ) (w : WorldState) (r : IsReach
           let files = log_has_the_files config servers clients w r up in
           let idle : w.master.under_way ≡ [] = ((logged_here IsFoundCounts IsCountedLog counts_kept config servers clients w r).1.up up).idle in
           let here : Here (replayed w.master.disk) [] w.sent =
-          (b.0, b.1, relogged w.config trace greatest w.sent w.master.logged w.master.snapshots b.0 b.1 b.2 (replayed w.master.disk) names.0 names.1 files names.4, b.3) in
+          (b.0, b.1, relogged w.config trace greatest w.sent w.master.logged w.master.snapshots b.0 b.1 b.2 (replayed w.master.disk) names.0 names.1 files (λ file has. (log_has_the_shapes config servers clients w r up file has).0) names.4, b.3) in
           subst (λ (xs : List LogChange). AllFound (λ d. Here (replayed d) [] w.sent) w.master.disk xs) (sym idle) (found_same (λ d. Here (replayed d) [] w.sent) w.master.disk here)
       by_up false down = h.log down
 

@@ -17,7 +17,7 @@ use Rattle.log_records.specs.declared.record.Record.{Record}
 use Rattle.log_records.specs.declared.record.Record.TheVariants as log
 use Rattle.relaxed_file.specs.Names.{Names, Node, Dir, File, node_at, copied_entries, id_after_all}
 use Rattle.relaxed_file.specs.Machine.{Machine, OpenCall, Outcome, Replies, IsOpen, put}
-use Rattle.relaxed_file.specs.NameStep.{is_name_call, is_look, needs_room, path_tests, first_refusal, refusal_of, outcome_of, outcome_by, done_outcome, is_refused, made_file, performed, stepped, with_outcome, MayStep, MayTakeEffect, HasNameStepLeft}
+use Rattle.relaxed_file.specs.NameStep.{is_name_call, is_look, needs_room, path_tests, first_refusal, refusal_of, outcome_of, outcome_by, done_outcome, is_refused, made_file, performed, stepped, with_outcome, MayStep, MayTakeEffect, HasNameStepLeft, with_copied_files}
 use Rattle.relaxed_file.specs.Locks.{conflict}
 use Rattle.relaxed_file.specs.Run.{Step, FindBusy, Allows, after, OnOpen}
 use Rattle.relaxed_file.proofs.Known.{ids_rise}
@@ -33,7 +33,11 @@ use Rattle.laws_names.proofs.NameRecords.{records_do_the_name_step, refusals_are
 use Rattle.laws_names.specs.Alike.{Requests, is_there, AreUntaken, HoldsLocks, AreAlike, IsNew, Follows}
 use Rattle.laws_names.specs.NameSteps.{AreNamedFilesThere, RecordsAreSteps, RefusalsAreSteps, BusyCallsFindAHolder, FullNamesAreFound, LooksAreSteps}
 use Rattle.laws_names.proofs.OpenCalls.{contains_first, GoesOn, outcome_goes_on, kept_stays, kept_now, untaken_stays, untaken_now, all_hold_still, none_of_client, none_of_call}
-use Rattle.laws_names.proofs.FilesThere.{AreIn, IsNodeIn, files_in, files_alike, file_in, copies_in, copied_nodes}
+use Rattle.laws_names.proofs.FilesThere.{AreIn, IsNodeIn, files_in, files_alike, file_in, copies_in}
+use Rattle.laws_base.proofs.FilesNamed.{copied_nodes}
+use Rattle.laws_names.proofs.ShapesThere.{AreShapesOf, shape_put, IsThere, shapes_copied}
+use Rattle.gfs_types.specs.Shapes.{usual_shape, shape_or}
+use Rattle.chunk_table.specs.ChunkTable.{ChunkTable, shape_of}
 
 -- The master's state after a record of a client's call, and the machine as it is but for the outcome.
 pub record IsBase (l k : Logged) (m base : Machine) (client number : ℕ) (refusal : Option Refusal) : Type 0 where
@@ -41,6 +45,7 @@ pub record IsBase (l k : Logged) (m base : Machine) (client number : ℕ) (refus
   pub names : k.names ≡ base.names
   pub next : k.next_file ≡ suc base.file_count
   pub files : (file : ℕ) → table.contains_key k.table.files file ≡ is_there base file
+  pub shapes : (file : ℕ) → table.contains_key k.table.files file ≡ true → shape_of k.table file ≡ (base.files file).shape
   pub kept : k.kept ≡ table.insert l.kept client (record { number = number; refusal = refusal })
 
 abbrev pub HasOutcome : Machine → ℕ → Outcome → Type 0
@@ -60,6 +65,7 @@ answered l k snapshots m base requests client number c refusal h new b =
         names = b.names;
         next = b.next;
         files = b.files;
+        shapes = b.shapes;
         kept = λ q x is. kept_now m n requests client new.current later g l.kept number refusal h.kept has q x (ap (λ (t : Table KeptCall). table.get t q) (sym b.kept) ∙ is);
         untaken = subst (λ (t : Table KeptCall). AreUntaken t n requests) (sym b.kept) (untaken_now m n requests client new.current later g l.kept number refusal new.waiting.number_is h.untaken);
         locks = all_hold_still m n requests client new.current later g snapshots (none_of_client m requests client number snapshots new.waiting.number_is new.alone h.locks) h.locks;
@@ -82,6 +88,7 @@ looked l snapshots m requests client current outcome h is look =
         names = h.names;
         next = h.next;
         files = h.files;
+        shapes = h.shapes;
         kept = λ q x at. kept_stays m n requests client current later g q x (h.kept q x at);
         untaken = untaken_stays m n requests client current later g l.kept h.untaken (λ number plain. absurd (true≢false (sym look ∙ plain)));
         locks = all_hold_still m n requests client current later g snapshots (none_of_call m requests client current snapshots is (no_look current.asked.call look) h.locks) h.locks;
@@ -134,6 +141,28 @@ node_in : (l : Logged) (m : Machine) (snapshots : List PendingSnapshot) (request
 node_in l m snapshots requests h there p Dir is = tt
 node_in l m snapshots requests h there p (File id) is = (files_in l.table.files m h.files id).0 (there p id (ap (λ (n : Names). node_at n p) h.names ∙ is))
 
+created_shapes : (l : Logged) (m : Machine) (hs : List ℕ) (shape : Option Shape) → l.next_file ≡ suc m.file_count → AreShapesOf l.table.files l.table.shapes m.files
+    → AreShapesOf (table.insert l.table.files l.next_file hs) (table.insert l.table.shapes l.next_file (shape_or (usual_shape m.config) shape)) (put (suc m.file_count) (made_file m shape) m.files)
+created_shapes l m hs shape next h =
+    let new : Shape = shape_or (usual_shape m.config) shape in
+    subst (λ (n : ℕ). AreShapesOf (table.insert l.table.files n hs) (table.insert l.table.shapes n new) (put (suc m.file_count) (made_file m shape) m.files)) (sym next)
+    (shape_put l.table.files l.table.shapes m.files (suc m.file_count) hs new (made_file m shape) refl h)
+
+copied_shapes : (l : Logged) (m : Machine) (snapshots : List PendingSnapshot) (requests : Requests) (p q : Path) → AreAlike l snapshots m requests → AreNamedFilesThere l
+    → (let t : ChunkTable = with_copied_nodes l.table l.next_file (copied_entries l.names p q) in AreShapesOf t.files t.shapes (with_copied_files m.files (suc m.file_count) (copied_entries m.names p q)))
+copied_shapes l m snapshots requests p q h there =
+    subst (λ (x : Names). Copied l.next_file (copied_entries x p q)) (sym h.names)
+    (subst (λ (n : ℕ). Copied n (copied_entries m.names p q)) (sym h.next)
+    (shapes_copied (copied_entries m.names p q) l.table m.files (suc m.file_count) (copied_nodes (IsThere l.table.files) m.names p q by_node) h.shapes))
+  where
+    Copied : ℕ → List (Path × Node) → Type 0
+    Copied next es =
+        AreShapesOf (with_copied_nodes l.table next es).files (with_copied_nodes l.table next es).shapes (with_copied_files m.files (suc m.file_count) (copied_entries m.names p q))
+
+    by_node : (x : Path) (v : Node) → node_at m.names x ≡ Some v → IsThere l.table.files v
+    by_node x Dir is = tt
+    by_node x (File id) is = there x id (ap (λ (n : Names). node_at n x) h.names ∙ is)
+
 -- a step of the names, and the answer Done
 pub record IsEffect (l : Logged) (m : Machine) (client number moment : ℕ) (c : Call) (entry : Record) : Type 0 where
   pub name : IsTrue (is_name_call c)
@@ -153,21 +182,22 @@ effect_of l snapshots m requests client number moment c entry h there is = by_ca
     by_call : (c : Call) → record_of m.config l client number moment c ≡ Some entry → HasNamesOf (after_record l entry) (performed m c moment) → IsEffect l m client number moment c entry
     by_call (call.Mkdir p) is names =
         let g = names_of (call.Mkdir p) _ is names in
-        as_said (call.Mkdir p) _ is (record { name = refl; done = λ n. refl; base = record { clients = refl; names = g.0; next = g.1; files = h.files; kept = refl } })
+        as_said (call.Mkdir p) _ is (record { name = refl; done = λ n. refl; base = record { clients = refl; names = g.0; next = g.1; files = h.files; shapes = h.shapes; kept = refl } })
     by_call (call.Rmdir p) is names =
         let g = names_of (call.Rmdir p) _ is names in
-        as_said (call.Rmdir p) _ is (record { name = refl; done = λ n. refl; base = record { clients = refl; names = g.0; next = g.1; files = h.files; kept = refl } })
+        as_said (call.Rmdir p) _ is (record { name = refl; done = λ n. refl; base = record { clients = refl; names = g.0; next = g.1; files = h.files; shapes = h.shapes; kept = refl } })
     by_call (call.Create p shape) is names =
         let g = names_of (call.Create p shape) _ is names in
         let made : (file : ℕ) → table.contains_key (table.insert l.table.files l.next_file []) file ≡ is_there (performed m (call.Create p shape) moment) file =
         files_alike (table.insert l.table.files l.next_file []) (performed m (call.Create p shape) moment) (created_files l m [] shape h.next h.files) in
-        as_said (call.Create p shape) _ is (record { name = refl; done = λ n. refl; base = record { clients = refl; names = g.0; next = g.1; files = made; kept = refl } })
+        as_said (call.Create p shape) _ is
+        (record { name = refl; done = λ n. refl; base = record { clients = refl; names = g.0; next = g.1; files = made; shapes = created_shapes l m [] shape h.next h.shapes; kept = refl } })
     by_call (call.Delete p) is names =
         let g = names_of (call.Delete p) _ is names in
-        as_said (call.Delete p) _ is (record { name = refl; done = λ n. refl; base = record { clients = refl; names = g.0; next = g.1; files = h.files; kept = refl } })
+        as_said (call.Delete p) _ is (record { name = refl; done = λ n. refl; base = record { clients = refl; names = g.0; next = g.1; files = h.files; shapes = h.shapes; kept = refl } })
     by_call (call.Rename p q) is names =
         let g = names_of (call.Rename p q) _ is names in
-        as_said (call.Rename p q) _ is (record { name = refl; done = λ n. refl; base = record { clients = refl; names = g.0; next = g.1; files = h.files; kept = refl } })
+        as_said (call.Rename p q) _ is (record { name = refl; done = λ n. refl; base = record { clients = refl; names = g.0; next = g.1; files = h.files; shapes = h.shapes; kept = refl } })
     by_call (call.Snapshot p q) is names =
         let g = names_of (call.Snapshot p q) _ is names in
         let base : Machine = performed m (call.Snapshot p q) moment in
@@ -183,7 +213,8 @@ effect_of l snapshots m requests client number moment c entry h there is = by_ca
         (subst (λ (x : ℕ). AreIn (with_copied_nodes l.table (suc m.file_count) copies).files base.files x) (omega (arith, more)) all)) in
         let made : (file : ℕ) → table.contains_key (with_copied_nodes l.table l.next_file (copied_entries l.names p q)).files file ≡ is_there base file =
         files_alike (with_copied_nodes l.table l.next_file (copied_entries l.names p q)).files base (files_after l.next_file h.next (copied_entries l.names p q) (ap (λ (n : Names). copied_entries n p q) h.names)) in
-        as_said (call.Snapshot p q) _ is (record { name = refl; done = λ n. refl; base = record { clients = refl; names = g.0; next = g.1; files = made; kept = refl } })
+        as_said (call.Snapshot p q) _ is
+        (record { name = refl; done = λ n. refl; base = record { clients = refl; names = g.0; next = g.1; files = made; shapes = copied_shapes l m snapshots requests p q h there; kept = refl } })
     by_call other is names = absurd (none-some entry is)
 
 pub records_are_steps : RecordsAreSteps
@@ -197,7 +228,7 @@ records_are_steps l snapshots m requests client number moment c entry h there ne
 
 pub refused_base : (l : Logged) (snapshots : List PendingSnapshot) (m : Machine) (requests : Requests) (client number : ℕ) (refusal : Refusal) → AreAlike l snapshots m requests
     → IsBase l (after_record l (log.Refused (client_id client) number refusal)) m m client number (Some refusal)
-refused_base l snapshots m requests client number refusal h = record { clients = refl; names = h.names; next = h.next; files = h.files; kept = refl }
+refused_base l snapshots m requests client number refusal h = record { clients = refl; names = h.names; next = h.next; files = h.files; shapes = h.shapes; kept = refl }
 
 -- only a name call is refused by its names
 pub refused_is_name : (config : Config) (names : Names) (c : Call) (refusal : Refusal) → refusal_of config names c ≡ Some refusal → IsTrue (is_name_call c)

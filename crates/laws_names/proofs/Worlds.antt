@@ -77,6 +77,7 @@ new_names config servers =
         names = refl;
         next = refl;
         files = λ file. ap is_some (table.get-empty nat_cmp file) ∙ none_there config file;
+        shapes = λ file has. absurd (true≢false (sym has ∙ ap is_some (table.get-empty nat_cmp file)));
         kept = λ client x is. none_some x (sym (table.get-empty nat_cmp client) ∙ is);
         untaken = λ client number c w. none_some number w.number_is;
         locks = tt;

@@ -1,11 +1,12 @@
 -- The master beside the machine: both have the same names and files, kept answers are outcomes, and what waits at the master holds its locks at the machine.
-use Rattle.std.specs.Prelude.{◌≡◌, ◌⊎◌, ℕ, suc, ◌==◌, ◌&&◌, nat_lt, nat_le, Bool, false, not, List, [], Option, Some, Contains, IsTrue, IsFalse}
+use Rattle.std.specs.Prelude.{◌≡◌, ◌⊎◌, ℕ, suc, ◌==◌, ◌&&◌, nat_lt, nat_le, Bool, true, false, not, List, [], Option, Some, Contains, IsTrue, IsFalse}
 use Rattle.std.specs.List.{AllByRecursion, list_any}
 use Rattle.std.specs.FinMap as table
 use Rattle.gfs_types.specs.declared.call.Call.{Call}
 use Rattle.relaxed_file.specs.Machine.{Machine, OpenCall, Outcome, Replies, IsOpen}
 use Rattle.relaxed_file.specs.NameStep.{is_look}
 use Rattle.relaxed_file.specs.Run.{Action, Allows, after, OnOpen}
+use Rattle.chunk_table.specs.ChunkTable.{shape_of}
 use Rattle.protocol.specs.Tables.{Table}
 use Rattle.protocol.specs.Logged.{Logged, KeptCall}
 use Rattle.protocol.specs.Master.{PendingSnapshot}
@@ -46,11 +47,12 @@ pub record HoldsLocks (m : Machine) (requests : Requests) (s : PendingSnapshot) 
   pub has_locks : IsTrue current.has_locks
   pub untaken : current.outcomes ≡ []
 
--- what the master's log says and which snapshots wait, beside the machine
+-- what the master's log says and which snapshots wait, beside the machine; each file has its shape there
 pub record AreAlike (l : Logged) (snapshots : List PendingSnapshot) (m : Machine) (requests : Requests) : Type 0 where
   pub names : l.names ≡ m.names
   pub next : l.next_file ≡ suc m.file_count
   pub files : (file : ℕ) → table.contains_key l.table.files file ≡ is_there m file
+  pub shapes : (file : ℕ) → table.contains_key l.table.files file ≡ true → shape_of l.table file ≡ (m.files file).shape
   pub kept : (client : ℕ) (k : KeptCall) → table.get l.kept client ≡ Some k → IsKept m requests client k
   pub untaken : AreUntaken l.kept m requests
   pub locks : AllByRecursion (HoldsLocks m requests) snapshots

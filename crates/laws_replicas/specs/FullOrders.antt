@@ -14,6 +14,7 @@ use Rattle.protocol.specs.Tables.{element_at}
 use Rattle.protocol.specs.Sending.{data_id, the_client}
 use Rattle.protocol.specs.Observer.{Placed, order_of}
 use Rattle.protocol.specs.World.{WorldState, IsReached}
+use Rattle.laws_base.specs.Laws.{IsSizeGranted}
 use Rattle.laws_entries.specs.Entries.{IsAmong}
 use Rattle.protocol_invariant.specs.AttemptParts.{is_full}
 
@@ -21,7 +22,7 @@ use Rattle.protocol_invariant.specs.AttemptParts.{is_full}
 abbrev pub HasFullEnd : (size : ℕ) → List Placed → (version : ℕ) → Type 0
 HasFullEnd size order version = (place : ℕ) × (p : Placed) × (element_at order place ≡ Some p) × (p.entry.round ≤ version) × (end_of p.entry.mutation ≡ size)
 
--- The client of these data asked to place them in a chunk, under a version, and that chunk's order has an entry of a round up to it that ends at the chunk's end.
+-- The client of these data asked to place them in a chunk, under a version, and that chunk's order has an entry of a round up to it that ends at the chunk's end, by the size that a Grant of the version told.
 pub record IsOfFullOrder (w : WorldState) (id : DataId) : Type 0 where
   pub asked : Message
   pub handle : Handle
@@ -31,8 +32,10 @@ pub record IsOfFullOrder (w : WorldState) (id : DataId) : Type 0 where
   pub sent_is : IsAmong w.sent asked
   pub sender_is : asked.sender ≡ the_client id.client.0
   pub body_is : asked.body ≡ body.Mutate id handle version aim deadline
-  pub full : IsTrue (is_full w handle.0)
-  pub ends : HasFullEnd w.config.chunk (order_of w.observer handle.0) version.0
+  pub size : ℕ
+  pub granted : IsSizeGranted w.sent handle.0 version.0 size
+  pub full : IsTrue (is_full w handle.0 size)
+  pub ends : HasFullEnd size (order_of w.observer handle.0) version.0
 
 -- Where clocks are kept, ChunkFull is told only of data whose chunk is full in this sense (section 3.3). A chunk has at least one byte.
 abbrev pub FullChunksHaveAFullOrder : Type 0

@@ -1,5 +1,6 @@
 -- Laws of every lawful list of events on chunks' orders, entry by entry, that public functions of this crate state.
-use Rattle.std.specs.Prelude.{◌≡◌, ◌≤◌, ◌<◌, ◌+◌, ◌*◌, ℕ, true, List, ◌++◌, map, take, length, Some, IsTrue}
+use Rattle.std.specs.Prelude.{◌≡◌, ◌≤◌, ◌<◌, ◌+◌, ◌*◌, ℕ, min, true, List, ◌++◌, map, take, length, Some, IsTrue}
+use Rattle.std.specs.FinMap as table
 use Rattle.gfs_types.specs.declared.config.Config.{Config}
 use Rattle.gfs_types.specs.declared.ids.DataId.{DataId}
 use Rattle.gfs_types.specs.declared.ids.Handle.{Handle}
@@ -16,13 +17,15 @@ use Rattle.messages.specs.declared.message.Body.TheVariants as body
 use Rattle.relaxed_file.specs.Order.{Entry}
 use Rattle.relaxed_file.specs.Machine.{Chunk}
 use Rattle.relaxed_file.specs.Chunks.{is_an_end, IsPastAll}
+use Rattle.primary_order.specs.SerialOrder.{SerialOrder}
 use Rattle.protocol.specs.Tables.{element_at}
 use Rattle.protocol.specs.Choice.{Choice}
 use Rattle.protocol.specs.declared.seen.Seen.TheVariants.{Numbered}
 use Rattle.protocol.specs.Observer.{Placed, observed_moment, order_of, entries_of}
-use Rattle.protocol.specs.Server.{ServerState}
+use Rattle.protocol.specs.Server.{chunk_limit, ServerState}
 use Rattle.protocol.specs.ServerStep.{server_step}
 use Rattle.protocol.specs.World.{WorldState, IsReached, is_kept}
+use Rattle.laws_base.specs.Laws.{IsSizeGranted}
 use Rattle.protocol_invariant.specs.Versions.{AreRising}
 use Rattle.laws_entries.specs.Entries.{IsPushed}
 use Rattle.laws_replicas.specs.SkippedRounds.{up_to}
@@ -56,19 +59,22 @@ pub record HasData (size : ℕ) (sent : List Message) (p : Placed) : Type 0 wher
   pub pushed : IsPushed sent id bytes
   pub made : IsMadeOf size bytes p.entry.mutation
 
--- Where clocks and disks are kept, a server numbers a mutation only where it may follow the chunk's order, in the round of its version, and of data that the client pushed (sections 3.1 and 3.3).
+-- Where clocks and disks are kept, a server numbers a mutation only where it may follow the chunk's order, in the round of its version, and of data that the client pushed; the chunk's size is that of the lease under which it is numbered, within a slot (sections 3.1 and 3.3).
 abbrev pub NumberedMutationsMayFollow : Type 0
 NumberedMutationsMayFollow =
     (config : Config) (servers clients : ℕ) (w : WorldState) → IsReached config servers clients w → IsTrue (is_kept w) → (index : ℕ) (s : ServerState) → element_at w.servers index ≡ Some s
     → (moment : ℕ) (i : NodeInput) (choice : Choice) → ((m : Message) → i ≡ Deliver m → (at : ℕ) × (element_at w.sent at ≡ Some m)) → IsTrue (observed_moment w.config.skew_ms w.observer moment).are_clocks_kept
     → (shown : ℕ) (handle : Handle) (version : Version) (serial : Serial) (id : DataId) (m : Mutation) → element_at (server_step s moment i choice).seen shown ≡ Some (Numbered handle version serial id m)
-    → MayFollow config.chunk (entries_of w.observer handle.0) version.0 m × ((bytes : List ℕ) × IsPushed w.sent id bytes × IsMadeOf config.chunk bytes m)
+    → (lease : SerialOrder) × (table.get s.leases handle.0 ≡ Some lease) × (lease.held.version ≡ version.0)
+    × MayFollow (chunk_limit s lease.chunk) (entries_of w.observer handle.0) version.0 m × ((bytes : List ℕ) × IsPushed w.sent id bytes × IsMadeOf (chunk_limit s lease.chunk) bytes m)
 
--- Rounds never fall in the order, and serials rise within a round; each entry may follow those before it, and is made of what its client pushed.
-abbrev pub IsLawful : (size : ℕ) → List Message → List Placed → Type 0
-IsLawful size sent order =
+-- Rounds never fall in the order, and serials rise within a round; each entry may follow those before it, and is made of what its client pushed: in a chunk of a size that a Grant of its round told, of this chunk or of one that was copied, and that is at most this one.
+abbrev pub IsLawful : (most : ℕ) → List Message → List Placed → Type 0
+IsLawful most sent order =
     AreRising order
-    × ((place : ℕ) (p : Placed) → element_at order place ≡ Some p → MayFollow size (map (λ q. q.entry) (take place order)) p.entry.round p.entry.mutation × HasData size sent p)
+    × ((place : ℕ) (p : Placed) → element_at order place ≡ Some p
+    → (from size : ℕ) × IsSizeGranted sent from p.entry.round size
+    × MayFollow (min size most) (map (λ q. q.entry) (take place order)) p.entry.round p.entry.mutation × HasData (min size most) sent p)
 
 -- the first order, and maybe more behind it
 abbrev pub GoesOn : (first all : List Placed) → Type 0

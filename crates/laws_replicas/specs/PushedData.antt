@@ -1,5 +1,5 @@
 -- Laws of every lawful list of events on data that are pushed, that public functions of this crate state.
-use Rattle.std.specs.Prelude.{◌≡◌, ℕ, List, Some}
+use Rattle.std.specs.Prelude.{◌≡◌, ℕ, min, List, Some}
 use Rattle.gfs_types.specs.declared.config.Config.{Config}
 use Rattle.gfs_types.specs.declared.ids.DataId.{DataId}
 use Rattle.messages.specs.declared.message.Message.{Message}
@@ -9,6 +9,7 @@ use Rattle.protocol.specs.Tables.{element_at}
 use Rattle.protocol.specs.Observer.{Placed, order_of}
 use Rattle.protocol.specs.Server.{ServerState}
 use Rattle.protocol.specs.World.{WorldState, IsReached}
+use Rattle.laws_base.specs.Laws.{IsSizeGranted}
 use Rattle.laws_entries.specs.Entries.{IsPushed}
 use Rattle.laws_replicas.specs.LawfulOrders.{IsMadeOf}
 
@@ -25,9 +26,10 @@ DataArePushedOnce =
     (config : Config) (servers clients : ℕ) (w : WorldState) → IsReached config servers clients w
     → (id other : DataId) (bytes more : List ℕ) → IsPushed w.sent id bytes → IsPushed w.sent other more → other.client.0 ≡ id.client.0 → other.seq ≡ id.seq → more ≡ bytes
 
--- So each entry of these data, in whatever order it stands, is made of what a server keeps of them (sections 3.2 and 3.3).
+-- So each entry of these data, in whatever order it stands, is made of what a server keeps of them, in a chunk of the size that a Grant of its round told (sections 3.2 and 3.3).
 abbrev pub KeptDataMakeTheirEntries : Type 0
 KeptDataMakeTheirEntries =
     (config : Config) (servers clients : ℕ) (w : WorldState) → IsReached config servers clients w → (index : ℕ) (s : ServerState) → element_at w.servers index ≡ Some s
     → (id : DataId) (bytes : List ℕ) → data_of s.pushed id ≡ Some bytes
-    → (handle place : ℕ) (p : Placed) → element_at (order_of w.observer handle) place ≡ Some p → p.entry.call.client ≡ id.client.0 → p.seq ≡ id.seq → IsMadeOf config.chunk bytes p.entry.mutation
+    → (handle place : ℕ) (p : Placed) → element_at (order_of w.observer handle) place ≡ Some p → p.entry.call.client ≡ id.client.0 → p.seq ≡ id.seq
+    → (from size : ℕ) × IsSizeGranted w.sent from p.entry.round size × IsMadeOf (min size config.chunk) bytes p.entry.mutation

@@ -171,7 +171,7 @@ module _ (start : LogDisk) (Ended : ℕ → ℕ → Type 0) (P : Core → Type 0
       changes_acts d client number (call.Rmdir p) (log.Rmdir (client_id client) number p) tt tt (λ asks. rmdir_named d.master (client_id client) number p d.master.logged.next_file may (h.0.2 asks)) tt h
   performs_acts d client number deadline (call.Create p shape) may new bound h =
       changes_acts d client number (call.Create p shape) (log.Create (client_id client) number (file_id d.master.logged.next_file) (told_shape d.master.config shape) p) refl tt
-      (λ asks. create_named d.master (client_id client) number (file_id d.master.logged.next_file) shape (told_shape d.master.config shape) p d.master.logged.next_file may (h.0.2 asks))
+      (λ asks. create_named d.master (client_id client) number (file_id d.master.logged.next_file) shape p d.master.logged.next_file may (h.0.2 asks))
       (λ s among. (create_apart p shape d.master.snapshots (not_refused d.master (call.Create p shape) may).0 s among).0) h
   performs_acts d client number deadline (call.Delete p) may new bound h =
       changes_acts d client number (call.Delete p) (log.Delete (client_id client) number (moment_of d.master.now) p) tt tt

@@ -18,7 +18,7 @@ use Rattle.relaxed_file.specs.Run.{Action, Invoke, Return, ReturnFd, Step, FindB
 use Rattle.relaxed_file.proofs.Tables.{put_same}
 use Rattle.machine_names.specs.NameProjections.{IsSameCall, AreNamesOf, IsReady, NameActionsAreTaken}
 use Rattle.machine_names.proofs.Calls.{all_same, put_both, with_same_clients, HasCall, its_call, both_step, called, answered, answered_fd, StaysSame}
-use Rattle.machine_names.proofs.Effects.{put_collected, performed_both, may_take_effect, named_no_file, may_return}
+use Rattle.machine_names.proofs.Effects.{gone_state, put_files, same_shape, performed_both, may_take_effect, named_no_file, may_return}
 
 abbrev IsTaken : Machine → Machine → Action → Type 0
 IsTaken m n action = Allows m action × AreNamesOf (after m action) (after n action)
@@ -174,7 +174,7 @@ module _ (m n : Machine) (h : AreNamesOf m n) where
       clock = h.clock;
       names = ap (λ (x : Names). map.remove x (hidden_name moment file)) h.names;
       count = h.count;
-      collected = put_collected m.files n.files file (record (m.files file) { is_collected = true }) (record (n.files file) { is_collected = true }) h.collected refl;
+      files = put_files m.files n.files file (record (m.files file) { is_collected = true }) (record (n.files file) { is_collected = true }) h.files (ap gone_state (same_shape m n h file));
       calls = h.calls;
       fds = h.fds;
     },
@@ -183,7 +183,7 @@ module _ (m n : Machine) (h : AreNamesOf m n) where
   passes : (moment : ℕ) → Allows n (Pass moment) → IsTaken m n (Pass moment)
   passes moment may = (
     subst (λ (t : ℕ). t ≤ moment) h.clock may,
-    record { config = h.config; clock = refl; names = h.names; count = h.count; collected = h.collected; calls = h.calls; fds = h.fds },
+    record { config = h.config; clock = refl; names = h.names; count = h.count; files = h.files; calls = h.calls; fds = h.fds },
   )
 
 pub name_actions_are_taken : NameActionsAreTaken

@@ -9,7 +9,7 @@ use Rattle.relaxed_file.specs.Machine.{Machine, Client, Asked, OpenCall, IsOpen,
 use Rattle.relaxed_file.specs.NameStep.{is_name_call}
 use Rattle.relaxed_file.specs.Answers.{descriptors_after}
 use Rattle.relaxed_file.specs.Run.{asked_now}
-use Rattle.machine_names.specs.NameProjections.{IsSameCall, AreSameCalls, AreNamesOf}
+use Rattle.machine_names.specs.NameProjections.{named_state, IsSameCall, AreSameCalls, AreNamesOf}
 
 -- both clients have the same name call open, and as many descriptors
 abbrev pub AreSame : Client → Client → Type 0
@@ -36,14 +36,14 @@ put_first ms ns client s all same q = by_key (q == client) refl
     by_key false e = all q
 
 -- the names with other clients
-pub with_same_clients : (m n o p : Machine) → AreNamesOf m n → o.config ≡ m.config → o.clock ≡ m.clock → o.names ≡ m.names → o.file_count ≡ m.file_count → ((file : ℕ) → (o.files file).is_collected ≡ (m.files file).is_collected)
-    → p.config ≡ n.config → p.clock ≡ n.clock → p.names ≡ n.names → p.file_count ≡ n.file_count → ((file : ℕ) → (p.files file).is_collected ≡ (n.files file).is_collected) → AreAllSame o.clients p.clients → AreNamesOf o p
+pub with_same_clients : (m n o p : Machine) → AreNamesOf m n → o.config ≡ m.config → o.clock ≡ m.clock → o.names ≡ m.names → o.file_count ≡ m.file_count → ((file : ℕ) → named_state (o.files file) ≡ named_state (m.files file))
+    → p.config ≡ n.config → p.clock ≡ n.clock → p.names ≡ n.names → p.file_count ≡ n.file_count → ((file : ℕ) → named_state (p.files file) ≡ named_state (n.files file)) → AreAllSame o.clients p.clients → AreNamesOf o p
 with_same_clients m n o p h config clock names count files p_config p_clock p_names p_count p_files all = record {
   config = p_config ∙ h.config ∙ sym config;
   clock = p_clock ∙ h.clock ∙ sym clock;
   names = p_names ∙ h.names ∙ sym names;
   count = p_count ∙ h.count ∙ sym count;
-  collected = λ file. p_files file ∙ h.collected file ∙ sym (files file);
+  files = λ file. p_files file ∙ h.files file ∙ sym (files file);
   calls = λ client. (all client).0;
   fds = λ client. (all client).1;
 }

@@ -15,24 +15,24 @@ use Rattle.relaxed_file.specs.Reads.{offer_of, read_slice, looked}
 use Rattle.relaxed_file.specs.Answers.{returned}
 use Rattle.relaxed_file.specs.Run.{Invoke, Return, Add, OpenRound, CloseRound, Place, Settle, Tell, Note, Look, LookPast, Measure, MeasureNone, Allows, after, asked_file}
 use Rattle.relaxed_file.proofs.Tables.{from_some, put_same}
-use Rattle.machine_names.specs.NameProjections.{IsSameCall, AreSameCalls, AreNamesOf, ChunkActionsKeepNames, FileCallsKeepNames}
+use Rattle.machine_names.specs.NameProjections.{named_state, IsSameCall, AreSameCalls, AreNamesOf, ChunkActionsKeepNames, FileCallsKeepNames}
 use Rattle.machine_names.proofs.Calls.{AreSame, AreAllSame, all_same, put_first, with_same_clients, IsUnnamed, unnamed_call, on_file, one_step, called, answered}
 use Rattle.machine_names.proofs.Actions.{on_call}
 
 abbrev a_piece : ℕ → List ℕ → Option ℕ → Piece
 a_piece index bytes round = record { index = index; bytes = bytes; round = round }
 
--- files that stay as collected as they were
-same_files : (m o n : Machine) → AreNamesOf m n → o.config ≡ m.config → o.clock ≡ m.clock → o.names ≡ m.names → o.file_count ≡ m.file_count → ((file : ℕ) → (o.files file).is_collected ≡ (m.files file).is_collected) → o.clients ≡ m.clients → AreNamesOf o n
+-- files that go with the names as they did
+same_files : (m o n : Machine) → AreNamesOf m n → o.config ≡ m.config → o.clock ≡ m.clock → o.names ≡ m.names → o.file_count ≡ m.file_count → ((file : ℕ) → named_state (o.files file) ≡ named_state (m.files file)) → o.clients ≡ m.clients → AreNamesOf o n
 same_files m o n h config clock names count files clients =
     with_same_clients m n o n h config clock names count files refl refl refl refl (λ file. refl) (subst (λ (cs : ℕ → Client). AreAllSame cs n.clients) (sym clients) (all_same m n h))
 
 module _ (m n : Machine) (h : AreNamesOf m n) where
-  put_file : (file : ℕ) (state : FileState) → state.is_collected ≡ (m.files file).is_collected → (k : ℕ) → (put file state m.files k).is_collected ≡ (m.files k).is_collected
+  put_file : (file : ℕ) (state : FileState) → named_state state ≡ named_state (m.files file) → (k : ℕ) → named_state (put file state m.files k) ≡ named_state (m.files k)
   put_file file state same k = by_key (k == file) refl
     where
-      by_key : (b : Bool) → (k == file) ≡ b → (cond b state (m.files k)).is_collected ≡ (m.files k).is_collected
-      by_key true e = same ∙ ap (λ (x : ℕ). (m.files x).is_collected) (sym (eqb-true k file e))
+      by_key : (b : Bool) → (k == file) ≡ b → named_state (cond b state (m.files k)) ≡ named_state (m.files k)
+      by_key true e = same ∙ ap (λ (x : ℕ). named_state (m.files x)) (sym (eqb-true k file e))
       by_key false e = refl
 
   chunk_changes : (file index : ℕ) (chunk : Chunk) → AreNamesOf (with_chunk m file index chunk) n

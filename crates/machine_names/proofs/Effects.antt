@@ -13,34 +13,49 @@ use Rattle.gfs_types.specs.declared.refusal.Refusal.TheVariants.{BadFd, TooLong,
 use Rattle.gfs_types.specs.declared.config.Config.{Config}
 use Rattle.gfs_types.specs.Paths.{Path}
 use Rattle.relaxed_file.specs.Names.{Names, Node, Dir, File, node_at, copied_entries, with_copies, id_after, id_after_all}
-use Rattle.relaxed_file.specs.Machine.{Machine, Client, FileState, OpenCall, Outcome, Replies, put}
+use Rattle.relaxed_file.specs.Machine.{Machine, Client, FileState, OpenCall, Outcome, Replies, new_file, put}
 use Rattle.relaxed_file.specs.NameStep.{is_name_call, with_node, hidden, with_copied_file, with_copied_files, performed, MayTakeEffect, made_file}
 use Rattle.relaxed_file.specs.Answers.{IsDone, IsCause, MayReturn, may_give_up}
 use Rattle.relaxed_file.specs.Run.{file_of}
-use Rattle.machine_names.specs.NameProjections.{IsSameCall, AreNamesOf, AreSourcesClosed}
+use Rattle.machine_names.specs.NameProjections.{IsSameCall, named_state, AreNamesOf, AreSourcesClosed}
 use Rattle.gfs_types.specs.declared.shape.Shape.{Shape}
+use Rattle.gfs_types.specs.Shapes.{usual_shape, shape_or}
 
 -- effects
 
-pub put_collected : (fs gs : ℕ → FileState) (key : ℕ) (s t : FileState) → ((k : ℕ) → (gs k).is_collected ≡ (fs k).is_collected) → t.is_collected ≡ s.is_collected → (k : ℕ) → (put key t gs k).is_collected ≡ (put key s fs k).is_collected
-put_collected fs gs key s t all same k = by_key (k == key)
+-- a collected file of this shape
+abbrev pub gone_state : Shape → Bool × Shape
+gone_state shape = (true, shape)
+
+-- the same files go with the names
+abbrev pub AreSameFiles : (ℕ → FileState) → (ℕ → FileState) → Type 0
+AreSameFiles gs fs = (k : ℕ) → named_state (gs k) ≡ named_state (fs k)
+
+pub put_files : (fs gs : ℕ → FileState) (key : ℕ) (s t : FileState) → AreSameFiles gs fs → named_state t ≡ named_state s → AreSameFiles (put key t gs) (put key s fs)
+put_files fs gs key s t all same k = by_key (k == key)
   where
-    by_key : (b : Bool) → (cond b t (gs k)).is_collected ≡ (cond b s (fs k)).is_collected
+    by_key : (b : Bool) → named_state (cond b t (gs k)) ≡ named_state (cond b s (fs k))
     by_key true = same
     by_key false = all k
 
-copied_collected : (es : List (Path × Node)) (fs gs : ℕ → FileState) (next : ℕ) → ((k : ℕ) → (gs k).is_collected ≡ (fs k).is_collected) → (k : ℕ) → (with_copied_files gs next es k).is_collected ≡ (with_copied_files fs next es k).is_collected
-copied_collected [] fs gs next all k = all k
-copied_collected (e ∷ es) fs gs next all k = copied_collected es (with_copied_file fs next e.1) (with_copied_file gs next e.1) (id_after next e.1) (by_node e.1) k
+copied_files : (es : List (Path × Node)) (fs gs : ℕ → FileState) (next : ℕ) → AreSameFiles gs fs → AreSameFiles (with_copied_files gs next es) (with_copied_files fs next es)
+copied_files [] fs gs next all = all
+copied_files (e ∷ es) fs gs next all = copied_files es (with_copied_file fs next e.1) (with_copied_file gs next e.1) (id_after next e.1) (by_node e.1)
   where
-    by_node : (n : Node) → (q : ℕ) → (with_copied_file gs next n q).is_collected ≡ (with_copied_file fs next n q).is_collected
+    by_node : (n : Node) → AreSameFiles (with_copied_file gs next n) (with_copied_file fs next n)
     by_node Dir = all
-    by_node (File id) = put_collected fs gs next (fs id) (gs id) all (all id)
+    by_node (File id) = put_files fs gs next (fs id) (gs id) all (all id)
 
 module _ (m n : Machine) (h : AreNamesOf m n) where
+  pub same_collected : (file : ℕ) → (n.files file).is_collected ≡ (m.files file).is_collected
+  same_collected file = ap (λ (s : Bool × Shape). s.0) (h.files file)
+
+  pub same_shape : (file : ℕ) → (n.files file).shape ≡ (m.files file).shape
+  same_shape file = ap (λ (s : Bool × Shape). s.1) (h.files file)
+
   -- only the names change
   renamed : (f : Names → Names) → AreNamesOf (record m { names = f m.names }) (record n { names = f n.names })
-  renamed f = record { config = h.config; clock = h.clock; names = ap f h.names; count = h.count; collected = h.collected; calls = h.calls; fds = h.fds }
+  renamed f = record { config = h.config; clock = h.clock; names = ap f h.names; count = h.count; files = h.files; calls = h.calls; fds = h.fds }
 
   created : (p : Path) (shape : Option Shape) (moment : ℕ) → AreNamesOf (performed m (call.Create p shape) moment) (performed n (call.Create p shape) moment)
   created p shape moment = record {
@@ -48,7 +63,9 @@ module _ (m n : Machine) (h : AreNamesOf m n) where
     clock = h.clock;
     names = ap (λ (x : Names). map.insert x p (File (suc n.file_count))) h.names ∙ ap (λ (k : ℕ). map.insert m.names p (File (suc k))) h.count;
     count = ap (λ (k : ℕ). suc k) h.count;
-    collected = λ file. ap (λ (k : ℕ). (put (suc k) (made_file n shape) n.files file).is_collected) h.count ∙ put_collected m.files n.files (suc m.file_count) (made_file m shape) (made_file n shape) h.collected refl file;
+    files = λ file.
+        ap (λ (k : ℕ). named_state (put (suc k) (made_file n shape) n.files file)) h.count
+        ∙ put_files m.files n.files (suc m.file_count) (made_file m shape) (made_file n shape) h.files (ap (λ (c : Config). named_state (new_file (shape_or (usual_shape c) shape))) h.config) file;
     calls = h.calls;
     fds = h.fds;
   }
@@ -59,10 +76,10 @@ module _ (m n : Machine) (h : AreNamesOf m n) where
     clock = h.clock;
     names = ap (λ (x : Names). with_copies x (suc n.file_count) (copied_entries x p q)) h.names ∙ ap (λ (k : ℕ). with_copies m.names (suc k) (copied_entries m.names p q)) h.count;
     count = ap (λ (x : Names). id_after_all (suc n.file_count) (copied_entries x p q) - 1) h.names ∙ ap (λ (k : ℕ). id_after_all (suc k) (copied_entries m.names p q) - 1) h.count;
-    collected = λ file.
-        ap (λ (x : Names). (with_copied_files n.files (suc n.file_count) (copied_entries x p q) file).is_collected) h.names
-        ∙ ap (λ (k : ℕ). (with_copied_files n.files (suc k) (copied_entries m.names p q) file).is_collected) h.count
-        ∙ copied_collected (copied_entries m.names p q) m.files n.files (suc m.file_count) h.collected file;
+    files = λ file.
+        ap (λ (x : Names). named_state (with_copied_files n.files (suc n.file_count) (copied_entries x p q) file)) h.names
+        ∙ ap (λ (k : ℕ). named_state (with_copied_files n.files (suc k) (copied_entries m.names p q) file)) h.count
+        ∙ copied_files (copied_entries m.names p q) m.files n.files (suc m.file_count) h.files file;
     calls = h.calls;
     fds = h.fds;
   }

@@ -1,10 +1,11 @@
 -- A machine that was run by names alone beside a whole one: names, moments, files and open name calls are the same, and each action on names that the one takes the other may take too (sections 2.4 and 4.1).
-use Rattle.std.specs.Prelude.{◌≡◌, ℕ, [], Option, Some, None, IsTrue, IsFalse}
+use Rattle.std.specs.Prelude.{◌≡◌, ℕ, Bool, [], Option, Some, None, IsTrue, IsFalse}
 use Rattle.gfs_types.specs.declared.call.Call.{Call}
 use Rattle.gfs_types.specs.declared.call.Call.TheVariants as call
+use Rattle.gfs_types.specs.declared.shape.Shape.{Shape}
 use Rattle.gfs_types.specs.declared.answer.Answer.{Answer}
 use Rattle.relaxed_file.specs.Names.{copied_entries}
-use Rattle.relaxed_file.specs.Machine.{Machine, Client, OpenCall, IsOpen}
+use Rattle.relaxed_file.specs.Machine.{Machine, FileState, Client, OpenCall, IsOpen}
 use Rattle.relaxed_file.specs.NameStep.{is_name_call, is_refused, AllRoundsClosed}
 use Rattle.relaxed_file.specs.Run.{Action, Invoke, Return, Step, Allows, after}
 use Rattle.machine_names.specs.NameRuns.{is_name_action}
@@ -27,13 +28,17 @@ AreSameCalls state None (Some d) = IsFalse (is_name_call d.asked.call)
 AreSameCalls state (Some c) None = ⊥
 AreSameCalls state (Some c) (Some d) = IsSameCall state c d
 
+-- what goes with a file's names: whether it was collected, and its shape
+abbrev pub named_state : FileState → Bool × Shape
+named_state f = (f.is_collected, f.shape)
+
 -- The second machine has the first one's names, and no more.
 pub record AreNamesOf (m n : Machine) : Type 0 where
   pub config : n.config ≡ m.config
   pub clock : n.clock ≡ m.clock
   pub names : n.names ≡ m.names
   pub count : n.file_count ≡ m.file_count
-  pub collected : (file : ℕ) → (n.files file).is_collected ≡ (m.files file).is_collected
+  pub files : (file : ℕ) → named_state (n.files file) ≡ named_state (m.files file)
   pub calls : (client : ℕ) → AreSameCalls (m.clients client) (n.clients client).open_call (m.clients client).open_call
   pub fds : (client : ℕ) → (n.clients client).fd_count ≡ (m.clients client).fd_count
 

@@ -37,10 +37,7 @@ fn is_reserved(path: &str) -> bool
 fn may_have(config: &Config, shape: Option<Shape>) -> bool
     ensures { result ≡ may_have config.now shape }
 {
-    match shape {
-        Some(shape) => shape.fits(config),
-        None => true,
-    }
+    Shape::usual(config).or(shape).fits(config)
 }
 
 impl PlainNames {

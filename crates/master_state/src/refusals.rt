@@ -227,10 +227,7 @@ pub fn parsed(alloc: Global, text: &Text) -> Result<Option<Path>, NoMemory>
 fn may_have(config: &Config, shape: Option<Shape>) -> bool
     ensures { result ≡ may_have config.now shape }
 {
-    match shape {
-        Some(shape) => shape.fits(config),
-        None => true,
-    }
+    Shape::usual(config).or(shape).fits(config)
 }
 
 /// Whether a path is that of the directory of deleted files, or below it.

@@ -6,7 +6,7 @@ use Rattle.gfs_types.specs.declared.answer.Answer.{Answer}
 use Rattle.gfs_types.specs.declared.ids.Fd.{Fd}
 use Rattle.gfs_types.specs.declared.mutation.Mutation.TheVariants.{Write, Append}
 use Rattle.relaxed_file.specs.Order.{Entry}
-use Rattle.relaxed_file.specs.Machine.{Machine, chunk_at}
+use Rattle.relaxed_file.specs.Machine.{Machine, chunk_size, chunk_at}
 use Rattle.relaxed_file.specs.Run.{Action, ReturnFd, Visible, Called, Answered, Passed}
 
 -- the client's call that waits for an answer after these calls and answers: the last one that it made, unless it was answered since
@@ -37,11 +37,11 @@ fd_of (call.Read fd offset count) = Some fd
 fd_of name_call = None
 
 -- A record that was appended to the file and answered this place: it is settled, at one place of the order of one chunk, and lies whole in that chunk.
-pub record IsStandingRecord (size : ℕ) (m : Machine) (file x : ℕ) (bytes : List ℕ) : Type 0 where
+pub record IsStandingRecord (m : Machine) (file x : ℕ) (bytes : List ℕ) : Type 0 where
   pub index : ℕ
   pub offset : ℕ
-  pub is : x ≡ index * size + offset
-  pub room : offset + length bytes ≤ size
+  pub is : x ≡ index * chunk_size m file + offset
+  pub room : offset + length bytes ≤ chunk_size m file
   pub before : List Entry
   pub entry : Entry
   pub later : List Entry

@@ -6,7 +6,7 @@ use Rattle.gfs_types.specs.declared.answer.Answer.TheVariants as answer
 use Rattle.gfs_types.specs.declared.ids.Fd.{Fd}
 use Rattle.gfs_types.specs.declared.config.Config.{Config}
 use Rattle.gfs_types.specs.declared.mutation.Mutation.TheVariants.{Append}
-use Rattle.relaxed_file.specs.Machine.{Machine}
+use Rattle.relaxed_file.specs.Machine.{Machine, chunk_size}
 use Rattle.protocol.specs.Tables.{element_at}
 use Rattle.protocol.specs.Observer.{entries_of}
 use Rattle.protocol.specs.World.{WorldState, IsReached, is_kept}
@@ -30,12 +30,12 @@ IsPromised config servers clients w = AreSettings config → IsReached config se
 abbrev pub ExplainedWorldsArePromised : Type 0
 ExplainedWorldsArePromised = (config : Config) (servers clients : ℕ) (w : WorldState) → IsExplained config servers clients w → IsPromised config servers clients w
 
--- The world shows the record in one of these chunks: settled, at one place of the chunk's order.
-pub record IsShownAt (w : WorldState) (handles : List ℕ) (x : ℕ) (bytes : List ℕ) : Type 0 where
+-- The world shows the record in one of these chunks, which are of this size: settled, at one place of the chunk's order.
+pub record IsShownAt (size : ℕ) (w : WorldState) (handles : List ℕ) (x : ℕ) (bytes : List ℕ) : Type 0 where
   pub index : ℕ
   pub offset : ℕ
-  pub is : x ≡ index * w.config.chunk + offset
-  pub room : offset + length bytes ≤ w.config.chunk
+  pub is : x ≡ index * size + offset
+  pub room : offset + length bytes ≤ size
   pub handle : ℕ
   pub there : element_at handles index ≡ Some handle
   pub place : ℕ
@@ -46,4 +46,4 @@ abbrev pub AnsweredRecordsAreShown : Type 0
 AnsweredRecordsAreShown =
     (w : WorldState) (m : Machine) (e : Explains w m) (client : ℕ) (fd : Fd) (bytes : List ℕ) (x : ℕ)
     → WasAnswered w.observer.trace client (call.Append fd bytes) (answer.At x) → IsTrue w.master.up
-    → (file : ℕ) × IsOf (e.run).0 client fd file × ((handles : List ℕ) → table.get w.observer.files file ≡ Some handles → IsShownAt w handles x bytes)
+    → (file : ℕ) × IsOf (e.run).0 client fd file × ((handles : List ℕ) → table.get w.observer.files file ≡ Some handles → IsShownAt (chunk_size m file) w handles x bytes)

@@ -28,14 +28,14 @@ abbrev pub AnsweredRecordsStand : (config : Config) (trace : List Visible) (m : 
 AnsweredRecordsStand config trace m run =
     (client : ℕ) (fd : Fd) (bytes : List ℕ) (x : ℕ)
     → WasAnswered trace client (call.Append fd bytes) (answer.At x)
-    → (file : ℕ) × IsOf run.0 client fd file × IsStandingRecord config.chunk m file x bytes
+    → (file : ℕ) × IsOf run.0 client fd file × IsStandingRecord m file x bytes
 
 -- A record that stands keeps its place for good, in the file and in the order of its chunk.
 abbrev pub RecordsKeepTheirPlace : (config : Config) (trace : List Visible) (m : Machine) → IsRunTo config trace m → Type 0
 RecordsKeepTheirPlace config trace m run =
     (n : Machine) (file x : ℕ) (bytes : List ℕ) → LeadsTo m n
-    → (s : IsStandingRecord config.chunk m file x bytes)
-    → (t : IsStandingRecord config.chunk n file x bytes) × (t.index ≡ s.index) × (length t.before ≡ length s.before) × (t.entry ≡ s.entry)
+    → (s : IsStandingRecord m file x bytes)
+    → (t : IsStandingRecord n file x bytes) × (t.index ≡ s.index) × (length t.before ≡ length s.before) × (t.entry ≡ s.entry)
 
 -- Two records whose appends to one file were answered share no place of it, whoever appended them and when (section 3.3).
 abbrev pub AnsweredRecordsLieApart : (config : Config) (trace : List Visible) (m : Machine) → IsRunTo config trace m → Type 0
@@ -53,8 +53,8 @@ RecordsAreRead config trace m run =
     → (one : WasAnswered trace client (call.Append fd bytes) (answer.At x)) → IsOf run.0 client fd file
     → WasAnswered one.rest reader (call.Read fe offset count) (answer.Bytes found rounds) → IsOf run.0 reader fe file
     → offset ≤ x → x + length bytes ≤ offset + length found
-    → (s : IsStandingRecord config.chunk m file x bytes)
-    × (LeaveAlone s.offset (length bytes) s.later → IsSomeAnd (slice_get rounds (s.index - offset / config.chunk)) (λ named. s.entry.round ≤ named)
+    → (s : IsStandingRecord m file x bytes)
+    × (LeaveAlone s.offset (length bytes) s.later → IsSomeAnd (slice_get rounds (s.index - offset / chunk_size m file)) (λ named. s.entry.round ≤ named)
     → take (length bytes) (drop (x - offset) found) ≡ bytes)
 
 -- A client's later reads show its own records, whatever rounds they name (section 2.7.1).
@@ -64,7 +64,7 @@ OwnRecordsAreRead config trace m run =
     → (one : WasAnswered trace client (call.Append fd bytes) (answer.At x)) → IsOf run.0 client fd file
     → WasAnswered one.rest client (call.Read fe offset count) (answer.Bytes found rounds) → IsOf run.0 client fe file
     → offset ≤ x → x + length bytes ≤ offset + length found
-    → (s : IsStandingRecord config.chunk m file x bytes)
+    → (s : IsStandingRecord m file x bytes)
     × (LeaveAlone s.offset (length bytes) s.later → take (length bytes) (drop (x - offset) found) ≡ bytes)
 
 -- Once the appender of a record read it, each read that names that round of the record's chunk or a later one shows it, whoever reads; unless a later mutation covers some of it (section 2.7.1).
@@ -74,9 +74,9 @@ SeenRoundsSuffice config trace m run =
     → (one : WasAnswered trace client (call.Append fd bytes) (answer.At x)) → IsOf run.0 client fd file
     → WasAnswered one.rest client (call.Read fe offset count) (answer.Bytes found rounds) → IsOf run.0 client fe file → offset ≤ x → x + length bytes ≤ offset + length found
     → WasAnswered one.rest reader (call.Read ff from many) (answer.Bytes read named) → IsOf run.0 reader ff file → from ≤ x → x + length bytes ≤ from + length read
-    → (s : IsStandingRecord config.chunk m file x bytes)
+    → (s : IsStandingRecord m file x bytes)
     × (LeaveAlone s.offset (length bytes) s.later
-    → (seen later : ℕ) → slice_get rounds (s.index - offset / config.chunk) ≡ Some seen → slice_get named (s.index - from / config.chunk) ≡ Some later → seen ≤ later
+    → (seen later : ℕ) → slice_get rounds (s.index - offset / chunk_size m file) ≡ Some seen → slice_get named (s.index - from / chunk_size m file) ≡ Some later → seen ≤ later
     → take (length bytes) (drop (x - from) read) ≡ bytes)
 
 -- Nobody asks to write into the file, or into one that it goes back to by snapshots: what is put there is appended.
@@ -88,7 +88,7 @@ IsOnlyAppended config trace m run file =
 -- In such a file no record that was answered is ever covered (section 3.3).
 abbrev pub AppendsLeaveRecordsAlone : (config : Config) (trace : List Visible) (m : Machine) → IsRunTo config trace m → Type 0
 AppendsLeaveRecordsAlone config trace m run =
-    (file x : ℕ) (bytes : List ℕ) → IsOnlyAppended config trace m run file → (s : IsStandingRecord config.chunk m file x bytes) → LeaveAlone s.offset (length bytes) s.later
+    (file x : ℕ) (bytes : List ℕ) → IsOnlyAppended config trace m run file → (s : IsStandingRecord m file x bytes) → LeaveAlone s.offset (length bytes) s.later
 
 -- And so a client reads back each record that it appended to such a file, at the place that it was answered.
 abbrev pub AppendedRecordsAreReadBack : (config : Config) (trace : List Visible) (m : Machine) → IsRunTo config trace m → Type 0
@@ -105,7 +105,7 @@ AnsweredWritesStand config trace m run =
     (client : ℕ) (fd : Fd) (offset : ℕ) (bytes : List ℕ)
     → WasAnswered trace client (call.Write fd offset bytes) answer.Done
     → (file : ℕ) × IsOf run.0 client fd file
-    × ((index : ℕ) → IsTrue (has_part config.chunk offset (length bytes) index) → IsStandingPart m file index (part_start config.chunk offset index) (part_bytes config.chunk offset bytes index))
+    × ((index : ℕ) → IsTrue (has_part (chunk_size m file) offset (length bytes) index) → IsStandingPart m file index (part_start (chunk_size m file) offset index) (part_bytes (chunk_size m file) offset bytes index))
 
 -- where in the file the part of a write in a chunk begins
 abbrev pub part_place : ℕ → ℕ → ℕ → ℕ
@@ -117,12 +117,12 @@ WritesAreRead config trace m run =
     (client reader file : ℕ) (fd fe : Fd) (offset : ℕ) (bytes : List ℕ) (from count : ℕ) (found rounds : List ℕ)
     → (one : WasAnswered trace client (call.Write fd offset bytes) answer.Done) → IsOf run.0 client fd file
     → WasAnswered one.rest reader (call.Read fe from count) (answer.Bytes found rounds) → IsOf run.0 reader fe file
-    → (index : ℕ) → IsTrue (has_part config.chunk offset (length bytes) index)
-    → from ≤ part_place config.chunk offset index → part_place config.chunk offset index + length (part_bytes config.chunk offset bytes index) ≤ from + length found
-    → (s : IsStandingPart m file index (part_start config.chunk offset index) (part_bytes config.chunk offset bytes index))
-    × (LeaveAlone (part_start config.chunk offset index) (length (part_bytes config.chunk offset bytes index)) s.later
-    → IsSomeAnd (slice_get rounds (index - from / config.chunk)) (λ named. s.entry.round ≤ named)
-    → take (length (part_bytes config.chunk offset bytes index)) (drop (part_place config.chunk offset index - from) found) ≡ part_bytes config.chunk offset bytes index)
+    → (index : ℕ) → IsTrue (has_part (chunk_size m file) offset (length bytes) index)
+    → from ≤ part_place (chunk_size m file) offset index → part_place (chunk_size m file) offset index + length (part_bytes (chunk_size m file) offset bytes index) ≤ from + length found
+    → (s : IsStandingPart m file index (part_start (chunk_size m file) offset index) (part_bytes (chunk_size m file) offset bytes index))
+    × (LeaveAlone (part_start (chunk_size m file) offset index) (length (part_bytes (chunk_size m file) offset bytes index)) s.later
+    → IsSomeAnd (slice_get rounds (index - from / chunk_size m file)) (λ named. s.entry.round ≤ named)
+    → take (length (part_bytes (chunk_size m file) offset bytes index)) (drop (part_place (chunk_size m file) offset index - from) found) ≡ part_bytes (chunk_size m file) offset bytes index)
 
 -- A client's later reads show its own writes, whatever rounds they name (section 2.7.1).
 abbrev pub OwnWritesAreRead : (config : Config) (trace : List Visible) (m : Machine) → IsRunTo config trace m → Type 0
@@ -130,11 +130,11 @@ OwnWritesAreRead config trace m run =
     (client file : ℕ) (fd fe : Fd) (offset : ℕ) (bytes : List ℕ) (from count : ℕ) (found rounds : List ℕ)
     → (one : WasAnswered trace client (call.Write fd offset bytes) answer.Done) → IsOf run.0 client fd file
     → WasAnswered one.rest client (call.Read fe from count) (answer.Bytes found rounds) → IsOf run.0 client fe file
-    → (index : ℕ) → IsTrue (has_part config.chunk offset (length bytes) index)
-    → from ≤ part_place config.chunk offset index → part_place config.chunk offset index + length (part_bytes config.chunk offset bytes index) ≤ from + length found
-    → (s : IsStandingPart m file index (part_start config.chunk offset index) (part_bytes config.chunk offset bytes index))
-    × (LeaveAlone (part_start config.chunk offset index) (length (part_bytes config.chunk offset bytes index)) s.later
-    → take (length (part_bytes config.chunk offset bytes index)) (drop (part_place config.chunk offset index - from) found) ≡ part_bytes config.chunk offset bytes index)
+    → (index : ℕ) → IsTrue (has_part (chunk_size m file) offset (length bytes) index)
+    → from ≤ part_place (chunk_size m file) offset index → part_place (chunk_size m file) offset index + length (part_bytes (chunk_size m file) offset bytes index) ≤ from + length found
+    → (s : IsStandingPart m file index (part_start (chunk_size m file) offset index) (part_bytes (chunk_size m file) offset bytes index))
+    × (LeaveAlone (part_start (chunk_size m file) offset index) (length (part_bytes (chunk_size m file) offset bytes index)) s.later
+    → take (length (part_bytes (chunk_size m file) offset bytes index)) (drop (part_place (chunk_size m file) offset index - from) found) ≡ part_bytes (chunk_size m file) offset bytes index)
 
 -- the byte is what the call asks to put at this place of a file; for an append, whose place the system picks, it is in the record
 abbrev pub Puts : Call → ℕ → ℕ → Type 0

@@ -9,7 +9,7 @@ use Rattle.gfs_types.specs.declared.config.Config.{Config}
 use Rattle.gfs_types.specs.Paths.{Path}
 use Rattle.relaxed_file.specs.Laws.{LeaveAlone}
 use Rattle.relaxed_file.specs.Parts.{has_part, part_start, part_bytes}
-use Rattle.relaxed_file.specs.Machine.{Machine}
+use Rattle.relaxed_file.specs.Machine.{Machine, chunk_size}
 use Rattle.relaxed_file.specs.Run.{Action, Visible, IsRunTo}
 use Rattle.promises.specs.Answered.{WasAnswered, IsOf, IsStandingRecord, IsStandingPart}
 use Rattle.promises.specs.Promises.{IsOnlyAppended, part_place}
@@ -32,7 +32,7 @@ ReopenedFilesShowRecords config trace m run =
     (client : ℕ) (fd : Fd) (file x reader offset count : ℕ) (bytes found rounds : List ℕ)
     → IsReadAfterOpen trace run.0 client fd (call.Append fd bytes) (answer.At x) file reader offset count found rounds
     → offset ≤ x → x + length bytes ≤ offset + length found
-    → (s : IsStandingRecord config.chunk m file x bytes)
+    → (s : IsStandingRecord m file x bytes)
     × (LeaveAlone s.offset (length bytes) s.later → take (length bytes) (drop (x - offset) found) ≡ bytes)
 
 -- Such a read whose range begins in the record's chunk, and reaches the record's end, is answered no fewer bytes than reach that end (section 2.7.1).
@@ -40,7 +40,7 @@ abbrev pub AnswersReachRecords : (config : Config) (trace : List Visible) (m : M
 AnswersReachRecords config trace m run =
     (client : ℕ) (fd : Fd) (file x reader offset count : ℕ) (bytes found rounds : List ℕ)
     → IsReadAfterOpen trace run.0 client fd (call.Append fd bytes) (answer.At x) file reader offset count found rounds
-    → offset / config.chunk ≡ x / config.chunk → x + length bytes ≤ offset + count
+    → offset / chunk_size m file ≡ x / chunk_size m file → x + length bytes ≤ offset + count
     → x + length bytes ≤ offset + length found
 
 -- So such a read shows the record whole where its range begins at the record or before it, unless a later mutation covers some of it.
@@ -48,8 +48,8 @@ abbrev pub ReadersMissNothing : (config : Config) (trace : List Visible) (m : Ma
 ReadersMissNothing config trace m run =
     (client : ℕ) (fd : Fd) (file x reader offset count : ℕ) (bytes found rounds : List ℕ)
     → IsReadAfterOpen trace run.0 client fd (call.Append fd bytes) (answer.At x) file reader offset count found rounds
-    → offset / config.chunk ≡ x / config.chunk → offset ≤ x → x + length bytes ≤ offset + count
-    → (s : IsStandingRecord config.chunk m file x bytes)
+    → offset / chunk_size m file ≡ x / chunk_size m file → offset ≤ x → x + length bytes ≤ offset + count
+    → (s : IsStandingRecord m file x bytes)
     × (LeaveAlone s.offset (length bytes) s.later → take (length bytes) (drop (x - offset) found) ≡ bytes)
 
 -- And in a file that is only appended to it always does.
@@ -57,43 +57,43 @@ abbrev pub ReadersMissNoAppend : (config : Config) (trace : List Visible) (m : M
 ReadersMissNoAppend config trace m run =
     (client : ℕ) (fd : Fd) (file x reader offset count : ℕ) (bytes found rounds : List ℕ)
     → IsReadAfterOpen trace run.0 client fd (call.Append fd bytes) (answer.At x) file reader offset count found rounds → IsOnlyAppended config trace m run file
-    → offset / config.chunk ≡ x / config.chunk → offset ≤ x → x + length bytes ≤ offset + count
+    → offset / chunk_size m file ≡ x / chunk_size m file → offset ≤ x → x + length bytes ≤ offset + count
     → take (length bytes) (drop (x - offset) found) ≡ bytes
 
 -- Of such a file a reader that opened it again reads each record that was answered before, when it reads the record's chunk from the beginning to the end.
 abbrev pub WholeChunksMissNothing : (config : Config) (trace : List Visible) (m : Machine) → IsRunTo config trace m → Type 0
 WholeChunksMissNothing config trace m run =
     (client : ℕ) (fd : Fd) (file x reader : ℕ) (bytes found rounds : List ℕ)
-    → IsReadAfterOpen trace run.0 client fd (call.Append fd bytes) (answer.At x) file reader (x / config.chunk * config.chunk) config.chunk found rounds → IsOnlyAppended config trace m run file
-    → take (length bytes) (drop (x - x / config.chunk * config.chunk) found) ≡ bytes
+    → IsReadAfterOpen trace run.0 client fd (call.Append fd bytes) (answer.At x) file reader (x / chunk_size m file * chunk_size m file) (chunk_size m file) found rounds → IsOnlyAppended config trace m run file
+    → take (length bytes) (drop (x - x / chunk_size m file * chunk_size m file) found) ≡ bytes
 
 -- A read after an Open shows each part of a write that was answered before, if the read's answer reaches past the part, whatever rounds it names; unless a later mutation covers some of it (sections 2.4 and 2.7.1).
 abbrev pub ReopenedFilesShowWrites : (config : Config) (trace : List Visible) (m : Machine) → IsRunTo config trace m → Type 0
 ReopenedFilesShowWrites config trace m run =
     (client : ℕ) (fd : Fd) (file place reader offset count : ℕ) (bytes found rounds : List ℕ)
     → IsReadAfterOpen trace run.0 client fd (call.Write fd place bytes) answer.Done file reader offset count found rounds
-    → (index : ℕ) → IsTrue (has_part config.chunk place (length bytes) index)
-    → offset ≤ part_place config.chunk place index → part_place config.chunk place index + length (part_bytes config.chunk place bytes index) ≤ offset + length found
-    → (s : IsStandingPart m file index (part_start config.chunk place index) (part_bytes config.chunk place bytes index))
-    × (LeaveAlone (part_start config.chunk place index) (length (part_bytes config.chunk place bytes index)) s.later
-    → take (length (part_bytes config.chunk place bytes index)) (drop (part_place config.chunk place index - offset) found) ≡ part_bytes config.chunk place bytes index)
+    → (index : ℕ) → IsTrue (has_part (chunk_size m file) place (length bytes) index)
+    → offset ≤ part_place (chunk_size m file) place index → part_place (chunk_size m file) place index + length (part_bytes (chunk_size m file) place bytes index) ≤ offset + length found
+    → (s : IsStandingPart m file index (part_start (chunk_size m file) place index) (part_bytes (chunk_size m file) place bytes index))
+    × (LeaveAlone (part_start (chunk_size m file) place index) (length (part_bytes (chunk_size m file) place bytes index)) s.later
+    → take (length (part_bytes (chunk_size m file) place bytes index)) (drop (part_place (chunk_size m file) place index - offset) found) ≡ part_bytes (chunk_size m file) place bytes index)
 
 -- Such a read whose range begins in the part's chunk, and reaches the part's end, is answered no fewer bytes than reach that end (section 2.7.1).
 abbrev pub AnswersReachWrites : (config : Config) (trace : List Visible) (m : Machine) → IsRunTo config trace m → Type 0
 AnswersReachWrites config trace m run =
     (client : ℕ) (fd : Fd) (file place reader offset count : ℕ) (bytes found rounds : List ℕ)
     → IsReadAfterOpen trace run.0 client fd (call.Write fd place bytes) answer.Done file reader offset count found rounds
-    → (index : ℕ) → IsTrue (has_part config.chunk place (length bytes) index)
-    → offset / config.chunk ≡ index → part_place config.chunk place index + length (part_bytes config.chunk place bytes index) ≤ offset + count
-    → part_place config.chunk place index + length (part_bytes config.chunk place bytes index) ≤ offset + length found
+    → (index : ℕ) → IsTrue (has_part (chunk_size m file) place (length bytes) index)
+    → offset / chunk_size m file ≡ index → part_place (chunk_size m file) place index + length (part_bytes (chunk_size m file) place bytes index) ≤ offset + count
+    → part_place (chunk_size m file) place index + length (part_bytes (chunk_size m file) place bytes index) ≤ offset + length found
 
 -- So such a read shows the part whole where its range begins at the part or before it, unless a later mutation covers some of it.
 abbrev pub ReadersMissNoWrite : (config : Config) (trace : List Visible) (m : Machine) → IsRunTo config trace m → Type 0
 ReadersMissNoWrite config trace m run =
     (client : ℕ) (fd : Fd) (file place reader offset count : ℕ) (bytes found rounds : List ℕ)
     → IsReadAfterOpen trace run.0 client fd (call.Write fd place bytes) answer.Done file reader offset count found rounds
-    → (index : ℕ) → IsTrue (has_part config.chunk place (length bytes) index)
-    → offset / config.chunk ≡ index → offset ≤ part_place config.chunk place index → part_place config.chunk place index + length (part_bytes config.chunk place bytes index) ≤ offset + count
-    → (s : IsStandingPart m file index (part_start config.chunk place index) (part_bytes config.chunk place bytes index))
-    × (LeaveAlone (part_start config.chunk place index) (length (part_bytes config.chunk place bytes index)) s.later
-    → take (length (part_bytes config.chunk place bytes index)) (drop (part_place config.chunk place index - offset) found) ≡ part_bytes config.chunk place bytes index)
+    → (index : ℕ) → IsTrue (has_part (chunk_size m file) place (length bytes) index)
+    → offset / chunk_size m file ≡ index → offset ≤ part_place (chunk_size m file) place index → part_place (chunk_size m file) place index + length (part_bytes (chunk_size m file) place bytes index) ≤ offset + count
+    → (s : IsStandingPart m file index (part_start (chunk_size m file) place index) (part_bytes (chunk_size m file) place bytes index))
+    × (LeaveAlone (part_start (chunk_size m file) place index) (length (part_bytes (chunk_size m file) place bytes index)) s.later
+    → take (length (part_bytes (chunk_size m file) place bytes index)) (drop (part_place (chunk_size m file) place index - offset) found) ≡ part_bytes (chunk_size m file) place bytes index)

@@ -77,8 +77,7 @@ shapes_stay config m n file reached way made =
 
 -- the shape of a file that a Create makes
 asked_fits : (config : Config) (shape : Option Shape) → may_have config shape ≡ true → HasShapeFor config (shape_or (usual_shape config) shape)
-asked_fits config None h = inl refl
-asked_fits config (Some shape) h = inr h
+asked_fits config shape h = inr h
 
 module _ (config : Config) (m : Machine) where
   abbrev HaveShapes : (ℕ → FileState) → Type 0
