@@ -44,6 +44,7 @@ use Rattle.headline.specs.MasterEvents.{HoldersGoOnWhere}
 use Rattle.headline.proofs.KeptEntries.{trimmed, trimmed_alike, trimmed_gone, trimmed_below, trimmed_open}
 use Rattle.headline.proofs.Moves.{Moves}
 use Rattle.headline.proofs.OrdersStay.{FilesStay, orders_stay}
+use Rattle.laws_machine.proofs.ToldShapes.{shapes_on}
 
 -- clients stay as the machine follows the master
 
@@ -262,5 +263,6 @@ module _ (config : Config) (servers clients : ℕ) (w : WorldState) (r : world.I
             files = files_offered;
             said = subst (λ (cs : List ClientState). AreWordsSo v.sent cs offered) (sym a.clients_are) said;
             requests_are = events_keep_requests_numbered config w kept e choice ss k offered h (leads_on k.machine j.machine offered leads (o.offers, o.lawful, refl)) run_offered files_offered (inl tries);
+            shapes = shapes_on config servers clients w r ss k h e choice clocks offered (leads_on k.machine j.machine offered leads (o.offers, o.lawful, refl));
           },
         )

@@ -51,6 +51,7 @@ pub mod SoundLogs
 pub mod StoppedSteps
 pub mod ToldHolders
 pub mod ToldRounds
+pub mod ToldShapes
 pub mod TriesRise
 pub mod ToldStanding
 pub mod UnaskedAdds

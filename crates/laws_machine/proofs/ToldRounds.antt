@@ -107,7 +107,7 @@ module _ (config : Config) (servers clients : ℕ) (w : WorldState) (r : IsReach
       file_is = ap file_in (sym answers.body_is) ∙ (ap (λ (m : Message). file_in m.body) one ∙ (ap file_in (t.asked).body_is ∙ (t.asked).file_is));
     }
 
-    told_before : IsToldAt w.sent client file l place
+    pub told_before : IsToldAt w.sent client file l place
     told_before = record { number = t.number; asked = asked_before; told = t.told; sent_is = stood; receiver_is = t.receiver_is; body_is = t.body_is; granted = t.granted }
 
   -- the machine

@@ -60,6 +60,7 @@ use Rattle.laws_machine.proofs.FileClientsStay.{other_clients_stay}
 use Rattle.laws_machine.proofs.FileSteps.{file_steps_are_followed}
 use Rattle.laws_machine.proofs.WholeMoves.{GoesQuietly, quiet_run, entries_quiet, run_goes, run_goes_unseen, PassesBoth, both_pass}
 use Rattle.laws_machine.proofs.WholeWorlds.{files_stay, words_stay, more_words, on_left}
+use Rattle.laws_machine.proofs.ToldShapes.{shapes_on}
 
 -- a word stays so, or a range is too long
 
@@ -359,7 +360,20 @@ module _ (config : Config) (servers clients : ℕ) (w : WorldState) (r : world.I
       keeps = (
         record placed { machine = stands.machine },
         refl,
-        record { names = p.names; requests = h.requests; named = parts.0; asking = parts.1; run = parts.2; same = stands.same; below = h.below; chunks = stands.chunks; files = parts.3; said = parts.4; requests_are = asks.requests ss k stands.machine h stands.leads parts.2 parts.3 (inr stands.adds) },
+        record {
+          names = p.names;
+          requests = h.requests;
+          named = parts.0;
+          asking = parts.1;
+          run = parts.2;
+          same = stands.same;
+          below = h.below;
+          chunks = stands.chunks;
+          files = parts.3;
+          said = parts.4;
+          requests_are = asks.requests ss k stands.machine h stands.leads parts.2 parts.3 (inr stands.adds);
+          shapes = shapes_on config servers clients w r ss k h e choice clocks stands.machine stands.leads;
+        },
       )
 
 abbrev Cases : WorldState → ClientState → Happened → Happened → Type 0

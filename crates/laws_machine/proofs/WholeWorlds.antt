@@ -49,6 +49,7 @@ use Rattle.laws_machine.specs.WholeWorlds.{AreWordsSo, AreFileClients, IsBeside,
 use Rattle.laws_machine.proofs.ChunksBeside.{master_left, new_chunks_are_beside, other_events_keep_chunks_beside, same_files_keep_chunks_beside}
 use Rattle.laws_machine.proofs.TriesRise.{same_files_add}
 use Rattle.laws_machine.proofs.WholeMoves.{AllStay, GoesQuietly, quiet_run, entries_quiet, looks_quiet, looks_leave, run_goes_unseen, PassesBoth, both_pass}
+use Rattle.laws_machine.proofs.ToldShapes.{shapes_on}
 
 -- a new world
 
@@ -84,6 +85,7 @@ new_worlds_are_whole config servers clients = record {
       files = new_files config clients;
       said = λ index s at up x none. none_sent x none;
       requests_are = new_requests config servers clients;
+      shapes = record { opened = λ place number x file shape at is. none_some x at; located = λ client file l place t. none_some t.told t.sent_is };
     },
   );
   log = λ down. absurd (true≢false down);
@@ -288,6 +290,7 @@ module _ (config : Config) (servers clients : ℕ) (w : WorldState) (r : world.I
       files = there.3;
       said = there.4;
       requests_are = asks.requests ss k p.whole h leads there.2 there.3 (inr adds);
+      shapes = shapes_on config servers clients w r ss k h e choice clocks p.whole leads;
     }
 
     keeps : (j : ChunkSides) × (j.log ≡ k.log) × IsBeside config v ss j

@@ -24,6 +24,7 @@ pub mod ServerSteps
 pub mod ShownChunks
 pub mod ToldHolders
 pub mod ToldRounds
+pub mod ToldShapes
 pub mod Tries
 pub mod WaitedNumbers
 pub mod WaitedSuccesses

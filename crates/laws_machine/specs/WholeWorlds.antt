@@ -29,6 +29,7 @@ use Rattle.laws_machine.specs.FileClients.{IsFileClient, IsSaid}
 use Rattle.laws_machine.specs.FileClientsStay.{IsFirm}
 use Rattle.laws_machine.specs.SentRequests.{AreRequestsNumbered}
 use Rattle.laws_machine.specs.Tries.{HasNoMoreTries, AddsNumberedTries}
+use Rattle.laws_machine.specs.ToldShapes.{AreShapesTold}
 
 -- of each client that is up, what it was sent is so, where it waits for it
 abbrev pub AreWordsSo : List Message → List ClientState → Machine → Type 0
@@ -53,6 +54,7 @@ pub record IsBeside (config : Config) (w : WorldState) (ss : List PendingSnapsho
   pub files : AreFileClients w.clients k.machine
   pub said : AreWordsSo w.sent w.clients k.machine
   pub requests_are : AreRequestsNumbered config w k.machine
+  pub shapes : AreShapesTold w.sent k.machine
 
 abbrev pub HasMachine : Config → WorldState → Logged → List PendingSnapshot → Type 0
 HasMachine config w l ss = (k : ChunkSides) × (k.log ≡ l) × IsBeside config w ss k

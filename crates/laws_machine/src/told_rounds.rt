@@ -1,6 +1,7 @@
 //! Laws of what clients were told of chunks beside a machine that has the same chunks.
 
 ghost use Rattle.laws_machine.specs.ToldRounds.{CountingRoundsAreOpenWhereTold, NoRoundIsToldAtFirst, ToldRoundsGoOn, ToldRoundsStayOver};
+ghost use Rattle.laws_machine.specs.ToldShapes.{ToldShapesGoOn};
 
 /// In a new cell nothing was told.
 pub fn no_round_is_told_at_first()
@@ -20,4 +21,9 @@ pub fn told_rounds_go_on()
 /// The round under which a server may number a mutation is open in the file's chunk of the index for which a client was told it, and nowhere else.
 pub fn counting_rounds_are_open_where_told()
     ensures { CountingRoundsAreOpenWhereTold }
+{}
+
+/// From one world to the next the shapes that clients were told are those of the machine's files.
+pub fn told_shapes_go_on()
+    ensures { ToldShapesGoOn }
 {}

@@ -37,6 +37,8 @@ use Rattle.protocol.specs.Master.{MasterState, MasterDoing, orders, appends, wri
 use Rattle.protocol.specs.MasterReports.{is_useless}
 use Rattle.laws_base.proofs.LeaseOrders.{revoke_body, grant_body}
 use Rattle.laws_base.proofs.Entries.{AllOf, all_joined}
+use Rattle.gfs_types.specs.Paths.{Path}
+use Rattle.relaxed_file.specs.Names.{File, node_at}
 
 -- what came in
 
@@ -133,9 +135,9 @@ IsRefusedFor l file what TooLong =
 IsRefusedFor l file what Collected = file_of l.table file ≡ None
 IsRefusedFor l file what other = ⊥
 
--- a file that an Open found is told with the shape that is logged of it
+-- a file that an Open found has a name that is logged, and is told with its shape
 abbrev pub IsShapeOf : Logged → NameReply → Type 0
-IsShapeOf l (Opened file shape) = shape ≡ shape_of l.table file.0
+IsShapeOf l (Opened file shape) = (shape ≡ shape_of l.table file.0) × (path : Path) × (node_at l.names path ≡ Some (File file.0))
 IsShapeOf l (Answered reply) = Unit {0}
 
 -- an answer to a client

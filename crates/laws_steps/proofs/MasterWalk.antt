@@ -23,9 +23,11 @@ use Rattle.messages.specs.declared.event.NodeInput.{NodeInput}
 use Rattle.messages.specs.declared.event.NodeInput.TheVariants as input
 use Rattle.log_records.specs.declared.record.Record.{Record}
 use Rattle.log_records.specs.declared.record.Record.TheVariants as log
-use Rattle.relaxed_file.specs.Machine.{Outcome, Replies, Opens}
-use Rattle.relaxed_file.specs.NameStep.{outcome_by, needs_room}
-use Rattle.chunk_table.specs.ChunkTable.{ChunkRow, ChunkTable, chunk_of, file_of, shape_of}
+use Rattle.gfs_types.specs.Paths.{Path}
+use Rattle.relaxed_file.specs.Machine.{Outcome}
+use Rattle.relaxed_file.specs.Names.{Node as NameNode, Dir, File, node_at}
+use Rattle.relaxed_file.specs.NameStep.{outcome_by, opened, needs_room}
+use Rattle.chunk_table.specs.ChunkTable.{ChunkRow, chunk_of, file_of}
 use Rattle.leases.specs.LeaseEnds.{has_ended}
 use Rattle.protocol.specs.Tables.{element_at, rising, has_number, with_number}
 use Rattle.protocol.specs.LogSizes.{checkpoint_fits}
@@ -625,10 +627,19 @@ module _ (l : Logged) (i : NodeInput) (A : MasterDoing → Type 0) (P : StepEffe
         let handles : Option (List ℕ) = file_of d.master.logged.table file in
         on_cond Here (nat_le deadline d.master.now) d (asks_of d a lost w handles) (λ _. h) (λ _. asks_of_said d a lost w handles asked same here found h)
 
-    -- a file that was found goes with its shape
-    shape_told : (t : ChunkTable) (o : Outcome) → t ≡ l.table → IsShapeOf l (reply_by t o)
-    shape_told t (Opens file) same = ap (λ (u : ChunkTable). shape_of u file) same
-    shape_told t (Replies reply) same = tt
+    -- a file that was found has a name, and goes with its shape
+    found_shaped : (path : Path) (o : Option NameNode) → node_at l.names path ≡ o → IsShapeOf l (reply_by l.table (opened o))
+    found_shaped path None is = tt
+    found_shaped path (Some Dir) is = tt
+    found_shaped path (Some (File file)) is = (refl, path, is)
+
+    outcome_shaped : (refusal : Option Refusal) (c : Call) → IsShapeOf l (reply_by l.table (outcome_by l.names c refusal))
+    outcome_shaped (Some refusal) c = tt
+    outcome_shaped None (call.Open path) = found_shaped path (node_at l.names path) refl
+    outcome_shaped None other = tt
+
+    shape_told : (k : Logged) (c : Call) (refusal : Option Refusal) → k ≡ l → IsShapeOf l (reply_by k.table (outcome_by k.names c refusal))
+    shape_told k c refusal same = subst (λ (x : Logged). IsShapeOf l (reply_by x.table (outcome_by x.names c refusal))) (sym same) (outcome_shaped refusal c)
 
     -- the step
 
@@ -637,7 +648,7 @@ module _ (l : Logged) (i : NodeInput) (A : MasterDoing → Type 0) (P : StepEffe
         kept_said d (client_number x.sender) number deadline.0 c (table.get d.master.logged.kept (client_number x.sender)) h
     takes_here d x (body.Look number c) same came is found h =
         let outcome : Outcome = outcome_by d.master.logged.names c (master_refusal d.master c) in
-        said d x.sender (body.Named number (reply_by d.master.logged.table outcome)) (shape_told d.master.logged.table outcome (ap (λ (y : Logged). y.table) same)) h
+        said d x.sender (body.Named number (reply_by d.master.logged.table outcome)) (shape_told d.master.logged c (master_refusal d.master c) same) h
     takes_here d x (body.Ask number file w deadline lost) same came is found h =
         let asked : IsTakenAsk i x.sender number = record { ask = x; file = file; what = w; deadline = deadline; lost = lost; came = came; sender_is = refl; body_is = is } in
         ask_said d x.sender number file.0 w deadline.0 lost asked refl (ap (λ (y : Logged). file_of y.table file.0) (sym same)) found h

@@ -24,6 +24,8 @@ use Rattle.laws_base.proofs.MembersRecorded.{all_at}
 use Rattle.laws_steps.specs.ToldShapes.{OpenedShapesAreLogged, IsShapeIn, ToldShapesAreOfTheirChunks}
 use Rattle.laws_steps.proofs.MasterPremises.{IsAnswer, IsOrder, AskKeeps, MasterSays}
 use Rattle.laws_steps.proofs.MasterWalk.{step_says}
+use Rattle.gfs_types.specs.Paths.{Path}
+use Rattle.relaxed_file.specs.Names.{File, node_at}
 
 -- shapes since the step began: files have theirs, and each chunk that was there has its own
 record AreShaped (l k : Logged) : Type 0 where
@@ -67,7 +69,7 @@ module _ (l : Logged) where
 
   -- what a message says of shapes
   abbrev TellsShape : Body → Type 0
-  TellsShape (body.Named number (Opened file shape)) = shape ≡ shape_of l.table file.0
+  TellsShape (body.Named number (Opened file shape)) = (shape ≡ shape_of l.table file.0) × (path : Path) × (node_at l.names path ≡ Some (File file.0))
   TellsShape (body.Told number (Some place)) = IsShapeIn l place.handle.0 place.shape
   TellsShape other = Unit {0}
 

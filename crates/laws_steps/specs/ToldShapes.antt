@@ -13,12 +13,15 @@ use Rattle.protocol.specs.Choice.{Choice}
 use Rattle.protocol.specs.Logged.{Logged}
 use Rattle.protocol.specs.Master.{MasterState}
 use Rattle.protocol.specs.MasterStep.{master_step}
+use Rattle.gfs_types.specs.Paths.{Path}
+use Rattle.relaxed_file.specs.Names.{File, node_at}
 
--- A file that an Open found is told with the shape that the master has logged of it (section 2.3).
+-- A file that an Open found has a name that the master has logged, and is told with the shape that is logged of it (section 2.3).
 abbrev pub OpenedShapesAreLogged : Type 0
 OpenedShapesAreLogged =
     (m : MasterState) (moment : ℕ) (i : NodeInput) (choice : Choice) (place : ℕ) (x : Message) → element_at (master_step m moment i choice).out.sent place ≡ Some x
-    → (number : ℕ) (file : FileId) (shape : Shape) → x.body ≡ body.Named number (Opened file shape) → shape ≡ shape_of m.logged.table file.0
+    → (number : ℕ) (file : FileId) (shape : Shape) → x.body ≡ body.Named number (Opened file shape)
+    → (shape ≡ shape_of m.logged.table file.0) × (path : Path) × (node_at m.logged.names path ≡ Some (File file.0))
 
 -- the chunk has this shape, or its handle is new and a file has it
 abbrev pub IsShapeIn : Logged → ℕ → Shape → Type 0

@@ -3,7 +3,7 @@
 ghost use Rattle.laws_steps.specs.OpenShapes.{CallsKeepOpenShapes, OpenShapesWereTold};
 ghost use Rattle.laws_steps.specs.ToldShapes.{OpenedShapesAreLogged, ToldShapesAreOfTheirChunks};
 
-/// A file that an Open found is told with the shape that the master has logged of it.
+/// A file that an Open found has a name that the master has logged, and is told with the shape that is logged of it.
 pub fn opened_shapes_are_logged()
     ensures { OpenedShapesAreLogged }
 {}
