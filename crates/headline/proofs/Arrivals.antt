@@ -1,5 +1,5 @@
 -- Where the whole machine has followed the master to a log, it is beside the world after the event.
-use Rattle.std.proofs.Common.{◌≡◌, ℕ, ◌<◌, ◌≤◌, true, false, max, List, [], ◌∷◌, ◌++◌, refl, sym, subst, ◌∙◌, inl, inr, arith}
+use Rattle.std.proofs.Common.{◌≡◌, ◌⊎◌, ℕ, ◌<◌, ◌≤◌, true, false, max, List, [], ◌∷◌, ◌++◌, refl, sym, subst, ◌∙◌, inl, inr, arith}
 use Rattle.std.specs.Prelude.{IsTrue}
 use Rattle.std.specs.List.{AllByRecursion, list_all}
 use Rattle.std.proofs.lemmas.Bool.{and_parts}
@@ -13,6 +13,7 @@ use Rattle.relaxed_file.specs.Chunks.{tries_in}
 use Rattle.relaxed_file.specs.Run.{Action, Step, FindBusy, FindFull, Lock, Expire, Add, OpenRound, CloseRound, Tell, Visible, after, after_all, IsLawful, IsReached, IsRunTo, LeadsTo}
 use Rattle.relaxed_file.proofs.Reached.{leads_on, leads_by}
 use Rattle.relaxed_file.proofs.Grows.{known_when_reached}
+use Rattle.machine_names.specs.NameProjections.{AreNamesOf}
 use Rattle.machine_names.specs.UnseenRuns.{IsLeft}
 use Rattle.protocol.specs.Choice.{Choice}
 use Rattle.protocol.specs.Logged.{Logged}
@@ -20,10 +21,13 @@ use Rattle.protocol.specs.Master.{PendingSnapshot}
 use Rattle.protocol.specs.Client.{ClientState}
 use Rattle.protocol.specs.World as world
 use Rattle.protocol.specs.World.{WorldState, happens}
+use Rattle.protocol_invariant.specs.Actions.{Spot}
+use Rattle.laws_base.specs.Laws.{grants_of}
+use Rattle.laws_steps.specs.Versions.{IsLeaseOver}
 use Rattle.laws_names.specs.Beside.{IsNamesBeside, AreClientsBeside}
 use Rattle.laws_names.proofs.BesideClientsBeside.{passed_trace, all_on, settings_of}
 use Rattle.laws_names.proofs.Masters.{passed_last}
-use Rattle.laws_machine.specs.ChunksAlike.{ChunkSides, AreChunksAlike, KeepsRounds, NoneEnds}
+use Rattle.laws_machine.specs.ChunksAlike.{ChunkSides, IsRoundOpen, AreChunksAlike, KeepsRounds, NoneEnds}
 use Rattle.laws_machine.proofs.Plain.{other_changes_keep_chunks}
 use Rattle.laws_machine.specs.MasterSteps.{IsWhole, is_of_master, HasFilesOf}
 use Rattle.laws_machine.specs.Rounds.{IsLogOf, IsEnded, SentGrantsAreOpen}
@@ -45,6 +49,10 @@ use Rattle.headline.proofs.KeptEntries.{trimmed, trimmed_alike, trimmed_gone, tr
 use Rattle.headline.proofs.Moves.{Moves}
 use Rattle.headline.proofs.OrdersStay.{FilesStay, orders_stay}
 use Rattle.laws_machine.proofs.ToldShapes.{shapes_on}
+use Rattle.laws_machine.proofs.RoundSizes.{sizes_on}
+use Rattle.headline.proofs.GrantedSizes.{granted_size_is_open}
+use Rattle.laws_machine.specs.RoundSizes.{AreRoundsSized}
+use Rattle.machine_names.proofs.Effects.{same_shape}
 
 -- clients stay as the machine follows the master
 
@@ -215,6 +223,34 @@ module _ (config : Config) (servers clients : ℕ) (w : WorldState) (r : world.I
         chunks_offered : AreChunksBeside config v (record (trimmed j) { machine = offered })
         chunks_offered = let same = offers_leave j.machine o.offers o.of_offers in same_files_keep_chunks_beside config v (trimmed j) offered chunks same.0 same.1
 
+        abbrev after_offers : ChunkSides
+        after_offers = record (trimmed j) { machine = offered }
+
+        leads_offered : LeadsTo k.machine offered
+        leads_offered = leads_on k.machine j.machine offered leads (o.offers, o.lawful, refl)
+
+        same_offered : AreNamesOf offered a.names
+        same_offered = two.names a.names a.moves.comes.whole.names
+
+        named_here : IsNamesBeside config v.observer.trace v.observer.greatest v.sent j.log others a.names h.requests
+        named_here = subst (λ (x : Logged). IsNamesBeside config v.observer.trace v.observer.greatest v.sent x others a.names h.requests) (sym a.log) a.named
+
+        open_offered : KeepsRounds NoneEnds (trimmed j) after_offers
+        open_offered =
+            (other_changes_keep_chunks (trimmed j) after_offers alike
+            (record { lists = refl; grants = λ handle. refl; next = omega arith; gone = refl; orders = refl; files = (offers_leave j.machine o.offers o.of_offers).1 })).rounds
+
+        old_rounds : (handle version : ℕ) (s : Spot) → 1 ≤ grants_of handle version w.sent → IsRoundOpen k handle version s → IsLeaseOver v handle version ⊎ IsRoundOpen after_offers handle version s
+        old_rounds handle version s some was_open = elim (keeps handle version s was_open) [
+          | inl over ↦ inl (over version some)
+          | inr still ↦ elim (open_offered handle version s still) [ inl none ↦ absurd none | inr on ↦ inr on ]
+        ]
+
+        sized : AreRoundsSized v after_offers
+        sized =
+            sizes_on config servers clients w r e choice clocks ss k h after_offers leads_offered old_rounds
+            (granted_size_is_open config servers clients w r e choice clocks after_offers is_log chunks_offered.rounds (λ file has. named_here.alike.shapes file has ∙ same_shape offered a.names same_offered file))
+
         said : AreWordsSo v.sent w.clients offered
         said =
             subst (λ (ms : List Message). AreWordsSo ms w.clients offered) (sym a.sent)
@@ -254,15 +290,16 @@ module _ (config : Config) (servers clients : ℕ) (w : WorldState) (r : world.I
           record {
             names = a.names;
             requests = h.requests;
-            named = subst (λ (x : Logged). IsNamesBeside config v.observer.trace v.observer.greatest v.sent x others a.names h.requests) (sym a.log) a.named;
+            named = named_here;
             asking = subst (λ (cs : List ClientState). AreClientsBeside config v.observer.trace v.observer.greatest cs a.names h.requests) (sym a.clients_are) asking;
             run = run_offered;
-            same = two.names a.names a.moves.comes.whole.names;
+            same = same_offered;
             below = λ handle s is. a.moves.comes.whole.below handle s (trimmed_below j handle s is);
             chunks = chunks_offered;
             files = files_offered;
             said = subst (λ (cs : List ClientState). AreWordsSo v.sent cs offered) (sym a.clients_are) said;
-            requests_are = events_keep_requests_numbered config w kept e choice ss k offered h (leads_on k.machine j.machine offered leads (o.offers, o.lawful, refl)) run_offered files_offered (inl tries);
-            shapes = shapes_on config servers clients w r ss k h e choice clocks offered (leads_on k.machine j.machine offered leads (o.offers, o.lawful, refl));
+            requests_are = events_keep_requests_numbered config w kept e choice ss k offered h leads_offered run_offered files_offered (inl tries);
+            shapes = shapes_on config servers clients w r ss k h e choice clocks offered leads_offered;
+            sized = sized;
           },
         )

@@ -91,6 +91,7 @@ use Rattle.headline.proofs.ClientsFileSteps.{untold_words}
 use Rattle.headline.proofs.FileWords.{later_client, words_at}
 use Rattle.headline.proofs.StepStages.{IsNewCall, next_step, next_call}
 use Rattle.laws_machine.proofs.ToldShapes.{shapes_on}
+use Rattle.laws_machine.proofs.RoundSizes.{sizes_beside}
 
 module _ (config : Config) (servers clients : ℕ) (w : WorldState) (r : world.IsReached config servers clients w) (kept : IsTrue (is_kept w)) (e : Event) (choice : Choice) (clocks : IsTrue (happens w e choice).world.observer.are_clocks_kept)
     (others_event : IsMastersEvent w e → ⊥) (known : AreOpenCallsKnown config w) (index moment : ℕ) (s : ClientState) (at : element_at w.clients index ≡ Some s) (up : IsTrue s.up)
@@ -205,6 +206,7 @@ module _ (config : Config) (servers clients : ℕ) (w : WorldState) (r : world.I
           said = parts.4;
           requests_are = events_keep_requests_numbered config w (and_parts _ _ kept).0 e choice ss k g.machine h g.leads parts.2 parts.3 (inr g.adds);
           shapes = shapes_on config servers clients w r ss k h e choice clocks g.machine g.leads;
+          sized = sizes_beside config servers clients w r e choice clocks ss k h others_event v.observer.orders g.machine g.leads g.chunks;
         },
       )
         where

@@ -22,6 +22,7 @@ pub mod FullAsks
 pub mod Goings
 pub mod GoneHandles
 pub mod GrantedRows
+pub mod GrantedSizes
 pub mod GrantingSteps
 pub mod HoldersGoOn
 pub mod Induction

@@ -104,7 +104,7 @@ master_left w (event.Rot server handle place byte) choice not = rot_left w (serv
 master_left w (event.Fuse n count torn) choice not = refl
 
 -- a step is an event of the master's
-masters_step : (w : WorldState) (e : Event) → IsMastersStep w e → IsMastersEvent w e
+pub masters_step : (w : WorldState) (e : Event) → IsMastersStep w e → IsMastersEvent w e
 masters_step w (event.Deliver number now) is = is
 masters_step w (event.Tick n now) is = is
 masters_step w (event.Call client c now) is = absurd is

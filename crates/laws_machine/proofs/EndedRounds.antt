@@ -93,14 +93,15 @@ shared_chunks_in_each_log_have_no_lease config servers clients w r clocks l is h
 pub leased_chunks_stand_once : LeasedChunksStandOnce
 leased_chunks_stand_once config servers clients w r clocks k is handle version = by_row config servers clients w r clocks k is handle version (chunk_of k.log.table handle) refl
 
+-- a chunk that stands at one place at most has one place, there or gone
+pub places_are_one : (k : ChunkSides) → AreChunksAlike k → (handle : ℕ) (s t : Spot) → StandsNowhereElse k handle → StandsAt k.log.table handle s ⊎ StoodAt k handle s → StandsAt k.log.table handle t ⊎ StoodAt k handle t → s ≡ t
+places_are_one k h handle s t nowhere (inl here) (inl there) = nowhere s t here there
+places_are_one k h handle s t nowhere (inl here) (inr stood) = absurd (gone_or_there k h handle s here t stood)
+places_are_one k h handle s t nowhere (inr stood) (inl there) = absurd (gone_or_there k h handle t there s stood)
+places_are_one k h handle s t nowhere (inr stood) (inr too) = same_some s t (sym stood.0 ∙ too.0)
+
 pub open_rounds_have_one_spot : OpenRoundsHaveOneSpot
-open_rounds_have_one_spot k h handle version other s t nowhere first second = by_places first.place second.place
-  where
-    by_places : StandsAt k.log.table handle s ⊎ StoodAt k handle s → StandsAt k.log.table handle t ⊎ StoodAt k handle t → s ≡ t
-    by_places (inl here) (inl there) = nowhere s t here there
-    by_places (inl here) (inr stood) = absurd (gone_or_there k h handle s here t stood)
-    by_places (inr stood) (inl there) = absurd (gone_or_there k h handle t there s stood)
-    by_places (inr stood) (inr too) = same_some s t (sym stood.0 ∙ too.0)
+open_rounds_have_one_spot k h handle version other s t nowhere first second = places_are_one k h handle s t nowhere first.place second.place
 
 -- from one world to the next
 

@@ -52,6 +52,7 @@ pub mod StoppedSteps
 pub mod ToldHolders
 pub mod ToldRounds
 pub mod ToldShapes
+pub mod RoundSizes
 pub mod TriesRise
 pub mod ToldStanding
 pub mod UnaskedAdds

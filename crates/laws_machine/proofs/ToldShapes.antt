@@ -149,7 +149,7 @@ each_telling config servers clients u r =
 
 -- from one world to the next
 
-stood_in : (l : Logged) (file index handle : ℕ) → element_at (handles_of l.table file) index ≡ Some handle → table.contains_key l.table.files file ≡ true
+pub stood_in : (l : Logged) (file index handle : ℕ) → element_at (handles_of l.table file) index ≡ Some handle → table.contains_key l.table.files file ≡ true
 stood_in l file index handle at = by_file (table.get l.table.files file) refl
   where
     by_file : (o : Option (List ℕ)) → table.get l.table.files file ≡ o → table.contains_key l.table.files file ≡ true

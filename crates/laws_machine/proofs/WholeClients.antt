@@ -61,6 +61,7 @@ use Rattle.laws_machine.proofs.FileSteps.{file_steps_are_followed}
 use Rattle.laws_machine.proofs.WholeMoves.{GoesQuietly, quiet_run, entries_quiet, run_goes, run_goes_unseen, PassesBoth, both_pass}
 use Rattle.laws_machine.proofs.WholeWorlds.{files_stay, words_stay, more_words, on_left}
 use Rattle.laws_machine.proofs.ToldShapes.{shapes_on}
+use Rattle.laws_machine.proofs.RoundSizes.{sizes_beside}
 
 -- a word stays so, or a range is too long
 
@@ -373,6 +374,7 @@ module _ (config : Config) (servers clients : ℕ) (w : WorldState) (r : world.I
           said = parts.4;
           requests_are = asks.requests ss k stands.machine h stands.leads parts.2 parts.3 (inr stands.adds);
           shapes = shapes_on config servers clients w r ss k h e choice clocks stands.machine stands.leads;
+          sized = sizes_beside config servers clients w r e choice clocks ss k h (not_masters w e index moment i given) v.observer.orders stands.machine stands.leads stands.chunks;
         },
       )
 

@@ -50,6 +50,7 @@ use Rattle.laws_machine.proofs.ChunksBeside.{master_left, new_chunks_are_beside,
 use Rattle.laws_machine.proofs.TriesRise.{same_files_add}
 use Rattle.laws_machine.proofs.WholeMoves.{AllStay, GoesQuietly, quiet_run, entries_quiet, looks_quiet, looks_leave, run_goes_unseen, PassesBoth, both_pass}
 use Rattle.laws_machine.proofs.ToldShapes.{shapes_on}
+use Rattle.laws_machine.proofs.RoundSizes.{sizes_beside}
 
 -- a new world
 
@@ -86,6 +87,7 @@ new_worlds_are_whole config servers clients = record {
       said = λ index s at up x none. none_sent x none;
       requests_are = new_requests config servers clients;
       shapes = record { opened = λ place number x file shape at is. none_some x at; located = λ client file l place t. none_some t.told t.sent_is };
+      sized = λ handle version size g. none_some g.1 g.2;
     },
   );
   log = λ down. absurd (true≢false down);
@@ -250,6 +252,9 @@ module _ (config : Config) (servers clients : ℕ) (w : WorldState) (r : world.I
     chunks_looked : AreChunksBeside config v (record placed { machine = looked })
     chunks_looked = let left = looks_leave placed.machine answers.looks answers.of_looks in same_files_keep_chunks_beside config v placed looked goes.3 left.0 left.1
 
+    chunks_passed : AreChunksBeside config v (record placed { machine = p.whole })
+    chunks_passed = same_files_keep_chunks_beside config v (record placed { machine = looked }) p.whole chunks_looked p.settings p.files
+
     abbrev At : List Visible → ℕ → List Message → List ClientState → Type 0
     At trace greatest sent cs =
         IsNamesBeside config trace greatest sent k.log ss p.names h.requests × AreClientsBeside config trace greatest cs p.names h.requests × IsRunTo config trace p.whole × AreFileClients cs p.whole × AreWordsSo sent cs p.whole
@@ -286,11 +291,12 @@ module _ (config : Config) (servers clients : ℕ) (w : WorldState) (r : world.I
       run = there.2;
       same = p.same;
       below = h.below;
-      chunks = same_files_keep_chunks_beside config v (record placed { machine = looked }) p.whole chunks_looked p.settings p.files;
+      chunks = chunks_passed;
       files = there.3;
       said = there.4;
       requests_are = asks.requests ss k p.whole h leads there.2 there.3 (inr adds);
       shapes = shapes_on config servers clients w r ss k h e choice clocks p.whole leads;
+      sized = sizes_beside config servers clients w r e choice clocks ss k h (not_masters w e of) v.observer.orders p.whole leads chunks_passed;
     }
 
     keeps : (j : ChunkSides) × (j.log ≡ k.log) × IsBeside config v ss j

@@ -25,6 +25,7 @@ pub mod ShownChunks
 pub mod ToldHolders
 pub mod ToldRounds
 pub mod ToldShapes
+pub mod RoundSizes
 pub mod Tries
 pub mod WaitedNumbers
 pub mod WaitedSuccesses

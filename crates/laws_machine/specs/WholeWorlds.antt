@@ -30,6 +30,7 @@ use Rattle.laws_machine.specs.FileClientsStay.{IsFirm}
 use Rattle.laws_machine.specs.SentRequests.{AreRequestsNumbered}
 use Rattle.laws_machine.specs.Tries.{HasNoMoreTries, AddsNumberedTries}
 use Rattle.laws_machine.specs.ToldShapes.{AreShapesTold}
+use Rattle.laws_machine.specs.RoundSizes.{AreRoundsSized}
 
 -- of each client that is up, what it was sent is so, where it waits for it
 abbrev pub AreWordsSo : List Message → List ClientState → Machine → Type 0
@@ -55,6 +56,7 @@ pub record IsBeside (config : Config) (w : WorldState) (ss : List PendingSnapsho
   pub said : AreWordsSo w.sent w.clients k.machine
   pub requests_are : AreRequestsNumbered config w k.machine
   pub shapes : AreShapesTold w.sent k.machine
+  pub sized : AreRoundsSized w k
 
 abbrev pub HasMachine : Config → WorldState → Logged → List PendingSnapshot → Type 0
 HasMachine config w l ss = (k : ChunkSides) × (k.log ≡ l) × IsBeside config w ss k

@@ -2,6 +2,7 @@
 
 ghost use Rattle.laws_machine.specs.ToldRounds.{CountingRoundsAreOpenWhereTold, NoRoundIsToldAtFirst, ToldRoundsGoOn, ToldRoundsStayOver};
 ghost use Rattle.laws_machine.specs.ToldShapes.{ToldShapesGoOn};
+ghost use Rattle.laws_machine.specs.RoundSizes.{RoundSizesGoOn};
 
 /// In a new cell nothing was told.
 pub fn no_round_is_told_at_first()
@@ -26,4 +27,9 @@ pub fn counting_rounds_are_open_where_told()
 /// From one world to the next the shapes that clients were told are those of the machine's files.
 pub fn told_shapes_go_on()
     ensures { ToldShapesGoOn }
+{}
+
+/// From one world to the next the open round of each lease has the size that its Grant told, also where the file was collected.
+pub fn round_sizes_go_on()
+    ensures { RoundSizesGoOn }
 {}

@@ -1,7 +1,7 @@
 -- With which size of its chunk a Grant goes, by the step in which the master sends it.
 use Rattle.std.proofs.Common.{◌≡◌, ◌⊎◌, ℕ, ◌+◌, ◌≤◌, List, [], ◌∷◌, ◌++◌, Option, Some, None, refl, sym, ap, subst, ◌∙◌, inl, inr, arith}
 use Rattle.std.proofs.Math.Nat.{le-max_left}
-use Rattle.std.specs.Prelude.{IsTrue}
+use Rattle.std.specs.Prelude.{Bool, IsTrue}
 use Rattle.std.specs.FinMap as table
 use Rattle.gfs_types.specs.declared.config.Config.{Config}
 use Rattle.gfs_types.specs.declared.shape.Shape.{Shape}
@@ -78,13 +78,13 @@ granted_size l k handle version primary members row h at =
 
 module _ (l : Logged) where
   -- the chunk was there with this size, or its handle is new
-  abbrev IsSizeIn : ℕ → ℕ → Type 0
+  abbrev pub IsSizeIn : ℕ → ℕ → Type 0
   IsSizeIn handle chunk = ((row : ChunkRow) × (chunk_of l.table handle ≡ Some row) × (row.shape.chunk ≡ chunk)) ⊎ (l.next_handle ≤ handle)
 
   -- sizes since the step began
-  record AreSized (k : Logged) : Type 0 where
-    next : l.next_handle ≤ k.next_handle
-    rows : (handle : ℕ) (row : ChunkRow) → table.get (rows_of k) handle ≡ Some row → IsSizeIn handle row.shape.chunk
+  pub record AreSized (k : Logged) : Type 0 where
+    pub next : l.next_handle ≤ k.next_handle
+    pub rows : (handle : ℕ) (row : ChunkRow) → table.get (rows_of k) handle ≡ Some row → IsSizeIn handle row.shape.chunk
 
   same_sized : AreSized l
   same_sized = record { next = omega arith; rows = λ handle row is. inl (row, is, refl) }
@@ -143,7 +143,7 @@ module _ (l : Logged) where
       kept_sized c.logged (core_ended c handle moment).logged (omega arith) (changed_keeps (rows_of c.logged) handle (λ row. record row { lease_end = moment }) (λ row. refl)) h
 
   -- what a Grant tells
-  abbrev TellsSize : Body → Type 0
+  abbrev pub TellsSize : Body → Type 0
   TellsSize (grant_body order handle version end_moment chunk members) = IsSizeIn handle.0 chunk
   TellsSize other = Unit {0}
 
@@ -151,7 +151,7 @@ module _ (l : Logged) where
   nothing_tells (grant_body order handle version end_moment chunk members) none = absurd none
   nothing_tells other none = tt
 
-  abbrev AreTellingSizes : List Message → Type 0
+  abbrev pub AreTellingSizes : List Message → Type 0
   AreTellingSizes ms = AllOf (λ m. TellsSize m.body) ms
 
   -- a step so far
@@ -207,16 +207,21 @@ module _ (config : Config) (servers clients : ℕ) (w : WorldState) (r : IsReach
   shapes : HaveFilesShapes now
   shapes = (chunks_have_their_files_shapes config servers clients w r up).0
 
+  pub goes_sized : (moment : ℕ) (i : NodeInput) (refused : List Bool) → AreSized now (master_goes w.master moment i refused).master.logged × AreTellingSizes now (master_goes w.master moment i refused).sent
+  goes_sized moment i refused =
+      let m : MasterState = w.master in
+      let end =
+      goes_named NoneEnded (λ c. IsRowing m.disk c × IsSizing now c) (sizing_keeps now m.disk) m moment i refused (no_input i) known.bound known.names known.ready
+      (record { none = known.idle; disk = refl; same = known.same; tied = known.tied; stops = logged.found [] }, record { sized = same_sized now; said = tt }) in
+      (((end.0).1).sized, ((end.0).1).said)
+
   step_sized : (moment : ℕ) (i : NodeInput) (choice : Choice) → AreTellingSizes now (master_step w.master moment i choice).out.sent
   step_sized moment i choice =
       let m : MasterState = w.master in
       let d : MasterDoing = master_goes m moment i choice.refused in
       let good : Taken MasterState → Type 0 = λ t. AreTellingSizes now t.out.sent in
-      let end =
-      goes_named NoneEnded (λ c. IsRowing m.disk c × IsSizing now c) (sizing_keeps now m.disk) m moment i choice.refused (no_input i) known.bound known.names known.ready
-      (record { none = known.idle; disk = refl; same = known.same; tied = known.tied; stops = logged.found [] }, record { sized = same_sized now; said = tt }) in
       on_cond good m.up (master_bounded m d choice) (no_step m)
-      (λ _. on_cond good (may_end d choice.ending) (master_ends m d choice choice.ending) (no_step m) (λ _. ends_sized now m d choice choice.ending ((end.0).1).said) (λ _. tt))
+      (λ _. on_cond good (may_end d choice.ending) (master_ends m d choice choice.ending) (no_step m) (λ _. ends_sized now m d choice choice.ending (goes_sized moment i choice.refused).1) (λ _. tt))
       (λ _. tt)
 
   -- a handle that stands in a file, or is a copy's, is not new
@@ -227,7 +232,7 @@ module _ (config : Config) (servers clients : ℕ) (w : WorldState) (r : IsReach
   of_copy : (handle : ℕ) (c : Copy) → table.get now.copies handle ≡ Some c → HasRow (rows_of now) handle
   of_copy handle c is = known.tied.base.rows handle c is
 
-  not_new : (handle : ℕ) → HasRow (rows_of now) handle → now.next_handle ≤ handle → ⊥
+  pub not_new : (handle : ℕ) → HasRow (rows_of now) handle → now.next_handle ≤ handle → ⊥
   not_new handle has new = let low = row_below now (state_of w.master.disk) known.same known.tied handle has.0 has.1 in omega (arith, low, new)
 
   -- a shape that is told of a chunk is that of its files

@@ -16,6 +16,7 @@ pub mod TakenOrders
 pub mod ToldOrders
 pub mod ToldSizes
 pub mod GrantedSizes
+pub mod RowSizes
 pub mod TrueWords
 pub mod ServerWords
 pub mod HoldersKnown

@@ -10,17 +10,19 @@ use Rattle.gfs_types.specs.declared.ids.OrderNo.{OrderNo}
 use Rattle.gfs_types.specs.declared.ids.Serial.{Serial}
 use Rattle.gfs_types.specs.declared.ids.Version.{Version}
 use Rattle.gfs_types.specs.declared.shape.Shape.{Shape}
+use Rattle.messages.specs.declared.event.Event.{Event}
 use Rattle.messages.specs.declared.event.NodeInput.{NodeInput}
 use Rattle.messages.specs.declared.message.Body.TheVariants as body
 use Rattle.messages.specs.declared.message.Change.{Change}
 use Rattle.messages.specs.declared.message.Location.{Location}
 use Rattle.messages.specs.declared.message.Message.{Message}
-use Rattle.chunk_table.specs.ChunkTable.{handles_of, shape_of}
+use Rattle.chunk_table.specs.ChunkTable.{ChunkRow, chunk_of, handles_of, shape_of}
 use Rattle.protocol.specs.Tables.{element_at}
 use Rattle.protocol.specs.Choice.{Choice}
 use Rattle.protocol.specs.Logged.{Logged, Copy}
 use Rattle.protocol.specs.MasterStep.{master_step}
-use Rattle.protocol.specs.World.{WorldState, IsReached}
+use Rattle.protocol.specs.World.{WorldState, happens, IsReached}
+use Rattle.laws_base.specs.Laws.{IsSizeGranted, grants_of}
 
 -- one of the messages before this place is a Grant of the version to this node, with this size of the chunk
 abbrev pub WasGrantedWith : List Message → ℕ → Node → Handle → Version → ℕ → Type 0
@@ -55,3 +57,11 @@ ToldShapesAreTheirFiles =
     (config : Config) (servers clients : ℕ) (w : WorldState) → IsReached config servers clients w → IsTrue w.master.up
     → (moment : ℕ) (i : NodeInput) (choice : Choice) (place : ℕ) (x : Message) → element_at (master_step w.master moment i choice).out.sent place ≡ Some x
     → (number : ℕ) (l : Location) → x.body ≡ body.Told number (Some l) → IsOfFiles w.master.logged l.handle.0 (λ s. l.shape ≡ s)
+
+-- A version that an event grants, of a chunk that had a row before it and has one after it, is granted with the size of both rows (section 3.1).
+abbrev pub GrantsTellTheirRowsSize : Type 0
+GrantsTellTheirRowsSize =
+    (config : Config) (servers clients : ℕ) (w : WorldState) → IsReached config servers clients w → (e : Event) (choice : Choice)
+    → (handle version size : ℕ) → grants_of handle version w.sent ≡ 0 → IsSizeGranted (happens w e choice).world.sent handle version size
+    → (before after : ChunkRow) → chunk_of w.master.logged.table handle ≡ Some before → chunk_of (happens w e choice).world.master.logged.table handle ≡ Some after
+    → (size ≡ before.shape.chunk) × (size ≡ after.shape.chunk)

@@ -1,6 +1,6 @@
 //! Laws of the shapes of files and sizes of chunks that messages carry, in every lawful list of events from a new cell: restarts, stops in a step, losses, repeats, refused memory and rot.
 
-ghost use Rattle.laws_versions.specs.ToldSizes.{ForwardsTellTheGrantedSize, GrantsTellTheirFilesSizes, ToldShapesAreTheirFiles};
+ghost use Rattle.laws_versions.specs.ToldSizes.{ForwardsTellTheGrantedSize, GrantsTellTheirFilesSizes, GrantsTellTheirRowsSize, ToldShapesAreTheirFiles};
 
 /// A Forward tells the size of the chunk with which its version was granted: such a Grant was sent to its sender before.
 pub fn forwards_tell_the_granted_size()
@@ -15,4 +15,9 @@ pub fn grants_tell_their_files_sizes()
 /// Where a chunk is, is told with the shape of each file that has it as the step begins, and of the file that it is a copy for.
 pub fn told_shapes_are_their_files()
     ensures { ToldShapesAreTheirFiles }
+{}
+
+/// A version that an event grants, of a chunk that had a row before it and has one after it, is granted with the size of both rows.
+pub fn grants_tell_their_rows_size()
+    ensures { GrantsTellTheirRowsSize }
 {}
