@@ -67,7 +67,7 @@ use Rattle.laws_names.proofs.Clients.{stays_at, file_goes_at, reseen, file_calle
 use Rattle.laws_names.proofs.Masters.{passed_last}
 use Rattle.laws_machine.specs.ChunksAlike.{ChunkSides, moved}
 use Rattle.laws_machine.specs.FileClients.{IsCallAlike, IsFileClient, IsSaid, IsFollowed}
-use Rattle.laws_machine.specs.FileOpenings.{IsAnsweredAs}
+use Rattle.laws_machine.specs.FileOpenings.{IsAnsweredAs, TellsAsMade}
 use Rattle.laws_machine.proofs.FileOpenings.{name_calls_keep_files, name_steps_keep_files}
 use Rattle.laws_machine.specs.FileClientsStay.{IsOfOthers, IsFirmInput}
 use Rattle.laws_machine.specs.FileCallsBegin.{IsBegun}
@@ -90,7 +90,7 @@ use Rattle.headline.specs.ClientsEvents.{AreOpenCallsKnown}
 use Rattle.headline.proofs.ClientsFileSteps.{untold_words}
 use Rattle.headline.proofs.FileWords.{later_client, words_at}
 use Rattle.headline.proofs.StepStages.{IsNewCall, next_step, next_call}
-use Rattle.laws_machine.proofs.ToldShapes.{shapes_on}
+use Rattle.laws_machine.proofs.ToldShapes.{told_still, shapes_on}
 use Rattle.laws_machine.proofs.RoundSizes.{sizes_beside}
 
 module _ (config : Config) (servers clients : ℕ) (w : WorldState) (r : world.IsReached config servers clients w) (kept : IsTrue (is_kept w)) (e : Event) (choice : Choice) (clocks : IsTrue (happens w e choice).world.observer.are_clocks_kept)
@@ -114,7 +114,7 @@ module _ (config : Config) (servers clients : ℕ) (w : WorldState) (r : world.I
 
     pub goes : (actions : List Action) × IsTrue (list_all is_of_entries actions) × IsLawful k.machine actions × AreChunksBeside config v (moved k actions k.log k.gone v.observer.orders)
         × AddsNumberedTries w v k (after_all k.machine actions)
-    goes = other_events_keep_chunks_beside config servers clients w r kept e choice clocks others_event k h.chunks (known ss k h)
+    goes = other_events_keep_chunks_beside config servers clients w r kept e choice clocks others_event k (h.run.0, h.run.1, h.run.3) h.chunks h.sized (known ss k h)
 
     abbrev placed : ChunkSides
     placed = moved k goes.0 k.log k.gone v.observer.orders
@@ -336,7 +336,7 @@ module _ (config : Config) (servers clients : ℕ) (w : WorldState) (r : world.I
 
       begun : IsBegun p.whole client c (client_call_goes s moment c) × IsBegun p.whole client c (answers (client_begins (client_at s moment)) (answer.Refused NoMemory))
       begun =
-          file_calls_are_begun config p.whole reached (subst (λ (x : Config). 1 ≤ x.chunk) (sym chunks_passed.settings) some) client s (files_passed index s at up) none
+          file_calls_are_begun config p.whole reached client s (files_passed index s at up) none
           (clients_files_are_open config servers clients w r index s at).descriptors moment c plain
 
       allowed : Allows p.whole (Invoke client c)
@@ -567,8 +567,12 @@ module _ (config : Config) (servers clients : ℕ) (w : WorldState) (r : world.I
       open_there : (o : OpenCall) × ((p.whole.clients client).open_call ≡ Some o) × (is_name_call o.asked.call ≡ true)
       open_there = open_too (p.names.clients client).open_call (p.whole.clients client).open_call (p.same.calls client) (waiting_here.1).is_open
 
+      told_as_made : (j : NodeInput) → ComesTo w.sent client j → TellsAsMade p.whole j
+      told_as_made (input.Deliver y) to = λ number file shape is. (told_still config k.machine p.whole before leads_passed w.sent h.shapes).opened (to.0).0 number y file shape (to.0).1 is
+      told_as_made input.Tick to = tt
+
       files_then : IsAnsweredAs p.whole client x.number i doing doing.answer
-      files_then = name_steps_keep_files p.whole client s x (files_passed index s at up) is staged open_there.0 open_there.1 open_there.2 moment i
+      files_then = name_steps_keep_files p.whole client s x (files_passed index s at up) is staged open_there.0 open_there.1 open_there.2 moment i (told_as_made i came)
 
       words_then : (m : Machine) → (AreOwnWordsSo w.sent p.whole index s → AreOwnWordsSo w.sent m index s) → AreOwnWordsSo w.sent m index doing.client
       words_then m stay =

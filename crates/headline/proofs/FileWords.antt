@@ -31,7 +31,7 @@ use Rattle.headline.proofs.StepStages.{IsNewStage, IsNewCall, next_step}
 -- a step that changes no more than the client's clock
 
 pub later_client : (m : Machine) (client : ℕ) (s : ClientState) (moment : ℕ) → IsFileClient m client s → IsFileClient m client (client_at s moment)
-later_client m client s moment h = record { settings = h.settings; fds = h.fds; descriptors = h.descriptors; kept = h.kept; places = h.places; call = h.call }
+later_client m client s moment h = record { settings = h.settings; fds = h.fds; descriptors = h.descriptors; kept = h.kept; places = h.places; shapes = h.shapes; call = h.call }
 
 stays_followed : (m : Machine) (client : ℕ) (s : ClientState) (moment : ℕ) → IsFileClient m client s → IsFollowed m client (client_begins (client_at s moment))
 stays_followed m client s moment h = record { actions = []; allowed = tt; own = tt; seen = refl; elsewhere = same_elsewhere m client; names = λ n g. g; alike = later_client m client s moment h }

@@ -124,7 +124,7 @@ same_settings m (Settle file index place ∷ rest) of = same_settings (after m (
 same_settings m (other ∷ rest) of = absurd (let no : false ≡ true = of in cc)
 
 pub other_events_keep_chunks_beside : OtherEventsKeepChunksBeside
-other_events_keep_chunks_beside config servers clients w r kept e choice clocks not k h calls = (
+other_events_keep_chunks_beside config servers clients w r kept e choice clocks not k machine_reached h sized calls = (
   comes.actions,
   comes.of_entries,
   comes.follows.allowed,
@@ -146,7 +146,7 @@ other_events_keep_chunks_beside config servers clients w r kept e choice clocks 
     no_step is = not (masters_step w e is)
 
     came : (g : Option (IsNumberedAt w (happens w e choice).world k)) × ComesToOrders (IsLeaseOver w) k (happens w e choice).world.observer.orders (IsRise w (happens w e choice).world k g)
-    came = other_events_are_taken config servers clients w r kept e choice clocks no_step k h.settings h.orders h.log h.alike h.rounds calls
+    came = other_events_are_taken config servers clients w r kept e choice clocks no_step k h.settings h.orders h.log h.alike h.rounds machine_reached sized calls
 
     comes : ComesToOrders (IsLeaseOver w) k (happens w e choice).world.observer.orders (IsRise w (happens w e choice).world k came.0)
     comes = came.1

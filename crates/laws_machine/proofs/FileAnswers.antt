@@ -10,7 +10,7 @@ use Rattle.messages.specs.declared.message.Holder.{Holder}
 use Rattle.messages.specs.declared.message.Location.{Location}
 use Rattle.relaxed_file.specs.Order.{CallId, Entry, IsSelection, mutations_of, same_call}
 use Rattle.relaxed_file.specs.Parts.{has_part}
-use Rattle.relaxed_file.specs.Machine.{Machine, Client, OpenCall, IsOpen, Piece, Told, NoSuchChunk, chunk_at, chunk_count, with_step}
+use Rattle.relaxed_file.specs.Machine.{Machine, Client, OpenCall, IsOpen, Piece, Told, NoSuchChunk, chunk_at, chunk_count, with_step, chunk_size}
 use Rattle.relaxed_file.specs.Reads.{offer_of, reads_part, read_slice, looked, is_length_call}
 use Rattle.relaxed_file.specs.Answers.{HasSuccess, IsWrite, uses_chunks}
 use Rattle.relaxed_file.specs.Run.{Look, Measure}
@@ -61,7 +61,7 @@ module _ (m : Machine) (client : ℕ) (x : CurrentCall) (o : OpenCall) (h : IsFi
   staged : (st : Stage) → x.stage ≡ st → IsStageAt m client x.file.0 o x.asked st
   staged st is = subst (λ (s : Stage). IsStageAt m client x.file.0 o x.asked s) is h.stage
 
-  reads_it : (c : Call) (size index : ℕ) (bytes rounds : List ℕ) (ps : List Piece) → m.config.chunk ≡ size → is_mutation c ≡ false → is_length c ≡ false → IsDoneSoFar m (id_of client o) x.file.0 index bytes rounds ps c → reads_part size index c ≡ true
+  reads_it : (c : Call) (size index : ℕ) (bytes rounds : List ℕ) (ps : List Piece) → chunk_size m x.file.0 ≡ size → is_mutation c ≡ false → is_length c ≡ false → IsDoneSoFar m (id_of client o) x.file.0 index bytes rounds ps c → reads_part size index c ≡ true
   reads_it (call.Read fd offset count) size index bytes rounds ps same plain other done = ap (λ (z : ℕ). has_part z offset count index) (sym same) ∙ done.1
   reads_it (call.Length fd) size index bytes rounds ps same plain other done = absurd (true≢false other)
   reads_it (call.Write fd offset content) size index bytes rounds ps same plain other done = absurd (true≢false plain)
@@ -70,14 +70,14 @@ module _ (m : Machine) (client : ℕ) (x : CurrentCall) (o : OpenCall) (h : IsFi
 
   pub looks : (chunk : ToldChunk) (left : List Holder) (number : ℕ) → x.stage ≡ SentRead chunk left number → IsFalse (is_length x.asked) → chunk.index ≡ x.index → (version : ℕ) (chosen : List Entry)
       → IsSeenAt m x.file.0 chunk.index chunk.round.0 version chosen
-      → Gives m client (Look client x.file.0 x.index chunk.round.0 version chosen) (λ n p. Contains p.pieces (record { index = x.index; bytes = read_slice m.config.chunk x.index x.asked chosen; round = Some chunk.round.0 }))
+      → Gives m client (Look client x.file.0 x.index chunk.round.0 version chosen) (λ n p. Contains p.pieces (record { index = x.index; bytes = read_slice (chunk_size m x.file.0) x.index x.asked chosen; round = Some chunk.round.0 }))
   looks chunk left number at plain same version chosen seen = (
     (
       o,
       h.is_open,
       (
         h.file_is,
-        ap (λ (c : Call). reads_part m.config.chunk x.index c) h.call_is ∙ reads_it x.asked m.config.chunk x.index x.bytes x.rounds o.pieces refl here.0 plain h.done,
+        ap (λ (c : Call). reads_part (chunk_size m x.file.0) x.index c) h.call_is ∙ reads_it x.asked (chunk_size m x.file.0) x.index x.bytes x.rounds o.pieces refl here.0 plain h.done,
         (
           subst (λ (i : ℕ). i < chunk_count m x.file.0) same seen.count,
           subst (λ (i : ℕ). (m.clients client).notes x.file.0 i ≡ Some chunk.round.0) same here.1.noted,
@@ -94,16 +94,16 @@ module _ (m : Machine) (client : ℕ) (x : CurrentCall) (o : OpenCall) (h : IsFi
       here = staged (SentRead chunk left number) at
 
       wanted : Piece
-      wanted = record { index = x.index; bytes = read_slice m.config.chunk x.index x.asked chosen; round = Some chunk.round.0 }
+      wanted = record { index = x.index; bytes = read_slice (chunk_size m x.file.0) x.index x.asked chosen; round = Some chunk.round.0 }
 
       taken : Piece
-      taken = record { index = x.index; bytes = read_slice m.config.chunk x.index o.asked.call chosen; round = Some chunk.round.0 }
+      taken = record { index = x.index; bytes = read_slice (chunk_size m x.file.0) x.index o.asked.call chosen; round = Some chunk.round.0 }
 
       change : OpenCall → OpenCall
       change c = record c { pieces = taken ∷ c.pieces }
 
       pieces_are : taken ≡ wanted
-      pieces_are = ap (λ (c : Call). record { index = x.index; bytes = read_slice m.config.chunk x.index c chosen; round = Some chunk.round.0 }) h.call_is
+      pieces_are = ap (λ (c : Call). record { index = x.index; bytes = read_slice (chunk_size m x.file.0) x.index c chosen; round = Some chunk.round.0 }) h.call_is
 
   length_call : (c : Call) → is_length c ≡ true → is_length_call c ≡ true
   length_call (call.Length fd) is = refl
@@ -111,7 +111,7 @@ module _ (m : Machine) (client : ℕ) (x : CurrentCall) (o : OpenCall) (h : IsFi
 
   pub measures : (chunk : ToldChunk) (left : List Holder) (number : ℕ) → x.stage ≡ SentRead chunk left number → IsTrue (is_length x.asked) → (version : ℕ) (chosen : List Entry)
       → IsSeenAt m x.file.0 chunk.index chunk.round.0 version chosen
-      → Gives m client (Measure client x.file.0 chunk.index chunk.round.0 chunk.round.0 version chosen) (λ n p. Contains p.lengths (chunk.index * m.config.chunk + image_length (mutations_of chosen)))
+      → Gives m client (Measure client x.file.0 chunk.index chunk.round.0 chunk.round.0 version chosen) (λ n p. Contains p.lengths (chunk.index * chunk_size m x.file.0 + image_length (mutations_of chosen)))
   measures chunk left number at is version chosen seen = (
     (o, h.is_open, (h.file_is, ap is_length_call h.call_is ∙ length_call x.asked is, here.1.last is, omega arith, (seen.count, here.1.noted, seen.version_is, seen.selection))),
     λ p now. subst (λ (c : OpenCall). Contains c.lengths found) (is_stepped m client change o h.is_open p now) (zero, omega arith, refl),
@@ -121,7 +121,7 @@ module _ (m : Machine) (client : ℕ) (x : CurrentCall) (o : OpenCall) (h : IsFi
       here = staged (SentRead chunk left number) at
 
       found : ℕ
-      found = chunk.index * m.config.chunk + image_length (mutations_of chosen)
+      found = chunk.index * chunk_size m x.file.0 + image_length (mutations_of chosen)
 
       change : OpenCall → OpenCall
       change c = record c { lengths = found ∷ c.lengths }
@@ -129,7 +129,7 @@ module _ (m : Machine) (client : ℕ) (x : CurrentCall) (o : OpenCall) (h : IsFi
   -- entries
 
   pub succeeds_here : (chunk : ToldChunk) (number : ℕ) → x.stage ≡ SentMutate chunk number → chunk.index < chunk_count m x.file.0 → (e : Entry) → Contains (chunk_at m x.file.0 chunk.index).order e → e.call ≡ id_of client o
-      → IsTrue e.settled → e.round ≤ chunk.round.0 → (place : ℕ) (c : Call) → IsOfPart m.config.chunk x.index chunk.index place c e.mutation → IsPartSettled m (id_of client o) x.file.0 x.index chunk.index place c
+      → IsTrue e.settled → e.round ≤ chunk.round.0 → (place : ℕ) (c : Call) → IsOfPart (chunk_size m x.file.0) x.index chunk.index place c e.mutation → IsPartSettled m (id_of client o) x.file.0 x.index chunk.index place c
   succeeds_here chunk number at low e there own settled early place (call.Write fd offset content) part =
       subst (λ (i : ℕ). HasSuccess m client (id_of client o) x.file.0 i IsWrite) part.0 (chunk.round.0, (staged (SentMutate chunk number) at).1.noted, e, there, (own_call, settled, early), part.1)
     where

@@ -18,7 +18,7 @@ use Rattle.messages.specs.declared.message.Body.TheVariants as body
 use Rattle.messages.specs.declared.message.Location.{Location}
 use Rattle.relaxed_file.specs.Order.{CallId}
 use Rattle.relaxed_file.specs.Parts.{has_part}
-use Rattle.relaxed_file.specs.Machine.{Machine, Asked, OpenCall, IsOpen, Piece, Offer, Told, NoSuchChunk, Outcome, Replies, chunk_at, new_machine}
+use Rattle.relaxed_file.specs.Machine.{Machine, Asked, OpenCall, IsOpen, Piece, Offer, Told, NoSuchChunk, Outcome, Replies, chunk_at, new_machine, chunk_size}
 use Rattle.relaxed_file.specs.Reads.{offer_of}
 use Rattle.relaxed_file.specs.NameStep.{is_name_call}
 use Rattle.relaxed_file.specs.Answers.{HasSuccess, IsWrite, IsAppendAt, IsDone, IsCause, MayReturn, may_give_up, uses_chunks}
@@ -39,12 +39,14 @@ use Rattle.laws_machine.specs.FileClients.{id_of, IsKeptNote, IsReadSoFar, IsDon
 use Rattle.laws_machine.specs.FileClientsStay.{IsFirm, IsFirmInput, FileClientsStay, OtherClientsStay, IsOfOthers}
 use Rattle.laws_machine.proofs.MachineSteps.{whole_on}
 use Rattle.laws_machine.proofs.OwnParts.{IsSameOwn, own_left, call_left, idle_left, one_more_or_none, entry_stays}
+use Rattle.laws_machine.proofs.ToldShapes.{made_still}
+use Rattle.relaxed_file.proofs.Known.{Known, CurrentKnown, asked_made}
+use Rattle.relaxed_file.proofs.ShapesKept.{sizes_step}
 
 -- the open call has all that came of it, and notes and successes stay
-module _ (m n : Machine) (client : ℕ) (grows : Grows m n) (own : IsSameOwn (m.clients client) (n.clients client)) (o d : OpenCall) (goes : Goes m client o d) where
-  size : n.config.chunk ≡ m.config.chunk
-  size = ap (λ (c : Config). c.chunk) grows.config
-
+module _ (m n : Machine) (client : ℕ) (grows : Grows m n) (own : IsSameOwn (m.clients client) (n.clients client)) (o d : OpenCall) (goes : Goes m client o d)
+    (sizes : (file : ℕ) → o.asked.file ≡ Some file → chunk_size n file ≡ chunk_size m file)
+  where
   number : d.number ≡ o.number
   number = sym goes.0
 
@@ -75,21 +77,22 @@ module _ (m n : Machine) (client : ℕ) (grows : Grows m n) (own : IsSameOwn (m.
   success_of : (file index : ℕ) (P : Mutation → Type 0) → HasSuccess m client (id_of client o) file index P → HasSuccess n client (id_of client d) file index P
   success_of file index P h = subst (λ (k : ℕ). HasSuccess n client (record { client = client; number = k }) file index P) (sym number) (success (id_of client o) file index P h)
 
-  read_on : (offset count part : ℕ) (bytes rounds : List ℕ) (z : ℕ) → z ≡ m.config.chunk → IsReadSoFar m.config.chunk offset count part bytes rounds o.pieces → IsReadSoFar z offset count part bytes rounds d.pieces
-  read_on offset count part bytes rounds z is h =
+  read_on : (offset count part : ℕ) (bytes rounds : List ℕ) (y z : ℕ) → z ≡ y → IsReadSoFar y offset count part bytes rounds o.pieces → IsReadSoFar z offset count part bytes rounds d.pieces
+  read_on offset count part bytes rounds y z is h =
       subst (λ (k : ℕ). IsReadSoFar k offset count part bytes rounds d.pieces) (sym is)
-      (record { pieces = h.pieces; are_whole = whole_on m.config.chunk offset count part (offset / m.config.chunk) o.pieces d.pieces h.pieces pieces h.are_whole; bytes_are = h.bytes_are; rounds_are = h.rounds_are })
+      (record { pieces = h.pieces; are_whole = whole_on y offset count part (offset / y) o.pieces d.pieces h.pieces pieces h.are_whole; bytes_are = h.bytes_are; rounds_are = h.rounds_are })
 
-  part_on : (offset count part : ℕ) → has_part n.config.chunk offset count part ≡ has_part m.config.chunk offset count part
-  part_on offset count part = ap (λ (k : ℕ). has_part k offset count part) size
+  part_on : (file : ℕ) → o.asked.file ≡ Some file → (offset count part : ℕ) → has_part (chunk_size n file) offset count part ≡ has_part (chunk_size m file) offset count part
+  part_on file of offset count part = ap (λ (k : ℕ). has_part k offset count part) (sizes file of)
 
-  pub done_on : (file part : ℕ) (bytes rounds : List ℕ) (c : Call) → IsDoneSoFar m (id_of client o) file part bytes rounds o.pieces c → IsDoneSoFar n (id_of client d) file part bytes rounds d.pieces c
-  done_on file part bytes rounds (call.Write fd offset content) h =
-      (h.0, part_on offset (length content) part ∙ h.1, λ earlier low has. success_of file earlier IsWrite (h.2 earlier low (sym (part_on offset (length content) earlier) ∙ has)))
-  done_on file part bytes rounds (call.Append fd content) h = ap (λ (k : ℕ). nat_lt (k / 4) (length content)) size ∙ h
-  done_on file part bytes rounds (call.Read fd offset count) h = (h.0, part_on offset count part ∙ h.1, read_on offset count part bytes rounds n.config.chunk size h.2)
-  done_on file part bytes rounds (call.Length fd) h = tt
-  done_on file part bytes rounds other h = absurd h
+  pub done_on : (file part : ℕ) (bytes rounds : List ℕ) (c : Call) → o.asked.file ≡ Some file → IsDoneSoFar m (id_of client o) file part bytes rounds o.pieces c → IsDoneSoFar n (id_of client d) file part bytes rounds d.pieces c
+  done_on file part bytes rounds (call.Write fd offset content) of h =
+      (h.0, part_on file of offset (length content) part ∙ h.1, λ earlier low has. success_of file earlier IsWrite (h.2 earlier low (sym (part_on file of offset (length content) earlier) ∙ has)))
+  done_on file part bytes rounds (call.Append fd content) of h = ap (λ (k : ℕ). nat_lt (k / 4) (length content)) (sizes file of) ∙ h
+  done_on file part bytes rounds (call.Read fd offset count) of h =
+      (h.0, part_on file of offset count part ∙ h.1, read_on offset count part bytes rounds (chunk_size m file) (chunk_size n file) (sizes file of) h.2)
+  done_on file part bytes rounds (call.Length fd) of h = tt
+  done_on file part bytes rounds other of h = absurd h
 
   noted_on : (file : ℕ) (c : Call) (chunk : ToldChunk) → IsNotedChunk m client file o c chunk → IsNotedChunk n client file d c chunk
   noted_on file c chunk h = record { noted = note file chunk.index ∙ h.noted; last = λ is. offers (Told chunk.index chunk.round.0 (suc chunk.index)) (h.last is) }
@@ -102,24 +105,25 @@ module _ (m n : Machine) (client : ℕ) (grows : Grows m n) (own : IsSameOwn (m.
   call_of_call : (c : Call) → o.asked.call ≡ c → d.asked.call ≡ c
   call_of_call c is = ap (λ (a : Asked). a.call) asked ∙ is
 
-  write_on : (offset count : ℕ) (f g : Option ℕ) → g ≡ f → IfSome f (λ file. (index : ℕ) → IsTrue (has_part m.config.chunk offset count index) → HasSuccess m client (id_of client o) file index IsWrite)
-      → IfSome g (λ file. (index : ℕ) → IsTrue (has_part n.config.chunk offset count index) → HasSuccess n client (id_of client d) file index IsWrite)
-  write_on offset count f g same h =
-      subst (λ (x : Option ℕ). IfSome x (λ file. (index : ℕ) → IsTrue (has_part n.config.chunk offset count index) → HasSuccess n client (id_of client d) file index IsWrite)) (sym same) (by_file f h)
+  write_on : (offset count : ℕ) → IfSome o.asked.file (λ file. (index : ℕ) → IsTrue (has_part (chunk_size m file) offset count index) → HasSuccess m client (id_of client o) file index IsWrite)
+      → IfSome d.asked.file (λ file. (index : ℕ) → IsTrue (has_part (chunk_size n file) offset count index) → HasSuccess n client (id_of client d) file index IsWrite)
+  write_on offset count h =
+      subst (λ (x : Option ℕ). IfSome x (λ file. (index : ℕ) → IsTrue (has_part (chunk_size n file) offset count index) → HasSuccess n client (id_of client d) file index IsWrite))
+      (sym (ap (λ (a : Asked). a.file) asked)) (by_file o.asked.file refl h)
     where
-      by_file : (x : Option ℕ) → IfSome x (λ file. (index : ℕ) → IsTrue (has_part m.config.chunk offset count index) → HasSuccess m client (id_of client o) file index IsWrite)
-          → IfSome x (λ file. (index : ℕ) → IsTrue (has_part n.config.chunk offset count index) → HasSuccess n client (id_of client d) file index IsWrite)
-      by_file None g = tt
-      by_file (Some file) g = λ index has. success_of file index IsWrite (g index (sym (part_on offset count index) ∙ has))
+      by_file : (x : Option ℕ) → o.asked.file ≡ x → IfSome x (λ file. (index : ℕ) → IsTrue (has_part (chunk_size m file) offset count index) → HasSuccess m client (id_of client o) file index IsWrite)
+          → IfSome x (λ file. (index : ℕ) → IsTrue (has_part (chunk_size n file) offset count index) → HasSuccess n client (id_of client d) file index IsWrite)
+      by_file None is g = tt
+      by_file (Some file) is g = λ index has. success_of file index IsWrite (g index (sym (part_on file is offset count index) ∙ has))
 
   answer_on : (c : Call) (reply : Answer) → is_mutation c ≡ true → IsDone m client o c reply → IsDone n client d c reply
   answer_on (call.Write fd offset content) answer.Done is h =
-      (write_on offset (length content) o.asked.file d.asked.file (ap (λ (a : Asked). a.file) asked) h.0, subst (λ (a : Asked). IsSome a.file) (sym asked) h.1, h.2)
+      (write_on offset (length content) h.0, subst (λ (a : Asked). IsSome a.file) (sym asked) h.1, h.2)
   answer_on (call.Write fd offset content) other is h = outcomes (Replies other) h
   answer_on (call.Append fd content) (answer.At x) is h =
       let up = (grows.files h.0).count in
       let low = h.5 in
-      (h.0, file_of_call h.0 h.1, h.2, h.3, h.4 ∙ ap (λ (k : ℕ). h.2 * k + h.3) (sym size), omega (arith, up, low), success_of h.0 h.2 (IsAppendAt h.3) h.6)
+      (h.0, file_of_call h.0 h.1, h.2, h.3, h.4 ∙ ap (λ (k : ℕ). h.2 * k + h.3) (sym (sizes h.0 h.1)), omega (arith, up, low), success_of h.0 h.2 (IsAppendAt h.3) h.6)
   answer_on (call.Append fd content) other is h = outcomes (Replies other) h
   answer_on other reply is h = absurd (true≢false (sym is))
 
@@ -170,23 +174,24 @@ module _ (m n : Machine) (client : ℕ) (grows : Grows m n) (own : IsSameOwn (m.
   refused_on k live Collected firm h = collected_on h
   refused_on k live other firm h = tt
 
-  settled_on : (file part index place : ℕ) (c : Call) → IsPartSettled m (id_of client o) file part index place c → IsPartSettled n (id_of client d) file part index place c
-  settled_on file part index place (call.Write fd offset content) h = success_of file part IsWrite h
-  settled_on file part index place (call.Append fd content) h =
+  settled_on : (file part index place : ℕ) (c : Call) → o.asked.file ≡ Some file → IsPartSettled m (id_of client o) file part index place c → IsPartSettled n (id_of client d) file part index place c
+  settled_on file part index place (call.Write fd offset content) of h = success_of file part IsWrite h
+  settled_on file part index place (call.Append fd content) of h =
       let up = (grows.files file).count in
       let low = h.1 in
-      (subst (λ (k : ℕ). IsWithinPlaces k index place) (sym size) h.0, omega (arith, up, low), success_of file index (IsAppendAt place) h.2)
-  settled_on file part index place other h = tt
+      (subst (λ (k : ℕ). IsWithinPlaces k index place) (sym (sizes file of)) h.0, omega (arith, up, low), success_of file index (IsAppendAt place) h.2)
+  settled_on file part index place other of h = tt
 
-  pub said_on : (own_id : ℕ) (x : CurrentCall) (st : Stage) (b : Body) → IsFirm b → IsSaidAt m client own_id o x st b → IsSaidAt n client own_id d x st b
-  said_on own_id x (AskedWhere k) (body.Told j l) firm h = λ same. told_on x l (h same)
-  said_on own_id x (AskedWhere k) (body.Refused j r) firm h = λ same. refused_on j x.live r firm (h same)
-  said_on own_id x (SentMutate chunk k) (body.Done id place) firm h = λ one two. settled_on x.file.0 x.index chunk.index place x.asked (h one two)
-  said_on own_id x (SentRead chunk left k) (body.Bytes j bytes) firm h = λ same plain. pieces (record { index = x.index; bytes = bytes; round = Some chunk.round.0 }) (h same plain)
-  said_on own_id x (SentRead chunk left k) (body.LenIs j count) firm h = λ same is.
+  pub said_on : (own_id : ℕ) (x : CurrentCall) → o.asked.file ≡ Some x.file.0 → (st : Stage) (b : Body) → IsFirm b → IsSaidAt m client own_id o x st b → IsSaidAt n client own_id d x st b
+  said_on own_id x of (AskedWhere k) (body.Told j l) firm h = λ same. told_on x l (h same)
+  said_on own_id x of (AskedWhere k) (body.Refused j r) firm h = λ same. refused_on j x.live r firm (h same)
+  said_on own_id x of (SentMutate chunk k) (body.Done id place) firm h = λ one two. settled_on x.file.0 x.index chunk.index place x.asked of (h one two)
+  said_on own_id x of (SentRead chunk left k) (body.Bytes j bytes) firm h = λ same plain. pieces (record { index = x.index; bytes = bytes; round = Some chunk.round.0 }) (h same plain)
+  said_on own_id x of (SentRead chunk left k) (body.LenIs j count) firm h = λ same is.
       let both = h same is in
-      (subst (λ (z : ℕ). IsWithinPlaces z chunk.index count) (sym size) both.0, subst (λ (z : ℕ). Contains d.lengths (chunk.index * z + count)) (sym size) (lengths (chunk.index * m.config.chunk + count) both.1))
-  said_on own_id x st b firm h = tt
+      let same = sym (sizes x.file.0 of) in
+      (subst (λ (z : ℕ). IsWithinPlaces z chunk.index count) same both.0, subst (λ (z : ℕ). Contains d.lengths (chunk.index * z + count)) same (lengths (chunk.index * chunk_size m x.file.0 + count) both.1))
+  said_on own_id x of st b firm h = tt
 
 pub file_clients_stay : FileClientsStay
 file_clients_stay config m reached action allowed client of s h = (
@@ -196,6 +201,7 @@ file_clients_stay config m reached action allowed client of s h = (
     descriptors = λ fd. h.descriptors fd ∙ ap (λ (t : ℕ → Option ℕ). t fd) (sym own.1);
     kept = subst (λ (t : ℕ → ℕ → Option ℕ). AllByRecursion (IsKeptNote t s.files s.fd_count) s.cache.entries) (sym own.2) h.kept;
     places = h.places;
+    shapes = λ file f is. made_still config m (after m action) reached (leads_by m action allowed) file f.shape (h.shapes file f is);
     call = call_on s.current h.call;
   },
   said,
@@ -210,6 +216,15 @@ file_clients_stay config m reached action allowed client of s h = (
     own : IsSameOwn (m.clients client) ((after m action).clients client)
     own = own_left m client action allowed of
 
+    known : Known m
+    known = known_when_reached config m reached
+
+    -- the file of an open call was made, and keeps its size
+    sizes : (o : OpenCall) → IsOpen m client o → (file : ℕ) → o.asked.file ≡ Some file → chunk_size (after m action) file ≡ chunk_size m file
+    sizes o is file of =
+        let current : CurrentKnown (suc m.file_count) (m.clients client).calls (Some o) = subst (λ (c : Option OpenCall). CurrentKnown (suc m.file_count) (m.clients client).calls c) is (known.clients client).current in
+        sizes_step m action allowed file (asked_made m client o.number o.asked file known current.0 of)
+
     file_call : (x : CurrentCall) (o : OpenCall) → IsFileCall m client x o → (d : OpenCall) × IsFileCall (after m action) client x d
     file_call x o g =
         let on = call_left m client action allowed of o g.is_open in (
@@ -218,14 +233,21 @@ file_clients_stay config m reached action allowed client of s h = (
             is_open = on.1;
             call_is = ap (λ (a : Asked). a.call) (sym on.2.1) ∙ g.call_is;
             file_is = ap (λ (a : Asked). a.file) (sym on.2.1) ∙ g.file_is;
-            done = done_on m (after m action) client grows own o on.0 on.2 x.file.0 x.index x.bytes x.rounds x.asked g.done;
-            stage = stage_on m (after m action) client grows own o on.0 on.2 x.file.0 x.asked x.stage g.call_is g.stage;
+            done = done_on m (after m action) client grows own o on.0 on.2 (sizes o g.is_open) x.file.0 x.index x.bytes x.rounds x.asked g.file_is g.done;
+            stage = stage_on m (after m action) client grows own o on.0 on.2 (sizes o g.is_open) x.file.0 x.asked x.stage g.call_is g.stage;
           },
         )
 
     call_on : (c : Option CurrentCall) → IsCallAlike m client c → IsCallAlike (after m action) client c
     call_on None g = idle_left m client action allowed of g
     call_on (Some x) g = elim g [ inl naming ↦ inl naming | inr here ↦ inr (file_call x here.0 here.1) ]
+
+    by_stage : (x : CurrentCall) (o : OpenCall) → IsOpen m client o → (d : OpenCall) → Goes m client o d → (b : Body) → IsFirm b → IsSaidAt m client s.id o x x.stage b → IsCallAlike m client (Some x)
+        → IsSaidAt (after m action) client s.id d x x.stage b
+    by_stage x o was d goes b firm g (inl naming) = subst (λ (st : Stage). IsSaidAt (after m action) client s.id d x st b) (sym naming) tt
+    by_stage x o was d goes b firm g (inr here) =
+        let same : here.0 ≡ o = same_some here.0 o (sym (here.1).is_open ∙ was) in
+        said_on m (after m action) client grows own o d goes (sizes o was) s.id x (ap (λ (c : OpenCall). c.asked.file) (sym same) ∙ (here.1).file_is) x.stage b firm g
 
     said : (i : NodeInput) → IsFirmInput i → IsSaid m client s i → IsSaid (after m action) client s i
     said input.Tick firm g = tt
@@ -236,7 +258,7 @@ file_clients_stay config m reached action allowed client of s h = (
         by_call (Some o) was x d is there =
             let on = call_left m client action allowed of o was in
             subst (λ (e : OpenCall). IsSaidAt (after m action) client s.id e x x.stage y.body) (same_some on.0 d (sym on.1 ∙ there))
-            (said_on m (after m action) client grows own o on.0 on.2 s.id x x.stage y.body firm (g x o is was))
+            (by_stage x o was on.0 on.2 y.body firm (g x o is was) (subst (λ (c : Option CurrentCall). IsCallAlike m client c) is h.call))
 
 -- what another client's step comes to
 of_others : (client other : ℕ) → (other ≡ client → ⊥) → (a : Action) → IsOwnAction client a → IsOfOthers other a

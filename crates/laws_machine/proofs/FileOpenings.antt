@@ -35,8 +35,9 @@ use Rattle.protocol.specs.ClientTakes.{opens, takes_reply, client_takes}
 use Rattle.protocol.specs.ClientStep.{calls_names, calls_on, fd_of, ticks_names, client_does, client_at, client_call_goes}
 use Rattle.laws_base.proofs.Steps.{on_cond, none_some, same_some, same_or_not, put_there}
 use Rattle.laws_base.proofs.Steps as steps
-use Rattle.laws_machine.specs.FileClients.{IsOpenedAgain, IsKeptNote, AreOfPlaces, IsCallAlike, IsFileClient}
-use Rattle.laws_machine.specs.FileOpenings.{NameCallsKeepFiles, IsAnsweredAs, NameStepsKeepFiles}
+use Rattle.laws_machine.specs.FileClients.{IsOpenedAgain, IsKeptNote, AreOfPlaces, IsCallAlike, AreOpenAsMade, IsFileClient}
+use Rattle.laws_machine.specs.FileOpenings.{NameCallsKeepFiles, IsAnsweredAs, TellsAsMade, NameStepsKeepFiles}
+use Rattle.laws_machine.specs.ToldShapes.{IsMadeWith}
 use Rattle.laws_machine.proofs.ClientCaches.{all_go}
 use Rattle.laws_machine.proofs.MachineSteps.{in_client}
 
@@ -57,6 +58,7 @@ module _ (m : Machine) (client : ℕ) (s : ClientState) (h : IsFileClient m clie
         descriptors = λ fd. now (λ c. table.get s.descriptors fd ≡ c.descriptors fd) (h.descriptors fd ∙ ap (λ (ds : ℕ → Option ℕ). ds fd) (sym (name_keeps o.asked.call reply (m.clients client).descriptors name)));
         kept = now (λ c. AllByRecursion (IsKeptNote c.notes s.files s.fd_count) s.cache.entries) h.kept;
         places = h.places;
+        shapes = h.shapes;
         call = now (λ c. c.open_call ≡ None) refl;
       })
     where
@@ -67,8 +69,8 @@ module _ (m : Machine) (client : ℕ) (s : ClientState) (h : IsFileClient m clie
       now P g = subst P (sym (put_same client closed m.clients)) g
 
   -- a file is opened
-  pub opened : (file : ℕ) (shape : Shape) → IsFileClient (after m (ReturnFd client (suc (m.clients client).fd_count) file)) client (opens d0 file shape).client
-  opened file shape =
+  pub opened : (file : ℕ) (shape : Shape) → IsMadeWith m file shape → IsFileClient (after m (ReturnFd client (suc (m.clients client).fd_count) file)) client (opens d0 file shape).client
+  opened file shape made =
       record {
         settings = h.settings;
         fds = now (λ c. suc s.fd_count ≡ c.fd_count) (ap (λ (k : ℕ). suc k) h.fds);
@@ -76,6 +78,7 @@ module _ (m : Machine) (client : ℕ) (s : ClientState) (h : IsFileClient m clie
         kept = now (λ c. AllByRecursion (IsKeptNote c.notes (files_after_open s.files file shape (suc s.fd_count)) (suc s.fd_count)) s.cache.entries)
             (all_go (IsKeptNote (m.clients client).notes s.files s.fd_count) (IsKeptNote new.notes (files_after_open s.files file shape (suc s.fd_count)) (suc s.fd_count)) later s.cache.entries h.kept);
         places = h.places;
+        shapes = shapes_now;
         call = now (λ c. c.open_call ≡ None) refl;
       }
     where
@@ -96,6 +99,18 @@ module _ (m : Machine) (client : ℕ) (s : ClientState) (h : IsFileClient m clie
 
       row : OpenFile
       row = opened_again (table.get s.files file) shape (suc s.fd_count)
+
+      row_made : (o : Option OpenFile) → table.get s.files file ≡ o → IsMadeWith m file (opened_again o shape (suc s.fd_count)).shape
+      row_made None is = made
+      row_made (Some f) is = h.shapes file f is
+
+      shapes_now : AreOpenAsMade m (files_after_open s.files file shape (suc s.fd_count))
+      shapes_now q f is = elim (same_or_not q file) [
+        | inl same ↦
+            let here : row ≡ f = same_some row f (sym (put_there s.files file row q same) ∙ is) in
+            subst (λ (x : ℕ). IsMadeWith m x f.shape) (sym same) (subst (λ (g : OpenFile). IsMadeWith m file g.shape) here (row_made (table.get s.files file) refl))
+        | inr other ↦ h.shapes q f (sym (steps.put_other s.files file row q other) ∙ is)
+      ]
 
       row_last : (o : Option OpenFile) → (opened_again o shape (suc s.fd_count)).last_opened.0 ≡ suc s.fd_count
       row_last None = refl
@@ -146,6 +161,7 @@ module _ (m : Machine) (client : ℕ) (s : ClientState) (h : IsFileClient m clie
             (subst (λ (k : ℕ). AllByRecursion (IsKeptNote (n.clients client).notes s.files k) t.cache.entries) (sym fds)
             (subst (λ c. AllByRecursion (IsKeptNote (n.clients client).notes s.files s.fd_count) c.entries) (sym cache) (now (λ c. AllByRecursion (IsKeptNote c.notes s.files s.fd_count) s.cache.entries) h.kept)));
         places = subst (λ c. AreOfPlaces c.entries) (sym cache) h.places;
+        shapes = subst (λ (fs : Table OpenFile). AreOpenAsMade m fs) (sym files) h.shapes;
         call = subst (λ (q : Option CurrentCall). IsCallAlike n client q) (sym is) (inl stage);
       }
 
@@ -162,6 +178,7 @@ module _ (m : Machine) (client : ℕ) (s : ClientState) (h : IsFileClient m clie
         descriptors = λ fd. both (λ c. table.get s.descriptors fd ≡ c.descriptors fd) (h.descriptors fd);
         kept = both (λ c. AllByRecursion (IsKeptNote c.notes s.files s.fd_count) s.cache.entries) h.kept;
         places = h.places;
+        shapes = h.shapes;
         call = ap (λ (c : Client). c.open_call) (put_same client closed n.clients);
       })
     where
@@ -191,20 +208,20 @@ module _ (m : Machine) (client : ℕ) (s : ClientState) (x : CurrentCall) (h : I
   Ends i d = IsAnsweredAs m client x.number i d d.answer
 
   nothing : (i : NodeInput) → Ends i begin
-  nothing i = record { settings = h.settings; fds = h.fds; descriptors = h.descriptors; kept = h.kept; places = h.places; call = h.call }
+  nothing i = record { settings = h.settings; fds = h.fds; descriptors = h.descriptors; kept = h.kept; places = h.places; shapes = h.shapes; call = h.call }
 
   again : (i : NodeInput) (y : CurrentCall) → Ends i (attempts_names begin y)
-  again i y = record { settings = h.settings; fds = h.fds; descriptors = h.descriptors; kept = h.kept; places = h.places; call = inl refl }
+  again i y = record { settings = h.settings; fds = h.fds; descriptors = h.descriptors; kept = h.kept; places = h.places; shapes = h.shapes; call = inl refl }
 
-  reply_ends : (y : Message) (number : ℕ) (r : NameReply) → x.number ≡ number → y.body ≡ body.Named number r → Ends (input.Deliver y) (takes_reply begin r)
-  reply_ends y number (Opened file shape) same at =
-      inr (file, (shape, at ∙ ap (λ (k : ℕ). body.Named k (Opened file shape)) (sym same)), ap (λ (k : ℕ). answer.Fd (record { 0 = suc k })) h.fds, opened m client s h moment file.0 shape)
-  reply_ends y number (Answered reply) same at = inl (replied m client s h moment o is_open name reply)
+  reply_ends : (y : Message) (number : ℕ) (r : NameReply) → TellsAsMade m (input.Deliver y) → x.number ≡ number → y.body ≡ body.Named number r → Ends (input.Deliver y) (takes_reply begin r)
+  reply_ends y number (Opened file shape) made same at =
+      inr (file, (shape, at ∙ ap (λ (k : ℕ). body.Named k (Opened file shape)) (sym same)), ap (λ (k : ℕ). answer.Fd (record { 0 = suc k })) h.fds, opened m client s h moment file.0 shape (made number file shape at))
+  reply_ends y number (Answered reply) made same at = inl (replied m client s h moment o is_open name reply)
 
-  takes_ends : (y : Message) (b : Body) → y.body ≡ b → Ends (input.Deliver y) (client_takes begin waiting b)
-  takes_ends y (body.Named number r) at =
-      on_cond (Ends (input.Deliver y)) (x.number == number) (takes_reply begin r) begin (λ same. reply_ends y number r (eqb-true x.number number same) at) (λ _. nothing (input.Deliver y))
-  takes_ends y other at = nothing (input.Deliver y)
+  takes_ends : (y : Message) (b : Body) → TellsAsMade m (input.Deliver y) → y.body ≡ b → Ends (input.Deliver y) (client_takes begin waiting b)
+  takes_ends y (body.Named number r) made at =
+      on_cond (Ends (input.Deliver y)) (x.number == number) (takes_reply begin r) begin (λ same. reply_ends y number r made (eqb-true x.number number same) at) (λ _. nothing (input.Deliver y))
+  takes_ends y other made at = nothing (input.Deliver y)
 
   late_ends : Ends input.Tick (ticks_names begin waiting)
   late_ends =
@@ -212,15 +229,15 @@ module _ (m : Machine) (client : ℕ) (s : ClientState) (x : CurrentCall) (h : I
       (λ _. on_cond (Ends input.Tick) (is_last_attempt waiting) (answers begin (answer.Refused Unknown)) (attempts_names begin (ended waiting)) (λ _. inl (replied m client s h moment o is_open name (answer.Refused Unknown)))
       (λ _. again input.Tick (ended waiting)))
 
-  pub step_ends : (i : NodeInput) → Ends i (client_does begin i (Some waiting))
-  step_ends (input.Deliver y) = takes_ends y y.body refl
-  step_ends input.Tick = late_ends
+  pub step_ends : (i : NodeInput) → TellsAsMade m i → Ends i (client_does begin i (Some waiting))
+  step_ends (input.Deliver y) made = takes_ends y y.body made refl
+  step_ends input.Tick made = late_ends
 
 pub name_steps_keep_files : NameStepsKeepFiles
-name_steps_keep_files m client s x h is stage o is_open name moment i =
+name_steps_keep_files m client s x h is stage o is_open name moment i made =
     subst (λ (q : Option CurrentCall). IsAnsweredAs m client x.number i (client_does (client_begins (client_at s moment)) i q) (client_does (client_begins (client_at s moment)) i q).answer) (sym is)
     (subst (λ (y : CurrentCall). IsAnsweredAs m client y.number i (client_does (client_begins (client_at s moment)) i (Some y)) (client_does (client_begins (client_at s moment)) i (Some y)).answer) (sym as_waiting)
-    (step_ends m client s x h o is_open name moment i))
+    (step_ends m client s x h o is_open name moment i made))
   where
     as_waiting : x ≡ record x { stage = AskedNames }
     as_waiting = λ j. record x { stage = stage j }

@@ -5,7 +5,6 @@ use Rattle.std.specs.List.{AllByRecursion, list_any}
 use Rattle.std.specs.FinMap as table
 use Rattle.std.proofs.lemmas.Bool.{and_parts, eqb-true, true≢false}
 use Rattle.std.proofs.Math.Nat.{min-eq_left}
-use Rattle.gfs_types.specs.declared.config.Config.{Config}
 use Rattle.gfs_types.specs.declared.ids.DataId.{DataId}
 use Rattle.gfs_types.specs.declared.ids.Fd.{Fd}
 use Rattle.gfs_types.specs.declared.call.Call.{Call}
@@ -22,7 +21,7 @@ use Rattle.messages.specs.declared.message.Message.{Message}
 use Rattle.messages.specs.declared.message.NameReply.{NameReply}
 use Rattle.messages.specs.declared.message.Location.{Location}
 use Rattle.relaxed_file.specs.Order.{CallId}
-use Rattle.relaxed_file.specs.Machine.{Machine, Client, OpenCall, IsOpen, Piece, Told, NoSuchChunk, with_client, with_step}
+use Rattle.relaxed_file.specs.Machine.{Machine, Client, OpenCall, IsOpen, Piece, Told, NoSuchChunk, with_client, with_step, chunk_size}
 use Rattle.relaxed_file.specs.Reads.{noted as noted_at, is_length_call}
 use Rattle.relaxed_file.specs.Run.{Note, LookPast, MeasureNone}
 use Rattle.client_state.specs.declared.kept.Cached.{Cached}
@@ -47,7 +46,7 @@ use Rattle.laws_machine.proofs.ClientCaches.{note_put, note_there, noted_and_kep
 use Rattle.protocol_invariant.specs.ClientParts.{index_asked}
 use Rattle.relaxed_file.proofs.Tables.{put_same, put_other}
 use Rattle.laws_machine.proofs.MachineSteps.{comes_first, put_elsewhere, in_client, same_rise, put_rises, one_more, HaveAll, done_on, stepped_client, step_open}
-use Rattle.laws_machine.proofs.FileWalk.{Hand, stays, sends, rests, completes_done, unanswered_done, refused_done, reads_done, goes_on_done, asks_done, dropped_hand, attempts_done, gets_done, length_done, succeeds_done, with_part}
+use Rattle.laws_machine.proofs.FileWalk.{Hand, stays, sends, rests, completes_done, unanswered_done, refused_done, reads_done, goes_on_done, asks_done, dropped_hand, attempts_done, gets_done, length_done, succeeds_done, with_part, open_size}
 
 -- the call that is asked for is a read
 a_read : (m : Machine) (id : CallId) (file part : ℕ) (bytes rounds : List ℕ) (ps : List Piece) (c : Call) → IsDoneSoFar m id file part bytes rounds ps c → is_mutation c ≡ false → is_length c ≡ false
@@ -70,7 +69,7 @@ module _ (m : Machine) (client : ℕ) (s : ClientState) (x : CurrentCall) (alike
 
   nothing : Goes d0
   nothing =
-      stays m client o is_open d0 refl (record { settings = alike.settings; fds = alike.fds; descriptors = alike.descriptors; kept = alike.kept; places = alike.places; call = alike.call })
+      stays m client o is_open d0 refl (record { settings = alike.settings; fds = alike.fds; descriptors = alike.descriptors; kept = alike.kept; places = alike.places; shapes = alike.shapes; call = alike.call })
 
   hand : Hand m client o is_open d0 x
   hand =
@@ -80,6 +79,7 @@ module _ (m : Machine) (client : ℕ) (s : ClientState) (x : CurrentCall) (alike
         descriptors = alike.descriptors;
         kept = alike.kept;
         places = alike.places;
+        shapes = alike.shapes;
         row = (row.0, row.1);
         unanswered = refl;
         call_is = open_call.call_is;
@@ -105,6 +105,7 @@ module _ (m : Machine) (client : ℕ) (s : ClientState) (x : CurrentCall) (alike
           descriptors = λ fd. now (λ c. table.get s.descriptors fd ≡ c.descriptors fd) (alike.descriptors fd);
           kept = now (λ c. AllByRecursion (IsKeptNote c.notes s.files s.fd_count) s.cache.entries) alike.kept;
           places = alike.places;
+          shapes = alike.shapes;
           row = (row.0, row.1);
           unanswered = refl;
           call_is = ap (λ a. a.call) asked ∙ open_call.call_is;
@@ -199,6 +200,7 @@ module _ (m : Machine) (client : ℕ) (s : ClientState) (x : CurrentCall) (alike
           kept = both (λ c. AllByRecursion (IsKeptNote c.notes s.files s.fd_count) (with_location d0.client x.file.0 l).entries)
               (noted_and_kept (m.clients client).notes s.files s.fd_count s.cache (place_at x l.index) one few refl alike.places alike.kept);
           places = places_after_put s.cache (place_at x l.index) one alike.places;
+          shapes = alike.shapes;
           row = (row.0, row.1);
           unanswered = refl;
           call_is = open_call.call_is;
@@ -287,8 +289,8 @@ module _ (m : Machine) (client : ℕ) (s : ClientState) (x : CurrentCall) (alike
       (λ own.
       let parts = and_parts (asked == number) (is_length x.asked) own in
       let told = said (eqb-true asked number parts.0) parts.1 in
-      let at : place_in_file (file_chunk d0.client x.file.0) chunk.index count ≡ chunk.index * m.config.chunk + count =
-      ap (λ (c : Config). place_in_file c.chunk chunk.index count) alike.settings ∙ min-eq_left told.0 in
+      let at : place_in_file (file_chunk d0.client x.file.0) chunk.index count ≡ chunk.index * chunk_size m x.file.0 + count =
+      ap (λ (n : ℕ). place_in_file n chunk.index count) (open_size m s x.file.0 row.0 row.1 (alike.shapes x.file.0 row.0 row.1)) ∙ min-eq_left told.0 in
       length_done m client o is_open d0 x (place_in_file (file_chunk d0.client x.file.0) chunk.index count) parts.1 (subst (λ (n : ℕ). Contains o.lengths n) (sym at) told.1) hand)
       (λ _. nothing)
   len_goes other number count said = nothing

@@ -1,12 +1,12 @@
 -- What a client's step for its call on a file comes to, over a machine that takes no more than its answer.
-use Rattle.std.proofs.Common.{◌≡◌, ◌⊎◌, ℕ, suc, ◌+◌, ◌*◌, ◌/◌, ◌<◌, Bool, true, false, cond, List, [], ◌∷◌, ◌++◌, length, Option, Some, None, refl, sym, ap, subst, ◌∙◌, inl, inr, arith}
-use Rattle.std.specs.Prelude.{◌-◌, ◌==◌, ◌&&◌, ◌||◌, not, nat_lt, Contains, flat_map, filter_map, IfSome, IsSome, IsTrue}
+use Rattle.std.proofs.Common.{◌≡◌, ◌⊎◌, ℕ, suc, ◌+◌, ◌*◌, ◌/◌, ◌<◌, Bool, true, false, cond, List, [], ◌∷◌, ◌++◌, length, Option, Some, None, refl, sym, ap, subst, ◌∙◌, inl, inr, arith, max}
+use Rattle.std.specs.Prelude.{◌-◌, ◌==◌, ◌&&◌, ◌||◌, not, nat_lt, Contains, flat_map, filter_map, IfSome, IsSome, IsTrue, option_map, unwrap_or, nat_le}
 use Rattle.std.specs.Option.{option_to_list}
 use Rattle.std.specs.List.{AllByRecursion, list_any}
 use Rattle.std.specs.Map.{lookup}
 use Rattle.std.specs.FinMap as table
 use Rattle.std.proofs.lemmas.Bool.{and_parts, eqb-true, ltb-true, ltb-false, true≢false}
-use Rattle.std.proofs.Math.Nat.{min-eq_left}
+use Rattle.std.proofs.Math.Nat.{min-eq_left, max-eq_right}
 use Rattle.gfs_types.specs.declared.config.Config.{Config}
 use Rattle.gfs_types.specs.declared.ids.ServerId.{ServerId}
 use Rattle.gfs_types.specs.declared.ids.Fd.{Fd}
@@ -21,7 +21,7 @@ use Rattle.messages.specs.declared.message.Holder.{Holder}
 use Rattle.messages.specs.declared.message.Group.{Group}
 use Rattle.relaxed_file.specs.Order.{CallId}
 use Rattle.relaxed_file.specs.Parts.{has_part, part_length}
-use Rattle.relaxed_file.specs.Machine.{Machine, Client, OpenCall, IsOpen, Piece, put}
+use Rattle.relaxed_file.specs.Machine.{Machine, Client, OpenCall, IsOpen, Piece, put, chunk_size}
 use Rattle.relaxed_file.specs.NameStep.{is_name_call}
 use Rattle.relaxed_file.specs.Answers.{HasSuccess, IsWrite, IsDone, MayReturn, may_give_up, descriptors_after, returned}
 use Rattle.relaxed_file.specs.Run.{Return, after}
@@ -32,19 +32,56 @@ use Rattle.client_state.specs.declared.call.CurrentCall.{CurrentCall}
 use Rattle.client_state.specs.declared.call.ToldChunk.{ToldChunk}
 use Rattle.client_state.specs.declared.call.Stage.TheVariants.{IsOver, HasAnswer}
 use Rattle.protocol.specs.PushBuffer.{next_hop}
-use Rattle.protocol.specs.Client.{file_chunk, place_in_file, ClientDoing, Plan, committed, with_current, answers}
+use Rattle.protocol.specs.Client.{file_chunk, place_in_file, ClientDoing, Plan, committed, with_current, answers, ClientState}
 use Rattle.protocol.specs.ClientCache.{is_same_place, last_opened, last_opened_of, is_fresh, fresh_one, cached}
 use Rattle.protocol.specs.ClientAttempts.{is_mutation, is_length, is_append, read_count, has_next_part, is_live_at, completes, last_refusal, gives_up, ended, is_last_attempt, ends_refused, ask_planned, asks, read_planned, reads_next, again_planned, push_planned_to, push_planned, chunk_of, goes_on_at, will_do, begins_with, begins_at, chunk_to_find, attempts, begins_next_part, forgets}
 use Rattle.protocol.specs.ClientTakes.{gets, succeeds}
-use Rattle.laws_base.proofs.Steps.{on_cond, none_some, same_some, same_or_not}
+use Rattle.laws_base.proofs.Steps.{on_cond, none_some, same_some, same_or_not, put_cases, gone_split}
 use Rattle.laws_steps.proofs.Caches.{found}
 use Rattle.laws_steps.proofs.ClientWalk.{looked, noted, place_at, attempt_end}
 use Rattle.laws_steps.proofs.OpenFiles.{HasRow, noted_since, noted_there}
 use Rattle.laws_names.specs.FollowedClients.{answer_shown}
-use Rattle.laws_machine.specs.FileClients.{id_of, IsKeptNote, AreOfPlaces, IsReadSoFar, IsDoneSoFar, IsNotedChunk, IsLasting, IsStageAt, IsFileClient, IsElsewhereSame, IsFollowed, IsPartSettled}
+use Rattle.laws_machine.specs.FileClients.{id_of, IsKeptNote, AreOfPlaces, IsReadSoFar, IsDoneSoFar, IsNotedChunk, IsLasting, IsStageAt, IsFileClient, IsElsewhereSame, IsFollowed, IsPartSettled, AreOpenAsMade}
 use Rattle.laws_machine.proofs.ClientCaches.{all_of, dropped, looked_into, places_after_drop, places_after_look, kept_since}
 use Rattle.laws_machine.proofs.ReadPieces.{flat_last, filter_last, IsLast, pieces_end, pieces_grow}
 use Rattle.laws_calls.proofs.Parts.{none_below, none_beyond}
+use Rattle.laws_machine.specs.ToldShapes.{IsMadeWith}
+use Rattle.gfs_types.specs.declared.shape.Shape.{Shape}
+use Rattle.client_state.specs.declared.kept.OpenFile.{OpenFile}
+use Rattle.protocol.specs.Tables.{Table}
+use Rattle.protocol.specs.ClientFiles.{with_append_of, with_last_append, with_one_closed, files_after_close}
+
+-- files stay open as they were made, as an append is noted or a descriptor closes
+
+put_made : (m : Machine) (files : Table OpenFile) (file : ℕ) (f g : OpenFile) → table.get files file ≡ Some f → g.shape ≡ f.shape → AreOpenAsMade m files → AreOpenAsMade m (table.insert files file g)
+put_made m files file f g is same h q x at = elim (put_cases files file g q x at) [
+  | inl now ↦
+      subst (λ (n : ℕ). IsMadeWith m n x.shape) (sym now.0)
+      (subst (λ (y : OpenFile). IsMadeWith m file y.shape) now.1 (subst (λ (t : Shape). IsMadeWith m file t) (sym same) (h file f is)))
+  | inr before ↦ h q x before
+]
+
+pub made_since : (m : Machine) (files : Table OpenFile) (file : ℕ) (index : Option ℕ) → AreOpenAsMade m files → AreOpenAsMade m (with_last_append files file index)
+made_since m files file index h = by_row (table.get files file) refl
+  where
+    by_row : (o : Option OpenFile) → table.get files file ≡ o → AreOpenAsMade m (with_append_of files file index o)
+    by_row None is = h
+    by_row (Some f) is = put_made m files file f (record f { last_append = index }) is refl h
+
+pub closed_made : (m : Machine) (files : Table OpenFile) (file : ℕ) → AreOpenAsMade m files → AreOpenAsMade m (files_after_close files file)
+closed_made m files file h = by_row (table.get files file) refl
+  where
+    by_row : (o : Option OpenFile) → table.get files file ≡ o → AreOpenAsMade m (with_one_closed files file o)
+    by_row None is = h
+    by_row (Some f) is =
+        let less : OpenFile = record f { descriptors = f.descriptors - 1 } in
+        on_cond (AreOpenAsMade m) (nat_le f.descriptors 1) (table.remove files file) (table.insert files file less)
+        (λ last q g at. h q g (gone_split files file q g at).1) (λ more. put_made m files file f less is refl h)
+
+-- a client cuts by the size of the machine's file
+pub open_size : (m : Machine) (s : ClientState) (file : ℕ) (f : OpenFile) → table.get s.files file ≡ Some f → IsMadeWith m file f.shape → file_chunk s file ≡ chunk_size m file
+open_size m s file f is made =
+    ap (λ (o : Option OpenFile). max 1 (unwrap_or (option_map (λ (g : OpenFile). g.shape.chunk) o) s.config.chunk)) is ∙ max-eq_right made.2 ∙ ap (λ (x : Shape). x.chunk) made.1
 
 pub same_elsewhere : (m : Machine) (client : ℕ) → IsElsewhereSame m client m
 same_elsewhere m client = record { config = refl; clock = refl; names = refl; file_count = refl; files = refl; others = λ q not. refl }
@@ -56,6 +93,7 @@ pub record InHand (m : Machine) (client : ℕ) (o : OpenCall) (d : ClientDoing) 
   pub descriptors : (fd : ℕ) → table.get d.client.descriptors fd ≡ (m.clients client).descriptors fd
   pub kept : AllByRecursion (IsKeptNote (m.clients client).notes d.client.files d.client.fd_count) d.client.cache.entries
   pub places : AreOfPlaces d.client.cache.entries
+  pub shapes : AreOpenAsMade m d.client.files
   pub row : HasRow d.client.files file
   pub unanswered : d.answer ≡ None
   pub call_is : o.asked.call ≡ asked
@@ -124,6 +162,7 @@ module _ (m : Machine) (client : ℕ) (o : OpenCall) (is_open : IsOpen m client 
         descriptors = h.descriptors;
         kept = h.kept;
         places = h.places;
+        shapes = h.shapes;
         call = inr (o, record { is_open = is_open; call_is = h.call_is; file_is = h.file_is; done = h.done; stage = at });
       })
 
@@ -135,6 +174,7 @@ module _ (m : Machine) (client : ℕ) (o : OpenCall) (is_open : IsOpen m client 
         descriptors = h.descriptors;
         kept = h.kept;
         places = h.places;
+        shapes = h.shapes;
         call = inr (o, record { is_open = is_open; call_is = h.call_is; file_is = h.file_is; done = h.done; stage = at });
       })
 
@@ -143,8 +183,8 @@ module _ (m : Machine) (client : ℕ) (o : OpenCall) (is_open : IsOpen m client 
   pub ends_call : (d : ClientDoing) (reply : Answer) → d.client.config ≡ m.config → d.client.fd_count ≡ (m.clients client).fd_count
       → ((fd : ℕ) → table.get d.client.descriptors fd ≡ descriptors_after (m.clients client).descriptors o.asked.call reply fd)
       → AllByRecursion (IsKeptNote (m.clients client).notes d.client.files d.client.fd_count) d.client.cache.entries → AreOfPlaces d.client.cache.entries
-      → is_name_call o.asked.call ≡ false → MayReturn m client o reply → Done (answers d reply)
-  ends_call d reply settings fds descriptors kept places plain may =
+      → AreOpenAsMade m d.client.files → is_name_call o.asked.call ≡ false → MayReturn m client o reply → Done (answers d reply)
+  ends_call d reply settings fds descriptors kept places shapes plain may =
       record {
         actions = Return client reply ∷ [];
         allowed = ((o, is_open, may), tt);
@@ -158,6 +198,7 @@ module _ (m : Machine) (client : ℕ) (o : OpenCall) (is_open : IsOpen m client 
           descriptors = λ fd. in_closed (λ c. table.get d.client.descriptors fd ≡ c.descriptors fd) (descriptors fd);
           kept = in_closed (λ c. AllByRecursion (IsKeptNote c.notes d.client.files d.client.fd_count) d.client.cache.entries) kept;
           places = places;
+          shapes = shapes;
           call = in_closed (λ c. c.open_call ≡ None) refl;
         });
       }
@@ -173,7 +214,7 @@ module _ (m : Machine) (client : ℕ) (o : OpenCall) (is_open : IsOpen m client 
 
   pub answered : (d : ClientDoing) (x : CurrentCall) (reply : Answer) → Hand d x → MayReturn m client o reply → Done (answers d reply)
   answered d x reply h may =
-      ends_call d reply h.settings h.fds (λ fd. h.descriptors fd ∙ ap (λ (ds : ℕ → Option ℕ). ds fd) (sym same)) h.kept h.places
+      ends_call d reply h.settings h.fds (λ fd. h.descriptors fd ∙ ap (λ (ds : ℕ → Option ℕ). ds fd) (sym same)) h.kept h.places h.shapes
       (ap is_name_call h.call_is ∙ plain_call m id x.file.0 x.index x.bytes x.rounds o.pieces x.asked h.done) may
     where
       same : descriptors_after (m.clients client).descriptors o.asked.call reply ≡ (m.clients client).descriptors
@@ -231,6 +272,7 @@ module _ (m : Machine) (client : ℕ) (o : OpenCall) (is_open : IsOpen m client 
         descriptors = h.descriptors;
         kept = looked_into (IsKeptNote (m.clients client).notes d.client.files d.client.fd_count) d.client (place_at x index) h.kept;
         places = places_after_look d.client (place_at x index) h.places;
+        shapes = h.shapes;
         row = h.row;
         unanswered = h.unanswered;
         call_is = h.call_is;
@@ -246,6 +288,7 @@ module _ (m : Machine) (client : ℕ) (o : OpenCall) (is_open : IsOpen m client 
         descriptors = h.descriptors;
         kept = dropped (IsKeptNote (m.clients client).notes d.client.files d.client.fd_count) (record { file = x.file.0; index = chunk.index }) d.client.cache.entries h.kept;
         places = places_after_drop d.client.cache (record { file = x.file.0; index = chunk.index }) h.places;
+        shapes = h.shapes;
         row = h.row;
         unanswered = h.unanswered;
         call_is = h.call_is;
@@ -261,6 +304,7 @@ module _ (m : Machine) (client : ℕ) (o : OpenCall) (is_open : IsOpen m client 
         descriptors = h.descriptors;
         kept = kept_since (m.clients client).notes d.client.files (noted d x.file.0 index).client.files d.client.fd_count (noted_since d.client.files x.file.0 index) d.client.cache.entries h.kept;
         places = h.places;
+        shapes = made_since m d.client.files x.file.0 index h.shapes;
         row = noted_there d.client.files x.file.0 index h.row;
         unanswered = h.unanswered;
         call_is = h.call_is;
@@ -324,6 +368,7 @@ module _ (m : Machine) (client : ℕ) (o : OpenCall) (is_open : IsOpen m client 
         descriptors = h.descriptors;
         kept = h.kept;
         places = h.places;
+        shapes = h.shapes;
         row = h.row;
         unanswered = h.unanswered;
         call_is = h.call_is;
@@ -340,8 +385,8 @@ module _ (m : Machine) (client : ℕ) (o : OpenCall) (is_open : IsOpen m client 
       on_cond Done (is_mutation x.asked && list_any (is_live_at d.client.now) x.live) (with_current d (record x { stage = HasAnswer reply })) (answers d reply)
       (λ live. absurd (true≢false (sym (and_parts (is_mutation x.asked) (list_any (is_live_at d.client.now) x.live) live).0 ∙ plain))) (λ _. h)
 
-  size_is : (d : ClientDoing) (x : CurrentCall) → Hand d x → file_chunk d.client x.file.0 ≡ m.config.chunk
-  size_is d x h = ap (λ (c : Config). c.chunk) h.settings
+  size_is : (d : ClientDoing) (x : CurrentCall) → Hand d x → file_chunk d.client x.file.0 ≡ chunk_size m x.file.0
+  size_is d x h = open_size m d.client x.file.0 h.row.0 h.row.1 (h.shapes x.file.0 h.row.0 h.row.1)
 
   pub or_cases : (a b : Bool) → a || b ≡ true → (a ≡ true) ⊎ (b ≡ true)
   or_cases true b h = inl refl
@@ -377,17 +422,17 @@ module _ (m : Machine) (client : ℕ) (o : OpenCall) (is_open : IsOpen m client 
       more : Bool
       more = has_next_part (file_chunk d.client x.file.0) x.index x.asked
 
-      short_is : short ≡ nat_lt (length bytes) (part_length m.config.chunk offset count x.index)
+      short_is : short ≡ nat_lt (length bytes) (part_length (chunk_size m x.file.0) offset count x.index)
       short_is =
-          ap (λ (size : ℕ). nat_lt (length bytes) (read_count size x.index x.asked)) (size_is d x h) ∙ ap (λ (c : Call). nat_lt (length bytes) (read_count m.config.chunk x.index c)) is
+          ap (λ (size : ℕ). nat_lt (length bytes) (read_count size x.index x.asked)) (size_is d x h) ∙ ap (λ (c : Call). nat_lt (length bytes) (read_count (chunk_size m x.file.0) x.index c)) is
 
-      more_is : more ≡ has_part m.config.chunk offset count (suc x.index)
-      more_is = ap (λ (size : ℕ). has_next_part size x.index x.asked) (size_is d x h) ∙ ap (λ (c : Call). has_next_part m.config.chunk x.index c) is
+      more_is : more ≡ has_part (chunk_size m x.file.0) offset count (suc x.index)
+      more_is = ap (λ (size : ℕ). has_next_part size x.index x.asked) (size_is d x h) ∙ ap (λ (c : Call). has_next_part (chunk_size m x.file.0) x.index c) is
 
       so_far : IsDoneSoFar m id x.file.0 x.index x.bytes x.rounds o.pieces (call.Read fd offset count)
       so_far = subst (λ (c : Call). IsDoneSoFar m id x.file.0 x.index x.bytes x.rounds o.pieces c) is h.done
 
-      read : IsReadSoFar m.config.chunk offset count x.index x.bytes x.rounds o.pieces
+      read : IsReadSoFar (chunk_size m x.file.0) offset count x.index x.bytes x.rounds o.pieces
       read = so_far.2
 
       bytes_now : got.bytes ≡ flat_map (λ (q : Piece). q.bytes) (read.pieces ++ piece ∷ [])
@@ -398,8 +443,8 @@ module _ (m : Machine) (client : ℕ) (o : OpenCall) (is_open : IsOpen m client 
 
       ends : (short ≡ true) ⊎ (not more ≡ true) → Done (completes d got (answer.Bytes got.bytes got.rounds))
       ends last =
-          let is_last : IsLast m.config.chunk offset count o.pieces piece there x.index = elim last [ inl s ↦ inl (sym short_is ∙ s) | inr n ↦ inr (sym more_is ∙ not_true more n) ] in
-          let pieces = pieces_end m.config.chunk offset count o.pieces piece there x.index (offset / m.config.chunk) read.pieces read.are_whole refl so_far.1 is_last in
+          let is_last : IsLast (chunk_size m x.file.0) offset count o.pieces piece there x.index = elim last [ inl s ↦ inl (sym short_is ∙ s) | inr n ↦ inr (sym more_is ∙ not_true more n) ] in
+          let pieces = pieces_end (chunk_size m x.file.0) offset count o.pieces piece there x.index (offset / chunk_size m x.file.0) read.pieces read.are_whole refl so_far.1 is_last in
           plain_done d got (answer.Bytes got.bytes got.rounds) (ap is_mutation is)
           (answered d x (answer.Bytes got.bytes got.rounds) h
           (subst (λ (c : Call). IsDone m client o c (answer.Bytes got.bytes got.rounds)) (sym (h.call_is ∙ is)) (x.file.0, h.file_is, read.pieces ++ piece ∷ [], pieces, bytes_now, rounds_now, so_far.0)))
@@ -412,7 +457,7 @@ module _ (m : Machine) (client : ℕ) (o : OpenCall) (is_open : IsOpen m client 
             sym more_is ∙ not_false more on.1,
             record {
               pieces = read.pieces ++ piece ∷ [];
-              are_whole = pieces_grow m.config.chunk offset count o.pieces piece there x.index (offset / m.config.chunk) read.pieces read.are_whole refl so_far.1 (sym short_is ∙ on.0);
+              are_whole = pieces_grow (chunk_size m x.file.0) offset count o.pieces piece there x.index (offset / chunk_size m x.file.0) read.pieces read.are_whole refl so_far.1 (sym short_is ∙ on.0);
               bytes_are = bytes_now;
               rounds_are = rounds_now;
             },
@@ -451,7 +496,7 @@ module _ (m : Machine) (client : ℕ) (o : OpenCall) (is_open : IsOpen m client 
       → Done (completes (noted d x.file.0 (Some chunk.index)) x (answer.At (place_in_file (file_chunk d.client x.file.0) chunk.index place)))
   append_done d x chunk place h is settled =
       let has : IsPartSettled m id x.file.0 x.index chunk.index place (call.Append is.0 is.1) = subst (λ (c : Call). IsPartSettled m id x.file.0 x.index chunk.index place c) is.2 settled in
-      let at : place_in_file (file_chunk d.client x.file.0) chunk.index place ≡ chunk.index * m.config.chunk + place =
+      let at : place_in_file (file_chunk d.client x.file.0) chunk.index place ≡ chunk.index * chunk_size m x.file.0 + place =
       ap (λ (size : ℕ). place_in_file size chunk.index place) (size_is d x h) ∙ min-eq_left has.0 in
       let reply : Answer = answer.At (place_in_file (file_chunk d.client x.file.0) chunk.index place) in
       completes_done (noted d x.file.0 (Some chunk.index)) x reply (appended_hand d x (Some chunk.index) h)
@@ -474,10 +519,10 @@ module _ (m : Machine) (client : ℕ) (o : OpenCall) (is_open : IsOpen m client 
       here : HasSuccess m client id x.file.0 x.index IsWrite
       here = subst (λ (c : Call). IsPartSettled m id x.file.0 x.index index place c) is.3 settled
 
-      next_is : has_next_part (file_chunk d.client x.file.0) x.index x.asked ≡ has_part m.config.chunk offset count (suc x.index)
-      next_is = ap (λ (size : ℕ). has_next_part size x.index x.asked) (size_is d x h) ∙ ap (λ (c : Call). has_next_part m.config.chunk x.index c) is.3
+      next_is : has_next_part (file_chunk d.client x.file.0) x.index x.asked ≡ has_part (chunk_size m x.file.0) offset count (suc x.index)
+      next_is = ap (λ (size : ℕ). has_next_part size x.index x.asked) (size_is d x h) ∙ ap (λ (c : Call). has_next_part (chunk_size m x.file.0) x.index c) is.3
 
-      all_done : (part : ℕ) → part < suc x.index → IsTrue (has_part m.config.chunk offset count part) → HasSuccess m client id x.file.0 part IsWrite
+      all_done : (part : ℕ) → part < suc x.index → IsTrue (has_part (chunk_size m x.file.0) offset count part) → HasSuccess m client id x.file.0 part IsWrite
       all_done part low has = elim (same_or_not part x.index) [
         | inl same ↦ subst (λ (i : ℕ). HasSuccess m client id x.file.0 i IsWrite) (sym same) here
         | inr other ↦ so_far.2 part (before low other) has
@@ -497,12 +542,12 @@ module _ (m : Machine) (client : ℕ) (o : OpenCall) (is_open : IsOpen m client 
 
       ends : has_next_part (file_chunk d.client x.file.0) x.index x.asked ≡ false → Done (completes d x answer.Done)
       ends none =
-          let first = none_below m.config.chunk offset count x.index so_far.1 in
-          let each : (part : ℕ) → IsTrue (has_part m.config.chunk offset count part) → HasSuccess m client id x.file.0 part IsWrite =
-          λ part has. all_done part (none_beyond m.config.chunk offset count x.index part first (sym next_is ∙ none) has) has in
+          let first = none_below (chunk_size m x.file.0) offset count x.index so_far.1 in
+          let each : (part : ℕ) → IsTrue (has_part (chunk_size m x.file.0) offset count part) → HasSuccess m client id x.file.0 part IsWrite =
+          λ part has. all_done part (none_beyond (chunk_size m x.file.0) offset count x.index part first (sym next_is ∙ none) has) has in
           completes_done d x answer.Done h
           (subst (λ (c : Call). IsDone m client o c answer.Done) (sym (h.call_is ∙ is.3)) (
-            subst (λ (f : Option ℕ). IfSome f (λ file. (part : ℕ) → IsTrue (has_part m.config.chunk offset count part) → HasSuccess m client id file part IsWrite)) (sym h.file_is) each,
+            subst (λ (f : Option ℕ). IfSome f (λ file. (part : ℕ) → IsTrue (has_part (chunk_size m file) offset count part) → HasSuccess m client id file part IsWrite)) (sym h.file_is) each,
             subst (λ (f : Option ℕ). IsSome f) (sym h.file_is) refl,
             so_far.0,
           )) (λ _. tt)

@@ -4,7 +4,7 @@ use Rattle.std.specs.Prelude.{Contains, IfSome, option_map}
 use Rattle.gfs_types.specs.declared.call.Call.{Call}
 use Rattle.gfs_types.specs.declared.call.Call.TheVariants as call
 use Rattle.relaxed_file.specs.Order.{CallId}
-use Rattle.relaxed_file.specs.Machine.{Machine, Client, OpenCall, IsOpen, Piece, with_client, with_step}
+use Rattle.relaxed_file.specs.Machine.{Machine, Client, OpenCall, IsOpen, Piece, with_client, with_step, chunk_size}
 use Rattle.relaxed_file.specs.Answers.{HasSuccess, IsWrite}
 use Rattle.relaxed_file.specs.Run.{Action, Visible, Allows, after, shown, visible}
 use Rattle.relaxed_file.proofs.Tables.{put_same, put_other}
@@ -91,7 +91,7 @@ done_on m client t number file part bytes rounds old new (call.Write fd offset c
     (h.0, h.1, λ earlier low has. success_on m client t (record { client = client; number = number }) file earlier rise (h.2 earlier low has))
 done_on m client t number file part bytes rounds old new (call.Append fd content) rise all h = h
 done_on m client t number file part bytes rounds old new (call.Read fd offset count) rise all h =
-    (h.0, h.1, record { pieces = h.2.pieces; are_whole = whole_on m.config.chunk offset count part (offset / m.config.chunk) old new h.2.pieces all h.2.are_whole; bytes_are = h.2.bytes_are; rounds_are = h.2.rounds_are })
+    (h.0, h.1, record { pieces = h.2.pieces; are_whole = whole_on (chunk_size m file) offset count part (offset / chunk_size m file) old new h.2.pieces all h.2.are_whole; bytes_are = h.2.bytes_are; rounds_are = h.2.rounds_are })
 done_on m client t number file part bytes rounds old new (call.Length fd) rise all h = tt
 done_on m client t number file part bytes rounds old new other rise all h = absurd h
 

@@ -1,9 +1,9 @@
 -- What a server numbers and settles in a step, the machine places and settles.
 use Rattle.std.proofs.Common.{◌≡◌, ℕ, zero, suc, ◌+◌, ◌*◌, ◌<◌, ◌≤◌, Bool, true, false, List, [], ◌∷◌, length, Some, refl, sym, ap, subst, ◌∙◌, inl, inr, map, ◌++◌, Option, None}
-use Rattle.std.specs.Prelude.{IsTrue, unwrap_or, option_map}
+use Rattle.std.specs.Prelude.{IsTrue, unwrap_or, option_map, nat_le, ◌==◌, ◌&&◌, ◌%◌}
 use Rattle.std.specs.List.{list_all}
 use Rattle.std.specs.FinMap as table
-use Rattle.std.proofs.lemmas.Bool.{and_parts}
+use Rattle.std.proofs.lemmas.Bool.{and_parts, leb-true}
 use Rattle.gfs_types.specs.declared.config.Config.{Config}
 use Rattle.gfs_types.specs.declared.call.Call.{Call}
 use Rattle.gfs_types.specs.declared.call.Call.TheVariants as call
@@ -27,7 +27,7 @@ use Rattle.protocol.specs.Tables.{Table, element_at, first_numbers, with_at}
 use Rattle.protocol.specs.declared.seen.Seen.{Seen}
 use Rattle.protocol.specs.declared.seen.Seen.TheVariants.{Numbered, BecameSettled, CopyStarted}
 use Rattle.protocol.specs.Observer.{Placed, placed_in, order_of, observed_moment, orders_after, orders_after_all, new_entry}
-use Rattle.protocol.specs.Server.{ServerState, primary_of}
+use Rattle.protocol.specs.Server.{ServerState, primary_of, chunk_limit}
 use Rattle.protocol.specs.ServerStep.{server_at, server_step, server_restart}
 use Rattle.protocol.specs.MasterStep.{master_restart}
 use Rattle.protocol.specs.ClientStep.{client_step, client_call}
@@ -66,10 +66,21 @@ use Rattle.laws_machine.specs.Rounds.{IsLogOf, IsMastersStep}
 use Rattle.laws_machine.specs.ServerSteps.{AreDataOf, HasPartLeft, IsForOpenCall, AreForOpenCalls, is_of_entries, ComesToOrders, EntryActionsAreUnseen, OtherEventsAreTaken, AreGoneOrdersAlike}
 use Rattle.laws_machine.specs.Tries.{IsNumberedAt, IsRise, RiseBy}
 use Rattle.laws_machine.proofs.TriesRise.{place_tries}
-use Rattle.laws_machine.proofs.EndedRounds.{masters_input, leased_chunks_stand_once}
+use Rattle.laws_machine.proofs.EndedRounds.{masters_input, leased_chunks_stand_once, open_rounds_have_one_spot}
 use Rattle.laws_machine.proofs.HoldersApart.{standing_kept, later_entries}
 use Rattle.laws_machine.proofs.Settlements.{IsSettlingDue, due_later, takes_nothing, takes_more, settles_all, counted_entry, gone_kept}
 use Rattle.laws_machine.proofs.OneChunk.{one_changed}
+use Rattle.laws_machine.specs.RoundSizes.{AreRoundsSized}
+use Rattle.laws_base.specs.Laws.{IsSizeGranted}
+use Rattle.laws_steps.proofs.Lengths.{servers_within}
+use Rattle.relaxed_file.proofs.ShapesKept.{shapes_fit}
+use Rattle.gfs_types.specs.declared.shape.Shape.{Shape}
+use Rattle.gfs_types.specs.Settings.{is_within}
+use Rattle.std.proofs.Math.Nat.{min-eq_left}
+use Rattle.protocol.specs.Sending.{handle_of, version_of}
+use Rattle.relaxed_file.specs.Run as run
+use Rattle.laws_base.proofs.LeasesTold.{leases_are_told}
+use Rattle.messages.specs.declared.message.Body.TheVariants as body
 
 -- what a call asks for, by what its client has and what the order allows
 
@@ -99,6 +110,17 @@ module _ (m : Machine) (id : CallId) (s : Spot) (order : List Entry) (round : �
   asks_for (call.Append fd bytes) (Write at content) given own left follow made = absurd left
   asks_for other x given own left follow made = absurd own
 
+-- a file of the machine has chunks of the settings' size at most
+size_within : (config : Config) (m : Machine) → run.IsReached config m → (file : ℕ) → chunk_size m file ≤ config.chunk
+size_within config m reached file = elim (shapes_fit config m reached file) [
+  | inl usual ↦ let same = ap (λ (x : Shape). x.chunk) usual in omega (arith, same)
+  | inr fitting ↦
+      let x : Shape = (m.files file).shape in
+      let chunks = (and_parts (is_within 64 config.chunk x.chunk && x.chunk % config.block == 0) (is_within 1 8 x.goal) fitting).0 in
+      let within = (and_parts (is_within 64 config.chunk x.chunk) (x.chunk % config.block == 0) chunks).0 in
+      leb-true x.chunk config.chunk (and_parts (nat_le 64 x.chunk) (nat_le x.chunk config.chunk) within).1
+]
+
 -- one step of a server in a world
 
 set_there : {X : Type 0} (xs : List X) (n : ℕ) (x y : X) → element_at xs n ≡ Some x → element_at (with_at xs n y) n ≡ Some y
@@ -109,7 +131,9 @@ set_there (z ∷ xs) (suc n) x y at = set_there xs n x y at
 module _ (config : Config) (servers clients : ℕ) (w : WorldState) (r : IsReached config servers clients w) (kept : IsTrue (is_kept w)) (index : ℕ) (s : ServerState) (there : element_at w.servers index ≡ Some s)
     (moment : ℕ) (i : NodeInput) (choice : Choice) (came : (m : Message) → i ≡ input.Deliver m → IsAmong w.sent m) (clocks : IsTrue (observed_moment w.config.skew_ms w.observer moment).are_clocks_kept)
     (reached : IsReached config servers clients (after_server w index moment (server_step s moment i choice)).world)
-    (k : ChunkSides) (settings : k.machine.config ≡ config) (orders_are : k.orders ≡ w.observer.orders) (log : IsLogOf w.master k.log) (h : AreChunksAlike k) (has : HasRounds (IsLeaseOver w) k) where
+    (k : ChunkSides) (settings : k.machine.config ≡ config) (orders_are : k.orders ≡ w.observer.orders) (log : IsLogOf w.master k.log) (h : AreChunksAlike k) (has : HasRounds (IsLeaseOver w) k)
+    (machine_reached : run.IsReached config k.machine) (sized : AreRoundsSized w k)
+  where
   abbrev trace : List Visible
   trace = (observed_moment w.config.skew_ms w.observer moment).trace
 
@@ -193,11 +217,29 @@ module _ (config : Config) (servers clients : ℕ) (w : WorldState) (r : IsReach
     alike : IsForOpenCall w k id (was_open.0) m
     alike = calls index moment s i choice handle version id numbers clocks was_open.0 was_open.1
 
-    may : MayFollow config.chunk (entries_in w.observer.orders handle.0) version.0 m × ((bytes : List ℕ) × IsPushed w.sent id bytes × IsMadeOf config.chunk bytes m)
+    may : (lease : SerialOrder) × (table.get s.leases handle.0 ≡ Some lease) × (lease.held.version ≡ version.0)
+        × MayFollow (chunk_limit s lease.chunk) (entries_in w.observer.orders handle.0) version.0 m × ((bytes : List ℕ) × IsPushed w.sent id bytes × IsMadeOf (chunk_limit s lease.chunk) bytes m)
     may = numbered_mutations_may_follow config servers clients w r kept index s there moment i choice came clocks place handle version serial id m seen
 
-    size_is : config.chunk ≡ chunk_size k.machine (was_open.0).file
-    size_is = ap (λ (c : Config). c.chunk) (sym settings)
+    -- its lease was granted with the size of the file
+    granted : IsSizeGranted w.sent handle.0 version.0 (may.0).chunk
+    granted =
+        let told = (leases_are_told config servers clients w r index s there handle.0 may.0 may.1).0 in
+        (told.0, told.1, told.2, told.4, told.5, (may.0).held.members, subst (λ (v : ℕ). (told.1).body ≡ body.Grant told.4 (handle_of handle.0) (version_of v) told.5 (may.0).chunk (may.0).held.members) may.2 told.6)
+
+    told_size : (may.0).chunk ≡ chunk_size k.machine (was_open.0).file
+    told_size = elim (sized handle.0 version.0 (may.0).chunk granted) [
+      | inl over ↦ absurd (not_over_under handle.0 version.0 (for_it).lease (for_it).lease_is over)
+      | inr there ↦
+          let same = open_rounds_have_one_spot k h handle.0 version.0 version.0 there.0 was_open.0 (once_under handle.0 version.0 (for_it).lease (for_it).lease_is) there.1 was_open.1 in
+          there.2 ∙ ap (λ (t : Spot). chunk_size k.machine t.file) same
+    ]
+
+    size_is : chunk_limit s (may.0).chunk ≡ chunk_size k.machine (was_open.0).file
+    size_is =
+        let set = ap (λ (c : Config). c.chunk) (servers_within config servers clients w r index s there).set in
+        let low : (may.0).chunk ≤ s.config.chunk = subst (λ (n : ℕ). n ≤ s.config.chunk) (sym told_size) (subst (λ (n : ℕ). chunk_size k.machine (was_open.0).file ≤ n) (sym set) (size_within config k.machine machine_reached (was_open.0).file)) in
+        min-eq_left low ∙ told_size
 
     wanted : IsWanted k trace id.client.0 was_open.0 m
     wanted = record {
@@ -206,9 +248,9 @@ module _ (config : Config) (servers clients : ℕ) (w : WorldState) (r : IsReach
       number_is = alike.number_is ∙ sym (same_calls w.config.skew_ms w.observer moment id.client.0);
       file_is = alike.file_is;
       asks = asks_for k.machine (record { client = id.client.0; number = (alike.current).number }) was_open.0 (entries_in w.observer.orders handle.0) version.0
-          (ap (λ (o : Table (List Placed)). entries_in o handle.0) (sym orders_are) ∙ (was_open.1).order) (sym (was_open.1).round) ((alike.current).asked).call m ((may.1).0)
-          (alike.pushed (may.1).0 (may.1).1) alike.part
-          (subst (λ (n : ℕ). MayFollow n (entries_in w.observer.orders handle.0) version.0 m) size_is may.0) (subst (λ (n : ℕ). IsMadeOf n (may.1).0 m) size_is (may.1).2);
+          (ap (λ (o : Table (List Placed)). entries_in o handle.0) (sym orders_are) ∙ (was_open.1).order) (sym (was_open.1).round) ((alike.current).asked).call m ((may.4).0)
+          (alike.pushed (may.4).0 (may.4).1) alike.part
+          (subst (λ (n : ℕ). MayFollow n (entries_in w.observer.orders handle.0) version.0 m) size_is may.3) (subst (λ (n : ℕ). IsMadeOf n (may.4).0 m) size_is (may.4).2);
     }
 
     abbrev action : Action
@@ -300,7 +342,9 @@ module _ (config : Config) (servers clients : ℕ) (w : WorldState) (r : IsReach
 -- an event
 
 module _ (config : Config) (servers clients : ℕ) (w : WorldState) (r : IsReached config servers clients w) (kept : IsTrue (is_kept w))
-    (k : ChunkSides) (settings : k.machine.config ≡ config) (orders_are : k.orders ≡ w.observer.orders) (log : IsLogOf w.master k.log) (h : AreChunksAlike k) (has : HasRounds (IsLeaseOver w) k) (calls : AreForOpenCalls w k) where
+    (k : ChunkSides) (settings : k.machine.config ≡ config) (orders_are : k.orders ≡ w.observer.orders) (log : IsLogOf w.master k.log) (h : AreChunksAlike k) (has : HasRounds (IsLeaseOver w) k)
+    (machine_reached : run.IsReached config k.machine) (sized : AreRoundsSized w k) (calls : AreForOpenCalls w k)
+  where
   abbrev IsTakenAt : Event → Happened → Type 0
   IsTakenAt e x = IsReached config servers clients x.world → IsTrue x.world.observer.are_clocks_kept → (IsMastersStep w e → ⊥) → (g : Option (IsNumberedAt w x.world k)) × ComesToOrders (IsLeaseOver w) k x.world.observer.orders (IsRise w x.world k g)
 
@@ -315,7 +359,7 @@ module _ (config : Config) (servers clients : ℕ) (w : WorldState) (r : IsReach
     nothing = λ e reached clocks not. same_taken w w.observer.orders refl;
     masters = λ e moment i choice given up reached clocks not. absurd (not (masters_input w e moment i given));
     opens = λ e moment choice reached clocks not. none_shown _ (observed_moment w.config.skew_ms w.observer moment).trace (master_restart w.master moment choice).seen (restart_shown w.master moment choice);
-    serves = λ e index moment s i choice at given up reached clocks not. step_taken config servers clients w r kept index s at moment i choice (came_in w e (suc index) moment i given) clocks reached k settings orders_are log h has calls;
+    serves = λ e index moment s i choice at given up reached clocks not. step_taken config servers clients w r kept index s at moment i choice (came_in w e (suc index) moment i given) clocks reached k settings orders_are log h has machine_reached sized calls;
     restarts = λ e index moment s choice at reached clocks not. none_shown _ (observed_moment w.config.skew_ms w.observer moment).trace (server_restart s moment choice).seen (restarted_shown s moment choice choice.ending);
     steps = λ e index moment s i choice at given up reached clocks not. same_taken _ _ (same_orders (observed_moment w.config.skew_ms w.observer moment) (suc index) (client_step s moment i choice).out.answer);
     calls = λ e index moment s c choice at may reached clocks not. same_taken _ _ (same_orders _ (suc index) (client_call s moment c choice).out.answer);
@@ -323,8 +367,8 @@ module _ (config : Config) (servers clients : ℕ) (w : WorldState) (r : IsReach
   }
 
 pub other_events_are_taken : OtherEventsAreTaken
-other_events_are_taken config servers clients w r kept e choice clocks not k settings orders_are log h has calls =
-    holds_after w (IsTakenAt config servers clients w r kept k settings orders_are log h has calls) (each_taken config servers clients w r kept k settings orders_are log h has calls) e choice
+other_events_are_taken config servers clients w r kept e choice clocks not k settings orders_are log h has machine_reached sized calls =
+    holds_after w (IsTakenAt config servers clients w r kept k settings orders_are log h has machine_reached sized calls) (each_taken config servers clients w r kept k settings orders_are log h has machine_reached sized calls) e choice
     (reached_later config servers clients w ((e, choice) ∷ []) r) clocks not
 
 -- clients see nothing of entries

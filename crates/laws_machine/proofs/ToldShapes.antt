@@ -156,6 +156,20 @@ stood_in l file index handle at = by_file (table.get l.table.files file) refl
     by_file None none = none_some handle (sym (ap (λ (x : Option (List ℕ)). element_at (unwrap_or x []) index) none) ∙ at)
     by_file (Some hs) is = ap is_some is
 
+-- what was made stays so
+module _ (config : Config) (m n : Machine) (reached : run.IsReached config m) (led : LeadsTo m n) where
+  pub made_still : (file : ℕ) (shape : Shape) → IsMadeWith m file shape → IsMadeWith n file shape
+  made_still file shape h =
+      let more = (grows_to m n led (known_when_reached config m reached)).file_count in
+      let was = h.0 in
+      (omega (arith, more, was), h.1 ∙ sym (shapes_stay config m n file reached led h.0), h.2)
+
+  pub told_still : (sent : List Message) → AreShapesTold sent m → AreShapesTold sent n
+  told_still sent h = record {
+    opened = λ place number x file shape at is. made_still file.0 shape (h.opened place number x file shape at is);
+    located = λ client file l place t. made_still file l.shape (h.located client file l place t);
+  }
+
 module _ (config : Config) (servers clients : ℕ) (w : WorldState) (r : IsReached config servers clients w) (e : Event) (choice : Choice) (clocks : IsTrue (happens w e choice).world.observer.are_clocks_kept)
     (m n : Machine) (reached : run.IsReached config m) (led : LeadsTo m n) (has : IsTrue w.master.up → HasMadeFiles w.master.logged m) (told : AreShapesTold w.sent m) where
   abbrev then_ : WorldState
@@ -167,13 +181,6 @@ module _ (config : Config) (servers clients : ℕ) (w : WorldState) (r : IsReach
   later : IsReached config servers clients then_
   later = reached_later config servers clients w ((e, choice) ∷ []) r
 
-  -- what was made stays so
-  made_still : (file : ℕ) (shape : Shape) → IsMadeWith m file shape → IsMadeWith n file shape
-  made_still file shape h =
-      let more = (grows_to m n led (known_when_reached config m reached)).file_count in
-      let was = h.made in
-      record { made = omega (arith, more, was); shape_is = h.shape_is ∙ sym (shapes_stay config m n file reached led h.made); least = h.least }
-
   telling : (place : ℕ) (x : Message) → length w.sent ≤ place → element_at then_.sent place ≡ Some x → IsTelling w x.body
   telling place x from at = holds_after w (λ e x. AreTelling w x.world) (each_telling config servers clients w r) e choice place x from at
 
@@ -181,17 +188,17 @@ module _ (config : Config) (servers clients : ℕ) (w : WorldState) (r : IsReach
   opened_now number file shape now =
       let found = now.1 in
       let made = has now.0 file.0 ((files_have_one_name config servers clients w r now.0).0.1 found.1 file.0 found.2) in
-      record { made = made.made; shape_is = found.0 ∙ made.shape_is; least = subst (λ (x : Shape). 1 ≤ x.chunk) (sym found.0) made.least }
+      (made.0, found.0 ∙ made.1, subst (λ (x : Shape). 1 ≤ x.chunk) (sym found.0) made.2)
 
   located_now : (file number : ℕ) (l : Location) → IsToldOf w.master.logged file l → IsTelling w (body.Told number (Some l)) → IsMadeWith m file l.shape
   located_now file number l at now =
       let made = has now.0 file (stood_in w.master.logged file l.index l.handle.0 at.stood) in
       let same = (now.1).files file l.index at.stood in
-      record { made = made.made; shape_is = same ∙ made.shape_is; least = subst (λ (x : Shape). 1 ≤ x.chunk) (sym same) made.least }
+      (made.0, same ∙ made.1, subst (λ (x : Shape). 1 ≤ x.chunk) (sym same) made.2)
 
   each_opened : (place number : ℕ) (x : Message) (file : FileId) (shape : Shape) → element_at then_.sent place ≡ Some x → x.body ≡ body.Named number (Opened file shape) → IsMadeWith n file.0 shape
   each_opened place number x file shape at is =
-      made_still file.0 shape
+      made_still config m n reached led file.0 shape
       (elim (cases_lt place (length w.sent)) [
         | inl early ↦ told.opened place number x file shape (stood_before w.sent then_.sent place x grown early at) is
         | inr from ↦ opened_now number file shape (subst (λ (b : Body). IsTelling w b) is (telling place x from at))
@@ -199,7 +206,7 @@ module _ (config : Config) (servers clients : ℕ) (w : WorldState) (r : IsReach
 
   each_located : (client file : ℕ) (l : Location) (place : ℕ) → IsToldAt then_.sent client file l place → IsMadeWith n file l.shape
   each_located client file l place t =
-      made_still file l.shape
+      made_still config m n reached led file l.shape
       (elim (cases_lt place (length w.sent)) [
         | inl early ↦ told.located client file l place (told_before config servers clients w r e choice clocks client file l place t early)
         | inr from ↦
@@ -229,11 +236,7 @@ module _ (config : Config) (servers clients : ℕ) (w : WorldState) (r : IsReach
       let low = leb-true file h.names.file_count (and_parts (nat_lt 0 file) (nat_le file h.names.file_count) there.0).1 in
       let count = h.same.count in
       let told = (log_has_the_shapes config servers clients w r up file has).1 in
-      record {
-        made = omega (arith, low, count);
-        shape_is = ap (λ (l : Logged). shape_of l.table file) (sym (log_is up)) ∙ h.named.alike.shapes file here ∙ same_shape k.machine h.names h.same file;
-        least = omega (arith, told);
-      }
+      (omega (arith, low, count), ap (λ (l : Logged). shape_of l.table file) (sym (log_is up)) ∙ h.named.alike.shapes file here ∙ same_shape k.machine h.names h.same file, omega (arith, told))
 
   -- what clients were told stays so, however the machine goes on
   pub shapes_on : (e : Event) (choice : Choice) → IsTrue (happens w e choice).world.observer.are_clocks_kept → (n : Machine) → LeadsTo k.machine n → AreShapesTold (happens w e choice).world.sent n

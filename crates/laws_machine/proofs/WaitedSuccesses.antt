@@ -9,11 +9,10 @@ use Rattle.gfs_types.specs.declared.mutation.Mutation.{Mutation}
 use Rattle.gfs_types.specs.declared.mutation.Mutation.TheVariants.{Write, Append, Pad}
 use Rattle.messages.specs.declared.event.Event.{Event}
 use Rattle.relaxed_file.specs.Order.{CallId, Entry, same_call}
-use Rattle.relaxed_file.specs.Machine.{OpenCall, chunk_at, new_machine}
+use Rattle.relaxed_file.specs.Machine.{OpenCall, chunk_at, chunk_size}
 use Rattle.relaxed_file.specs.Run.{IsReached}
 use Rattle.relaxed_file.specs.RunLaws.{IsAskedOf}
 use Rattle.relaxed_file.proofs.Tries.{same_as_itself}
-use Rattle.relaxed_file.proofs.Grows.{grows_to, known_at_first}
 use Rattle.laws_steps.specs.FewAttempts.{WasAsked}
 use Rattle.relaxed_file.proofs.Successes.{success_asked}
 use Rattle.client_state.specs.declared.call.CurrentCall.{CurrentCall}
@@ -116,17 +115,16 @@ module _ (config : Config) (servers clients : ℕ) (steps : List (Event × Choic
         let here = subst (λ (os : Table (List Placed)). Contains (filter (λ (e : Entry). nat_le e.round chunk.round.0) (entries_in os chunk.handle.0)) settled.placed.entry) (sym h.orders) passes in
         unfiltered (λ (e : Entry). nat_le e.round chunk.round.0) (chunk_at k.machine x.file.0 chunk.index).order settled.placed.entry (subst (λ (es : List Entry). Contains es settled.placed.entry) h.stands.entries here)
 
-    asked_of : IsAskedOf config.chunk chunk.index o.asked.call settled.placed.entry.mutation
+    asked_of : IsAskedOf (chunk_size k.machine x.file.0) chunk.index o.asked.call settled.placed.entry.mutation
     asked_of =
         success_asked config k.machine (suc index) o x.file.0 chunk.index chunk.round.0 settled.placed.entry reached h.call.is_open there
         (ap (λ (c : CallId). same_call (id_of (suc index) o) c) call_is ∙ same_as_itself (id_of (suc index) o), settled.settled, low)
 
-    pub is_settled : IsWithinPlaces k.machine.config.chunk chunk.index place → IsPartSettled k.machine (id_of (suc index) o) x.file.0 x.index chunk.index place x.asked
+    pub is_settled : IsWithinPlaces (chunk_size k.machine x.file.0) chunk.index place → IsPartSettled k.machine (id_of (suc index) o) x.file.0 x.index chunk.index place x.asked
     is_settled within =
-        let size_is : k.machine.config ≡ config = (grows_to (new_machine config) k.machine reached (known_at_first config)).config in
         settled_entries_are_successes k.machine (suc index) x o h.call chunk number d.stage_is h.stands.count settled.placed.entry there call_is settled.settled low place
-        (of_part k.machine.config.chunk x.index chunk.index place x.asked settled.placed.entry.mutation
-        (subst (λ (z : ℕ). IsAskedOf z chunk.index x.asked settled.placed.entry.mutation) (ap (λ (c : Config). c.chunk) (sym size_is)) (subst (λ (c : Call). IsAskedOf config.chunk chunk.index c settled.placed.entry.mutation) h.call.call_is asked_of))
+        (of_part (chunk_size k.machine x.file.0) x.index chunk.index place x.asked settled.placed.entry.mutation
+        (subst (λ (c : Call). IsAskedOf (chunk_size k.machine x.file.0) chunk.index c settled.placed.entry.mutation) h.call.call_is asked_of)
         settled.place_is h.part within)
 
 pub waited_successes_are_settled : WaitedSuccessesAreSettled

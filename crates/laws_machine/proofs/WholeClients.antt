@@ -186,7 +186,7 @@ module _ (config : Config) (servers clients : ℕ) (w : WorldState) (r : world.I
 
     goes : (actions : List Action) × IsTrue (list_all is_of_entries actions) × IsLawful k.machine actions × AreChunksBeside config v (moved k actions k.log k.gone v.observer.orders)
         × AddsNumberedTries w v k (after_all k.machine actions)
-    goes = other_events_keep_chunks_beside config servers clients w r kept e choice clocks (not_masters w e index moment i given) k h.chunks (asks.numbers ss k h)
+    goes = other_events_keep_chunks_beside config servers clients w r kept e choice clocks (not_masters w e index moment i given) k (h.run.0, h.run.1, h.run.3) h.chunks h.sized (asks.numbers ss k h)
 
     abbrev placed : ChunkSides
     placed = moved k goes.0 k.log k.gone v.observer.orders

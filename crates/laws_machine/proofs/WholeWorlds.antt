@@ -61,7 +61,7 @@ new_files : (config : Config) (count : ℕ) → AreFileClients (map (new_client 
 new_files config count = λ index s at up.
     let one = new_one config (first_numbers count) index s at in
     subst (λ (t : ClientState). IsFileClient (new_machine config) (suc index) t) one.1
-    (record { settings = refl; fds = refl; descriptors = λ fd. table.get-empty nat_cmp fd; kept = tt; places = tt; call = refl })
+    (record { settings = refl; fds = refl; descriptors = λ fd. table.get-empty nat_cmp fd; kept = tt; places = tt; shapes = λ file f is. none_some f (sym (table.get-empty nat_cmp file) ∙ is); call = refl })
 
 new_requests : (config : Config) (servers clients : ℕ) → AreRequestsNumbered config (new_world config servers clients) (new_machine config)
 new_requests config servers clients = (
@@ -205,7 +205,7 @@ module _ (config : Config) (servers clients : ℕ) (w : WorldState) (r : world.I
 
     goes : (actions : List Action) × IsTrue (list_all is_of_entries actions) × IsLawful k.machine actions × AreChunksBeside config v (moved k actions k.log k.gone v.observer.orders)
         × AddsNumberedTries w v k (after_all k.machine actions)
-    goes = other_events_keep_chunks_beside config servers clients w r kept e choice clocks (not_masters w e of) k h.chunks (asks.numbers ss k h)
+    goes = other_events_keep_chunks_beside config servers clients w r kept e choice clocks (not_masters w e of) k (h.run.0, h.run.1, h.run.3) h.chunks h.sized (asks.numbers ss k h)
 
     abbrev placed : ChunkSides
     placed = moved k goes.0 k.log k.gone v.observer.orders

@@ -7,6 +7,7 @@ use Rattle.messages.specs.declared.event.Event.{Event}
 use Rattle.messages.specs.declared.event.Event.TheVariants as event
 use Rattle.relaxed_file.specs.Machine.{Machine, new_machine}
 use Rattle.relaxed_file.specs.Run.{Action, IsLawful, after_all}
+use Rattle.relaxed_file.specs.Run as run
 use Rattle.protocol.specs.Choice.{Choice}
 use Rattle.protocol.specs.World.{WorldState, new_world, happens, IsReached, is_kept}
 use Rattle.laws_steps.specs.Versions.{IsLeaseOver}
@@ -17,6 +18,7 @@ use Rattle.laws_machine.specs.ShownChunks.{AreShownStanding}
 use Rattle.laws_machine.specs.ToldHolders.{AreHoldersTold, HoldersMayGoOn}
 use Rattle.laws_machine.specs.ToldRounds.{AreToldRounds}
 use Rattle.laws_machine.specs.Tries.{AddsNumberedTries}
+use Rattle.laws_machine.specs.RoundSizes.{AreRoundsSized}
 
 -- The machine's chunks are those of the master's log, with the orders that are seen; also of handles that are gone; the round of each lease that isn't over is open, and so is each that was told, in the file's chunk of its index; each holder that was told may be read; and each chunk that is shown stands for the machine's.
 pub record AreChunksBeside (config : Config) (w : WorldState) (k : ChunkSides) : Type 0 where
@@ -52,7 +54,7 @@ abbrev pub OtherEventsKeepChunksBeside : Type 0
 OtherEventsKeepChunksBeside =
     (config : Config) (servers clients : ℕ) (w : WorldState) → IsReached config servers clients w → IsTrue (is_kept w)
     → (e : Event) (choice : Choice) → IsTrue (happens w e choice).world.observer.are_clocks_kept → (IsMastersEvent w e → ⊥)
-    → (k : ChunkSides) → AreChunksBeside config w k → AreForOpenCalls w k
+    → (k : ChunkSides) → run.IsReached config k.machine → AreChunksBeside config w k → AreRoundsSized w k → AreForOpenCalls w k
     → (actions : List Action) × IsTrue (list_all is_of_entries actions) × IsLawful k.machine actions
     × AreChunksBeside config (happens w e choice).world (moved k actions k.log k.gone (happens w e choice).world.observer.orders)
     × AddsNumberedTries w (happens w e choice).world k (after_all k.machine actions)

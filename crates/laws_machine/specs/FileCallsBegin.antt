@@ -1,5 +1,5 @@
 -- A call on a file begins at a client and at the machine (sections 2.3, 2.4 and 2.7.1).
-use Rattle.std.specs.Prelude.{◌≡◌, ℕ, ◌≤◌, Some, None, IsFalse}
+use Rattle.std.specs.Prelude.{◌≡◌, ℕ, Some, None, IsFalse}
 use Rattle.std.specs.FinMap as table
 use Rattle.gfs_types.specs.declared.config.Config.{Config}
 use Rattle.gfs_types.specs.declared.call.Call.{Call}
@@ -22,7 +22,7 @@ pub record IsBegun (m : Machine) (client : ℕ) (c : Call) (d : ClientDoing) : T
 -- A call on a file begins where none is open: it asks, is refused as its descriptor isn't open or its range is too long, is done as it is empty, or closes the descriptor; or memory is refused, and nothing changed.
 abbrev pub FileCallsAreBegun : Type 0
 FileCallsAreBegun =
-    (config : Config) (m : Machine) → IsReached config m → 1 ≤ m.config.chunk → (client : ℕ) (s : ClientState) → IsFileClient m client s → s.current ≡ None
+    (config : Config) (m : Machine) → IsReached config m → (client : ℕ) (s : ClientState) → IsFileClient m client s → s.current ≡ None
     → ((fd file : ℕ) → table.get s.descriptors fd ≡ Some file → IsFileOpen s file)
     → (moment : ℕ) (c : Call) → IsFalse (is_name_call c)
     → IsBegun m client c (client_call_goes s moment c) × IsBegun m client c (answers (client_begins (client_at s moment)) (answer.Refused NoMemory))

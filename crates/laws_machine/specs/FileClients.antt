@@ -33,6 +33,7 @@ use Rattle.protocol.specs.ClientAttempts.{is_length, is_mutation}
 use Rattle.protocol.specs.ClientCache.{is_same_place}
 use Rattle.protocol_invariant.specs.ClientParts.{index_asked}
 use Rattle.laws_names.specs.FollowedClients.{answer_shown}
+use Rattle.laws_machine.specs.ToldShapes.{IsMadeWith}
 
 -- the call's name
 abbrev pub id_of : ℕ → OpenCall → CallId
@@ -115,12 +116,16 @@ abbrev pub IsCallAlike : Machine → ℕ → Option CurrentCall → Type 0
 IsCallAlike m client None = (m.clients client).open_call ≡ None
 IsCallAlike m client (Some x) = (x.stage ≡ AskedNames) ⊎ ((o : OpenCall) × IsFileCall m client x o)
 
+-- each file that is open was made, with the shape that it is open with
+abbrev pub AreOpenAsMade : Machine → Table OpenFile → Type 0
+AreOpenAsMade m files = (file : ℕ) (f : OpenFile) → table.get files file ≡ Some f → IsMadeWith m file f.shape
+
 -- A client that is up, at the machine; its open files have the shapes that they have there.
 pub record IsFileClient (m : Machine) (client : ℕ) (s : ClientState) : Type 0 where
   pub settings : s.config ≡ m.config
   pub fds : s.fd_count ≡ (m.clients client).fd_count
   pub descriptors : (fd : ℕ) → table.get s.descriptors fd ≡ (m.clients client).descriptors fd
-  pub shapes : (file : ℕ) (f : OpenFile) → table.get s.files file ≡ Some f → f.shape ≡ (m.files file).shape
+  pub shapes : AreOpenAsMade m s.files
   pub kept : AllByRecursion (IsKeptNote (m.clients client).notes s.files s.fd_count) s.cache.entries
   pub places : AreOfPlaces s.cache.entries
   pub call : IsCallAlike m client s.current

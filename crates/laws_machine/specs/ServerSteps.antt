@@ -30,6 +30,8 @@ use Rattle.laws_machine.specs.ChunksAlike.{ChunkSides, IsRoundOpen, AreChunksAli
 use Rattle.laws_machine.specs.HoldersApart.{KeepsStanding}
 use Rattle.laws_machine.specs.Rounds.{IsLogOf, IsMastersStep}
 use Rattle.laws_machine.specs.Tries.{IsNumberedAt, IsRise, RiseBy}
+use Rattle.laws_machine.specs.RoundSizes.{AreRoundsSized}
+use Rattle.relaxed_file.specs.Run as run
 
 -- a mutation takes its place in an order, or is settled there
 abbrev pub is_of_entries : Action → Bool
@@ -90,5 +92,6 @@ abbrev pub OtherEventsAreTaken : Type 0
 OtherEventsAreTaken =
     (config : Config) (servers clients : ℕ) (w : WorldState) → IsReached config servers clients w → IsTrue (is_kept w)
     → (e : Event) (choice : Choice) → IsTrue (happens w e choice).world.observer.are_clocks_kept → (IsMastersStep w e → ⊥)
-    → (k : ChunkSides) → k.machine.config ≡ config → k.orders ≡ w.observer.orders → IsLogOf w.master k.log → AreChunksAlike k → HasRounds (IsLeaseOver w) k → AreForOpenCalls w k
+    → (k : ChunkSides) → k.machine.config ≡ config → k.orders ≡ w.observer.orders → IsLogOf w.master k.log → AreChunksAlike k → HasRounds (IsLeaseOver w) k
+    → run.IsReached config k.machine → AreRoundsSized w k → AreForOpenCalls w k
     → (g : Option (IsNumberedAt w (happens w e choice).world k)) × ComesToOrders (IsLeaseOver w) k (happens w e choice).world.observer.orders (IsRise w (happens w e choice).world k g)

@@ -20,10 +20,8 @@ use Rattle.protocol.specs.World.{WorldState, happens, IsReached}
 use Rattle.laws_versions.specs.ReplacedChunks.{IsToldAt}
 
 -- The file was made, with this shape, which has chunks of a byte at least.
-pub record IsMadeWith (m : Machine) (file : ℕ) (shape : Shape) : Type 0 where
-  pub made : file ≤ m.file_count
-  pub shape_is : shape ≡ (m.files file).shape
-  pub least : 1 ≤ shape.chunk
+abbrev pub IsMadeWith : Machine → ℕ → Shape → Type 0
+IsMadeWith m file shape = (file ≤ m.file_count) × (shape ≡ (m.files file).shape) × (1 ≤ shape.chunk)
 
 -- So are a file that an Open found, with the shape that was told of it, and one for whose chunk a client asked, with that of the location that it was told of a chunk that was granted.
 pub record AreShapesTold (sent : List Message) (m : Machine) : Type 0 where
