@@ -4,7 +4,7 @@ use Rattle.std.proofs.Common.{◌≡◌, ℕ, ◌+◌, ◌-◌, ◌<◌, ◌≤�
 use Rattle.std.specs.Prelude.{◌≢◌, ◌==◌, ◌&&◌, ◌/◌, nat_le, nat_lt, cond, is_some}
 use Rattle.std.specs.Option.{option_map}
 use Rattle.std.specs.FinMap as table
-use Rattle.std.proofs.lemmas.Bool.{and_parts, true≢false, eqb-true, eqb-false, ltb-true, ltb-false, leb-true}
+use Rattle.std.proofs.lemmas.Bool.{and_parts, true≢false, eqb-true, eqb-false, ltb-true, ltb-false, leb-true, leb-false}
 use Rattle.gfs_types.specs.declared.ids.Node.TheVariants.{Master}
 use Rattle.gfs_types.specs.declared.ids.ServerId.{ServerId}
 use Rattle.gfs_types.specs.declared.ids.DataId.{DataId}
@@ -44,7 +44,7 @@ use Rattle.leases.specs.LeaseHeld.{extended, counts_at}
 use Rattle.protocol.specs.Sending.{the_server, the_client, handle_of, version_of, serial_of, server_number, order_number}
 use Rattle.protocol.specs.PushBuffer.{next_hop, hops_after}
 use Rattle.protocol.specs.declared.seen.Seen.TheVariants.{Numbered}
-use Rattle.protocol.specs.Server.{ServerState, ServerDoing, server_begins, counting_primary, sends, refuses, stores, shows, with_primary, without_lease, takes_data, drops_corrupt, primary_of}
+use Rattle.protocol.specs.Server.{ServerState, ServerDoing, server_begins, counting_primary, sends, refuses, stores, shows, with_primary, without_lease, takes_data, drops_corrupt, primary_of, chunk_limit}
 use Rattle.protocol.specs.ServerReads.{answers_bytes, reads_from, measures, sends_image, copies_out}
 use Rattle.protocol.specs.ServerWrites.{passes_on, refuses_attempt, answers_settled, denies, acknowledges, primary_applies, places, appends_as, mutates_with, mutates_new, mutates_as, mutates_under, nacks, member_stores, member_applies, applies_data, applies_change, forwarded_to, acked_under, refuses_waiting, nacked_under}
 use Rattle.protocol.specs.ServerOrders.{on_order, records, can_take, takes_create, raises, takes_set_version, holds_version, takes_grant, extends_held, ends_held, takes_revoke, drops_old, takes_drop, is_pending_clone, takes_clone, takes_image, copies_locally, takes_copy_local}
@@ -255,12 +255,12 @@ IsPlacedOf other bytes m = ⊥
 abbrev pub IsPlacedAt : (size count : ℕ) → List ℕ → Mutation → Type 0
 IsPlacedAt size count bytes (mutation.Write offset written) = (written ≡ bytes) × (offset + length written ≤ size)
 IsPlacedAt size count bytes (mutation.Append offset written) = (written ≡ bytes) × (offset ≡ count) × (offset + length written ≤ size)
-IsPlacedAt size count bytes (mutation.Pad offset end) = (offset ≡ count) × (count ≢ size) × (size < offset + length bytes) × (end ≡ size)
+IsPlacedAt size count bytes (mutation.Pad offset end) = (offset ≡ count) × (count < size) × (size < offset + length bytes) × (end ≡ size)
 
 -- an append that is placed, or a pad in its stead, is at most a quarter of a chunk; it begins below the chunk's end
 abbrev pub IsRecord : (size count : ℕ) → List ℕ → Mutation → Type 0
 IsRecord size count bytes (mutation.Write offset written) = Unit {0}
-IsRecord size count bytes (mutation.Append offset written) = (nat_lt (size / 4) (length bytes) ≡ false) × (count ≢ size)
+IsRecord size count bytes (mutation.Append offset written) = (nat_lt (size / 4) (length bytes) ≡ false) × (count < size)
 IsRecord size count bytes (mutation.Pad offset end) = nat_lt (size / 4) (length bytes) ≡ false
 
 -- a new attempt that is numbered as this mutation
@@ -270,8 +270,8 @@ pub record Numbering (s : ServerState) (i : NodeInput) : Type 0 where
   pub pushed : data_of s.pushed a.c.id ≡ Some bytes
   pub placed : Mutation
   pub of : IsPlacedOf a.c.aim bytes placed
-  pub at : IsPlacedAt s.config.chunk a.row.count bytes placed
-  pub whole : IsRecord s.config.chunk a.row.count bytes placed
+  pub at : IsPlacedAt (chunk_limit s a.p.chunk) a.row.count bytes placed
+  pub whole : IsRecord (chunk_limit s a.p.chunk) a.row.count bytes placed
   pub room : nat_le counter_limit a.p.serial ≡ false
 
 -- the range that it writes can be written over
@@ -294,7 +294,7 @@ IsStoredAs handle serial kept (change.Append offset) x from end_place =
 IsStoredAs handle serial kept (change.Pad offset end) x from end_place =
     (x ≡ Zero (handle_of handle) (serial_of serial) offset (end - offset)) × (from ≡ offset) × (end_place ≡ offset + (end - offset))
 
--- a forwarded mutation that is later than the replica, with its data, within the chunk
+-- a forwarded mutation that is later than the replica, with its data, within the chunk that the Forward tells
 pub record Storing (s : ServerState) (i : NodeInput) : Type 0 where
   pub f : Found s i
   pub later : f.row.serial.0 < f.c.serial.0
@@ -302,7 +302,7 @@ pub record Storing (s : ServerState) (i : NodeInput) : Type 0 where
   pub from : ℕ
   pub end_place : ℕ
   pub stored : IsStoredAs f.c.handle.0 f.c.serial.0 (data_of s.pushed f.c.id) f.c.named x from end_place
-  pub fits : end_place ≤ s.config.chunk
+  pub fits : end_place ≤ chunk_limit s f.c.chunk
 
 -- a lease that is there under this handle
 pub record Held (s : ServerState) (handle : ℕ) : Type 0 where
@@ -473,7 +473,7 @@ module _ (s : ServerState) (i : NodeInput) (P : ServerDoing → Type 0) (k : Out
   push_comes c (Some next) = k.passes_push c next
 
   places_comes : (a : Attempting s i) (bytes : List ℕ) (m : Mutation) → data_of s.pushed a.c.id ≡ Some bytes → IsPlacedOf a.c.aim bytes m
-      → IsPlacedAt s.config.chunk a.row.count bytes m → IsRecord s.config.chunk a.row.count bytes m
+      → IsPlacedAt (chunk_limit s a.p.chunk) a.row.count bytes m → IsRecord (chunk_limit s a.p.chunk) a.row.count bytes m
       → P (places (server_begins s) a.c.handle.0 a.p a.c.id m)
   places_comes a bytes m pushed of at whole =
       on_cond P (nat_le counter_limit a.p.serial) Begun _ (λ _. k.rests)
@@ -483,24 +483,24 @@ module _ (s : ServerState) (i : NodeInput) (P : ServerDoing → Type 0) (k : Out
       (λ rotten. k.spoils (record { a = a; bytes = bytes; pushed = pushed; placed = m; of = of; at = at; whole = whole; room = room }) rotten))
 
   append_comes : (a : Attempting s i) (bytes : List ℕ) → data_of s.pushed a.c.id ≡ Some bytes → a.c.aim ≡ target.Append
-      → P (appends_as (server_begins s) a.c.handle.0 a.p a.c.id bytes (placing a.row.count (length bytes) s.config.chunk))
+      → P (appends_as (server_begins s) a.c.handle.0 a.p a.c.id bytes (placing a.row.count (length bytes) (chunk_limit s a.p.chunk)))
   append_comes a bytes pushed is =
-      let limit : ℕ = s.config.chunk in
+      let limit : ℕ = chunk_limit s a.p.chunk in
       let count : ℕ = a.row.count in
       let good : Placing → Type 0 = λ x. P (appends_as (server_begins s) a.c.handle.0 a.p a.c.id bytes x) in
       on_cond good (nat_lt (limit / 4) (length bytes)) TooLong _ (λ _. k.is_long a)
-      (λ short. on_cond good (count == limit) Full _ (λ _. k.is_full a)
-      (λ apart. on_cond good (nat_lt limit (count + length bytes)) (Pad count) (At count)
+      (λ short. on_cond good (nat_le limit count) Full _ (λ _. k.is_full a)
+      (λ room. on_cond good (nat_lt limit (count + length bytes)) (Pad count) (At count)
       (λ over. places_comes a bytes (mutation.Pad count limit) pushed (subst (λ (t : Target). IsPlacedOf t bytes (mutation.Pad count limit)) (sym is) tt)
-      (refl, eqb-false count limit apart, ltb-true limit (count + length bytes) over, refl) short)
+      (refl, leb-false limit count room, ltb-true limit (count + length bytes) over, refl) short)
       (λ fits. places_comes a bytes (mutation.Append count bytes) pushed (subst (λ (t : Target). IsPlacedOf t bytes (mutation.Append count bytes)) (sym is) refl)
-      (refl, refl, ltb-false limit (count + length bytes) fits) (short, eqb-false count limit apart))))
+      (refl, refl, ltb-false limit (count + length bytes) fits) (short, leb-false limit count room))))
 
   with_comes : (a : Attempting s i) (bytes : List ℕ) (t : Target) → data_of s.pushed a.c.id ≡ Some bytes → a.c.aim ≡ t → P (mutates_with (server_begins s) a.c.handle.0 a.p a.row a.c.id t bytes)
   with_comes a bytes (target.Write offset) pushed is =
-      on_cond P (nat_lt s.config.chunk (offset + length bytes)) Begun (places Begun a.c.handle.0 a.p a.c.id (mutation.Write offset bytes)) (λ _. k.rests)
+      on_cond P (nat_lt (chunk_limit s a.p.chunk) (offset + length bytes)) Begun (places Begun a.c.handle.0 a.p a.c.id (mutation.Write offset bytes)) (λ _. k.rests)
       (λ fits. places_comes a bytes (mutation.Write offset bytes) pushed (subst (λ (t : Target). IsPlacedOf t bytes (mutation.Write offset bytes)) (sym is) (refl, refl))
-      (refl, ltb-false s.config.chunk (offset + length bytes) fits) tt)
+      (refl, ltb-false (chunk_limit s a.p.chunk) (offset + length bytes) fits) tt)
   with_comes a bytes target.Append pushed is = append_comes a bytes pushed is
 
   new_comes : (l : Leased s i) (o : Option Row) (found : Option (List ℕ)) → nat_le l.c.deadline.0 s.now ≡ false → attempted l.p l.c.id.client l.c.id.seq ≡ IsNew → row_at s.disk l.c.handle.0 ≡ o
@@ -535,10 +535,10 @@ module _ (s : ServerState) (i : NodeInput) (P : ServerDoing → Type 0) (k : Out
 
   applied_comes : (f : Found s i) (x : StoreChange) (from end_place : ℕ) → f.row.serial.0 < f.c.serial.0
       → IsStoredAs f.c.handle.0 f.c.serial.0 (data_of s.pushed f.c.id) f.c.named x from end_place
-      → P (member_applies (server_begins s) f.c.m.sender f.c.handle.0 f.c.version.0 f.c.serial.0 f.c.id x from end_place)
+      → P (member_applies (server_begins s) f.c.m.sender f.c.handle.0 f.c.version.0 f.c.serial.0 f.c.id f.c.chunk x from end_place)
   applied_comes f x from end_place later stored =
-      on_cond P (nat_lt s.config.chunk end_place) Begun _ (λ _. k.rests)
-      (λ fits. member_comes (record { f = f; later = later; x = x; from = from; end_place = end_place; stored = stored; fits = ltb-false s.config.chunk end_place fits })
+      on_cond P (nat_lt (chunk_limit s f.c.chunk) end_place) Begun _ (λ _. k.rests)
+      (λ fits. member_comes (record { f = f; later = later; x = x; from = from; end_place = end_place; stored = stored; fits = ltb-false (chunk_limit s f.c.chunk) end_place fits })
       (is_writable_at s.disk f.c.handle.0 from end_place) refl)
 
   -- what is stored of data that are there
@@ -547,7 +547,7 @@ module _ (s : ServerState) (i : NodeInput) (P : ServerDoing → Type 0) (k : Out
       → IsStoredAs f.c.handle.0 f.c.serial.0 (data_of s.pushed f.c.id) f.c.named (Write (handle_of f.c.handle.0) (serial_of f.c.serial.0) offset bytes) offset (offset + length bytes)
 
   data_comes : (f : Found s i) (offset : ℕ) (o : Option (List ℕ)) → f.row.serial.0 < f.c.serial.0 → Stored f offset → data_of s.pushed f.c.id ≡ o
-      → P (applies_data (server_begins s) f.c.m.sender f.c.handle.0 f.c.version.0 f.c.serial.0 f.c.id offset o)
+      → P (applies_data (server_begins s) f.c.m.sender f.c.handle.0 f.c.version.0 f.c.serial.0 f.c.id f.c.chunk offset o)
   data_comes f offset None later stored is = k.lacks_bytes f is
   data_comes f offset (Some bytes) later stored is =
       applied_comes f (Write (handle_of f.c.handle.0) (serial_of f.c.serial.0) offset bytes) offset (offset + length bytes) later (stored bytes is)
@@ -557,7 +557,7 @@ module _ (s : ServerState) (i : NodeInput) (P : ServerDoing → Type 0) (k : Out
   StoredAs f c x from end_place = IsStoredAs f.c.handle.0 f.c.serial.0 (data_of s.pushed f.c.id) c x from end_place
 
   change_comes : (f : Found s i) (c : Change) → f.c.named ≡ c → f.row.serial.0 < f.c.serial.0
-      → P (applies_change (server_begins s) f.c.m.sender f.c.handle.0 f.c.version.0 f.c.serial.0 f.c.id c)
+      → P (applies_change (server_begins s) f.c.m.sender f.c.handle.0 f.c.version.0 f.c.serial.0 f.c.id f.c.chunk c)
   change_comes f (change.Write offset) is later =
       data_comes f offset (data_of s.pushed f.c.id) later
       (λ bytes there. subst (λ (c : Change). StoredAs f c (Write (handle_of f.c.handle.0) (serial_of f.c.serial.0) offset bytes) offset (offset + length bytes)) (sym is)
@@ -571,11 +571,11 @@ module _ (s : ServerState) (i : NodeInput) (P : ServerDoing → Type 0) (k : Out
       applied_comes f (Zero (handle_of f.c.handle.0) (serial_of f.c.serial.0) offset count) offset (offset + count) later
       (subst (λ (c : Change). StoredAs f c (Zero (handle_of f.c.handle.0) (serial_of f.c.serial.0) offset count) offset (offset + count)) (sym is) (refl, refl, refl))
 
-  forward_comes : (c : Forwarding i) (o : Option Row) → row_at s.disk c.handle.0 ≡ o → P (forwarded_to (server_begins s) c.m.sender c.handle.0 c.version.0 c.serial.0 c.id c.named o)
+  forward_comes : (c : Forwarding i) (o : Option Row) → row_at s.disk c.handle.0 ≡ o → P (forwarded_to (server_begins s) c.m.sender c.handle.0 c.version.0 c.serial.0 c.id c.chunk c.named o)
   forward_comes c None found = k.lacks_replica c found
   forward_comes c (Some r) found =
       on_cond P (r.version.0 == c.version.0) _ (nacks Begun c.m.sender c.handle.0 c.version.0 c.serial.0 Version)
-      (λ same. on_cond P (nat_lt r.serial.0 c.serial.0) (applies_change Begun c.m.sender c.handle.0 c.version.0 c.serial.0 c.id c.named) (nacks Begun c.m.sender c.handle.0 c.version.0 c.serial.0 OldSerial)
+      (λ same. on_cond P (nat_lt r.serial.0 c.serial.0) (applies_change Begun c.m.sender c.handle.0 c.version.0 c.serial.0 c.id c.chunk c.named) (nacks Begun c.m.sender c.handle.0 c.version.0 c.serial.0 OldSerial)
       (λ later. change_comes (record { c = c; row = r; found = found; same = eqb-true r.version.0 c.version.0 same }) c.named refl (ltb-true r.serial.0 c.serial.0 later))
       (λ old. k.has_serial (record { c = c; row = r; found = found; same = eqb-true r.version.0 c.version.0 same }) (ltb-false r.serial.0 c.serial.0 old)))
       (λ apart. k.has_version c r found (eqb-false r.version.0 c.version.0 apart))

@@ -49,6 +49,7 @@ use Rattle.laws_entries.proofs.LeasedAnswers.{answers_are_given_under_leases}
 use Rattle.laws_versions.specs.ReplacedChunks.{IsToldAt}
 use Rattle.laws_versions.proofs.ReplacedChunks.{replaced_chunks_have_no_lease, replaced_from}
 use Rattle.laws_calls.specs.PassedAttempts.{PassedAttemptsHaveNoLease}
+use Rattle.protocol.specs.Client.{file_chunk}
 
 -- a step of a list
 
@@ -172,7 +173,7 @@ located config servers clients steps index file chunk seq x h granted =
     grown = subst (λ (u : WorldState). IsGrown v.sent u.sent) (sym (ap (λ (xs : List (Event × Choice)). after_events start xs) was.steps_are ∙ after_both start was.before (was.step ∷ was.after))) (steps_grown v (was.step ∷ was.after))
 
     stood : HasAsked v.sent (suc index) (now.call).file.0 now.asked
-    stood = subst (λ (st : Stage). WasRequestSent v.sent (suc index) v.config.chunk now.call st) now.ask_is (((known_reached config servers clients was.before).known index now.client now.client_is).stands now.call now.call_is)
+    stood = subst (λ (st : Stage). WasRequestSent v.sent (suc index) (file_chunk now.client (now.call).file.0) now.call st) now.ask_is (((known_reached config servers clients was.before).known index now.client now.client_is).stands now.call now.call_is)
 
 -- as a client is about to ask a primary, it asked for earlier numbers alone
 asked_earlier : (config : Config) (servers clients : ℕ) (steps : List (Event × Choice)) (index file : ℕ) (chunk : ToldChunk) (seq : ℕ) (x : Happened) → IsSentFor index (after_events (new_world config servers clients) steps) x file chunk seq

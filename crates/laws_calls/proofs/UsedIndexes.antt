@@ -28,7 +28,7 @@ use Rattle.client_state.specs.declared.kept.Cached.{Cached}
 use Rattle.protocol.specs.Tables.{element_at, with_at, first_numbers}
 use Rattle.protocol.specs.Sending.{message, data_id, the_server, the_client}
 use Rattle.protocol.specs.Choice.{Choice}
-use Rattle.protocol.specs.Client.{ClientState, ClientDoing, new_client, client_begins, stopped_client, answers}
+use Rattle.protocol.specs.Client.{ClientState, ClientDoing, new_client, client_begins, stopped_client, answers, file_chunk}
 use Rattle.protocol.specs.ClientAttempts.{is_mutation, target_of, mutate_planned, chunk_of}
 use Rattle.protocol.specs.ClientStep.{may_call, has_room_to_count, client_at, calls, client_does, client_step, client_call}
 use Rattle.protocol.specs.World.{WorldState, new_world, happens, after_events, IsReached}
@@ -285,7 +285,7 @@ used_was_told config servers clients steps index s c chunk at current used = (la
     grown = subst (λ (u : WorldState). IsGrown v.sent u.sent) (sym (ap (λ (xs : List (Event × Choice)). after_events start xs) was.steps_are ∙ after_both start was.before (was.step ∷ was.after))) (steps_grown v (was.step ∷ was.after))
 
     stood : HasAsked v.sent (suc index) (now.call).file.0 now.asked
-    stood = subst (λ (st : Stage). WasRequestSent v.sent (suc index) v.config.chunk now.call st) now.ask_is (((known_reached config servers clients was.before).known index now.client now.client_is).stands now.call now.call_is)
+    stood = subst (λ (st : Stage). WasRequestSent v.sent (suc index) (file_chunk now.client (now.call).file.0) now.call st) now.ask_is (((known_reached config servers clients was.before).known index now.client now.client_is).stands now.call now.call_is)
 
     there : IsTold v.sent (suc index) c.file.0 law.0
     there =

@@ -27,7 +27,7 @@ use Rattle.client_state.specs.declared.call.CurrentCall.{CurrentCall}
 use Rattle.client_state.specs.declared.call.ToldChunk.{ToldChunk}
 use Rattle.client_state.specs.declared.call.Stage.{Stage}
 use Rattle.client_state.specs.declared.call.Stage.TheVariants.{AskedNames, AskedWhere, MustAskAgain, SentData, SentMutate, SentRead, IsOver, HasAnswer}
-use Rattle.protocol.specs.Client.{ClientState, ClientDoing, stopped_client, client_begins, committed, with_current, answers}
+use Rattle.protocol.specs.Client.{ClientState, ClientDoing, stopped_client, client_begins, committed, with_current, answers, file_chunk}
 use Rattle.protocol.specs.ClientCache.{is_same_place, is_fresh, fresh_one, cached}
 use Rattle.protocol.specs.ClientAttempts.{wanted_by, read_body, read_planned, again_planned, push_planned_to, mutate_planned, chunk_of, name_planned, asks}
 use Rattle.protocol.specs.ClientTakes.{opens}
@@ -38,7 +38,7 @@ use Rattle.laws_base.proofs.Entries.{AllOf}
 use Rattle.laws_base.proofs.ServerMoves.{IsCameIn}
 use Rattle.laws_base.proofs.MessagesSent.{IsSent, sent_before, sent_after}
 use Rattle.laws_steps.proofs.ClientWalk.{IsIdle, HoldsAt, KeepsClient, KeepsCalls, step_kept, call_kept, closed, heard_at, is_told_of, place_at}
-use Rattle.laws_steps.specs.Reads.{HasAsked, IsTold, IsReading, request_to}
+use Rattle.laws_steps.specs.Reads.{HasAsked, IsTold, IsReading}
 use Rattle.laws_steps.proofs.Caches.{found, after_look, after_drop, after_put}
 
 abbrev pub IsKeptTold : List Message → ℕ → Place × Cached → Type 0
@@ -54,7 +54,7 @@ WasRequestSent sent client chunk_size c other = Unit {0}
 pub record Knows (config : Config) (sent : List Message) (client : ℕ) (s : ClientState) : Type 0 where
   pub settings : s.config ≡ config
   pub cache : AllOf (IsKeptTold sent client) s.cache.entries
-  pub stands : (c : CurrentCall) → s.current ≡ Some c → WasRequestSent sent client config.chunk c c.stage
+  pub stands : (c : CurrentCall) → s.current ≡ Some c → WasRequestSent sent client (file_chunk s c.file.0) c c.stage
 
 -- the number of the reading for which it waits
 abbrev pub stage_reading : Stage → Option ℕ
@@ -122,7 +122,7 @@ module _ (sent more : List Message) (client : ℕ) where
 
   pub knows_later : (config : Config) (s : ClientState) → Knows config sent client s → Knows config (sent ++ more) client s
   knows_later config s h =
-      record { settings = h.settings; cache = all_later s.cache.entries h.cache; stands = λ c is. stands_later config.chunk c c.stage (h.stands c is) }
+      record { settings = h.settings; cache = all_later s.cache.entries h.cache; stands = λ c is. stands_later (file_chunk s c.file.0) c c.stage (h.stands c is) }
 
 idle_stands : (sent : List Message) (client chunk_size : ℕ) (c : CurrentCall) (st : Stage) → IsIdle st → WasRequestSent sent client chunk_size c st
 idle_stands sent client chunk_size c (HasAnswer reply) is = tt
@@ -171,7 +171,7 @@ module _ (config : Config) (sent : List Message) (k client : ℕ) (s : ClientSta
     none_read d none = inr (λ n is. none_some n (sym none ∙ is))
 
     -- nothing is waited for that was sent in this step
-    rests : (d : ClientDoing) → d.client.config ≡ s.config → AllOf (IsKeptTold sent client) d.client.cache.entries → ((c : CurrentCall) → d.client.current ≡ Some c → WasRequestSent sent client config.chunk c c.stage) → IsSameOrNew s d → After d
+    rests : (d : ClientDoing) → d.client.config ≡ s.config → AllOf (IsKeptTold sent client) d.client.cache.entries → ((c : CurrentCall) → d.client.current ≡ Some c → WasRequestSent sent client (file_chunk d.client c.file.0) c c.stage) → IsSameOrNew s d → After d
     rests d settings cache stands new =
         (knows_later sent (stamped k (option_to_list d.sent)) client config d.client (record { settings = settings ∙ knows.settings; cache = cache; stands = stands }), new)
 
@@ -180,7 +180,7 @@ module _ (config : Config) (sent : List Message) (k client : ℕ) (s : ClientSta
 
     -- one message is sent under the next number
     sends : (d : ClientDoing) (e : CurrentCall) (b : Body) (receiver : Node) → d.client.config ≡ s.config → d.client.number ≡ s.number → AllOf (IsKeptTold sent client) d.client.cache.entries
-        → ((m : Message) → IsSent (sent ++ stamped k (m ∷ [])) (record m { number = k }) → m ≡ message (the_client d.client.id) receiver b → WasRequestSent (sent ++ stamped k (m ∷ [])) client config.chunk e e.stage)
+        → ((m : Message) → IsSent (sent ++ stamped k (m ∷ [])) (record m { number = k }) → m ≡ message (the_client d.client.id) receiver b → WasRequestSent (sent ++ stamped k (m ∷ [])) client (file_chunk d.client e.file.0) e e.stage)
         → ((n : ℕ) → stage_reading e.stage ≡ Some n → n ≡ suc d.client.number)
         → After (record d { client = record d.client { number = suc d.client.number; current = Some e }; sent = Some (message (the_client d.client.id) receiver b) })
     sends d e b receiver settings number cache stands new =
@@ -189,7 +189,7 @@ module _ (config : Config) (sent : List Message) (k client : ℕ) (s : ClientSta
           record {
             settings = settings ∙ knows.settings;
             cache = all_later sent more client d.client.cache.entries cache;
-            stands = λ c is. subst (λ (x : CurrentCall). WasRequestSent (sent ++ more) client config.chunk x x.stage) (same_some e c is) (stands m (sent_after sent more (record m { number = k }) (zero, refl)) refl);
+            stands = λ c is. subst (λ (x : CurrentCall). WasRequestSent (sent ++ more) client (file_chunk d.client x.file.0) x x.stage) (same_some e c is) (stands m (sent_after sent more (record m { number = k }) (zero, refl)) refl);
           },
           inr (λ n is. new n is ∙ ap (λ (x : ℕ). suc x) number),
         )
@@ -208,7 +208,7 @@ module _ (config : Config) (sent : List Message) (k client : ℕ) (s : ClientSta
           sent_is = now;
           sender_is = ap (λ (x : Message). x.sender) is ∙ ap (λ (n : ℕ). the_client n) (hand.1 ∙ id_is);
           receiver_is = ap (λ (x : Message). x.receiver) is;
-          body_is = ap (λ (x : Message). x.body) is ∙ ap (λ (x : Config). request_to x.chunk (suc d.client.number) c chunk h) (hand.0 ∙ knows.settings);
+          body_is = ap (λ (x : Message). x.body) is;
         })
         (λ n is. sym (same_some (suc d.client.number) n is))
 
@@ -251,7 +251,7 @@ module _ (config : Config) (sent : List Message) (k client : ℕ) (s : ClientSta
     told_now c number l now at came =
         record {
           number = number;
-          asked = subst (λ (st : Stage). WasRequestSent sent client config.chunk c st) at (knows.stands c now);
+          asked = subst (λ (st : Stage). WasRequestSent sent client (file_chunk s c.file.0) c st) at (knows.stands c now);
           told = came.0;
           sent_is = came.1;
           receiver_is = came.2;
@@ -281,13 +281,13 @@ module _ (config : Config) (sent : List Message) (k client : ℕ) (s : ClientSta
           hears = λ c number l now at came h. let told = told_now c number l now at came in (heard c l told h, told);
           holders = λ d c l told. (l, told, refl, ([], refl));
           left = λ c chunk rest number now at fresh h.
-              let reading : IsReading sent client config.chunk c chunk rest number = subst (λ (st : Stage). WasRequestSent sent client config.chunk c st) at (knows.stands c now) in
+              let reading : IsReading sent client (file_chunk s c.file.0) c chunk rest number = subst (λ (st : Stage). WasRequestSent sent client (file_chunk s c.file.0) c st) at (knows.stands c now) in
               (reading.location, reading.told, reading.chunk_is, (reading.earlier ++ reading.holder ∷ [], reading.holders_are ∙ append-step reading.earlier reading.holder rest));
           answered = λ d c reply h. answered d reply h.0 h.4;
           name_answered = λ d c reply h. answered d reply h.0 h.4;
           opened = λ c number file shape now at came h. rests (opens (client_begins s) file.0 shape) h.0 h.4 (λ e is. none_some e is) (none_read (opens (client_begins s) file.0 shape) refl);
           waits = λ d c idle h.
-              rests (with_current d c) h.0 h.4 (λ e is. subst (λ (x : CurrentCall). WasRequestSent sent client config.chunk x x.stage) (same_some c e is) (idle_stands sent client config.chunk c c.stage idle))
+              rests (with_current d c) h.0 h.4 (λ e is. subst (λ (x : CurrentCall). WasRequestSent sent client (file_chunk d.client x.file.0) x x.stage) (same_some c e is) (idle_stands sent client (file_chunk d.client c.file.0) c c.stage idle))
               (none_read (with_current d c) (idle_reading c.stage idle));
           waits_again = λ d c h. stays (committed d c (again_planned d.client)) (record c { stage = MustAskAgain }) refl tt refl h.0 h.4;
           asking = λ d c h. asking d c h;
@@ -299,9 +299,9 @@ module _ (config : Config) (sent : List Message) (k client : ℕ) (s : ClientSta
           naming = λ d c end h. stays (committed d c (name_planned d.client c)) (record c { stage = AskedNames }) refl tt refl h.0 h.4;
         }
       where
-        stays : (d : ClientDoing) (e : CurrentCall) → d.client.current ≡ Some e → WasRequestSent sent client config.chunk e e.stage → stage_reading e.stage ≡ None → d.client.config ≡ s.config → AllOf (IsKeptTold sent client) d.client.cache.entries → After d
+        stays : (d : ClientDoing) (e : CurrentCall) → d.client.current ≡ Some e → WasRequestSent sent client (file_chunk d.client e.file.0) e e.stage → stage_reading e.stage ≡ None → d.client.config ≡ s.config → AllOf (IsKeptTold sent client) d.client.cache.entries → After d
         stays d e is stands none settings cache =
-            rests d settings cache (λ c at. subst (λ (x : CurrentCall). WasRequestSent sent client config.chunk x x.stage) (same_some e c (sym is ∙ at)) stands) (none_read d (ap waited_reading is ∙ none))
+            rests d settings cache (λ c at. subst (λ (x : CurrentCall). WasRequestSent sent client (file_chunk d.client x.file.0) x x.stage) (same_some e c (sym is ∙ at)) stands) (none_read d (ap waited_reading is ∙ none))
 
     at_stage : (c : CurrentCall) (st : Stage) → Hand (client_begins s) c → HoldsAt s Hand Hand c st
     at_stage c AskedNames h = h

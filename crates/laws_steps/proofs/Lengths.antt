@@ -1,5 +1,5 @@
 -- In each world that is reached, each replica lies within the chunk, however what was under way is decided.
-use Rattle.std.proofs.Common.{◌≡◌, ℕ, zero, suc, ◌+◌, ◌-◌, ◌≤◌, Bool, true, false, List, [], ◌∷◌, ◌++◌, length, take, drop, replicate, Option, Some, None, refl, sym, ap, subst, ◌∙◌, inl, inr, arith}
+use Rattle.std.proofs.Common.{◌≡◌, ℕ, zero, suc, ◌+◌, ◌-◌, ◌≤◌, Bool, true, false, List, [], ◌∷◌, ◌++◌, length, take, drop, replicate, Option, Some, None, refl, sym, ap, subst, ◌∙◌, inl, inr, arith, min}
 use Rattle.std.specs.Prelude.{slice_set}
 use Rattle.std.specs.FinMap as table
 use Rattle.std.specs.Ordering.{nat_cmp}
@@ -27,6 +27,7 @@ use Rattle.laws_steps.proofs.Events.{HoldsAfter, holds_on, world_reached}
 use Rattle.laws_steps.specs.Replicas.{AreWithin, ReplicasLieWithinTheChunk}
 use Rattle.laws_base.proofs.ServerWalk.{IsPlacedAt}
 use Rattle.laws_steps.proofs.ServerActs.{Acting, acting, with_change, IsWriting, KeepsActs, goes_fine}
+use Rattle.std.proofs.Math.Nat.{min-le_right}
 
 -- lists
 
@@ -135,21 +136,10 @@ Within config c = (c.config ≡ config) × AreWithin config.chunk c.disk × AllO
 more_within : (config : Config) (c : Acting) (x : StoreChange) → IsShort config.chunk x → Within config c → Within config (with_change c x)
 more_within config c x short h = (h.0, h.1, all_joined (IsShort config.chunk) c.changes (x ∷ []) h.2 (short, tt), h.3)
 
-row_within : (size : ℕ) (d : ServerDisk) (handle : ℕ) (r : Row) → row_at d handle ≡ Some r → AreWithin size d → r.count ≤ size
-row_within size d handle r there h = by_replica (replica_of d handle) refl there
-  where
-    by_replica : (o : Option Replica) → replica_of d handle ≡ o → row_of o ≡ Some r → r.count ≤ size
-    by_replica None is g = none_some r g
-    by_replica (Some x) is g = let short = h handle x is in let same : length x.bytes ≡ r.count = ap (λ (o : Option Row). count_of o) g in omega (arith, short, same)
-      where
-        count_of : Option Row → ℕ
-        count_of None = 0
-        count_of (Some y) = y.count
-
-placed_short : (size handle serial count : ℕ) (bytes : List ℕ) (m : Mutation) → count ≤ size → IsPlacedAt size count bytes m → IsShort size (stored_as handle serial m)
-placed_short size handle serial count bytes (mutation.Write offset written) low placed = placed.1
-placed_short size handle serial count bytes (mutation.Append offset written) low placed = placed.2
-placed_short size handle serial count bytes (mutation.Pad offset end) low placed = let at = placed.0 in let ends = placed.3 in omega (arith, low, at, ends)
+placed_short : (limit size handle serial count : ℕ) (bytes : List ℕ) (m : Mutation) → limit ≤ size → IsPlacedAt limit count bytes m → IsShort size (stored_as handle serial m)
+placed_short limit size handle serial count bytes (mutation.Write offset written) most placed = let fits = placed.1 in omega (arith, most, fits)
+placed_short limit size handle serial count bytes (mutation.Append offset written) most placed = let fits = placed.2 in omega (arith, most, fits)
+placed_short limit size handle serial count bytes (mutation.Pad offset end) most placed = let at = placed.0 in let room = placed.1 in let ends = placed.3 in omega (arith, most, at, room, ends)
 
 writing_short : (size handle serial : ℕ) (x : StoreChange) → IsWriting size handle serial x → IsShort size x
 writing_short size handle serial (Write h n offset bytes) is = is.2
@@ -174,7 +164,8 @@ acts_within config kept =
       settles = λ c handle version serial h. h;
       numbers = λ c handle p id m n h.
           more_within config c _
-          (placed_short config.chunk handle (p.serial + 1) n.row.count n.bytes m (row_within config.chunk c.disk handle n.row n.there h.1) (subst (λ (x : Config). IsPlacedAt x.chunk n.row.count n.bytes m) h.0 n.placed)) h;
+          (placed_short (min p.chunk config.chunk) config.chunk handle (p.serial + 1) n.row.count n.bytes m (min-le_right p.chunk config.chunk)
+          (subst (λ (x : Config). IsPlacedAt (min p.chunk x.chunk) n.row.count n.bytes m) h.0 n.placed)) h;
       spoils = λ c handle p id m n h. more_within config c _ tt h;
       applies = λ c handle serial r x there less writing h. more_within config c x (writing_short config.chunk handle serial x (subst (λ (y : Config). IsWriting y.chunk handle serial x) h.0 writing)) h;
     }

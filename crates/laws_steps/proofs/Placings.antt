@@ -1,5 +1,5 @@
 -- A server numbers a mutation by its own replica.
-use Rattle.std.proofs.Common.{◌≡◌, ℕ, ◌+◌, ◌<◌, ◌≤◌, List, [], ◌∷◌, ◌++◌, length, Option, Some, None, refl, sym, ap, subst, ◌∙◌, arith}
+use Rattle.std.proofs.Common.{◌≡◌, ℕ, ◌+◌, ◌<◌, ◌≤◌, List, [], ◌∷◌, ◌++◌, length, Option, Some, None, refl, sym, ap, subst, ◌∙◌, arith, min}
 use Rattle.std.specs.FinMap as table
 use Rattle.gfs_types.specs.declared.config.Config.{Config}
 use Rattle.gfs_types.specs.declared.ids.DataId.{DataId}
@@ -15,7 +15,7 @@ use Rattle.protocol.specs.Choice.{Choice, Ending, Goes, Lost, Stops}
 use Rattle.protocol.specs.Seen.{is_numbering, Taken, no_step}
 use Rattle.protocol.specs.declared.seen.Seen.{Seen}
 use Rattle.protocol.specs.declared.seen.Seen.TheVariants.{Numbered, BecameSettled, CopyStarted}
-use Rattle.protocol.specs.Server.{ServerState, ServerDoing}
+use Rattle.protocol.specs.Server.{ServerState, ServerDoing, chunk_limit}
 use Rattle.protocol.specs.ServerStep.{server_goes, server_ends, server_step}
 use Rattle.laws_base.proofs.Steps.{on_cond, none_some, same_some}
 use Rattle.laws_base.proofs.Entries.{AllOf, all_joined, all_filtered}
@@ -23,7 +23,6 @@ use Rattle.laws_base.proofs.MembersRecorded.{all_at}
 use Rattle.laws_steps.specs.Replicas.{HasReplicaOf, IsPlacedBehind, MutationsArePlacedByReplicas}
 use Rattle.laws_base.proofs.ServerWalk.{IsPlacedAt}
 use Rattle.laws_steps.proofs.ServerActs.{Acting, acting, IsNumbering, shown_as, KeepsActs, goes_fine}
-use Rattle.laws_steps.proofs.Lengths.{IsWithin, servers_within}
 use Rattle.laws_steps.proofs.HeldReplicas.{leases_have_their_replica}
 
 -- a server's numbering as its step finds it
@@ -36,7 +35,7 @@ record IsFound (s : ServerState) (handle version serial : ℕ) (id : DataId) (m 
   there : row_at s.disk handle ≡ Some row
   bytes : List ℕ
   pushed : data_of s.pushed id ≡ Some bytes
-  placed : IsPlacedAt s.config.chunk row.count bytes m
+  placed : IsPlacedAt (chunk_limit s lease.chunk) row.count bytes m
 
 module _ (s : ServerState) where
   abbrev IsShown : Seen → Type 0
@@ -62,7 +61,7 @@ module _ (s : ServerState) where
           there = subst (λ (d : ServerDisk). row_at d handle ≡ Some n.row) h.1 n.there;
           bytes = n.bytes;
           pushed = n.pushed;
-          placed = subst (λ (x : Config). IsPlacedAt x.chunk n.row.count n.bytes m) h.0 n.placed;
+          placed = subst (λ (x : Config). IsPlacedAt (min p.chunk x.chunk) n.row.count n.bytes m) h.0 n.placed;
         },
         tt,
       )
@@ -98,13 +97,10 @@ row_count : (o : Option Replica) (r : Replica) (row : Row) → o ≡ Some r → 
 row_count None r row is there = none_some r is
 row_count (Some x) r row is there = ap (λ (y : Replica). length y.bytes) (sym (same_some x r is)) ∙ ap (λ (y : Row). y.count) (same_some _ row there)
 
-placed_behind : (size count : ℕ) (bytes : List ℕ) (m : Mutation) → count ≤ size → IsPlacedAt size count bytes m → IsPlacedBehind size count bytes m
-placed_behind size count bytes (mutation.Write offset written) low h = h
-placed_behind size count bytes (mutation.Append offset written) low h = h
-placed_behind size count bytes (mutation.Pad offset end) low h = let at = h.0 in let apart : count ≡ size → ⊥ = h.1 in (at, below offset count size at low apart, h.2, h.3)
-  where
-    below : (a b c : ℕ) → a ≡ b → b ≤ c → (b ≡ c → ⊥) → a < c
-    below a b c same low apart = omega (arith, same, low, apart)
+placed_behind : (size count : ℕ) (bytes : List ℕ) (m : Mutation) → IsPlacedAt size count bytes m → IsPlacedBehind size count bytes m
+placed_behind size count bytes (mutation.Write offset written) h = h
+placed_behind size count bytes (mutation.Append offset written) h = h
+placed_behind size count bytes (mutation.Pad offset end) h = let at = h.0 in let room = h.1 in (at, omega (arith, at, room), h.2, h.3)
 
 pub mutations_are_placed_by_replicas : MutationsArePlacedByReplicas
 mutations_are_placed_by_replicas config servers clients w r index s at moment i choice place handle version serial id m seen =
@@ -118,7 +114,7 @@ mutations_are_placed_by_replicas config servers clients w r index s at moment i 
       replica_version = there.2 ∙ sym one.version_is;
       bytes = one.bytes;
       pushed = one.pushed;
-      placed = subst (λ (n : ℕ). IsPlacedBehind config.chunk n one.bytes m) (sym count) (placed_behind config.chunk (one.row).count one.bytes m low (subst (λ (c : Config). IsPlacedAt c.chunk (one.row).count one.bytes m) within.set one.placed));
+      placed = subst (λ (n : ℕ). IsPlacedBehind (chunk_limit s (one.lease).chunk) n one.bytes m) (sym count) (placed_behind (chunk_limit s (one.lease).chunk) (one.row).count one.bytes m one.placed);
     }
   where
     one : IsFound s handle.0 version.0 serial.0 id m
@@ -127,11 +123,5 @@ mutations_are_placed_by_replicas config servers clients w r index s at moment i 
     there : HasReplicaOf s.disk handle.0 (one.lease).held.version
     there = leases_have_their_replica config servers clients w r index s at handle.0 one.lease one.lease_is
 
-    within : IsWithin config s
-    within = servers_within config servers clients w r index s at
-
     count : length (there.0).bytes ≡ (one.row).count
     count = row_count (replica_of s.disk handle.0) there.0 one.row there.1 one.there
-
-    low : (one.row).count ≤ config.chunk
-    low = let short = within.disk handle.0 there.0 there.1 in omega (arith, short, count)

@@ -24,7 +24,7 @@ use Rattle.replica_store.specs.Replicas.{ServerDisk, row_at, read_at}
 use Rattle.protocol.specs.Tables.{element_at}
 use Rattle.protocol.specs.Sending.{server_number, the_server, the_client, version_of}
 use Rattle.protocol.specs.Choice.{Choice, Ending, Goes, Lost, Stops}
-use Rattle.protocol.specs.Client.{ClientState, ClientDoing}
+use Rattle.protocol.specs.Client.{ClientState, ClientDoing, file_chunk}
 use Rattle.protocol.specs.ClientAttempts.{is_length, read_start, read_count}
 use Rattle.protocol.specs.ClientStep.{client_at, client_step, client_call}
 use Rattle.protocol.specs.Server.{ServerState}
@@ -251,8 +251,11 @@ module _ (config : Config) (servers clients : ℕ) (steps : List (Event × Choic
   known = known_reached config servers clients steps
 
   module _ (index : ℕ) (s : ClientState) (c : CurrentCall) (chunk : ToldChunk) (left : List Holder) (number : ℕ) (at : element_at w.clients index ≡ Some s) (now : s.current ≡ Some c) (stage : c.stage ≡ SentRead chunk left number) where
-    reading : IsReading w.sent (suc index) config.chunk c chunk left number
-    reading = subst (λ (x : Config). IsReading w.sent (suc index) x.chunk c chunk left number) (same_config start steps) (subst (λ (st : Stage). WasRequestSent w.sent (suc index) w.config.chunk c st) stage ((known.known index s at).stands c now))
+    abbrev size : ℕ
+    size = file_chunk s c.file.0
+
+    reading : IsReading w.sent (suc index) (file_chunk s c.file.0) c chunk left number
+    reading = subst (λ (st : Stage). WasRequestSent w.sent (suc index) (file_chunk s c.file.0) c st) stage ((known.known index s at).stands c now)
 
     located : (reading.told.told.sender ≡ node.Master) × AreCurrent reading.location
     located = locations_name_current_holders config servers clients w (steps, refl) (reading.told.sent_is).0 reading.told.number reading.told.told reading.location (reading.told.sent_is).1 reading.told.body_is
@@ -292,17 +295,17 @@ module _ (config : Config) (servers clients : ℕ) (steps : List (Event × Choic
       same : cause.request ≡ reading.request
       same =
           one_request w.sent (suc index) number (known.numbered.once (suc index) number).0 cause.request reading.request still mine asked reading.sent_is reading.sender_is
-          (ap (is_request number) reading.body_is ∙ request_number config.chunk number c chunk reading.holder)
+          (ap (is_request number) reading.body_is ∙ request_number size number c chunk reading.holder)
 
-      so : IsSoAt cause.server.disk cause.row config.chunk c chunk reading.holder m.body
+      so : IsSoAt cause.server.disk cause.row size c chunk reading.holder m.body
       so =
-          so_of cause.server.disk cause.row config.chunk number c chunk reading.holder (is_length c.asked) m.body refl
+          so_of cause.server.disk cause.row size number c chunk reading.holder (is_length c.asked) m.body refl
           (subst (λ (b : Body). IsReadBy cause.server.disk cause.row b m.body) (ap (λ (x : Message). x.body) same ∙ reading.body_is) cause.so)
 
       place_is : reading.holder.server.0 - 1 ≡ cause.index
       place_is = ap (λ (n : Node). server_number n - 1) (sym reading.receiver_is ∙ (ap (λ (x : Message). x.receiver) (sym same) ∙ cause.to)) ∙ omega arith
 
-      was_so : WasSo start steps index config.chunk c chunk reading.holder reading.request place m
+      was_so : WasSo start steps index size c chunk reading.holder reading.request place m
       was_so =
           record {
             before = sending.before;

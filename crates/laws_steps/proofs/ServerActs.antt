@@ -1,5 +1,5 @@
 -- A server's step as acts: on its leases, on its replicas, and what it shows of mutations.
-use Rattle.std.proofs.Common.{◌≡◌, ℕ, ◌+◌, ◌<◌, ◌≤◌, true, List, [], ◌∷◌, ◌++◌, length, Option, Some, None, refl, sym, ap, subst, ◌∙◌, inl, inr, arith}
+use Rattle.std.proofs.Common.{◌≡◌, ℕ, ◌+◌, ◌<◌, ◌≤◌, true, List, [], ◌∷◌, ◌++◌, length, Option, Some, None, refl, sym, ap, subst, ◌∙◌, inl, inr, arith, min}
 use Rattle.std.specs.Prelude.{◌&&◌, nat_lt}
 use Rattle.std.specs.FinMap as table
 use Rattle.gfs_types.specs.declared.config.Config.{Config}
@@ -31,6 +31,7 @@ use Rattle.protocol.specs.ServerStep.{counting_leases, asks_no_more, server_at, 
 use Rattle.laws_base.proofs.Steps.{on_cond, put_cases, put_there, kept_cases}
 use Rattle.laws_base.proofs.Entries.{mapped_cases, kept_where_cases}
 use Rattle.laws_base.proofs.ServerWalk.{IsPlacedAt, Attempting, Numbering, IsStoredAs, Outcomes, number_of, until_later, primary_there, server_comes_to}
+use Rattle.std.proofs.Math.Nat.{min-le_right}
 
 -- a step so far: settings, the disk as the step began, and what was under way on it; the leases, the changes of the disk, and what was shown
 pub record Acting : Type 0 where
@@ -61,7 +62,7 @@ pub record IsNumbering (kept : PushBuffer) (c : Acting) (handle : ℕ) (p : Seri
   pub there : row_at c.disk handle ≡ Some row
   pub bytes : List ℕ
   pub pushed : data_of kept id ≡ Some bytes
-  pub placed : IsPlacedAt c.config.chunk row.count bytes m
+  pub placed : IsPlacedAt (min p.chunk c.config.chunk) row.count bytes m
 
 abbrev pub shown_as : ℕ → SerialOrder → DataId → Mutation → Seen
 shown_as handle p id m = Numbered (handle_of handle) (version_of p.held.version) (serial_of (p.serial + 1)) id m
@@ -205,7 +206,7 @@ module _ (s : ServerState) (i : NodeInput) (B P : Acting → Type 0) (k : KeepsA
         lacks_bytes = λ f none. go;
         stores_rot = λ t rotten. k.drops Begun t.f.c.handle.0 h;
         stored = λ t sound.
-            k.applies Begun t.f.c.handle.0 t.f.c.serial.0 t.f.row t.x t.f.found t.later (writes s.config.chunk t.f.c.handle.0 t.f.c.serial.0 (data_of s.pushed t.f.c.id) t.f.c.named t.x t.from t.end_place t.stored t.fits) h;
+            k.applies Begun t.f.c.handle.0 t.f.c.serial.0 t.f.row t.x t.f.found t.later (writes s.config.chunk t.f.c.handle.0 t.f.c.serial.0 (data_of s.pushed t.f.c.id) t.f.c.named t.x t.from t.end_place t.stored (let most = min-le_right t.f.c.chunk s.config.chunk in let fits = t.fits in omega (arith, most, fits))) h;
         acked = λ c p primary. acks_fine (server_begins s) c.handle.0 p (server_number c.m.sender) c.serial.0 (primary_held c.handle.0 c.version.0 p primary) go;
         nacked = λ c p w primary waits. held Begun c.handle.0 (refused_by p c.refusal (Some w)) p (primary_held c.handle.0 c.version.0 p primary) refl refl go;
         nacked_late = λ c p primary. held Begun c.handle.0 p p (primary_held c.handle.0 c.version.0 p primary) refl refl go;

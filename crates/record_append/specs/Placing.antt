@@ -1,5 +1,5 @@
 -- The placing table of record append (section 3.3).
-use Rattle.std.specs.Prelude.{ℕ, ◌+◌, ◌/◌, ◌==◌, nat_lt, if◌then◌else◌}
+use Rattle.std.specs.Prelude.{ℕ, ◌+◌, ◌/◌, nat_lt, nat_le, if◌then◌else◌}
 use Rattle.record_append.specs.declared.placing.Placing.{Placing}
 use Rattle.record_append.specs.declared.placing.Placing.TheVariants.{At, Pad, Full, TooLong}
 
@@ -7,6 +7,6 @@ use Rattle.record_append.specs.declared.placing.Placing.TheVariants.{At, Pad, Fu
 abbrev pub placing : (length size chunk : ℕ) → Placing
 placing length size chunk =
     if nat_lt (chunk / 4) size then TooLong
-    else (if length == chunk then Full
+    else (if nat_le chunk length then Full
     else (if nat_lt chunk (length + size) then Pad length
     else At length))

@@ -10,7 +10,7 @@ use crate::placing::Placing;
 
 /// Where a record of `size` bytes goes in a chunk that holds `length` bytes, of the `chunk` bytes that it may hold.
 ///
-/// Looked at in this order: a record longer than a quarter of a chunk is `TooLong`; a chunk of just `chunk` bytes is `Full`;
+/// Looked at in this order: a record longer than a quarter of a chunk is `TooLong`; a chunk of `chunk` bytes or more is `Full`;
 /// where the record doesn't fit behind the chunk's bytes, the rest of the chunk is padded (`Pad`); else the record begins at
 /// the chunk's length (`At`). Takes no memory.
 pub fn place(length: u64, size: u64, chunk: u64) -> Placing
@@ -19,10 +19,10 @@ pub fn place(length: u64, size: u64, chunk: u64) -> Placing
     if size > chunk / 4 {
         return Placing::TooLong;
     }
-    if length == chunk {
+    if length >= chunk {
         return Placing::Full;
     }
-    if length > chunk || size > chunk - length {
+    if size > chunk - length {
         return Placing::Pad(length);
     }
     Placing::At(length)

@@ -23,8 +23,8 @@ const PLACES: [(u64, u64, u64, Placing); 18] = [
     (0, 17, 71, Placing::At(0)),
     (0, 18, 71, Placing::TooLong),
     (MOST - 1, MOST / 4, MOST, Placing::Pad(MOST - 1)),
-    (MOST, 1, 64, Placing::Pad(MOST)),
-    (MOST, 0, 64, Placing::Pad(MOST)),
+    (MOST, 1, 64, Placing::Full),
+    (MOST, 0, 64, Placing::Full),
     (0, MOST, MOST, Placing::TooLong),
 ];
 
