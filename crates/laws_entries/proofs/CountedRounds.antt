@@ -343,7 +343,7 @@ module _ (config : Config) (servers clients : ℕ) (w : WorldState) (r : IsReach
           });
         }
       where
-        by : IsPlacedByReplica config.chunk s (one.h).0 (one.v).0 (one.serial).0 one.id one.placed
+        by : IsPlacedByReplica s (one.h).0 (one.v).0 (one.serial).0 one.id one.placed
         by = mutations_are_placed_by_replicas config servers clients w r index s at moment i choice zero one.h one.v one.serial one.id one.placed one.first
 
         held : table.get s.leases handle ≡ Some by.lease

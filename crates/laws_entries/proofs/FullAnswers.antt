@@ -52,7 +52,7 @@ AreRight F leases = (q : ℕ) (p : SerialOrder) → table.get leases q ≡ Some 
 
 -- a new attempt came to this: it is refused since the chunk is full, or a pad is placed
 abbrev pub IsFullEnd : ServerDoing → ℕ → SerialOrder → DataId → ServerDoing → Type 0
-IsFullEnd d q p id x = (x ≡ denies d q p id ChunkFull) ⊎ ((offset : ℕ) × (x ≡ places d q p id (mutation.Pad offset (chunk_limit d.server q))) × (nat_le counter_limit p.serial ≡ false))
+IsFullEnd d q p id x = (x ≡ denies d q p id ChunkFull) ⊎ ((offset : ℕ) × (x ≡ places d q p id (mutation.Pad offset (chunk_limit d.server p.chunk))) × (nat_le counter_limit p.serial ≡ false))
 
 module _ (F : DataId → Type 0) where
   abbrev pub Fine : ServerDoing → Type 0
@@ -162,8 +162,8 @@ module _ (F : DataId → Type 0) where
     padded n (mutation.Write offset bytes) is none comes = none_some offset (sym none)
     padded n (mutation.Append offset bytes) is none comes = none_some offset (sym none)
     padded n (mutation.Pad offset end) is none comes =
-        let placed : IsPlacedAt s.config.chunk n.a.row.count n.bytes (mutation.Pad offset end) = subst (IsPlacedAt s.config.chunk n.a.row.count n.bytes) is n.at in
-        used n.a (places (server_begins s) n.a.c.handle.0 n.a.p n.a.c.id (mutation.Pad offset s.config.chunk))
+        let placed : IsPlacedAt (chunk_limit s n.a.p.chunk) n.a.row.count n.bytes (mutation.Pad offset end) = subst (IsPlacedAt (chunk_limit s n.a.p.chunk) n.a.row.count n.bytes) is n.at in
+        used n.a (places (server_begins s) n.a.c.handle.0 n.a.p n.a.c.id (mutation.Pad offset (chunk_limit s n.a.p.chunk)))
         (comes ∙ ap (λ (m : Mutation). places (server_begins s) n.a.c.handle.0 n.a.p n.a.c.id m) (is ∙ ap (λ (k : ℕ). mutation.Pad offset k) placed.3)) (inr (offset, refl, n.room))
 
     used_number : (n : Numbering s i) (b : Bool) → is_sound s i n ≡ b

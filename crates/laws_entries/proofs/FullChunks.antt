@@ -165,8 +165,8 @@ module _ (id : DataId) (handle : ℕ) (p : SerialOrder) where
         | inl denied_ ↦ subst IsDone (sym denied_) (λ version. put_fit (Knows id) (knows_keeps id) handle version d.server.leases (denied p id.client id.seq ChunkFull) (own_kept id p (IsRefused ChunkFull)), all_none)
         | inr placed ↦
             subst IsDone (sym placed.1) (
-              λ version. places_fit (Knows id) (knows_keeps id) handle version id p (λ o. own_kept id p IsPending) d (mutation.Pad placed.0 (chunk_limit d.server handle)) placed.2,
-              places_shown (Shows id.client.0 id.seq IsPad) (λ q v n. tt) d handle p id (mutation.Pad placed.0 (chunk_limit d.server handle)) all_none (λ client seq. tt),
+              λ version. places_fit (Knows id) (knows_keeps id) handle version id p (λ o. own_kept id p IsPending) d (mutation.Pad placed.0 (chunk_limit d.server p.chunk)) placed.2,
+              places_shown (Shows id.client.0 id.seq IsPad) (λ q v n. tt) d handle p id (mutation.Pad placed.0 (chunk_limit d.server p.chunk)) all_none (λ client seq. tt),
             )
       ]
     where

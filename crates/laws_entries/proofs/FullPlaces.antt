@@ -1,7 +1,7 @@
 -- A new attempt is refused since the chunk is full only where the primary's replica has as many bytes as a chunk; what is placed is shown first.
-use Rattle.std.proofs.Common.{◌≡◌, ℕ, ◌+◌, ◌/◌, Bool, true, false, List, [], ◌∷◌, ◌++◌, length, Option, Some, None, refl, sym, ap, ◌∙◌}
+use Rattle.std.proofs.Common.{◌≡◌, ℕ, ◌+◌, ◌/◌, Bool, true, false, List, [], ◌∷◌, ◌++◌, length, Option, Some, None, refl, sym, ap, ◌∙◌, ◌≤◌}
 use Rattle.std.specs.Prelude.{nat_le, nat_lt, ◌==◌}
-use Rattle.std.proofs.lemmas.Bool.{eqb-true}
+use Rattle.std.proofs.lemmas.Bool.{eqb-true, leb-true}
 use Rattle.gfs_types.specs.declared.ids.DataId.{DataId}
 use Rattle.gfs_types.specs.declared.refusal.Refusal.{Refusal}
 use Rattle.gfs_types.specs.declared.refusal.Refusal.TheVariants.{NoData, Late, Corrupt, ChunkFull, ServerTooLong}
@@ -80,7 +80,7 @@ module _ (s : ServerState) (handle : ℕ) (p : SerialOrder) (id : DataId) where
       (λ _. settles_first (shown m) (with_primary (forwarded m) handle (acknowledged (new m) s.id (p.serial + 1))) handle p.held.version (p.serial + 1) (settled (new m) s.id (p.serial + 1)) refl) (λ _. refl))
 
   abbrev IsFull : Type 0
-  IsFull = (r : Row) × (row_at s.disk handle ≡ Some r) × (r.count ≡ chunk_limit s handle)
+  IsFull = (r : Row) × (row_at s.disk handle ≡ Some r) × (chunk_limit s p.chunk ≤ r.count)
 
   -- nothing was sent
   quiet_apart : server_begins s ≡ denies (server_begins s) handle p id ChunkFull → IsFull
@@ -99,23 +99,23 @@ module _ (s : ServerState) (handle : ℕ) (p : SerialOrder) (id : DataId) where
       by_room false room = none_some (Numbered (handle_of handle) (version_of p.held.version) (serial_of (p.serial + 1)) id m) (sym (ap (λ (e : ServerDoing). element_at e.seen 0) is) ∙ placed_first m room)
       by_room true full = quiet_apart (sym (on_cond (λ (e : ServerDoing). e ≡ server_begins s) (nat_le counter_limit p.serial) D _ (λ _. refl) (λ room. absurd (let both : true ≡ false = sym full ∙ room in cc))) ∙ is)
 
-  full_length : (count size limit : ℕ) → placing count size limit ≡ Full → count ≡ limit
+  full_length : (count size limit : ℕ) → placing count size limit ≡ Full → limit ≤ count
   full_length count size limit =
-      on_cond (λ (x : Placing). x ≡ Full → count ≡ limit) (nat_lt (limit / 4) size) TooLong _ (λ _ is. absurd (let both : TooLong ≡ Full = is in cc))
-      (λ _. on_cond (λ (x : Placing). x ≡ Full → count ≡ limit) (count == limit) Full _ (λ same is. eqb-true count limit same)
-      (λ _. on_cond (λ (x : Placing). x ≡ Full → count ≡ limit) (nat_lt limit (count + size)) (Pad count) (At count) (λ _ is. absurd (let both : Pad count ≡ Full = is in cc)) (λ _ is. absurd (let both : At count ≡ Full = is in cc))))
+      on_cond (λ (x : Placing). x ≡ Full → limit ≤ count) (nat_lt (limit / 4) size) TooLong _ (λ _ is. absurd (let both : TooLong ≡ Full = is in cc))
+      (λ _. on_cond (λ (x : Placing). x ≡ Full → limit ≤ count) (nat_le limit count) Full _ (λ reaches is. leb-true limit count reaches)
+      (λ _. on_cond (λ (x : Placing). x ≡ Full → limit ≤ count) (nat_lt limit (count + size)) (Pad count) (At count) (λ _ is. absurd (let both : Pad count ≡ Full = is in cc)) (λ _ is. absurd (let both : At count ≡ Full = is in cc))))
 
-  by_placing : (r : Row) (bytes : List ℕ) (where_ : Placing) → row_at s.disk handle ≡ Some r → placing r.count (length bytes) (chunk_limit s handle) ≡ where_ → appends_as (server_begins s) handle p id bytes where_ ≡ denies (server_begins s) handle p id ChunkFull → IsFull
+  by_placing : (r : Row) (bytes : List ℕ) (where_ : Placing) → row_at s.disk handle ≡ Some r → placing r.count (length bytes) (chunk_limit s p.chunk) ≡ where_ → appends_as (server_begins s) handle p id bytes where_ ≡ denies (server_begins s) handle p id ChunkFull → IsFull
   by_placing r bytes TooLong at there is = other_apart ServerTooLong (λ same. absurd (let both : ServerTooLong ≡ ChunkFull = same in cc)) (denies (server_begins s) handle p id ServerTooLong) refl is
-  by_placing r bytes Full at there is = (r, at, full_length r.count (length bytes) (chunk_limit s handle) there)
-  by_placing r bytes (Pad offset) at there is = placed_apart (mutation.Pad offset (chunk_limit s handle)) is
+  by_placing r bytes Full at there is = (r, at, full_length r.count (length bytes) (chunk_limit s p.chunk) there)
+  by_placing r bytes (Pad offset) at there is = placed_apart (mutation.Pad offset (chunk_limit s p.chunk)) is
   by_placing r bytes (At offset) at there is = placed_apart (mutation.Append offset bytes) is
 
   by_target : (r : Row) (t : Target) (bytes : List ℕ) → row_at s.disk handle ≡ Some r → mutates_with (server_begins s) handle p r id t bytes ≡ denies (server_begins s) handle p id ChunkFull → IsFull
   by_target r (target.Write offset) bytes at =
-      on_cond (λ (e : ServerDoing). e ≡ denies (server_begins s) handle p id ChunkFull → IsFull) (nat_lt (chunk_limit s handle) (offset + length bytes)) D (places (server_begins s) handle p id (mutation.Write offset bytes)) (λ _ is. quiet_apart is)
+      on_cond (λ (e : ServerDoing). e ≡ denies (server_begins s) handle p id ChunkFull → IsFull) (nat_lt (chunk_limit s p.chunk) (offset + length bytes)) D (places (server_begins s) handle p id (mutation.Write offset bytes)) (λ _ is. quiet_apart is)
       (λ _ is. placed_apart (mutation.Write offset bytes) is)
-  by_target r target.Append bytes at = λ is. by_placing r bytes (placing r.count (length bytes) (chunk_limit s handle)) at refl is
+  by_target r target.Append bytes at = λ is. by_placing r bytes (placing r.count (length bytes) (chunk_limit s p.chunk)) at refl is
 
   by_row : (t : Target) (o : Option Row) (found : Option (List ℕ)) → row_at s.disk handle ≡ o → mutates_new (server_begins s) handle p id t o found ≡ denies (server_begins s) handle p id ChunkFull → IsFull
   by_row t None found at is = quiet_apart is

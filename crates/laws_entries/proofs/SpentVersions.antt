@@ -119,13 +119,13 @@ module _ (P : SerialOrder → Type 0) (k : KeepsOrders P) (handle version : ℕ)
   appends_noted : (d : ServerDoing) (bytes : List ℕ) (where_ : Placing) → d.seen ≡ [] → IsNoted (appends_as d handle p id bytes where_)
   appends_noted d bytes TooLong none = inl none
   appends_noted d bytes Full none = inl none
-  appends_noted d bytes (Pad offset) none = places_noted d (mutation.Pad offset (chunk_limit d.server handle)) none
+  appends_noted d bytes (Pad offset) none = places_noted d (mutation.Pad offset (chunk_limit d.server p.chunk)) none
   appends_noted d bytes (At offset) none = places_noted d (mutation.Append offset bytes) none
 
   with_noted : (d : ServerDoing) (r : Row) (t : Target) (bytes : List ℕ) → d.seen ≡ [] → IsNoted (mutates_with d handle p r id t bytes)
   with_noted d r (target.Write offset) bytes none =
-      on_cond IsNoted (nat_lt (chunk_limit d.server handle) (offset + length bytes)) d (places d handle p id (mutation.Write offset bytes)) (λ _. inl none) (λ _. places_noted d (mutation.Write offset bytes) none)
-  with_noted d r target.Append bytes none = appends_noted d bytes (placing r.count (length bytes) (chunk_limit d.server handle)) none
+      on_cond IsNoted (nat_lt (chunk_limit d.server p.chunk) (offset + length bytes)) d (places d handle p id (mutation.Write offset bytes)) (λ _. inl none) (λ _. places_noted d (mutation.Write offset bytes) none)
+  with_noted d r target.Append bytes none = appends_noted d bytes (placing r.count (length bytes) (chunk_limit d.server p.chunk)) none
 
   new_noted : (d : ServerDoing) (t : Target) (o : Option Row) (found : Option (List ℕ)) → d.seen ≡ [] → IsNoted (mutates_new d handle p id t o found)
   new_noted d t None found none = inl none

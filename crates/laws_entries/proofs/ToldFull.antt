@@ -23,7 +23,7 @@ use Rattle.protocol.specs.Sending.{version_of, serial_of}
 use Rattle.protocol.specs.Choice.{Choice}
 use Rattle.protocol.specs.Client.{ClientState, ClientDoing}
 use Rattle.protocol.specs.ClientStep.{client_at, client_step, client_call}
-use Rattle.protocol.specs.Server.{ServerState, ServerDoing, started_server, server_begins, primary_of}
+use Rattle.protocol.specs.Server.{ServerState, ServerDoing, started_server, server_begins, primary_of, chunk_limit}
 use Rattle.protocol.specs.ServerWrites.{mutates_under}
 use Rattle.protocol.specs.ServerStep.{server_at, server_takes, server_goes, server_step, server_restart}
 use Rattle.protocol.specs.MasterStep.{master_step, master_restart}
@@ -47,6 +47,7 @@ use Rattle.laws_entries.proofs.FullOrders.{IsCaused, Causes, right_on, caused_on
 use Rattle.laws_entries.proofs.FullAnswers.{AreRight, IsFullEnd, step_leaves, none_right, restart_leaves}
 use Rattle.laws_entries.specs.ToldFullChunks.{IsFullNow, FullChunksAreToldAsFull}
 use Rattle.laws_entries.proofs.FullPlaces.{placed_first, denied_full}
+use Rattle.laws_base.proofs.ServerWalk.{primary_there}
 
 masters_cause : (F : DataId → Type 0) (b : Body) (receiver : Node) → is_masters b ≡ true → IsNotFull b → IsCaused F b receiver
 masters_cause F (body.Refused number ChunkFull) receiver is other = absurd other
@@ -88,7 +89,7 @@ sound_more F G go w h = record { leases = λ index s at q p there. right_on F G 
 
 module _ (config : Config) (servers clients : ℕ) (F : DataId → Type 0) (w : WorldState) (r : IsReached config servers clients w) (h : IsToldTruly F w) where
   abbrev Then : Happened → DataId → Type 0
-  Then x id = F id ⊎ IsFullNow config.chunk w x id
+  Then x id = F id ⊎ IsFullNow w x id
 
   leases_then : (x : Happened) (index : ℕ) (s : ServerState) → element_at w.servers index ≡ Some s → AreRight (Then x) s.leases
   leases_then x index s at q p there = right_on F (Then x) (λ id f. inl f) p (h.leases index s at q p there)
@@ -107,9 +108,6 @@ module _ (config : Config) (servers clients : ℕ) (F : DataId → Type 0) (w : 
   module _ (index moment : ℕ) (s : ServerState) (i : NodeInput) (choice : Choice) (at : element_at w.servers index ≡ Some s) (came : (m : Message) → i ≡ input.Deliver m → IsAmong w.sent m) where
     abbrev After : Happened
     After = after_server w index moment (server_step s moment i choice)
-
-    chunk_is : s.config.chunk ≡ config.chunk
-    chunk_is = ap (λ (g : Config). g.chunk) (servers_within config servers clients w r index s at).set
 
     anew : (m : Message) (id : DataId) (handle : Handle) (version : Version) (t : Target) (deadline : Moment) (p : SerialOrder) → i ≡ input.Deliver m → m.body ≡ body.Mutate id handle version t deadline → primary_of (server_at s moment) handle.0 version.0 ≡ Some p
         → attempted p id.client id.seq ≡ IsNew
@@ -131,12 +129,18 @@ module _ (config : Config) (servers clients : ℕ) (F : DataId → Type 0) (w : 
           taken = is;
           body_is = asked;
           step_is = refl;
+          lease = p;
+          lease_is = lease_there.0;
+          lease_version = lease_there.1;
           full = elim (end) [
-            | inl denied ↦ let found = denied_full (server_at s moment) handle.0 p id t deadline.0 (primary_of (server_at s moment) handle.0 version.0) primary new denied in inl (found.0, found.1, found.2 ∙ chunk_is)
-            | inr placed ↦ inr (0, version_of p.held.version, serial_of (p.serial + 1), placed.0, ap (λ (e : ServerDoing). element_at e.seen 0) (goes_is ∙ placed.1) ∙ placed_first (server_at s moment) handle.0 p id (Pad placed.0 s.config.chunk) placed.2)
+            | inl denied ↦ let found = denied_full (server_at s moment) handle.0 p id t deadline.0 (primary_of (server_at s moment) handle.0 version.0) primary new denied in inl (found.0, found.1, found.2)
+            | inr placed ↦ inr (0, version_of p.held.version, serial_of (p.serial + 1), placed.0, ap (λ (e : ServerDoing). element_at e.seen 0) (goes_is ∙ placed.1) ∙ placed_first (server_at s moment) handle.0 p id (Pad placed.0 (chunk_limit s p.chunk)) placed.2)
           ];
         })
       where
+        lease_there : (table.get s.leases handle.0 ≡ Some p) × (p.held.version ≡ version.0)
+        lease_there = primary_there (server_at s moment) version.0 (table.get s.leases handle.0) p primary
+
         goes_is : server_goes s moment i ≡ mutates_under (server_begins (server_at s moment)) handle.0 id t deadline.0 (primary_of (server_at s moment) handle.0 version.0)
         goes_is = ap (λ (j : NodeInput). server_goes s moment j) is ∙ ap (λ (b : Body). server_takes (server_begins (server_at s moment)) m b) asked
 
@@ -147,7 +151,7 @@ module _ (config : Config) (servers clients : ℕ) (F : DataId → Type 0) (w : 
   numbered : AreNumbered w.sent w.clients
   numbered = numbered_reached config servers clients w r
 
-  each_sound : HoldsAfter w (λ e x. IsToldTruly (λ id. F id ⊎ IsFullNow config.chunk w x id) x.world)
+  each_sound : HoldsAfter w (λ e x. IsToldTruly (λ id. F id ⊎ IsFullNow w x id) x.world)
   each_sound =
       let k : ℕ = suc (length w.sent) in
       record {
@@ -190,19 +194,19 @@ module _ (config : Config) (servers clients : ℕ) (F : DataId → Type 0) (w : 
 -- a list of events
 
 abbrev Since : Config → (DataId → Type 0) → WorldState → List (Event × Choice) → DataId → Type 0
-Since config F w steps id = F id ⊎ CameAbout (λ v x. IsFullNow config.chunk v x id) w steps
+Since config F w steps id = F id ⊎ CameAbout (λ v x. IsFullNow v x id) w steps
 
 all_since : (config : Config) (servers clients : ℕ) (F : DataId → Type 0) (w : WorldState) (steps : List (Event × Choice)) → IsReached config servers clients w → IsToldTruly F w → IsToldTruly (Since config F w steps) (after_events w steps)
 all_since config servers clients F w [] r h = sound_more F (Since config F w []) (λ id f. inl f) w h
 all_since config servers clients F w (step ∷ rest) r h =
     let x : Happened = happens w step.0 step.1 in
-    sound_more (Since config (λ id. F id ⊎ IsFullNow config.chunk w x id) x.world rest) (Since config F w (step ∷ rest))
+    sound_more (Since config (λ id. F id ⊎ IsFullNow w x id) x.world rest) (Since config F w (step ∷ rest))
     (λ id since. elim (since) [
-      | inl old ↦ elim (old) [ inl before ↦ inl before | inr now ↦ inr (came_first (λ v y. IsFullNow config.chunk v y id) w step rest now) ]
-      | inr later ↦ inr (came_later (λ v y. IsFullNow config.chunk v y id) w step rest later)
+      | inl old ↦ elim (old) [ inl before ↦ inl before | inr now ↦ inr (came_first (λ v y. IsFullNow v y id) w step rest now) ]
+      | inr later ↦ inr (came_later (λ v y. IsFullNow v y id) w step rest later)
     ]) (after_events x.world rest)
-    (all_since config servers clients (λ id. F id ⊎ IsFullNow config.chunk w x id) x.world rest (reached_later config servers clients w (step ∷ []) r)
-    (holds_after w (λ e y. IsToldTruly (λ id. F id ⊎ IsFullNow config.chunk w y id) y.world) (each_sound config servers clients F w r h) step.0 step.1))
+    (all_since config servers clients (λ id. F id ⊎ IsFullNow w x id) x.world rest (reached_later config servers clients w (step ∷ []) r)
+    (holds_after w (λ e y. IsToldTruly (λ id. F id ⊎ IsFullNow w y id) y.world) (each_sound config servers clients F w r h) step.0 step.1))
 
 new_servers : (F : DataId → Type 0) (config : Config) (ns : List ℕ) (index : ℕ) (s : ServerState) → element_at (map (λ n. started_server config n (new_server_disk config.block) 0) ns) index ≡ Some s → AreRight F s.leases
 new_servers F config [] index s is = none_some s is

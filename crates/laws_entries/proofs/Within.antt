@@ -1,8 +1,9 @@
 -- Each entry was numbered in a step, by a replica within the chunk.
-use Rattle.std.proofs.Common.{ℕ, List, refl, sym, ap, subst}
+use Rattle.std.proofs.Common.{◌≡◌, ℕ, min, List, ◌∷◌, length, Some, refl, sym, ap, subst, ◌∙◌}
 use Rattle.gfs_types.specs.declared.mutation.Mutation.{Mutation}
 use Rattle.gfs_types.specs.declared.mutation.Mutation.TheVariants.{Write, Append, Pad}
 use Rattle.messages.specs.declared.event.Event.{Event}
+use Rattle.messages.specs.declared.message.Body.TheVariants as body
 use Rattle.protocol.specs.Choice.{Choice}
 use Rattle.protocol.specs.Observer.{Placed}
 use Rattle.protocol.specs.World.{WorldState, new_world, happens, after_events}
@@ -11,6 +12,15 @@ use Rattle.laws_entries.proofs.Numbering.{entries_were_numbered}
 use Rattle.laws_steps.specs.Replicas.{IsPlacedBehind, IsPlacedByReplica}
 use Rattle.laws_steps.proofs.Placings.{mutations_are_placed_by_replicas}
 use Rattle.laws_entries.specs.PlacedEntries.{LiesWithin, EntriesLieWithinTheChunk}
+use Rattle.gfs_types.specs.declared.config.Config.{Config}
+use Rattle.messages.specs.declared.message.Message.{Message}
+use Rattle.protocol.specs.Tables.{element_at}
+use Rattle.protocol.specs.Sending.{handle_of, version_of}
+use Rattle.laws_base.specs.Laws.{IsSizeGranted}
+use Rattle.laws_base.proofs.LeasesTold.{leases_are_told}
+use Rattle.laws_base.proofs.MembersRecorded.{kept_place}
+use Rattle.laws_steps.proofs.Histories.{steps_grown, after_both}
+use Rattle.laws_steps.proofs.Lengths.{servers_within}
 
 within : (size count : ℕ) (bytes : List ℕ) (m : Mutation) → IsPlacedBehind size count bytes m → LiesWithin size m
 within size count bytes (Write offset written) placed = placed.1
@@ -18,8 +28,14 @@ within size count bytes (Append offset written) placed = placed.2
 within size count bytes (Pad offset end) placed = (placed.1, placed.3)
 
 pub entries_lie_within_the_chunk : EntriesLieWithinTheChunk
-entries_lie_within_the_chunk config servers clients steps handle place p at =
-    subst (λ (m : Mutation). LiesWithin config.chunk m) (sym (ap (λ (q : Placed). q.entry.mutation) now.entry_is)) (within config.chunk _ by.bytes (now.numbers).placed by.placed)
+entries_lie_within_the_chunk config servers clients steps handle place p at = (
+  (now.named).0,
+  by.lease.chunk,
+  granted,
+  subst (λ (m : Mutation). LiesWithin (min by.lease.chunk config.chunk) m) (sym (ap (λ (q : Placed). q.entry.mutation) now.entry_is))
+      (within (min by.lease.chunk config.chunk) _ by.bytes (now.numbers).placed
+      (subst (λ (c : Config). IsPlacedBehind (min by.lease.chunk c.chunk) (length by.replica.bytes) by.bytes (now.numbers).placed) (servers_within config servers clients v (before, refl) now.index now.server (now.numbers).is).set by.placed)),
+)
   where
     was : (from : ℕ) × WasNumbered (new_world config servers clients) steps from p
     was = let one = entries_were_numbered config servers clients steps handle place p at in (one.0, one.1)
@@ -30,10 +46,34 @@ entries_lie_within_the_chunk config servers clients steps handle place p at =
     v : WorldState
     v = after_events (new_world config servers clients) before
 
+    w : WorldState
+    w = after_events (new_world config servers clients) steps
+
     now : IsNumberedNow v (happens v ((was.1).step).0 ((was.1).step).1) was.0 p
     now = (was.1).now
 
-    by : IsPlacedByReplica config.chunk now.server (now.named).0 (now.version).0 ((now.numbers).serial).0 now.id (now.numbers).placed
+    by : IsPlacedByReplica now.server (now.named).0 (now.version).0 ((now.numbers).serial).0 now.id (now.numbers).placed
     by =
         mutations_are_placed_by_replicas config servers clients v (before, refl) now.index now.server (now.numbers).is now.moment now.input now.choice (now.numbers).place now.named now.version (now.numbers).serial now.id
         (now.numbers).placed (now.numbers).seen
+
+    -- the lease was granted with its size, in this world too
+    w_is : w ≡ after_events v ((was.1).step ∷ (was.1).after)
+    w_is = ap (λ (xs : List (Event × Choice)). after_events (new_world config servers clients) xs) (was.1).steps_are ∙ after_both (new_world config servers clients) before ((was.1).step ∷ (was.1).after)
+
+    round_is : (by.lease).held.version ≡ p.entry.round
+    round_is = sym by.version_is ∙ sym (ap (λ (q : Placed). q.entry.round) now.entry_is)
+
+    granted : IsSizeGranted w.sent (now.named).0 p.entry.round by.lease.chunk
+    granted =
+        let told = (leases_are_told config servers clients v (before, refl) now.index now.server (now.numbers).is (now.named).0 by.lease by.lease_is).0 in
+        let grown = steps_grown v ((was.1).step ∷ (was.1).after) in
+        subst (λ (u : WorldState). IsSizeGranted u.sent (now.named).0 p.entry.round by.lease.chunk) (sym w_is) (
+          told.0,
+          told.1,
+          subst (λ (ms : List Message). element_at ms told.0 ≡ Some told.1) (sym grown.1) (kept_place v.sent grown.0 told.0 told.1 told.2),
+          told.4,
+          told.5,
+          (by.lease).held.members,
+          subst (λ (n : ℕ). (told.1).body ≡ body.Grant told.4 (handle_of (now.named).0) (version_of n) told.5 (by.lease).chunk (by.lease).held.members) round_is told.6,
+        )

@@ -1,5 +1,5 @@
 -- The law of every lawful list of events on why a chunk is told to be full, that a public function of this crate states.
-use Rattle.std.specs.Prelude.{◌≡◌, ◌⊎◌, ℕ, List, Some}
+use Rattle.std.specs.Prelude.{◌≡◌, ◌⊎◌, ℕ, List, Some, ◌≤◌}
 use Rattle.std.specs.FinMap as table
 use Rattle.gfs_types.specs.declared.config.Config.{Config}
 use Rattle.gfs_types.specs.declared.ids.DataId.{DataId}
@@ -28,9 +28,9 @@ use Rattle.protocol.specs.World.{WorldState, Happened, new_world, after_server, 
 use Rattle.laws_entries.specs.Entries.{IsAmong}
 use Rattle.laws_entries.specs.ChunkOrders.{CameAbout}
 
--- the server's replica of the chunk has as many bytes as a chunk
+-- the server's replica of the chunk has as many bytes as a chunk of this size may have
 abbrev pub IsReplicaFull : ℕ → ServerState → Handle → Type 0
-IsReplicaFull size s handle = (r : Row) × (row_at s.disk handle.0 ≡ Some r) × (r.count ≡ size)
+IsReplicaFull size s handle = (r : Row) × (row_at s.disk handle.0 ≡ Some r) × (size ≤ r.count)
 
 -- the server numbers a pad of these data up to the end of a chunk of this size, where nothing hinders its step
 abbrev pub IsPadded : ℕ → ServerState → ℕ → NodeInput → Handle → DataId → Type 0

@@ -47,7 +47,7 @@ use Rattle.laws_steps.proofs.MasterTalks.{is_masters, MasterTalks, master_said, 
 use Rattle.laws_steps.proofs.Histories.{SentIn, sent_in, steps_grown, after_both}
 use Rattle.laws_steps.proofs.ServerTalks.{is_quiet, Talks, step_said}
 use Rattle.laws_steps.proofs.ClientReads.{WasRequestSent, stage_reading}
-use Rattle.laws_steps.proofs.Known.{AreKnown, same_config, known_reached, waited_since}
+use Rattle.laws_steps.proofs.Known.{AreKnown, known_reached, waited_since}
 
 -- this request makes a server say this
 abbrev pub IsReadBy : ServerDisk → Row → Body → Body → Type 0
