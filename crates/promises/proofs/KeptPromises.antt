@@ -21,6 +21,7 @@ use Rattle.promises.proofs.LeftAlone.{appends_leave_records_alone}
 use Rattle.promises.proofs.WrittenParts.{answered_writes_stand, own_writes_are_read, writes_are_read}
 use Rattle.promises.proofs.Lengths.{lengths_reach_records}
 use Rattle.promises.proofs.ReadBytes.{no_other_byte_is_read}
+use Rattle.promises.proofs.ReadPieces.{append_sized}
 
 pub reads_are_selections : InEachRun ReadsAreSelections
 reads_are_selections config trace m run client file fd offset count found rounds w w_of =
@@ -87,6 +88,7 @@ answered_records_are_shown w m e client fd bytes x one up =
     let it : AnsweredAppend w.config then_now client file bytes x = record_at.it w.config w.observer.trace m e.run client fd bytes x one in
     let is_reached = reached w.config w.observer.trace m e.run client (call.Append fd bytes) (answer.At x) tt one in
     let way_there = way w.config w.observer.trace m e.run client (call.Append fd bytes) (answer.At x) tt one in
+    let sized = append_sized w.config then_now m client file bytes x is_reached way_there it in
     let there : slice_get (chunk_at m file it.index).order (it.there).0 ≡ Some it.entry =
     settled_entries_stay w.config then_now m is_reached way_there file it.index (it.there).0 it.entry (found_at _ it.entry it.there) it.settled in
     let more : chunk_count then_now file ≤ chunk_count m file = ((grows_to then_now m way_there (known_when_reached w.config then_now is_reached)).files file).count in
@@ -100,8 +102,8 @@ answered_records_are_shown w m e client fd bytes x one up =
           record {
             index = it.index;
             offset = it.offset;
-            is = it.is;
-            room = it.room;
+            is = sized.0;
+            room = sized.1;
             handle = handle.0;
             there = handle.1;
             place = (it.there).0;

@@ -16,7 +16,7 @@ use Rattle.gfs_types.specs.Image.{newer, image_slice}
 use Rattle.relaxed_file.specs.Order.{Entry, IsSelection, mutations_of, last_cover}
 use Rattle.relaxed_file.specs.Laws.{LeaveAlone}
 use Rattle.relaxed_file.specs.Parts.{part_start, part_length}
-use Rattle.relaxed_file.specs.Machine.{Machine, new_machine, Asked, OpenCall, Piece, chunk_at}
+use Rattle.relaxed_file.specs.Machine.{Machine, new_machine, Asked, OpenCall, Piece, chunk_at, chunk_size}
 use Rattle.relaxed_file.specs.Reads.{IsLook, read_slice}
 use Rattle.relaxed_file.specs.Answers.{IsDone, ArePieces}
 use Rattle.relaxed_file.specs.Run.{Action, Return, Visible, after, after_all, IsRunTo, LeadsTo, IsReached}
@@ -33,7 +33,7 @@ use Rattle.promises.proofs.WaitingCalls.{waiting_since}
 use Rattle.promises.proofs.AnswerMoments.{AnsweredIn, answered_in, at, then, past, reached, to_past, reached_past, ends, way, later_file, descriptors_are_of_one_file}
 use Rattle.promises.proofs.SincePieces.{ReadSince, pieces_since}
 use Rattle.promises.proofs.PieceBytes.{IsFair, IsFound, begin, within, find, bytes_of}
-use Rattle.promises.proofs.ReadPieces.{leads_from, leads_to, settings, fair_piece, slice_there}
+use Rattle.promises.proofs.ReadPieces.{leads_from, leads_to, settings, fair_piece, slice_there, size_at}
 
 -- fewer entries cover no more
 none_of_newer : {A : Type 0} (a b : Option A) → newer a b ≡ None → (a ≡ None) × (b ≡ None)
@@ -76,13 +76,13 @@ pub record IsKept (size : ℕ) (s : Machine) (file index offset : ℕ) (bytes : 
 abbrev pub CutAt : Machine → ℕ → ℕ → Entry → ℕ → Type 0
 CutAt m file index entry place = (before : List Entry) × (later : List Entry) × ((chunk_at m file index).order ≡ before ++ entry ∷ later) × (length before ≡ place)
 
-pub cut_at : (config : Config) (s m : Machine) (file index offset : ℕ) (bytes : List ℕ) → IsReached config s → LeadsTo s m → (kept : IsKept config.chunk s file index offset bytes) → CutAt m file index kept.entry kept.place
-cut_at config s m file index offset bytes is_reached way_there kept = parted _ kept.place kept.entry (settled_entries_stay config s m is_reached way_there file index kept.place kept.entry kept.there kept.settled)
+pub cut_at : (config : Config) (size : ℕ) (s m : Machine) (file index offset : ℕ) (bytes : List ℕ) → IsReached config s → LeadsTo s m → (kept : IsKept size s file index offset bytes) → CutAt m file index kept.entry kept.place
+cut_at config size s m file index offset bytes is_reached way_there kept = parted _ kept.place kept.entry (settled_entries_stay config s m is_reached way_there file index kept.place kept.entry kept.there kept.settled)
 
 module _ (config : Config) (trace : List Visible) (m : Machine) (run : IsRunTo config trace m) (client : ℕ) (asked : Call) (reply : Answer) (plain : IsNoFd reply) (one : WasAnswered trace client asked reply)
     (reader file : ℕ) (fe : Fd) (offset count : ℕ) (found rounds : List ℕ) (two : WasAnswered one.rest reader (call.Read fe offset count) (answer.Bytes found rounds)) (two_of : IsOf run.0 reader fe file)
-    (index o : ℕ) (bytes : List ℕ) (kept : IsKept config.chunk (then config trace m run client asked reply plain one) file index o bytes)
-    (begins : offset ≤ index * config.chunk + o) (reach : index * config.chunk + o + length bytes ≤ offset + length found) where
+    (index o : ℕ) (bytes : List ℕ) (kept : IsKept (chunk_size m file) (then config trace m run client asked reply plain one) file index o bytes)
+    (begins : offset ≤ index * chunk_size m file + o) (reach : index * chunk_size m file + o + length bytes ≤ offset + length found) where
   abbrev then_one : Machine
   then_one = then config trace m run client asked reply plain one
 
@@ -120,10 +120,16 @@ module _ (config : Config) (trace : List Visible) (m : Machine) (run : IsRunTo c
   same_two = descriptors_are_of_one_file config trace m run reader fe done.0 file (later_file config trace m run client asked reply plain one reader _ _ two.before two.rest at_two fe done.0 refl done.1) two_of
 
   abbrev size : ℕ
-  size = config.chunk
+  size = chunk_size m file
+
+  -- the file keeps its size
+  sized : (k : Machine) → LeadsTo past_one k → chunk_size k file ≡ size
+  sized k to =
+      size_at config then_one k m file index kept.place kept.entry reached_one kept.there (leads_on then_one past_one k to_past_one to) (way config trace m run client asked reply plain one)
 
   pieces_are : ArePieces size offset count (at_two.current).pieces (offset / size) done.2
-  pieces_are = subst (λ (c : Config). ArePieces c.chunk offset count (at_two.current).pieces (offset / c.chunk) done.2) (settings config then_two reached_two) done.3
+  pieces_are =
+      subst (λ (n : ℕ). ArePieces n offset count (at_two.current).pieces (offset / n) done.2) (ap (λ (f : ℕ). chunk_size then_two f) same_two ∙ sized then_two (at_two.front, at_two.lawful, refl)) done.3
 
   abbrev Since : Piece → Type 0
   Since = ReadSince past_one at_two.front reader (at_two.current).asked
@@ -134,17 +140,14 @@ module _ (config : Config) (trace : List Visible) (m : Machine) (run : IsRunTo c
   on_the_way : (d : List Action) (left : List Action) → at_two.front ≡ d ++ left → LeadsTo past_one (after_all past_one d)
   on_the_way d left is = leads_to past_one at_two.front d left at_two.lawful is
 
-  sized : (k : Machine) → LeadsTo past_one k → k.config.chunk ≡ size
-  sized k to = ap (λ (c : Config). c.chunk) (settings config k (leads_on (new_machine config) past_one k reached_past_one to))
-
   fair_since : (piece : Piece) → Since piece → IsFair size offset count piece
-  fair_since piece s = fair_piece size offset count (after_all past_one s.0) reader s.3 piece fe (sized _ (on_the_way s.0 s.1 s.2)) (ap (λ (a : Asked). a.call) s.5 ∙ at_two.call_is) s.6
+  fair_since piece s = fair_piece size offset count (after_all past_one s.0) reader s.3 piece fe file (ap (λ (a : Asked). a.file) s.5 ∙ done.1 ∙ ap Some same_two) (sized _ (on_the_way s.0 s.1 s.2)) (ap (λ (a : Asked). a.call) s.5 ∙ at_two.call_is) s.6
 
   fair : AllByRecursion (IsFair size offset count) (at_two.current).pieces
   fair = all_more (at_two.current).pieces fair_since since
 
   abbrev at_end : CutAt m file index kept.entry kept.place
-  at_end = cut_at config then_one m file index o bytes reached_one (way config trace m run client asked reply plain one) kept
+  at_end = cut_at config size then_one m file index o bytes reached_one (way config trace m run client asked reply plain one) kept
 
   abbrev first : ℕ
   first = offset / size
@@ -219,7 +222,7 @@ module _ (config : Config) (trace : List Visible) (m : Machine) (run : IsRunTo c
     shown_whole alone rounds_reach =
         let up_to : (kept.entry).round ≤ looked.last = let l : place.named ≤ looked.last = (looked.look).2 in omega (arith, reaches rounds_reach, l) in
         let known : Known look_since = known_when_reached config look_since (leads_on (new_machine config) past_one look_since reached_past_one to_look) in
-        let cut : CutAt look_since file index kept.entry kept.place = cut_at config then_one look_since file index o bytes reached_one (leads_on then_one past_one look_since to_past_one to_look) kept in
+        let cut : CutAt look_since file index kept.entry kept.place = cut_at config size then_one look_since file index o bytes reached_one (leads_on then_one past_one look_since to_past_one to_look) kept in
         let grown : OrderGrows (chunk_at look_since file index).order (chunk_at m file index).order = (((grows_to look_since m look_to_end known).files file).chunks index).order in
         let parts : OrderGrows (cut.0 ++ kept.entry ∷ cut.1) (at_end.0 ++ kept.entry ∷ at_end.1) =
         subst (λ l. OrderGrows l (at_end.0 ++ kept.entry ∷ at_end.1)) cut.2 (subst (OrderGrows (chunk_at look_since file index).order) at_end.2 grown) in

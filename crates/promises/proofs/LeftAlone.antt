@@ -13,7 +13,7 @@ use Rattle.gfs_types.specs.declared.mutation.Mutation.TheVariants.{Append, Pad}
 use Rattle.gfs_types.specs.Mutations.{start_of, end_of, covers, is_placed_by_system}
 use Rattle.gfs_types.specs.Image.{newer, last_that}
 use Rattle.relaxed_file.specs.Order.{Entry, IsSelection, empty, takes, last_cover}
-use Rattle.relaxed_file.specs.Machine.{Machine, new_machine, Asked, chunk_at}
+use Rattle.relaxed_file.specs.Machine.{Machine, new_machine, Asked, chunk_at, chunk_size}
 use Rattle.relaxed_file.specs.Sources.{sources_of}
 use Rattle.relaxed_file.specs.Run.{Visible, Called, after_all, IsRunTo}
 use Rattle.relaxed_file.specs.RunLaws.{IsAskedOf, WasPutBy, ComesFrom, LiePastSettled}
@@ -59,16 +59,13 @@ not_written size index c (Pad start end) asked none = refl
 not_written size index c mutation asked none = absurd asked
 
 module _ (config : Config) (trace : List Visible) (m : Machine) (run : IsRunTo config trace m) (file x : ℕ) (bytes : List ℕ) (appended : IsOnlyAppended config trace m run file)
-    (s : IsStandingRecord config.chunk m file x bytes) (place : ℕ) (from : s.offset ≤ place) (until : place < s.offset + length bytes) where
-  abbrev size : ℕ
-  size = m.config.chunk
-
+    (s : IsStandingRecord m file x bytes) (place : ℕ) (from : s.offset ≤ place) (until : place < s.offset + length bytes) where
   -- no entry that stands later covers the place
-  covered_not : (f : Entry) → last_cover s.later place ≡ Some f → WasPutBy m (sources_of config run.0 file) s.index f → ⊥
+  covered_not : (f : Entry) → last_cover s.later place ≡ Some f → WasPutBy m (chunk_size m file) (sources_of config run.0 file) s.index f → ⊥
   covered_not f is put =
       let asked : Asked = put.0 in
       let known : ((after_all (new_machine config) run.0).clients f.call.client).calls f.call.number ≡ Some asked = subst (λ (n : Machine). (n.clients f.call.client).calls f.call.number ≡ Some asked) (sym run.3) put.1 in
-      let placed : IsTrue (is_placed_by_system f.mutation) = not_written size s.index asked.call f.mutation put.5 (λ fd offset content same.
+      let placed : IsTrue (is_placed_by_system f.mutation) = not_written (chunk_size m file) s.index asked.call f.mutation put.5 (λ fd offset content same.
       appended f.call.client put.2 fd offset content
       (subst (λ c. Contains trace (Called f.call.client c)) same (subst (λ t. Contains t (Called f.call.client asked.call)) run.2 (was_called config run.0 run.1 f.call.client f.call.number asked known)))
       (was_opened config run.0 run.1 f.call.client f.call.number asked known fd put.2 (ap fd_of same) put.3) put.4) in
@@ -88,13 +85,13 @@ module _ (config : Config) (trace : List Visible) (m : Machine) (run : IsRunTo c
       ∙ ap (newer (last_cover s.before place)) (ap (newer (cond (covers place (s.entry).mutation) (Some s.entry) None)) is)
 
   found_not : (f : Entry) → last_cover s.later place ≡ Some f
-      → ComesFrom m (sources_of config run.0 file) s.index (chunk_at m file s.index).order (chunk_at m file s.index).order place → ⊥
+      → ComesFrom m (chunk_size m file) (sources_of config run.0 file) s.index (chunk_at m file s.index).order (chunk_at m file s.index).order place → ⊥
   found_not f is (inl none) = none-some f (sym none.0 ∙ whole_cover f is)
-  found_not f is (inr put) = covered_not f is (subst (WasPutBy m (sources_of config run.0 file) s.index) (from_some (sym put.2 ∙ whole_cover f is)) put.4)
+  found_not f is (inr put) = covered_not f is (subst (WasPutBy m (chunk_size m file) (sources_of config run.0 file) s.index) (from_some (sym put.2 ∙ whole_cover f is)) put.4)
 
   left_alone : last_cover s.later place ≡ None
   left_alone =
-      let comes : ComesFrom m (sources_of config run.0 file) s.index (chunk_at m file s.index).order (chunk_at m file s.index).order place =
+      let comes : ComesFrom m (chunk_size m file) (sources_of config run.0 file) s.index (chunk_at m file s.index).order (chunk_at m file s.index).order place =
       no_other_byte config run.0 m run.1 run.3 file s.index (chunk_at m file s.index).round (chunk_at m file s.index).order
       (whole_order 0 _ _ (every_order config m (run.0, run.1, run.3) file s.index)) place in
       elim (last_cover s.later place) as (λ o. last_cover s.later place ≡ o → o ≡ None) [

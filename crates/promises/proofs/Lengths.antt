@@ -11,7 +11,7 @@ use Rattle.gfs_types.specs.declared.config.Config.{Config}
 use Rattle.gfs_types.specs.Mutations.{end_of}
 use Rattle.gfs_types.specs.Image.{image_length}
 use Rattle.relaxed_file.specs.Order.{Entry, IsSelection, mutations_of}
-use Rattle.relaxed_file.specs.Machine.{Machine, new_machine, Asked, OpenCall, Offer, Told, NoSuchChunk, chunk_at, chunk_count}
+use Rattle.relaxed_file.specs.Machine.{Machine, new_machine, Asked, OpenCall, Offer, Told, NoSuchChunk, chunk_at, chunk_count, chunk_size}
 use Rattle.relaxed_file.specs.Reads.{MayOffer, offer_of}
 use Rattle.relaxed_file.specs.Answers.{IsDone}
 use Rattle.relaxed_file.specs.Run.{Action, Visible, after_all, IsRunTo, LeadsTo, IsReached}
@@ -29,7 +29,7 @@ use Rattle.promises.specs.Promises.{InEachRun, LengthsReachRecords}
 use Rattle.promises.proofs.WaitingCalls.{waiting_since}
 use Rattle.promises.proofs.AnswerMoments.{AnsweredIn, answered_in, at, then, past, reached, to_past, reached_past, later_file, descriptors_are_of_one_file}
 use Rattle.promises.proofs.StandingRecords as record_at
-use Rattle.promises.proofs.ReadPieces.{leads_to, settings}
+use Rattle.promises.proofs.ReadPieces.{leads_to, same_size}
 use Rattle.promises.proofs.SinceLengths.{lengths_since}
 
 round_below : (least most : ℕ) (order : List Entry) (place : ℕ) (e : Entry) → IsWithin least most order → slice_get order place ≡ Some e → e.round ≤ most
@@ -95,22 +95,27 @@ module _ (config : Config) (trace : List Visible) (m : Machine) (run : IsRunTo c
   told done left is c f i may =
       (f, may.0, λ same. subst (λ g. Fits (offer_of (after_all past_one done) g i)) (sym same) (offer_fits (after_all past_one done) i _ (leads_to past_one at_two.front done left at_two.lawful is) refl))
 
+  abbrev size : ℕ
+  size = chunk_size then_one file
+
   -- a look at the last chunk reaches the record's end
-  long_enough : (k : Machine) → LeadsTo past_one k → (f i round least last : ℕ) (chosen : List Entry) → f ≡ file → (n : ℕ) → n ≡ i * k.config.chunk + image_length (mutations_of chosen)
+  long_enough : (k : Machine) → LeadsTo past_one k → (f i round least last : ℕ) (chosen : List Entry) → f ≡ file → (n : ℕ) → n ≡ i * chunk_size k f + image_length (mutations_of chosen)
       → round ≤ least → least ≤ last → IsSelection last (chunk_at k f i).order chosen → Fits (Told i round (suc i)) → x + length bytes ≤ n
   long_enough k way f i round least last chosen same n n_is told_least least_last selection fits =
-      let size_is : k.config.chunk ≡ config.chunk = ap (λ (c : Config). c.chunk) (settings config k (reached_then k way)) in
-      let n_here : n ≡ i * config.chunk + image_length (mutations_of chosen) = n_is ∙ ap (λ s. i * s + image_length (mutations_of chosen)) size_is in
-      let x_is : x ≡ it.index * config.chunk + it.offset = it.is in
-      let room : it.offset + length bytes ≤ config.chunk = it.room in
+      let size_is : chunk_size k f ≡ size =
+      ap (λ (g : ℕ). chunk_size k g) same
+      ∙ same_size config then_one k file it.index (it.there).0 it.entry (reached config trace m run client (call.Append fd bytes) (answer.At x) tt one) (found_at _ it.entry it.there) (from_record k way) in
+      let n_here : n ≡ i * size + image_length (mutations_of chosen) = n_is ∙ ap (λ s. i * s + image_length (mutations_of chosen)) size_is in
+      let x_is : x ≡ it.index * size + it.offset = it.is in
+      let room : it.offset + length bytes ≤ size = it.room in
       let up_to : it.index < suc i = fits.0 in
       elim (cases_lt it.index i) [
         | inl below ↦
-            let step : suc it.index * config.chunk ≤ i * config.chunk = mul-le-mul_right config.chunk below in
+            let step : suc it.index * size ≤ i * size = mul-le-mul_right size below in
             omega (arith, step, n_here, x_is, room)
         | inr not ↦
             let here : i ≡ it.index = omega (arith, not, up_to) in
-            let prod : i * config.chunk ≡ it.index * config.chunk = ap (λ j. j * config.chunk) here in
+            let prod : i * size ≡ it.index * size = ap (λ j. j * size) here in
             let rounds : (it.entry).round ≤ round = fits.1 here in
             let chosen_from : IsSelection last (chunk_at k file it.index).order chosen = subst (λ g. IsSelection last (chunk_at k g it.index).order chosen) same (subst (λ j. IsSelection last (chunk_at k f j).order chosen) here selection) in
             let has : Contains chosen it.entry = has_place chosen it.entry (selected last chosen_from (it.there).0 it.entry (there k way) it.settled (omega (arith, rounds, told_least, least_last))) in

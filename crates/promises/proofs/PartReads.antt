@@ -11,7 +11,7 @@ use Rattle.gfs_types.specs.Mutations.{end_of}
 use Rattle.relaxed_file.specs.Laws.{LeaveAlone}
 use Rattle.relaxed_file.specs.Order.{Entry}
 use Rattle.relaxed_file.specs.Parts.{has_part, part_start, part_end, part_length, part_bytes}
-use Rattle.relaxed_file.specs.Machine.{Machine, new_machine, Chunk, chunk_at}
+use Rattle.relaxed_file.specs.Machine.{Machine, new_machine, Chunk, chunk_at, chunk_size}
 use Rattle.relaxed_file.specs.Answers.{IsDone, returned}
 use Rattle.relaxed_file.specs.Run.{Visible, IsRunTo, LeadsTo}
 use Rattle.relaxed_file.specs.RunLaws.{StandsAt}
@@ -24,6 +24,7 @@ use Rattle.promises.proofs.WrittenBytes.{writes_stand}
 use Rattle.promises.proofs.KeptRanges.{IsKept, CutAt, cut_at}
 use Rattle.promises.specs.Readers.{IsReadAfterOpen, ReopenedFilesShowWrites, AnswersReachWrites, ReadersMissNoWrite}
 use Rattle.promises.proofs.ReopenedReads.{reaches_to, shows}
+use Rattle.promises.proofs.ReadPieces.{call_size}
 
 -- what an option is
 there_is : {A : Type 0} (o : Option A) → IsSome o → (x : A) × (o ≡ Some x)
@@ -36,12 +37,12 @@ there_is_and P (Some x) h = (x, refl, h)
 
 module _ (config : Config) (trace : List Visible) (m : Machine) (run : IsRunTo config trace m) (client : ℕ) (fd : Fd) (file place reader offset count : ℕ) (bytes found rounds : List ℕ)
     (h : IsReadAfterOpen trace run.0 client fd (call.Write fd place bytes) answer.Done file reader offset count found rounds)
-    (index : ℕ) (has : IsTrue (has_part config.chunk place (length bytes) index)) where
+    (index : ℕ) (has : IsTrue (has_part (chunk_size m file) place (length bytes) index)) where
   abbrev start : ℕ
-  start = part_start config.chunk place index
+  start = part_start (chunk_size m file) place index
 
   abbrev part : List ℕ
-  part = part_bytes config.chunk place bytes index
+  part = part_bytes (chunk_size m file) place bytes index
 
   abbrev at_write : AnsweredIn (new_machine config) run.0 client (call.Write fd place bytes) answer.Done (h.put).before (h.put).rest
   at_write = at config trace m run client (call.Write fd place bytes) answer.Done tt h.put
@@ -60,9 +61,17 @@ module _ (config : Config) (trace : List Visible) (m : Machine) (run : IsRunTo c
       let some = there_is (at_write.current).asked.file done.1 in
       some.1 ∙ ap Some (descriptors_are_of_one_file config trace m run client fd some.0 file (its_file config trace m run client (call.Write fd place bytes) answer.Done tt h.put fd some.0 refl some.1) h.put_of)
 
+  -- the file keeps its size
+  same : chunk_size m file ≡ chunk_size then_write file
+  same =
+      call_size config then_write m client at_write.current file (reached config trace m run client (call.Write fd place bytes) answer.Done tt h.put) at_write.open_now on_file
+      (way config trace m run client (call.Write fd place bytes) answer.Done tt h.put)
+
   stays : (at_place : ℕ) × ((n : Machine) → LeadsTo past_write n → StandsAt n file index at_place (Write start part))
-  stays = answered_writes_stay config then_write client file fd place bytes index (reached config trace m run client (call.Write fd place bytes) answer.Done tt h.put)
-      (at_write.current, at_write.open_now, on_file, at_write.call_is, at_write.may) has
+  stays =
+      subst (λ (k : ℕ). (at_place : ℕ) × ((n : Machine) → LeadsTo past_write n → StandsAt n file index at_place (Write (part_start k place index) (part_bytes k place bytes index)))) (sym same)
+      (answered_writes_stay config then_write client file fd place bytes index (reached config trace m run client (call.Write fd place bytes) answer.Done tt h.put)
+      (at_write.current, at_write.open_now, on_file, at_write.call_is, at_write.may) (subst (λ (k : ℕ). IsTrue (has_part k place (length bytes) index)) same has))
 
   -- the answer changes no chunk
   same_chunk : chunk_at past_write file index ≡ chunk_at then_write file index
@@ -73,16 +82,16 @@ module _ (config : Config) (trace : List Visible) (m : Machine) (run : IsRunTo c
       (subst (λ (c : Chunk). IsSomeAnd (slice_get c.order stays.0) (λ e. IsTrue e.settled × (e.mutation ≡ Write start part))) same_chunk (stays.1 past_write ([], tt, refl)))
 
   -- and the part ends within its chunk
-  room : start + length part ≤ config.chunk
+  room : start + length part ≤ chunk_size m file
   room =
-      let long : length part ≡ min (part_length config.chunk place (length bytes) index) (length (drop (index * config.chunk - place) bytes)) = length-take _ (drop (index * config.chunk - place) bytes) in
-      let some : start < part_end config.chunk place (length bytes) index = ltb-true _ _ has in
+      let long : length part ≡ min (part_length (chunk_size m file) place (length bytes) index) (length (drop (index * chunk_size m file - place) bytes)) = length-take _ (drop (index * chunk_size m file - place) bytes) in
+      let some : start < part_end (chunk_size m file) place (length bytes) index = ltb-true _ _ has in
       omega (arith, long, some)
 
   what : (entry_there.0).mutation ≡ Write start part
   what = (entry_there.2).1
 
-  abbrev standing : IsKept config.chunk then_write file index start part
+  abbrev standing : IsKept (chunk_size m file) then_write file index start part
   standing = record {
     place = stays.0;
     entry = entry_there.0;
@@ -93,14 +102,14 @@ module _ (config : Config) (trace : List Visible) (m : Machine) (run : IsRunTo c
   }
 
   abbrev cut : CutAt m file index entry_there.0 stays.0
-  cut = cut_at config then_write m file index start part (reached config trace m run client (call.Write fd place bytes) answer.Done tt h.put)
+  cut = cut_at config (chunk_size m file) then_write m file index start part (reached config trace m run client (call.Write fd place bytes) answer.Done tt h.put)
       (way config trace m run client (call.Write fd place bytes) answer.Done tt h.put) standing
 
-  reaches_end : offset / config.chunk ≡ index → index * config.chunk + start + length part ≤ offset + count → index * config.chunk + start + length part ≤ offset + length found
+  reaches_end : offset / chunk_size m file ≡ index → index * chunk_size m file + start + length part ≤ offset + count → index * chunk_size m file + start + length part ≤ offset + length found
   reaches_end first until = reaches_to config trace m run client fd (call.Write fd place bytes) answer.Done tt file reader offset count found rounds h index start part standing (ap end_of what) first until
 
-  shown : offset ≤ index * config.chunk + start → index * config.chunk + start + length part ≤ offset + length found
-      → (s : IsStandingPart m file index start part) × (LeaveAlone start (length part) s.later → take (length part) (drop (index * config.chunk + start - offset) found) ≡ part)
+  shown : offset ≤ index * chunk_size m file + start → index * chunk_size m file + start + length part ≤ offset + length found
+      → (s : IsStandingPart m file index start part) × (LeaveAlone start (length part) s.later → take (length part) (drop (index * chunk_size m file + start - offset) found) ≡ part)
   shown begins reach = (
     record { before = cut.0; entry = entry_there.0; later = cut.1; order = cut.2; what = what; settled = (entry_there.2).0 },
     λ alone. shows config trace m run client fd (call.Write fd place bytes) answer.Done tt file reader offset count found rounds h index start part standing (ap end_of what) begins reach alone,

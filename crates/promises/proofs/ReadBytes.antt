@@ -17,7 +17,7 @@ use Rattle.gfs_types.specs.Mutations.{covers, byte_of}
 use Rattle.gfs_types.specs.Image.{newer, last_that, byte_at, image_slice}
 use Rattle.relaxed_file.specs.Order.{Entry, IsSelection, mutations_of}
 use Rattle.relaxed_file.specs.Parts.{part_start, part_end, part_length, part_bytes}
-use Rattle.relaxed_file.specs.Machine.{Machine, new_machine, Asked, OpenCall, Piece, chunk_at}
+use Rattle.relaxed_file.specs.Machine.{Machine, new_machine, Asked, OpenCall, Piece, chunk_at, chunk_size, IsOpen}
 use Rattle.relaxed_file.specs.Reads.{read_slice}
 use Rattle.relaxed_file.specs.Answers.{IsDone, ArePieces}
 use Rattle.relaxed_file.specs.Sources.{sources_of}
@@ -34,7 +34,7 @@ use Rattle.promises.proofs.Descriptors.{was_called, was_opened}
 use Rattle.promises.proofs.AnswerMoments.{AnsweredIn, at, then, its_file, lawful_parts, descriptors_are_of_one_file}
 use Rattle.promises.proofs.SincePieces.{ReadSince, pieces_since}
 use Rattle.promises.proofs.PieceBytes.{IsFair, IsFound, begin, within, find, bytes_of}
-use Rattle.promises.proofs.ReadPieces.{leads_to, settings, fair_piece, slice_from}
+use Rattle.promises.proofs.ReadPieces.{leads_to, fair_piece, slice_from, call_size, leads_from}
 
 -- one element of a list by its place
 one_at : (xs : List ℕ) (k b : ℕ) → slice_get xs k ≡ Some b → take 1 (drop k xs) ≡ b ∷ []
@@ -115,10 +115,10 @@ module _ (config : Config) (trace : List Visible) (m : Machine) (run : IsRunTo c
   file_is = descriptors_are_of_one_file config trace m run client fd done.0 file (its_file config trace m run client _ (answer.Bytes found rounds) tt w fd done.0 refl done.1) w_of
 
   abbrev size : ℕ
-  size = config.chunk
+  size = chunk_size then_read file
 
   pieces_are : ArePieces size offset count (at_read.current).pieces (offset / size) done.2
-  pieces_are = subst (λ (c : Config). ArePieces c.chunk offset count (at_read.current).pieces (offset / c.chunk) done.2) (settings config then_read (at_read.front, at_read.lawful, refl)) done.3
+  pieces_are = subst (λ (f : ℕ). ArePieces (chunk_size then_read f) offset count (at_read.current).pieces (offset / chunk_size then_read f) done.2) file_is done.3
 
   abbrev Since : Piece → Type 0
   Since = ReadSince first_machine at_read.front client (at_read.current).asked
@@ -126,11 +126,15 @@ module _ (config : Config) (trace : List Visible) (m : Machine) (run : IsRunTo c
   since : AllByRecursion Since (at_read.current).pieces
   since = pieces_since first_machine at_read.front client at_read.lawful (call.Read fd offset count) at_read.current (ap (waiting_call client None) at_read.seen ∙ w.waited) at_read.open_now
 
-  sized : (d left : List Action) → at_read.front ≡ d ++ left → (after_all first_machine d).config.chunk ≡ size
-  sized d left is = ap (λ (c : Config). c.chunk) (settings config (after_all first_machine d) (leads_to first_machine at_read.front d left at_read.lawful is))
+  -- the file of the open call keeps its size
+  sized : (d left : List Action) → at_read.front ≡ d ++ left → (c : OpenCall) → IsOpen (after_all first_machine d) client c → c.asked ≡ (at_read.current).asked → chunk_size (after_all first_machine d) file ≡ size
+  sized d left is c is_open same =
+      sym (call_size config (after_all first_machine d) then_read client c file (leads_to first_machine at_read.front d left at_read.lawful is) is_open (ap (λ (a : Asked). a.file) same ∙ done.1 ∙ ap Some file_is)
+      (leads_from first_machine then_read at_read.front d left at_read.lawful is refl))
 
   fair_since : (piece : Piece) → Since piece → IsFair size offset count piece
-  fair_since piece s = fair_piece size offset count (after_all first_machine s.0) client s.3 piece fd (sized s.0 s.1 s.2) (ap (λ (a : Asked). a.call) s.5 ∙ at_read.call_is) s.6
+  fair_since piece s =
+      fair_piece size offset count (after_all first_machine s.0) client s.3 piece fd file (ap (λ (a : Asked). a.file) s.5 ∙ done.1 ∙ ap Some file_is) (sized s.0 s.1 s.2 s.3 s.4 s.5) (ap (λ (a : Asked). a.call) s.5 ∙ at_read.call_is) s.6
 
   fair : AllByRecursion (IsFair size offset count) (at_read.current).pieces
   fair = all_more (at_read.current).pieces fair_since since
@@ -178,14 +182,14 @@ module _ (config : Config) (trace : List Visible) (m : Machine) (run : IsRunTo c
 
     -- by what the machine says of a place of a selection
     by_entry : (d left : List Action) → at_read.front ≡ d ++ left → (chosen order : List Entry) → byte ≡ byte_at (mutations_of chosen) o
-        → ComesFrom (after_all first_machine d) (sources_of config d file) t order chosen o → Comes
+        → ComesFrom (after_all first_machine d) size (sources_of config d file) t order chosen o → Comes
     by_entry d left is chosen order byte_is (inl none) = inl (byte_is ∙ none.1)
     by_entry d left is chosen order byte_is (inr (e, there, cover, at_place, put)) =
         let parts = lawful_parts first_machine d left (subst (IsLawful first_machine) is at_read.lawful) in
         let asked : Asked = put.0 in
         let same : byte ≡ byte_of o e.mutation = byte_is ∙ at_place in
         let covered : covers o e.mutation ≡ true = last_passes (λ f. covers o f.mutation) chosen e cover in
-        elim (put_there (after_all first_machine d).config.chunk t o asked.call e.mutation put.5 covered) [
+        elim (put_there size t o asked.call e.mutation put.5 covered) [
           | inl zeros ↦ inl (same ∙ zeros)
           | inr puts ↦ inr (record {
             client = e.call.client;
@@ -200,19 +204,20 @@ module _ (config : Config) (trace : List Visible) (m : Machine) (run : IsRunTo c
             goes = at_read.is ∙ ap (λ l. l ++ Return client (answer.Bytes found rounds) ∷ at_read.back) is ∙ append_assoc d left (Return client (answer.Bytes found rounds) ∷ at_read.back);
             is_of = was_opened config d parts.0 e.call.client e.call.number asked put.1 puts.0 put.2 puts.1 put.3;
             source = put.4;
-            puts = subst (λ b. Puts asked.call x b) (sym same) (subst (λ y. Puts asked.call y (byte_of o e.mutation))
-                (ap (λ s. t * s + o) (sized d left is) ∙ sym x_is) puts.2);
+            puts = subst (λ b. Puts asked.call x b) (sym same) (subst (λ y. Puts asked.call y (byte_of o e.mutation)) (sym x_is) puts.2);
           })
         ]
 
-    by_piece : (d left : List Action) → at_read.front ≡ d ++ left → (c : OpenCall) → c.asked ≡ (at_read.current).asked → IsPieceOf (after_all first_machine d) client c piece_at.piece → Comes
-    by_piece d left is c same (by_none i gone is_piece) = absurd (none-some piece_at.named (ap (λ (p : Piece). p.round) (sym is_piece) ∙ piece_at.round_is))
-    by_piece d left is c same (by_look f i least last chosen may is_piece) =
+    by_piece : (d left : List Action) → at_read.front ≡ d ++ left → (c : OpenCall) → IsOpen (after_all first_machine d) client c → c.asked ≡ (at_read.current).asked → IsPieceOf (after_all first_machine d) client c piece_at.piece → Comes
+    by_piece d left is c is_open same (by_none i gone is_piece) = absurd (none-some piece_at.named (ap (λ (p : Piece). p.round) (sym is_piece) ∙ piece_at.round_is))
+    by_piece d left is c is_open same (by_look f i least last chosen may is_piece) =
         let index_is : i ≡ t = ap (λ (p : Piece). p.index) (sym is_piece) ∙ piece_at.index_is in
         let file_same : f ≡ file = from_some (sym may.0 ∙ ap (λ (a : Asked). a.file) same ∙ done.1) ∙ file_is in
         let call_is : c.asked.call ≡ call.Read fd offset count = ap (λ (a : Asked). a.call) same ∙ at_read.call_is in
+        let size_here : chunk_size (after_all first_machine d) file ≡ size = sized d left is c is_open same in
+        let slice_size : chunk_size (after_all first_machine d) f ≡ size = ap (λ (g : ℕ). chunk_size (after_all first_machine d) g) file_same ∙ size_here in
         let given : (piece_at.piece).bytes ≡ image_slice (mutations_of chosen) (part_start size offset t) (part_length size offset count t) =
-        ap (λ (p : Piece). p.bytes) is_piece ∙ (λ j. read_slice (sized d left is j) (index_is j) (call_is j) chosen) in
+        ap (λ (p : Piece). p.bytes) is_piece ∙ (λ j. read_slice (slice_size j) (index_is j) (call_is j) chosen) in
         let slice : take 1 (drop (o - part_start size offset t) (piece_at.piece).bytes) ≡ byte_at (mutations_of chosen) o ∷ [] =
         ap (λ l. take 1 (drop (o - part_start size offset t) l)) given
         ∙ slice_from o (part_start size offset t) (part_length size offset count t) 1 (mutations_of chosen) piece_at.starts
@@ -221,11 +226,12 @@ module _ (config : Config) (trace : List Visible) (m : Machine) (run : IsRunTo c
         (parts_of byte (byte_at (mutations_of chosen) o) [] [] (sym byte_there ∙ slice)).0 in
         let lawful = (lawful_parts first_machine d left (subst (IsLawful first_machine) is at_read.lawful)).0 in
         by_entry d left is chosen (chunk_at (after_all first_machine d) file t).order byte_is
+        (subst (λ (n : ℕ). ComesFrom (after_all first_machine d) n (sources_of config d file) t (chunk_at (after_all first_machine d) file t).order chosen o) size_here
         (no_other_byte config d (after_all first_machine d) lawful refl file t last chosen
-        (subst (λ g. IsSelection last (chunk_at (after_all first_machine d) g t).order chosen) file_same (subst (λ j. IsSelection last (chunk_at (after_all first_machine d) f j).order chosen) index_is (may.2).3)) o)
+        (subst (λ g. IsSelection last (chunk_at (after_all first_machine d) g t).order chosen) file_same (subst (λ j. IsSelection last (chunk_at (after_all first_machine d) f j).order chosen) index_is (may.2).3)) o))
 
     comes : Comes
-    comes = let s : Since piece_at.piece = contained Since (at_read.current).pieces piece_at.piece since piece_at.there in by_piece s.0 s.1 s.2 s.3 s.5 s.6
+    comes = let s : Since piece_at.piece = contained Since (at_read.current).pieces piece_at.piece since piece_at.there in by_piece s.0 s.1 s.2 s.3 s.4 s.5 s.6
 
   answered : Comes
   answered = elim (cases_lt 0 size) [

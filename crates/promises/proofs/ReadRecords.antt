@@ -6,7 +6,7 @@ use Rattle.gfs_types.specs.declared.call.Call.TheVariants as call
 use Rattle.gfs_types.specs.declared.answer.Answer.TheVariants as answer
 use Rattle.gfs_types.specs.declared.ids.Fd.{Fd}
 use Rattle.gfs_types.specs.declared.config.Config.{Config}
-use Rattle.relaxed_file.specs.Machine.{Machine}
+use Rattle.relaxed_file.specs.Machine.{Machine, chunk_size}
 use Rattle.relaxed_file.specs.Run.{Visible, IsRunTo}
 use Rattle.relaxed_file.proofs.Tables.{from_some}
 use Rattle.relaxed_file.proofs.Successes.{AnsweredAppend, found_at}
@@ -18,6 +18,7 @@ use Rattle.promises.proofs.AnswerMoments.{then, reached, allowed, way, descripto
 use Rattle.promises.proofs.StandingRecords as record_at
 use Rattle.promises.proofs.KeptRanges.{IsKept, CutAt, cut_at, no_bytes, is_shown, by_round, round_named}
 use Rattle.promises.proofs.LeftAlone.{appends_leave_records_alone}
+use Rattle.promises.proofs.ReadPieces.{append_sized}
 
 module _ (config : Config) (trace : List Visible) (m : Machine) (run : IsRunTo config trace m) (client file : ℕ) (fd : Fd) (bytes : List ℕ) (x : ℕ)
     (one : WasAnswered trace client (call.Append fd bytes) (answer.At x)) (one_of : IsOf run.0 client fd file) where
@@ -30,31 +31,37 @@ module _ (config : Config) (trace : List Visible) (m : Machine) (run : IsRunTo c
   abbrev it : AnsweredAppend config then_one client file bytes x
   it = subst (λ f. AnsweredAppend config then_one client f bytes x) same_one (record_at.it config trace m run client fd bytes x one)
 
-  abbrev kept : IsKept config.chunk then_one file it.index it.offset bytes
+  -- by the size that the file has in the end
+  pub sized : (x ≡ it.index * chunk_size m file + it.offset) × (it.offset + length bytes ≤ chunk_size m file)
+  sized =
+      append_sized config then_one m client file bytes x (reached config trace m run client (call.Append fd bytes) (answer.At x) tt one) (way config trace m run client (call.Append fd bytes) (answer.At x) tt one) it
+
+  abbrev kept : IsKept (chunk_size m file) then_one file it.index it.offset bytes
   kept = record {
     place = (it.there).0;
     entry = it.entry;
     there = found_at _ it.entry it.there;
     settled = it.settled;
-    room = it.room;
+    room = sized.1;
     keeps = λ last before later chosen r alone chose. records_stand last it.offset before later chosen it.entry bytes it.what it.settled r alone chose;
   }
 
   abbrev at_end : CutAt m file it.index it.entry (it.there).0
-  at_end = cut_at config then_one m file it.index it.offset bytes (reached config trace m run client (call.Append fd bytes) (answer.At x) tt one)
+  at_end = cut_at config (chunk_size m file) then_one m file it.index it.offset bytes (reached config trace m run client (call.Append fd bytes) (answer.At x) tt one)
       (way config trace m run client (call.Append fd bytes) (answer.At x) tt one) kept
 
-  abbrev stands : IsStandingRecord config.chunk m file x bytes
-  stands = record { index = it.index; offset = it.offset; is = it.is; room = it.room; before = at_end.0; entry = it.entry; later = at_end.1; order = at_end.2; what = it.what; settled = it.settled }
+  abbrev stands : IsStandingRecord m file x bytes
+  stands = record { index = it.index; offset = it.offset; is = sized.0; room = sized.1; before = at_end.0; entry = it.entry; later = at_end.1; order = at_end.2; what = it.what; settled = it.settled }
 
 pub records_are_read : InEachRun RecordsAreRead
 records_are_read config trace m run client reader file fd fe bytes x offset count found rounds one one_of two two_of begins reach =
     let k = kept config trace m run client file fd bytes x one one_of in
     let a = it config trace m run client file fd bytes x one one_of in
-    let from : offset ≤ a.index * config.chunk + a.offset = subst (λ y. offset ≤ y) a.is begins in
-    let until : a.index * config.chunk + a.offset + length bytes ≤ offset + length found = subst (λ y. y + length bytes ≤ offset + length found) a.is reach in (
+    let x_is = (sized config trace m run client file fd bytes x one one_of).0 in
+    let from : offset ≤ a.index * chunk_size m file + a.offset = subst (λ y. offset ≤ y) x_is begins in
+    let until : a.index * chunk_size m file + a.offset + length bytes ≤ offset + length found = subst (λ y. y + length bytes ≤ offset + length found) x_is reach in (
       stands config trace m run client file fd bytes x one one_of,
-      λ alone named. ap (λ y. take (length bytes) (drop (y - offset) found)) a.is
+      λ alone named. ap (λ y. take (length bytes) (drop (y - offset) found)) x_is
           ∙ is_shown config trace m run client (call.Append fd bytes) (answer.At x) tt one reader file fe offset count found rounds two two_of a.index a.offset bytes k from until alone
           (by_round config trace m run client (call.Append fd bytes) (answer.At x) tt one reader file fe offset count found rounds two two_of a.index a.offset bytes k from until named),
     )
@@ -63,10 +70,11 @@ pub own_records_are_read : InEachRun OwnRecordsAreRead
 own_records_are_read config trace m run client file fd fe bytes x offset count found rounds one one_of two two_of begins reach =
     let k = kept config trace m run client file fd bytes x one one_of in
     let a = it config trace m run client file fd bytes x one one_of in
-    let from : offset ≤ a.index * config.chunk + a.offset = subst (λ y. offset ≤ y) a.is begins in
-    let until : a.index * config.chunk + a.offset + length bytes ≤ offset + length found = subst (λ y. y + length bytes ≤ offset + length found) a.is reach in (
+    let x_is = (sized config trace m run client file fd bytes x one one_of).0 in
+    let from : offset ≤ a.index * chunk_size m file + a.offset = subst (λ y. offset ≤ y) x_is begins in
+    let until : a.index * chunk_size m file + a.offset + length bytes ≤ offset + length found = subst (λ y. y + length bytes ≤ offset + length found) x_is reach in (
       stands config trace m run client file fd bytes x one one_of,
-      λ alone. ap (λ y. take (length bytes) (drop (y - offset) found)) a.is
+      λ alone. ap (λ y. take (length bytes) (drop (y - offset) found)) x_is
           ∙ is_shown config trace m run client (call.Append fd bytes) (answer.At x) tt one client file fe offset count found rounds two two_of a.index a.offset bytes k from until alone
           (λ n least last chosen to look named. own_rounds_are_named config (then config trace m run client (call.Append fd bytes) (answer.At x) tt one) n client file a.index a.entry (answer.At x) least last chosen
           (reached config trace m run client (call.Append fd bytes) (answer.At x) tt one) (a.current, a.open_now, a.there, a.noted, a.note_is, a.success)
@@ -77,10 +85,11 @@ pub seen_rounds_suffice : InEachRun SeenRoundsSuffice
 seen_rounds_suffice config trace m run client reader file fd fe ff bytes x offset count found rounds from many read named one one_of two two_of begins reach three three_of starts gets =
     let k = kept config trace m run client file fd bytes x one one_of in
     let a = it config trace m run client file fd bytes x one one_of in
-    let here : offset ≤ a.index * config.chunk + a.offset = subst (λ y. offset ≤ y) a.is begins in
-    let until : a.index * config.chunk + a.offset + length bytes ≤ offset + length found = subst (λ y. y + length bytes ≤ offset + length found) a.is reach in
-    let there : from ≤ a.index * config.chunk + a.offset = subst (λ y. from ≤ y) a.is starts in
-    let past : a.index * config.chunk + a.offset + length bytes ≤ from + length read = subst (λ y. y + length bytes ≤ from + length read) a.is gets in (
+    let x_is = (sized config trace m run client file fd bytes x one one_of).0 in
+    let here : offset ≤ a.index * chunk_size m file + a.offset = subst (λ y. offset ≤ y) x_is begins in
+    let until : a.index * chunk_size m file + a.offset + length bytes ≤ offset + length found = subst (λ y. y + length bytes ≤ offset + length found) x_is reach in
+    let there : from ≤ a.index * chunk_size m file + a.offset = subst (λ y. from ≤ y) x_is starts in
+    let past : a.index * chunk_size m file + a.offset + length bytes ≤ from + length read = subst (λ y. y + length bytes ≤ from + length read) x_is gets in (
       stands config trace m run client file fd bytes x one one_of,
       λ alone seen later first second le. elim (cases_lt 0 (length bytes)) [
         | inl some ↦
@@ -90,7 +99,7 @@ seen_rounds_suffice config trace m run client reader file fd fe ff bytes x offse
             (allowed config trace m run client (call.Append fd bytes) (answer.At x) tt one) to look) in
             let same : own.0 ≡ seen = from_some (sym own.1 ∙ first) in
             let enough : (a.entry).round ≤ later = omega (arith, own.2, same, le) in
-            ap (λ y. take (length bytes) (drop (y - from) read)) a.is
+            ap (λ y. take (length bytes) (drop (y - from) read)) x_is
             ∙ is_shown config trace m run client (call.Append fd bytes) (answer.At x) tt one reader file ff from many read named three three_of a.index a.offset bytes k there past alone
             (by_round config trace m run client (call.Append fd bytes) (answer.At x) tt one reader file ff from many read named three three_of a.index a.offset bytes k there past
             (subst (λ o. IsSomeAnd o (λ r. (a.entry).round ≤ r)) (sym second) enough))

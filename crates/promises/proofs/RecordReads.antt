@@ -9,7 +9,7 @@ use Rattle.gfs_types.specs.declared.ids.Fd.{Fd}
 use Rattle.gfs_types.specs.declared.config.Config.{Config}
 use Rattle.gfs_types.specs.Mutations.{end_of}
 use Rattle.relaxed_file.specs.Laws.{LeaveAlone}
-use Rattle.relaxed_file.specs.Machine.{Machine}
+use Rattle.relaxed_file.specs.Machine.{Machine, chunk_size}
 use Rattle.relaxed_file.specs.Run.{Visible, IsRunTo}
 use Rattle.relaxed_file.proofs.Records.{records_stand}
 use Rattle.relaxed_file.proofs.Successes.{AnsweredAppend, found_at}
@@ -21,6 +21,7 @@ use Rattle.promises.proofs.KeptRanges.{IsKept, CutAt, cut_at, no_bytes}
 use Rattle.promises.proofs.LeftAlone.{appends_leave_records_alone}
 use Rattle.promises.specs.Readers.{IsReadAfterOpen, ReopenedFilesShowRecords, AnswersReachRecords, ReadersMissNothing, ReadersMissNoAppend, WholeChunksMissNothing}
 use Rattle.promises.proofs.ReopenedReads.{reaches_to, shows}
+use Rattle.promises.proofs.ReadPieces.{append_sized}
 
 -- a range that begins in the chunk that holds a place begins in the record's chunk, or past the record, which has no byte then
 chunk_of : (size index o len x offset : ℕ) → x ≡ index * size + o → o + len ≤ size → offset / size ≡ x / size → (offset / size ≡ index) ⊎ (x + len ≤ offset)
@@ -52,40 +53,45 @@ module _ (config : Config) (trace : List Visible) (m : Machine) (run : IsRunTo c
   abbrev it : AnsweredAppend config at_append client file bytes x
   it = subst (λ f. AnsweredAppend config at_append client f bytes x) same_file (record_at.it config trace m run client fd bytes x h.put)
 
-  abbrev standing : IsKept config.chunk at_append file it.index it.offset bytes
+  -- by the size that the file has in the end
+  sized : (x ≡ it.index * chunk_size m file + it.offset) × (it.offset + length bytes ≤ chunk_size m file)
+  sized =
+      append_sized config at_append m client file bytes x (reached config trace m run client (call.Append fd bytes) (answer.At x) tt h.put) (way config trace m run client (call.Append fd bytes) (answer.At x) tt h.put) it
+
+  abbrev standing : IsKept (chunk_size m file) at_append file it.index it.offset bytes
   standing = record {
     place = (it.there).0;
     entry = it.entry;
     there = found_at _ it.entry it.there;
     settled = it.settled;
-    room = it.room;
+    room = sized.1;
     keeps = λ last before later chosen up_to alone chose. records_stand last it.offset before later chosen it.entry bytes it.what it.settled up_to alone chose;
   }
 
   abbrev cut : CutAt m file it.index it.entry (it.there).0
-  cut = cut_at config at_append m file it.index it.offset bytes (reached config trace m run client (call.Append fd bytes) (answer.At x) tt h.put)
+  cut = cut_at config (chunk_size m file) at_append m file it.index it.offset bytes (reached config trace m run client (call.Append fd bytes) (answer.At x) tt h.put)
       (way config trace m run client (call.Append fd bytes) (answer.At x) tt h.put) standing
 
-  abbrev stands : IsStandingRecord config.chunk m file x bytes
-  stands = record { index = it.index; offset = it.offset; is = it.is; room = it.room; before = cut.0; entry = it.entry; later = cut.1; order = cut.2; what = it.what; settled = it.settled }
+  abbrev stands : IsStandingRecord m file x bytes
+  stands = record { index = it.index; offset = it.offset; is = sized.0; room = sized.1; before = cut.0; entry = it.entry; later = cut.1; order = cut.2; what = it.what; settled = it.settled }
 
-  reaches_end : offset / config.chunk ≡ x / config.chunk → x + length bytes ≤ offset + count → x + length bytes ≤ offset + length found
-  reaches_end same until = elim (chunk_of config.chunk it.index it.offset (length bytes) x offset it.is it.room same) [
+  reaches_end : offset / chunk_size m file ≡ x / chunk_size m file → x + length bytes ≤ offset + count → x + length bytes ≤ offset + length found
+  reaches_end same until = elim (chunk_of (chunk_size m file) it.index it.offset (length bytes) x offset sized.0 sized.1 same) [
     | inr before ↦ omega (arith, before)
-    | inl first ↦ subst (λ y. y + length bytes ≤ offset + length found) (sym it.is)
+    | inl first ↦ subst (λ y. y + length bytes ≤ offset + length found) (sym sized.0)
         (reaches_to config trace m run client fd (call.Append fd bytes) (answer.At x) tt file reader offset count found rounds h it.index it.offset bytes standing (ap end_of it.what) first
-        (subst (λ y. y + length bytes ≤ offset + count) it.is until))
+        (subst (λ y. y + length bytes ≤ offset + count) sized.0 until))
   ]
 
   abbrev IsShown : Type 0
-  IsShown = (s : IsStandingRecord config.chunk m file x bytes) × (LeaveAlone s.offset (length bytes) s.later → take (length bytes) (drop (x - offset) found) ≡ bytes)
+  IsShown = (s : IsStandingRecord m file x bytes) × (LeaveAlone s.offset (length bytes) s.later → take (length bytes) (drop (x - offset) found) ≡ bytes)
 
   shown : offset ≤ x → x + length bytes ≤ offset + length found → IsShown
   shown begins reach = (
     stands,
-    λ alone. ap (λ y. take (length bytes) (drop (y - offset) found)) it.is
+    λ alone. ap (λ y. take (length bytes) (drop (y - offset) found)) sized.0
         ∙ shows config trace m run client fd (call.Append fd bytes) (answer.At x) tt file reader offset count found rounds h it.index it.offset bytes standing (ap end_of it.what)
-        (subst (λ y. offset ≤ y) it.is begins) (subst (λ y. y + length bytes ≤ offset + length found) it.is reach) alone,
+        (subst (λ y. offset ≤ y) sized.0 begins) (subst (λ y. y + length bytes ≤ offset + length found) sized.0 reach) alone,
   )
 
 pub reopened_files_show_records : InEachRun ReopenedFilesShowRecords
@@ -107,10 +113,11 @@ pub whole_chunks_miss_nothing : InEachRun WholeChunksMissNothing
 whole_chunks_miss_nothing config trace m run client fd file x reader bytes found rounds h appended = elim (cases_lt 0 (length bytes)) [
   | inr none ↦ no_bytes bytes _ (omega (arith, none))
   | inl some ↦
-      let size : ℕ = config.chunk in
-      let record_is = record_at.it config trace m run client fd bytes x h.put in
-      let x_is : x ≡ record_is.index * size + record_is.offset = record_is.is in
-      let room : record_is.offset + length bytes ≤ size = record_is.room in
+      let size : ℕ = chunk_size m file in
+      let record_is = it config trace m run client fd file x reader (x / size * size) size bytes found rounds h in
+      let record_sized = sized config trace m run client fd file x reader (x / size * size) size bytes found rounds h in
+      let x_is : x ≡ record_is.index * size + record_is.offset = record_sized.0 in
+      let room : record_is.offset + length bytes ≤ size = record_sized.1 in
       let chunk : x / size ≡ record_is.index = ap (λ y. y / size) x_is ∙ div-mul-add record_is.index size record_is.offset (omega (arith, room, some)) in
       let prod : x / size * size ≡ record_is.index * size = ap (λ k. k * size) chunk in
       let plain : x / size * size ≡ x / size * size + 0 = omega arith in

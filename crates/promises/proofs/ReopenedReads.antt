@@ -16,7 +16,7 @@ use Rattle.gfs_types.specs.Image.{image_length, image_slice}
 use Rattle.relaxed_file.specs.Laws.{LeaveAlone}
 use Rattle.relaxed_file.specs.Order.{Entry, mutations_of}
 use Rattle.relaxed_file.specs.Parts.{part_start, part_end, part_length}
-use Rattle.relaxed_file.specs.Machine.{Machine, new_machine, Chunk, Asked, OpenCall, IsOpen, Piece, chunk_at, chunk_count}
+use Rattle.relaxed_file.specs.Machine.{Machine, new_machine, Chunk, Asked, OpenCall, IsOpen, Piece, chunk_at, chunk_count, chunk_size}
 use Rattle.relaxed_file.specs.Reads.{IsLook, MayLookPast, read_slice}
 use Rattle.relaxed_file.specs.Answers.{IsDone, ArePieces}
 use Rattle.relaxed_file.specs.Run.{Action, Return, ReturnFd, Visible, Answered, after, after_all, IsLawful, IsRunTo, LeadsTo, IsReached}
@@ -37,7 +37,7 @@ use Rattle.promises.proofs.Descriptors.{file_opened}
 use Rattle.promises.proofs.AnswerMoments.{AnsweredIn, answered_in, then, past, reached, to_past, way, descriptors_are_of_one_file}
 use Rattle.promises.proofs.SincePieces.{ReadSince, pieces_since}
 use Rattle.promises.proofs.PieceBytes.{IsFair, IsFound, begin, within, find, bytes_of}
-use Rattle.promises.proofs.ReadPieces.{leads_to, settings, fair_piece}
+use Rattle.promises.proofs.ReadPieces.{leads_to, settings, fair_piece, size_at}
 use Rattle.promises.proofs.KeptRanges.{IsKept, cut_at, no_bytes, is_shown, by_round}
 use Rattle.promises.specs.Readers.{IsReadAfterOpen}
 use Rattle.promises.proofs.Follows.{Follows, follows_to, follows_open, look_is_late, never_past}
@@ -61,10 +61,10 @@ answered_later trace client other asked again reply next w v = record {
 
 module _ (config : Config) (trace : List Visible) (m : Machine) (run : IsRunTo config trace m) (client : ℕ) (fd : Fd) (asked : Call) (reply : Answer) (plain : IsNoFd reply)
     (file reader offset count : ℕ) (found rounds : List ℕ) (h : IsReadAfterOpen trace run.0 client fd asked reply file reader offset count found rounds)
-    (index o : ℕ) (bytes : List ℕ) (kept : IsKept config.chunk (then config trace m run client asked reply plain h.put) file index o bytes)
+    (index o : ℕ) (bytes : List ℕ) (kept : IsKept (chunk_size m file) (then config trace m run client asked reply plain h.put) file index o bytes)
     (end_is : end_of (kept.entry).mutation ≡ o + length bytes) where
   abbrev size : ℕ
-  size = config.chunk
+  size = chunk_size m file
 
   -- where the first call is answered
   abbrev at_put : Machine
@@ -153,8 +153,14 @@ module _ (config : Config) (trace : List Visible) (m : Machine) (run : IsRunTo c
       (file_opened config up_to_read read_lawful reader at_read.current h.through gives.0 (subst (λ k. IsOpen k reader at_read.current) (sym read_ends) at_read.open_now) (ap fd_of at_read.call_is) gives.1)))
       h.read_of
 
+  -- the file keeps its size
+  sized : (k : Machine) → LeadsTo now k → chunk_size k file ≡ size
+  sized k to =
+      size_at config at_put k m file index kept.place kept.entry reached_put kept.there (leads_on at_put before_open k to_open (leads_on before_open now k by_open to)) (way config trace m run client asked reply plain h.put)
+
   pieces_in_order : ArePieces size offset count (at_read.current).pieces (offset / size) gives.2
-  pieces_in_order = subst (λ (c : Config). ArePieces c.chunk offset count (at_read.current).pieces (offset / c.chunk) gives.2) (settings config then_read reached_read) gives.3
+  pieces_in_order =
+      subst (λ (n : ℕ). ArePieces n offset count (at_read.current).pieces (offset / n) gives.2) (ap (λ (f : ℕ). chunk_size then_read f) same_read ∙ sized then_read (at_read.front, at_read.lawful, refl)) gives.3
 
   abbrev Since : Piece → Type 0
   Since = ReadSince now at_read.front reader (at_read.current).asked
@@ -164,9 +170,6 @@ module _ (config : Config) (trace : List Visible) (m : Machine) (run : IsRunTo c
 
   on_way : (d after_d : List Action) → at_read.front ≡ d ++ after_d → LeadsTo now (after_all now d)
   on_way d after_d is = leads_to now at_read.front d after_d at_read.lawful is
-
-  sized : (k : Machine) → LeadsTo now k → k.config.chunk ≡ size
-  sized k to = ap (λ (c : Config). c.chunk) (settings config k (leads_on (new_machine config) now k reached_now to))
 
   -- a piece of the entry's chunk names no earlier round, and its selection has the entry
   record IsLate (piece : Piece) : Type 0 where
@@ -234,7 +237,7 @@ module _ (config : Config) (trace : List Visible) (m : Machine) (run : IsRunTo c
 
   fair : AllByRecursion (IsFair size offset count) (at_read.current).pieces
   fair = all_more (at_read.current).pieces
-      (λ piece s. fair_piece size offset count (after_all now s.0) reader s.3 piece h.through (sized _ (on_way s.0 s.1 s.2)) (ap (λ (a : Asked). a.call) s.5 ∙ at_read.call_is) s.6) since
+      (λ piece s. fair_piece size offset count (after_all now s.0) reader s.3 piece h.through file (ap (λ (a : Asked). a.file) s.5 ∙ gives.1 ∙ ap Some same_read) (sized _ (on_way s.0 s.1 s.2)) (ap (λ (a : Asked). a.call) s.5 ∙ at_read.call_is) s.6) since
 
   module _ (from : offset ≤ index * size + o) (until_end : index * size + o + length bytes ≤ offset + length found) where
     module _ (some : 0 < length bytes) where
@@ -257,7 +260,7 @@ module _ (config : Config) (trace : List Visible) (m : Machine) (run : IsRunTo c
     abbrev direct : WasAnswered (h.put).rest reader (call.Read h.through offset count) (answer.Bytes found rounds)
     direct = answered_later (h.put).rest reader reader _ _ _ _ h.open_file h.read
 
-    pub shows : LeaveAlone o (length bytes) (cut_at config at_put m file index o bytes (reached config trace m run client asked reply plain h.put) (way config trace m run client asked reply plain h.put) kept).1
+    pub shows : LeaveAlone o (length bytes) (cut_at config (chunk_size m file) at_put m file index o bytes (reached config trace m run client asked reply plain h.put) (way config trace m run client asked reply plain h.put) kept).1
         → take (length bytes) (drop (index * size + o - offset) found) ≡ bytes
     shows alone = elim (cases_lt 0 (length bytes)) [
       | inl some ↦ is_shown config trace m run client asked reply plain h.put reader file h.through offset count found rounds direct h.read_of index o bytes kept from until_end alone

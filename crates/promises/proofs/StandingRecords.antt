@@ -1,5 +1,5 @@
 -- Answered records stand, keep their places and lie apart.
-use Rattle.std.proofs.Common.{◌≡◌, ℕ, ◌+◌, ◌<◌, ◌≤◌, ◌⊎◌, List, [], ◌∷◌, ◌++◌, append_assoc, length, Some, None, refl, sym, ◌∙◌, ap, subst, inl, inr, ⊎_elim, arith}
+use Rattle.std.proofs.Common.{◌≡◌, ℕ, ◌+◌, ◌<◌, ◌≤◌, ◌⊎◌, List, [], ◌∷◌, ◌++◌, append_assoc, length, Some, None, refl, sym, ◌∙◌, ap, subst, inl, inr, ⊎_elim, arith, ◌*◌}
 use Rattle.std.specs.Prelude.{slice_get}
 use Rattle.std.proofs.lemmas.Bool.{cases_lt}
 use Rattle.gfs_types.specs.declared.call.Call.TheVariants as call
@@ -16,6 +16,7 @@ use Rattle.promises.specs.Promises.{InEachRun, AnsweredRecordsStand, RecordsKeep
 use Rattle.promises.proofs.Lists.{later_part, parted, at_length}
 use Rattle.promises.proofs.WaitingCalls.{call_of, waiting_by_actions, waiting-append}
 use Rattle.promises.proofs.AnswerMoments.{AnsweredIn, answered_in, at, then, past, reached, way, its_file, to_answer, to_answer_lawful, to_answer_ends, to_answer_seen, later_file, descriptors_are_of_one_file}
+use Rattle.promises.proofs.ReadPieces.{same_size, append_sized}
 
 -- a record that was answered, at the moment of the answer
 module _ (config : Config) (trace : List Visible) (m : Machine) (run : IsRunTo config trace m) (client : ℕ) (fd : Fd) (bytes : List ℕ) (x : ℕ)
@@ -41,13 +42,14 @@ module _ (config : Config) (trace : List Visible) (m : Machine) (run : IsRunTo c
   abbrev pub it : AnsweredAppend config then_now client file_now bytes x
   it = answered config then_now client file_now fd bytes x (reached config trace m run client (call.Append fd bytes) (answer.At x) tt w) may_now
 
-  stands : IsStandingRecord config.chunk m file_now x bytes
+  stands : IsStandingRecord m file_now x bytes
   stands =
       let there : slice_get (chunk_at m file_now it.index).order (it.there).0 ≡ Some it.entry =
       settled_entries_stay config then_now m (reached config trace m run client (call.Append fd bytes) (answer.At x) tt w) (way config trace m run client (call.Append fd bytes) (answer.At x) tt w)
       file_now it.index (it.there).0 it.entry (found_at _ it.entry it.there) it.settled in
       let cut = parted _ (it.there).0 it.entry there in
-      record { index = it.index; offset = it.offset; is = it.is; room = it.room; before = cut.0; entry = it.entry; later = cut.1; order = cut.2; what = it.what; settled = it.settled }
+      let sized = append_sized config then_now m client file_now bytes x (reached config trace m run client (call.Append fd bytes) (answer.At x) tt w) (way config trace m run client (call.Append fd bytes) (answer.At x) tt w) it in
+      record { index = it.index; offset = it.offset; is = sized.0; room = sized.1; before = cut.0; entry = it.entry; later = cut.1; order = cut.2; what = it.what; settled = it.settled }
 
 pub answered_records_stand : InEachRun AnsweredRecordsStand
 answered_records_stand config trace m run client fd bytes x w = (file_now config trace m run client fd bytes x w, is_of config trace m run client fd bytes x w, stands config trace m run client fd bytes x w)
@@ -57,8 +59,9 @@ records_keep_their_place config trace m run n file x bytes way s =
     let here : slice_get (chunk_at m file s.index).order (length s.before) ≡ Some s.entry = subst (λ o. slice_get o (length s.before) ≡ Some s.entry) (sym s.order) (at_length s.before s.entry s.later) in
     let later : slice_get (chunk_at n file s.index).order (length s.before) ≡ Some s.entry =
     settled_entries_stay config m n (run.0, run.1, run.3) way file s.index (length s.before) s.entry here s.settled in
-    let cut = parted _ (length s.before) s.entry later in (
-      record { index = s.index; offset = s.offset; is = s.is; room = s.room; before = cut.0; entry = s.entry; later = cut.1; order = cut.2; what = s.what; settled = s.settled },
+    let cut = parted _ (length s.before) s.entry later in
+    let same = sym (same_size config m n file s.index (length s.before) s.entry (run.0, run.1, run.3) here way) in (
+      record { index = s.index; offset = s.offset; is = subst (λ (k : ℕ). x ≡ s.index * k + s.offset) same s.is; room = subst (λ (k : ℕ). s.offset + length bytes ≤ k) same s.room; before = cut.0; entry = s.entry; later = cut.1; order = cut.2; what = s.what; settled = s.settled },
       refl,
       cut.3,
       refl,

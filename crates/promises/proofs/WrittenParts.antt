@@ -10,7 +10,7 @@ use Rattle.gfs_types.specs.declared.mutation.Mutation.{Mutation}
 use Rattle.gfs_types.specs.declared.mutation.Mutation.TheVariants.{Write, Append, Pad}
 use Rattle.relaxed_file.specs.Order.{CallId}
 use Rattle.relaxed_file.specs.Parts.{has_part, part_start, part_end, part_length, part_bytes}
-use Rattle.relaxed_file.specs.Machine.{Machine, new_machine}
+use Rattle.relaxed_file.specs.Machine.{Machine, new_machine, chunk_size}
 use Rattle.relaxed_file.specs.Answers.{HasSuccess, IsWrite, IsDone}
 use Rattle.relaxed_file.specs.Run.{Visible, IsRunTo}
 use Rattle.relaxed_file.specs.RunLaws.{IsAskedOf}
@@ -19,7 +19,7 @@ use Rattle.relaxed_file.proofs.OwnReads.{own_rounds_are_named}
 use Rattle.promises.specs.Answered.{WasAnswered, IsOf, IsStandingPart}
 use Rattle.promises.specs.Promises.{InEachRun, AnsweredWritesStand, WritesAreRead, OwnWritesAreRead}
 use Rattle.promises.proofs.AnswerMoments.{AnsweredIn, at, then, reached, allowed, way, its_file, descriptors_are_of_one_file}
-use Rattle.promises.proofs.ReadPieces.{settings}
+use Rattle.promises.proofs.ReadPieces.{call_size}
 use Rattle.promises.proofs.WrittenBytes.{writes_stand}
 use Rattle.promises.proofs.KeptRanges.{IsKept, CutAt, cut_at, is_shown, by_round}
 
@@ -60,42 +60,48 @@ module _ (config : Config) (trace : List Visible) (m : Machine) (run : IsRunTo c
   is_of : IsOf run.0 client fd has_file.0
   is_of = its_file config trace m run client (call.Write fd offset bytes) answer.Done tt one fd has_file.0 refl has_file.1
 
-  abbrev start : ℕ → ℕ
-  start index = part_start config.chunk offset index
+  module _ (file : ℕ) (one_of : IsOf run.0 client fd file) (index : ℕ) (has : IsTrue (has_part (chunk_size m file) offset (length bytes) index)) where
+    abbrev start : ℕ
+    start = part_start (chunk_size m file) offset index
 
-  abbrev part : ℕ → List ℕ
-  part index = part_bytes config.chunk offset bytes index
+    abbrev part : List ℕ
+    part = part_bytes (chunk_size m file) offset bytes index
 
-  module _ (file : ℕ) (one_of : IsOf run.0 client fd file) (index : ℕ) (has : IsTrue (has_part config.chunk offset (length bytes) index)) where
     file_is : (at_one.current).asked.file ≡ Some file
     file_is = has_file.1 ∙ ap Some (descriptors_are_of_one_file config trace m run client fd has_file.0 file is_of one_of)
 
+    -- the file keeps its size
+    same : chunk_size m file ≡ chunk_size then_one file
+    same =
+        call_size config then_one m client at_one.current file (reached config trace m run client (call.Write fd offset bytes) answer.Done tt one) at_one.open_now file_is
+        (way config trace m run client (call.Write fd offset bytes) answer.Done tt one)
+
     success : HasSuccess then_one client id file index IsWrite
     success =
-        let each : (i : ℕ) → IsTrue (has_part then_one.config.chunk offset (length bytes) i) → HasSuccess then_one client id file i IsWrite =
-        subst (λ (o : Option ℕ). IfSome o (λ f. (i : ℕ) → IsTrue (has_part then_one.config.chunk offset (length bytes) i) → HasSuccess then_one client id f i IsWrite)) file_is done.0 in
-        each index (subst (λ (c : Config). IsTrue (has_part c.chunk offset (length bytes) index)) (sym (settings config then_one (reached config trace m run client _ _ tt one))) has)
+        let each : (i : ℕ) → IsTrue (has_part (chunk_size then_one file) offset (length bytes) i) → HasSuccess then_one client id file i IsWrite =
+        subst (λ (o : Option ℕ). IfSome o (λ f. (i : ℕ) → IsTrue (has_part (chunk_size then_one f) offset (length bytes) i) → HasSuccess then_one client id f i IsWrite)) file_is done.0 in
+        each index (subst (λ (n : ℕ). IsTrue (has_part n offset (length bytes) index)) same has)
 
-    what : (success.2).mutation ≡ Write (start index) (part index)
-    what = write_is config.chunk index offset fd bytes (success.2).mutation
-        (subst (λ c. IsAskedOf config.chunk index c (success.2).mutation) at_one.call_is
-        (success_asked config then_one client at_one.current file index success.0 success.2 (reached config trace m run client _ _ tt one) at_one.open_now success.3 success.4)) success.5
+    what : (success.2).mutation ≡ Write start part
+    what = write_is (chunk_size m file) index offset fd bytes (success.2).mutation
+        (subst (λ c. IsAskedOf (chunk_size m file) index c (success.2).mutation) at_one.call_is
+        (subst (λ (n : ℕ). IsAskedOf n index (at_one.current).asked.call (success.2).mutation) (sym same) (success_asked config then_one client at_one.current file index success.0 success.2 (reached config trace m run client _ _ tt one) at_one.open_now success.3 success.4))) success.5
 
-    abbrev kept : IsKept config.chunk then_one file index (start index) (part index)
+    abbrev kept : IsKept (chunk_size m file) then_one file index start part
     kept = record {
       place = (success.3).0;
       entry = success.2;
       there = found_at _ success.2 success.3;
       settled = (success.4).1;
-      room = part_room config.chunk index offset bytes has;
-      keeps = λ last before later chosen r alone chose. writes_stand last (start index) before later chosen success.2 (part index) what (success.4).1 r alone chose;
+      room = part_room (chunk_size m file) index offset bytes has;
+      keeps = λ last before later chosen r alone chose. writes_stand last start before later chosen success.2 part what (success.4).1 r alone chose;
     }
 
     abbrev at_end : CutAt m file index (success.2) (success.3).0
-    at_end = cut_at config then_one m file index (start index) (part index) (reached config trace m run client (call.Write fd offset bytes) answer.Done tt one)
+    at_end = cut_at config (chunk_size m file) then_one m file index start part (reached config trace m run client (call.Write fd offset bytes) answer.Done tt one)
         (way config trace m run client (call.Write fd offset bytes) answer.Done tt one) kept
 
-    abbrev stands : IsStandingPart m file index (start index) (part index)
+    abbrev stands : IsStandingPart m file index start part
     stands = record { before = at_end.0; entry = success.2; later = at_end.1; order = at_end.2; what = what; settled = (success.4).1 }
 
 pub answered_writes_stand : InEachRun AnsweredWritesStand

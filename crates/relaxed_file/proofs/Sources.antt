@@ -10,7 +10,7 @@ use Rattle.gfs_types.specs.Mutations.{covers, byte_of}
 use Rattle.gfs_types.specs.Image.{newer, last_that, byte_at}
 use Rattle.relaxed_file.specs.Names.{Node, Dir, File, copied_entries, id_after}
 use Rattle.relaxed_file.specs.Order.{Entry, IsSelection, empty, takes, leaves, last_cover, mutations_of}
-use Rattle.relaxed_file.specs.Machine.{Machine, new_machine, Asked, FileState, Chunk, new_chunk, OpenCall, Outcome, chunk_at, chunk_count, with_chunk}
+use Rattle.relaxed_file.specs.Machine.{Machine, new_machine, Asked, FileState, Chunk, new_chunk, OpenCall, Outcome, chunk_at, chunk_count, with_chunk, chunk_size}
 use Rattle.relaxed_file.specs.NameStep.{performed, is_refused, stepped, with_outcome, with_copied_file, with_copied_files, made_file}
 use Rattle.relaxed_file.specs.Chunks.{settled_at, chunk_added, placed}
 use Rattle.relaxed_file.specs.Answers.{returned}
@@ -19,9 +19,8 @@ use Rattle.relaxed_file.specs.Run.{Action, Return, Step, Expire, Add, OpenRound,
 use Rattle.relaxed_file.specs.Sources.{with_source, with_sources, sources_by_call, sources_by, sources_after, sources_of}
 use Rattle.relaxed_file.specs.RunLaws.{IsAskedOf, WasPutBy, ComesFrom, NoOtherByte}
 use Rattle.relaxed_file.proofs.Tables.{put_at, at_some, all_more, from_some}
-use Rattle.relaxed_file.proofs.Known.{Known, known_step, asked_is, FileBelow, AskedBelow, file_below}
+use Rattle.relaxed_file.proofs.Known.{Known, known_step, asked_is}
 use Rattle.relaxed_file.proofs.Grows.{Grows, grows_step, known_at_first}
-use Rattle.relaxed_file.proofs.ShapesKept.{KeepsSizes, sizes_step}
 use Rattle.relaxed_file.proofs.AskedFor.{all_pushed, asked_here, open_is_made}
 
 -- each file goes back to itself
@@ -45,24 +44,24 @@ call_self m other sources h = h
 
 module _ (m : Machine) where
   abbrev PutIn : List ℕ → FileState → Type 0
-  PutIn sources file = (index : ℕ) → AllByRecursion (WasPutBy m sources index) (file.chunks index).order
+  PutIn sources file = (index : ℕ) → AllByRecursion (WasPutBy m file.shape.chunk sources index) (file.chunks index).order
 
   abbrev ArePut : (ℕ → List ℕ) → (ℕ → FileState) → Type 0
   ArePut sources files = (file : ℕ) → PutIn (sources file) (files file)
 
-  put_settled : (sources : List ℕ) (index place : ℕ) (order : List Entry) → AllByRecursion (WasPutBy m sources index) order → AllByRecursion (WasPutBy m sources index) (settled_at place order)
-  put_settled sources index place [] all = tt
-  put_settled sources index zero (e ∷ rest) all = all
-  put_settled sources index (suc place) (e ∷ rest) all = (all.0, put_settled sources index place rest all.1)
+  put_settled : (size : ℕ) (sources : List ℕ) (index place : ℕ) (order : List Entry) → AllByRecursion (WasPutBy m size sources index) order → AllByRecursion (WasPutBy m size sources index) (settled_at place order)
+  put_settled size sources index place [] all = tt
+  put_settled size sources index zero (e ∷ rest) all = all
+  put_settled size sources index (suc place) (e ∷ rest) all = (all.0, put_settled size sources index place rest all.1)
 
   -- a copy has entries of its source's sources
-  from_source : (from : ℕ) (sources : ℕ → List ℕ) (next index : ℕ) (e : Entry) → WasPutBy m (sources from) index e → WasPutBy m (next ∷ sources from) index e
-  from_source from sources next index e h = (h.0, h.1, h.2, h.3, (suc (h.4).0, omega (arith, (h.4).1), (h.4).2), h.5)
+  from_source : (size from : ℕ) (sources : ℕ → List ℕ) (next index : ℕ) (e : Entry) → WasPutBy m size (sources from) index e → WasPutBy m size (next ∷ sources from) index e
+  from_source size from sources next index e h = (h.0, h.1, h.2, h.3, (suc (h.4).0, omega (arith, (h.4).1), (h.4).2), h.5)
 
   copy_put : (sources : ℕ → List ℕ) (files : ℕ → FileState) (next : ℕ) (node : Node) → ArePut sources files → ArePut (with_source sources next node) (with_copied_file files next node)
   copy_put sources files next Dir h = h
   copy_put sources files next (File id) h = λ k. elim (k == next) as (λ b. PutIn (cond b (next ∷ sources id) (sources k)) (cond b (files id) (files k))) [
-    | true ↦ λ index. all_more _ (λ e. from_source id sources next index e) (h id index)
+    | true ↦ λ index. all_more _ (λ e. from_source (files id).shape.chunk id sources next index e) (h id index)
     | false ↦ h k
   ]
 
@@ -75,8 +74,8 @@ module _ (m : Machine) where
   performed_put (call.Snapshot p q) moment sources h = copies_put (copied_entries m.names p q) sources m.files (suc m.file_count) h
   performed_put other moment sources h = h
 
-  chunk_put : (sources : ℕ → List ℕ) (file index : ℕ) (chunk : Chunk) → AllByRecursion (WasPutBy m (sources file) index) chunk.order → ArePut sources m.files → ArePut sources (with_chunk m file index chunk).files
-  chunk_put sources file index chunk new h = put_at (λ f s. PutIn (sources f) s) file _ m.files (put_at (λ i c. AllByRecursion (WasPutBy m (sources file) i) c.order) index chunk (m.files file).chunks new (h file)) h
+  chunk_put : (sources : ℕ → List ℕ) (file index : ℕ) (chunk : Chunk) → AllByRecursion (WasPutBy m (chunk_size m file) (sources file) index) chunk.order → ArePut sources m.files → ArePut sources (with_chunk m file index chunk).files
+  chunk_put sources file index chunk new h = put_at (λ f s. PutIn (sources f) s) file _ m.files (put_at (λ i c. AllByRecursion (WasPutBy m (chunk_size m file) (sources file) i) c.order) index chunk (m.files file).chunks new (h file)) h
 
   stepped_put : (client moment : ℕ) (outcome : Outcome) (current : OpenCall) (sources : ℕ → List ℕ) → ArePut sources m.files
       → ArePut (cond (is_refused outcome) sources (sources_by_call m current.asked.call sources)) (stepped m client moment outcome current).files
@@ -93,13 +92,13 @@ module _ (m : Machine) where
       (stepped_put client moment outcome a.0 sources h)
   put_step (Expire file moment) sources a known selves h = put_at (λ f s. PutIn (sources f) s) file _ m.files (h file) h
   put_step (Add id) sources a known selves h = at_some (λ k. ArePut sources k.files) (chunk_added m id) m (asked_file m id) a.1 (asked_is m id a.0 a.1 a.2.0 a.2.1)
-      (put_at (λ f s. PutIn (sources f) s) a.1 _ m.files (put_at (λ i c. AllByRecursion (WasPutBy m (sources a.1) i) c.order) (chunk_count m a.1) new_chunk (m.files a.1).chunks tt (h a.1)) h)
+      (put_at (λ f s. PutIn (sources f) s) a.1 _ m.files (put_at (λ i c. AllByRecursion (WasPutBy m (chunk_size m a.1) (sources a.1) i) c.order) (chunk_count m a.1) new_chunk (m.files a.1).chunks tt (h a.1)) h)
   put_step (OpenRound file index round) sources a known selves h = chunk_put sources file index _ (h file index) h
   put_step (CloseRound file index) sources a known selves h = chunk_put sources file index _ (h file index) h
   put_step (Place client file index mutation) sources a known selves h = at_some (λ k. ArePut sources k.files) (λ current. placed m client current file index mutation) m _ a.0 a.1
-      (chunk_put sources file index _ (all_pushed (WasPutBy m (sources file) index) _ _ (h file index)
+      (chunk_put sources file index _ (all_pushed (WasPutBy m (chunk_size m file) (sources file) index) _ _ (h file index)
       ((a.0).asked, open_is_made m client a.0 known a.1, file, (a.2).0, selves file, asked_here m (record { client = client; number = (a.0).number }) file index (a.0).asked.call mutation (a.2).3)) h)
-  put_step (Settle file index place) sources a known selves h = chunk_put sources file index _ (put_settled (sources file) index place _ (h file index)) h
+  put_step (Settle file index place) sources a known selves h = chunk_put sources file index _ (put_settled (chunk_size m file) (sources file) index place _ (h file index)) h
   put_step (Look client file index least last chosen) sources a known selves h = at_some (λ k. ArePut sources k.files) (λ current. looked m client current file index least chosen) m _ a.0 a.1 h
   put_step other sources a known selves h = h
 
@@ -114,24 +113,15 @@ module _ (m : Machine) where
       ]
   selves_step other sources h = h
 
--- a file on which a call was made was made before
-made_of_call : (m : Machine) (client number file : ℕ) (asked : Asked) → Known m → (m.clients client).calls number ≡ Some asked → asked.file ≡ Some file → file ≤ m.file_count
-made_of_call m client number file asked known is on =
-    let its : FileBelow (suc m.file_count) asked.file = subst (AskedBelow (suc m.file_count)) is ((known.clients client).calls number) in
-    let low : file < suc m.file_count = file_below (suc m.file_count) file asked.file on its in
-    omega (arith, low)
-
-put_later : (m n : Machine) (sources : List ℕ) (index : ℕ) (e : Entry) → Grows m n → KeepsSizes m n → Known m → WasPutBy m sources index e → WasPutBy n sources index e
-put_later m n sources index e g sizes known h =
-    (h.0, (g.clients e.call.client).calls e.call.number h.0 h.1, h.2, h.3, h.4,
-    subst (λ (s : ℕ). IsAskedOf s index (h.0).call e.mutation) (sym (sizes h.2 (made_of_call m e.call.client e.call.number h.2 h.0 known h.1 h.3))) h.5)
+put_later : (m n : Machine) (size : ℕ) (sources : List ℕ) (index : ℕ) (e : Entry) → Grows m n → WasPutBy m size sources index e → WasPutBy n size sources index e
+put_later m n size sources index e g h = (h.0, (g.clients e.call.client).calls e.call.number h.0 h.1, h.2, h.3, h.4, h.5)
 
 all_put : (m : Machine) (actions : List Action) (sources : ℕ → List ℕ) → IsLawful m actions → Known m → HaveSelves sources → ArePut m sources m.files
     → ArePut (after_all m actions) (sources_after sources m actions) (after_all m actions).files
 all_put m [] sources lawful known selves h = h
 all_put m (x ∷ xs) sources lawful known selves h =
     all_put (after m x) xs (sources_by m x sources) lawful.1 (known_step m x lawful.0 known) (selves_step m x sources selves)
-    (λ file index. all_more _ (λ e. put_later m (after m x) (sources_by m x sources file) index e (grows_step m x lawful.0 known) (sizes_step m x lawful.0) known) (put_step m x sources lawful.0 known selves h file index))
+    (λ file index. all_more _ (λ e. put_later m (after m x) (chunk_size (after m x) file) (sources_by m x sources file) index e (grows_step m x lawful.0 known)) (put_step m x sources lawful.0 known selves h file index))
 
 -- what a selection has at a place, by its entries
 abbrev Has : List Entry → Entry → Type 0
@@ -182,19 +172,19 @@ byte_is : (place : ℕ) (chosen : List Entry) (o : Option Entry) → last_cover 
     → byte_at (mutations_of chosen) place ≡ unwrap_or (option_map (byte_of place) (option_map (λ (e : Entry). e.mutation) o)) 0
 byte_is place chosen o is = ap (λ found. unwrap_or (option_map (byte_of place) found) 0) (cover_mutation place chosen ∙ ap (option_map (λ (e : Entry). e.mutation)) is)
 
-comes_from : (m : Machine) (sources : List ℕ) (index last place : ℕ) (order chosen : List Entry) → IsSelection last order chosen → AllByRecursion (WasPutBy m sources index) order
-    → ComesFrom m sources index order chosen place
-comes_from m sources index last place order chosen chose all =
-    elim (last_cover chosen place) as (λ o. last_cover chosen place ≡ o → ComesFrom m sources index order chosen place) [
+comes_from : (m : Machine) (size : ℕ) (sources : List ℕ) (index last place : ℕ) (order chosen : List Entry) → IsSelection last order chosen → AllByRecursion (WasPutBy m size sources index) order
+    → ComesFrom m size sources index order chosen place
+comes_from m size sources index last place order chosen chose all =
+    elim (last_cover chosen place) as (λ o. last_cover chosen place ≡ o → ComesFrom m size sources index order chosen place) [
       | None ↦ λ is. inl (is, byte_is place chosen None is)
       | Some e ↦ λ is.
           let has : Has order e = chosen_has last chose e (cover_has place chosen e is) in
-          inr (e, has_place order e has, is, byte_is place chosen (Some e) is, has_all (WasPutBy m sources index) order e all has)
+          inr (e, has_place order e has, is, byte_is place chosen (Some e) is, has_all (WasPutBy m size sources index) order e all has)
     ] refl
 
 pub no_other_byte : NoOtherByte
 no_other_byte config actions m lawful ends file index last chosen chose place =
     let put : ArePut (after_all (new_machine config) actions) (sources_of config actions) (after_all (new_machine config) actions).files =
     all_put (new_machine config) actions (λ f. f ∷ []) lawful (known_at_first config) (λ f. self_first f []) (λ f i. tt) in
-    comes_from m (sources_of config actions file) index last place _ chosen chose
-    (subst (λ (k : Machine). AllByRecursion (WasPutBy k (sources_of config actions file) index) (chunk_at k file index).order) ends (put file index))
+    comes_from m (chunk_size m file) (sources_of config actions file) index last place _ chosen chose
+    (subst (λ (k : Machine). AllByRecursion (WasPutBy k (chunk_size k file) (sources_of config actions file) index) (chunk_at k file index).order) ends (put file index))

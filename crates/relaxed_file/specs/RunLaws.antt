@@ -122,24 +122,24 @@ OwnSuccessesAreRead =
     → IsReached config m → IsOwnSuccess m client file index e → Allows m (Return client reply)
     → LeadsTo (after m (Return client reply)) n → IsLook n client file index least last chosen → Contains chosen e
 
--- a call on one of these files asked for the entry
-abbrev pub WasPutBy : Machine → List ℕ → ℕ → Entry → Type 0
-WasPutBy m sources index e =
+-- a call on one of these files asked for the entry in a chunk of this size
+abbrev pub WasPutBy : Machine → (size : ℕ) → List ℕ → ℕ → Entry → Type 0
+WasPutBy m size sources index e =
     (asked : Asked) × ((m.clients e.call.client).calls e.call.number ≡ Some asked)
-    × (from : ℕ) × (asked.file ≡ Some from) × Contains sources from × IsAskedOf (chunk_size m from) index asked.call e.mutation
+    × (from : ℕ) × (asked.file ≡ Some from) × Contains sources from × IsAskedOf size index asked.call e.mutation
 
 -- what a selection has at a place: nothing, which reads as zero, or the byte of one of its entries, put there by a call on the file or on one that it goes back to
-abbrev pub ComesFrom : Machine → List ℕ → ℕ → List Entry → List Entry → ℕ → Type 0
-ComesFrom m sources index order chosen place =
+abbrev pub ComesFrom : Machine → (size : ℕ) → List ℕ → ℕ → List Entry → List Entry → ℕ → Type 0
+ComesFrom m size sources index order chosen place =
     ((last_cover chosen place ≡ None) × (byte_at (mutations_of chosen) place ≡ 0))
-    ⊎ ((e : Entry) × Contains order e × (last_cover chosen place ≡ Some e) × (byte_at (mutations_of chosen) place ≡ byte_of place e.mutation) × WasPutBy m sources index e)
+    ⊎ ((e : Entry) × Contains order e × (last_cover chosen place ≡ Some e) × (byte_at (mutations_of chosen) place ≡ byte_of place e.mutation) × WasPutBy m size sources index e)
 
 -- No look gives a byte that no mutation of the file, or of a file that it goes back to by snapshots, put there, but zeros in holes (sections 2.7.1 and 3.4).
 abbrev pub NoOtherByte : Type 0
 NoOtherByte =
     (config : Config) (actions : List Action) (m : Machine) → IsLawful (new_machine config) actions → after_all (new_machine config) actions ≡ m
     → (file index last : ℕ) (chosen : List Entry) → IsSelection last (chunk_at m file index).order chosen
-    → (place : ℕ) → ComesFrom m (sources_of config actions file) index (chunk_at m file index).order chosen place
+    → (place : ℕ) → ComesFrom m (chunk_size m file) (sources_of config actions file) index (chunk_at m file index).order chosen place
 
 -- the file whose chunks an action changes
 abbrev pub file_changed_by : Machine → Action → Option ℕ
