@@ -50,6 +50,8 @@ use Rattle.headline.proofs.AskSenders.{asks_come_from_clients}
 use Rattle.headline.proofs.AskedAdds.{asks_add_the_next_chunk}
 use Rattle.headline.proofs.AskedChunks.{asked_chunks_may_be_added}
 use Rattle.machine_names.proofs.Effects.{same_collected}
+use Rattle.relaxed_file.proofs.Known.{made_by_count}
+use Rattle.headline.proofs.RequestsStay.{sizes_kept}
 
 -- a full chunk stays full
 
@@ -64,12 +66,12 @@ full_order size (e ∷ old) (f ∷ new) grows h =
     ap (λ (b : Bool). b || list_any (λ x. end_of x.mutation == size) new) (sym (ap (λ m. end_of m == size) (grows.0).2))
     ∙ or_on (end_of e.mutation == size) (list_any (λ x. end_of x.mutation == size) old) (list_any (λ x. end_of x.mutation == size) new) (full_order size old new grows.1) h
 
-full_stays : (m n : Machine) (file index : ℕ) → Grows m n → IsFullAt m file index → IsFullAt n file index
-full_stays m n file index grows h =
+full_stays : (m n : Machine) (file index : ℕ) → Grows m n → chunk_size n file ≡ chunk_size m file → IsFullAt m file index → IsFullAt n file index
+full_stays m n file index grows same h =
     record {
       count = let low = h.count in let more = (grows.files file).count in omega (arith, low, more);
-      full = subst (λ (size : ℕ). list_any (λ e. end_of e.mutation == size) (chunk_at n file index).order ≡ true) (sym (ap (λ (c : Config). c.chunk) grows.config))
-          (full_order m.config.chunk (chunk_at m file index).order (chunk_at n file index).order (((grows.files file).chunks index).order) h.full);
+      full = subst (λ (size : ℕ). list_any (λ e. end_of e.mutation == size) (chunk_at n file index).order ≡ true) (sym same)
+          (full_order (chunk_size m file) (chunk_at m file index).order (chunk_at n file index).order (((grows.files file).chunks index).order) h.full);
     }
 
 last_full : (n : Machine) (file past count : ℕ) → count ≤ suc past → (past < count) → IsTrue (list_any (λ e. end_of e.mutation == chunk_size n file) (chunk_at n file past).order) → IsTrue (is_last_chunk_full n file count)
@@ -141,8 +143,11 @@ module _ (config : Config) (servers clients : ℕ) (w : WorldState) (r : IsReach
             none_full j.machine file.0 (chunk_count j.machine file.0) (omega (arith, low, count))
         full (suc past) same_what =
             let low : length handles ≤ suc past = subst (λ (q : Wanted). IsForNext q (length handles)) same_what next in
-            let it : IsFullAt j.machine file.0 past =
-            full_stays k.machine j.machine file.0 past grows (asks_are_full config servers clients w r clocks some ss k beside client place number past x file deadline lost at from (is ∙ ap (λ (q : Wanted). body.Ask number file q deadline lost) same_what)) in
+            let was : IsFullAt k.machine file.0 past =
+            asks_are_full config servers clients w r clocks some ss k beside client place number past x file deadline lost at from (is ∙ ap (λ (q : Wanted). body.Ask number file q deadline lost) same_what) in
+            let reached : IsReached config k.machine = (beside.run.0, beside.run.1, beside.run.3) in
+            let same = sizes_kept config k.machine j.machine reached led file.0 (made_by_count k.machine file.0 past (known_when_reached config k.machine reached) was.count) in
+            let it : IsFullAt j.machine file.0 past = full_stays k.machine j.machine file.0 past grows same was in
             last_full j.machine file.0 past (chunk_count j.machine file.0) (omega (arith, low, count)) it.count it.full
 
     asked_for : AddNoChunk Changes ⊎ ((handles : List ℕ) × (file_of w.master.logged.table file.0 ≡ Some handles) × IsForNext what (length handles) × AddOneChunk file Changes) → AreAskedFor k.machine orders w.master.disk Changes

@@ -173,6 +173,6 @@ requests_stay_of_calls config w ss k n e choice beside =
       clients = requests.clients;
       steps = requests.steps ++ (e, choice) ∷ [];
       leads = after_both (new_world config requests.servers requests.clients) requests.steps ((e, choice) ∷ []);
-      each = all_requests config requests.servers requests.clients requests.steps k.machine n e choice requests.each there.run leads later files;
+      each = all_requests config requests.servers requests.clients requests.steps k.machine n e choice requests.each there.run leads later files there.files;
       refused = all_refusals config requests.servers requests.clients requests.steps ss k n e choice there requests.each requests.refused leads;
     }) beside

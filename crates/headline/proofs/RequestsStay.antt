@@ -25,12 +25,12 @@ use Rattle.messages.specs.declared.message.Wanted.{Wanted}
 use Rattle.messages.specs.declared.message.Wanted.TheVariants as wanted
 use Rattle.relaxed_file.specs.Order.{CallId, same_call, Entry}
 use Rattle.relaxed_file.specs.Parts.{has_part, part_start, part_bytes}
-use Rattle.relaxed_file.specs.Machine.{Machine, OpenCall, Piece, new_machine, chunk_at}
+use Rattle.relaxed_file.specs.Machine.{Machine, OpenCall, Piece, chunk_at, chunk_size}
 use Rattle.relaxed_file.specs.Answers.{HasSuccess, IsWrite}
 use Rattle.relaxed_file.specs.Chunks.{is_success, AreEarlierPartsSettled}
-use Rattle.relaxed_file.specs.Run.{LeadsTo, IsRunTo}
+use Rattle.relaxed_file.specs.Run.{LeadsTo, IsRunTo, IsReached}
 use Rattle.relaxed_file.proofs.AskedFor.{open_is_made}
-use Rattle.relaxed_file.proofs.Grows.{Grows, OrderGrows, grows_to, known_at_first, known_when_reached}
+use Rattle.relaxed_file.proofs.Grows.{Grows, OrderGrows, grows_to, known_when_reached}
 use Rattle.relaxed_file.proofs.Successes.{settled_stays, found_at}
 use Rattle.client_state.specs.declared.call.CurrentCall.{CurrentCall}
 use Rattle.client_state.specs.declared.call.ToldChunk.{ToldChunk}
@@ -39,7 +39,7 @@ use Rattle.client_state.specs.declared.call.Stage.TheVariants.{SentMutate}
 use Rattle.protocol.specs.Tables.{element_at}
 use Rattle.protocol.specs.Sending.{data_id, the_client, client_number}
 use Rattle.protocol.specs.Choice.{Choice}
-use Rattle.protocol.specs.Client.{ClientState}
+use Rattle.protocol.specs.Client.{ClientState, file_chunk}
 use Rattle.protocol.specs.ClientAttempts.{is_mutation, bytes_to_send, target_of, wanted_by}
 use Rattle.protocol.specs.ClientStep.{client_step, client_call}
 use Rattle.protocol.specs.Observer.{calls_made, observed_moment}
@@ -62,12 +62,18 @@ use Rattle.laws_calls.specs.ToldIndexes.{has_index}
 use Rattle.laws_calls.proofs.LaterCalls.{pushed_later, calls_answered, calls_passed}
 use Rattle.laws_calls.proofs.UsedIndexes.{no_call, used_was_told, parts_go_to_their_chunk}
 use Rattle.laws_machine.specs.ServerSteps.{AreDataOf}
-use Rattle.laws_machine.specs.FileClients.{id_of, IsDoneSoFar, IsFileCall, IsCallAlike}
+use Rattle.laws_machine.specs.FileClients.{id_of, IsDoneSoFar, IsFileCall, IsCallAlike, IsFileOpen}
 use Rattle.laws_machine.specs.WholeWorlds.{AreFileClients}
 use Rattle.laws_machine.proofs.CountedCalls.{calls_are_counted}
 use Rattle.laws_machine.specs.SentRequests.{IsCallOn, IsPartTo, IsAttemptOf, IsWantedBy, IsAskOf, IsRequestOf, AreRequestsOf}
 use Rattle.headline.proofs.AskedOnce.{Sends, each_sends}
 use Rattle.headline.proofs.SentNow.{IsMutateNow, IsOwn, step_left, call_left, ArePushing, pushing_reached}
+use Rattle.relaxed_file.proofs.ShapesKept.{KeepsSizes, shapes_stay}
+use Rattle.relaxed_file.proofs.Known.{Known, asked_made}
+use Rattle.gfs_types.specs.declared.shape.Shape.{Shape}
+use Rattle.laws_machine.specs.ToldShapes.{IsMadeWith}
+use Rattle.laws_machine.proofs.ClientFiles.{clients_files_are_open}
+use Rattle.laws_machine.proofs.FileWalk.{open_size}
 
 -- what was asked in some steps was so in more
 
@@ -106,37 +112,42 @@ settled_part m client id file index h =
 
 -- requests that were there
 
+-- files that were made keep their sizes as a run goes on
+pub sizes_kept : (config : Config) (m n : Machine) → IsReached config m → LeadsTo m n → KeepsSizes m n
+sizes_kept config m n reached leads file made = ap (λ (x : Shape). x.chunk) (shapes_stay config m n file reached leads made)
+
 module _ (m n : Machine) (grows : Grows m n) where
-  size_kept : n.config.chunk ≡ m.config.chunk
-  size_kept = ap (λ (c : Config). c.chunk) grows.config
+  part_on : (file : ℕ) → chunk_size n file ≡ chunk_size m file → (offset count index : ℕ) → has_part (chunk_size n file) offset count index ≡ has_part (chunk_size m file) offset count index
+  part_on file same offset count index = ap (λ (k : ℕ). has_part k offset count index) same
 
-  part_on : (offset count index : ℕ) → has_part n.config.chunk offset count index ≡ has_part m.config.chunk offset count index
-  part_on offset count index = ap (λ (k : ℕ). has_part k offset count index) size_kept
-
-  earlier_on : (id : CallId) (file offset count index : ℕ) → AreEarlierPartsSettled m id file offset count index → AreEarlierPartsSettled n id file offset count index
-  earlier_on id file offset count index h = λ earlier low has.
-      success_stays id (chunk_at m file earlier).order (chunk_at n file earlier).order (((grows.files file).chunks earlier).order) (h earlier low (sym (part_on offset count earlier) ∙ has))
+  earlier_on : (id : CallId) (file offset count index : ℕ) → chunk_size n file ≡ chunk_size m file → AreEarlierPartsSettled m id file offset count index → AreEarlierPartsSettled n id file offset count index
+  earlier_on id file offset count index same h = λ earlier low has.
+      success_stays id (chunk_at m file earlier).order (chunk_at n file earlier).order (((grows.files file).chunks earlier).order) (h earlier low (sym (part_on file same offset count earlier) ∙ has))
 
   abbrev pub call_on : (client number file : ℕ) → IsCallOn m client number file → IsCallOn n client number file
   call_on client number file h = record { asked = h.asked; made = (grows.clients client).calls number h.asked h.made; file_is = h.file_is }
 
-  part_to_on : (id : CallId) (file index : ℕ) (c : Call) (aim : Target) → IsPartTo m id file index c aim → IsPartTo n id file index c aim
-  part_to_on id file index (call.Write fd offset bytes) (target.Write at) h =
-      (h.0, part_on offset (length bytes) index ∙ h.1, h.2 ∙ ap (λ (k : ℕ). part_start k offset index) (sym size_kept), earlier_on id file offset (length bytes) index h.3)
-  part_to_on id file index (call.Append fd bytes) target.Append h = tt
-  part_to_on id file index (call.Write fd offset bytes) target.Append h = absurd h
-  part_to_on id file index (call.Append fd bytes) (target.Write at) h = absurd h
-  part_to_on id file index other aim h = absurd h
+  part_to_on : (id : CallId) (file index : ℕ) (c : Call) (aim : Target) → chunk_size n file ≡ chunk_size m file → IsPartTo m id file index c aim → IsPartTo n id file index c aim
+  part_to_on id file index (call.Write fd offset bytes) (target.Write at) same h =
+      (h.0, part_on file same offset (length bytes) index ∙ h.1, h.2 ∙ ap (λ (k : ℕ). part_start k offset index) (sym same), earlier_on id file offset (length bytes) index same h.3)
+  part_to_on id file index (call.Append fd bytes) target.Append same h = tt
+  part_to_on id file index (call.Write fd offset bytes) target.Append same h = absurd h
+  part_to_on id file index (call.Append fd bytes) (target.Write at) same h = absurd h
+  part_to_on id file index other aim same h = absurd h
 
-  data_on : (index : ℕ) (c : Call) (bytes : List ℕ) → AreDataOf m.config.chunk index c bytes → AreDataOf n.config.chunk index c bytes
-  data_on index c bytes h = subst (λ (k : ℕ). AreDataOf k index c bytes) (sym size_kept) h
+  data_on : (file index : ℕ) (c : Call) (bytes : List ℕ) → chunk_size n file ≡ chunk_size m file → AreDataOf (chunk_size m file) index c bytes → AreDataOf (chunk_size n file) index c bytes
+  data_on file index c bytes same h = subst (λ (k : ℕ). AreDataOf k index c bytes) (sym same) h
 
-  pub wanted_on : (id : CallId) (file : ℕ) (c : Call) (what : Wanted) → IsWantedBy m id file c what → IsWantedBy n id file c what
-  wanted_on id file (call.Write fd offset bytes) (wanted.Write index) h = (h.0, part_on offset (length bytes) index ∙ h.1, earlier_on id file offset (length bytes) index h.2)
-  wanted_on id file (call.Append fd bytes) (wanted.Append index) h = subst (λ (k : ℕ). 4 * length bytes ≤ k) (sym size_kept) h
-  wanted_on id file c (wanted.Read index) h = tt
-  wanted_on id file c wanted.Last h = tt
-  wanted_on id file other what h = absurd h
+  pub wanted_on : (id : CallId) (file : ℕ) (c : Call) (what : Wanted) → chunk_size n file ≡ chunk_size m file → IsWantedBy m id file c what → IsWantedBy n id file c what
+  wanted_on id file (call.Write fd offset bytes) (wanted.Write index) same h = (h.0, part_on file same offset (length bytes) index ∙ h.1, earlier_on id file offset (length bytes) index same h.2)
+  wanted_on id file (call.Append fd bytes) (wanted.Append index) same h = subst (λ (k : ℕ). 4 * length bytes ≤ k) (sym same) h
+  wanted_on id file c (wanted.Read index) same h = tt
+  wanted_on id file c wanted.Last same h = tt
+  wanted_on id file other what same h = absurd h
+
+-- the file of a call was made
+pub of_made : (m : Machine) (client number file : ℕ) → Known m → IsCallOn m client number file → file ≤ m.file_count
+of_made m client number file known h = asked_made m client number h.asked file known h.made h.file_is
 
 pub told_on : (sent more : List Message) (client file index handle round : ℕ) → IsToldChunk sent client file index handle round → IsToldChunk (sent ++ more) client file index handle round
 told_on sent more client file index handle round h = record { location = h.location; told = told_later sent more client file h.location h.told; index_is = h.index_is; handle_is = h.handle_is; round_is = h.round_is }
@@ -151,6 +162,7 @@ pub record IsNew (w : WorldState) (x : Happened) (client : ℕ) (b : Body) : Typ
   pub after : ClientState
   pub before_is : element_at w.clients index ≡ Some before
   pub after_is : element_at x.world.clients index ≡ Some after
+  pub up_before : IsTrue before.up
   pub up : IsTrue after.up
   pub own : IsOwn before after.current b
   pub calls : (before.current ≡ None) ⊎ (calls_made x.world.observer.trace (suc index) ≡ calls_made w.observer.trace (suc index))
@@ -179,6 +191,7 @@ each_new config w h =
             after = (client_step s moment i choice).state;
             before_is = there;
             after_is = set_there w.clients index s (client_step s moment i choice).state there;
+            up_before = up;
             up = said.1 ∙ up;
             own = said.2;
             calls = inr (calls_answered (observed_moment w.config.skew_ms w.observer moment) (suc index) (suc index) (client_step s moment i choice).out.answer ∙ calls_passed w.config.skew_ms w.observer moment (suc index));
@@ -192,6 +205,7 @@ each_new config w h =
             after = (client_call s moment c choice).state;
             before_is = there;
             after_is = set_there w.clients index s (client_call s moment c choice).state there;
+            up_before = (and_parts s.up (Rattle.std.specs.Prelude.is_none s.current && Rattle.protocol.specs.ClientStep.has_room_to_count s) may).0;
             up = said.1 ∙ (and_parts s.up (Rattle.std.specs.Prelude.is_none s.current && Rattle.protocol.specs.ClientStep.has_room_to_count s) may).0;
             own = said.2;
             calls = inl (no_call s may);
@@ -204,12 +218,12 @@ each_new config w h =
 quarter_fits : (size count : ℕ) → nat_lt (size / 4) count ≡ false → 4 * count ≤ size
 quarter_fits size count h = let low = ltb-false (size / 4) count h in omega (arith, low)
 
-earlier_done : (m : Machine) (id : CallId) (file offset count index : ℕ) → ((earlier : ℕ) → earlier < index → IsTrue (has_part m.config.chunk offset count earlier) → HasSuccess m id.client id file earlier IsWrite) → AreEarlierPartsSettled m id file offset count index
+earlier_done : (m : Machine) (id : CallId) (file offset count index : ℕ) → ((earlier : ℕ) → earlier < index → IsTrue (has_part (chunk_size m file) offset count earlier) → HasSuccess m id.client id file earlier IsWrite) → AreEarlierPartsSettled m id file offset count index
 earlier_done m id file offset count index h = λ earlier low has. settled_part m id.client id file earlier (h earlier low has)
 
 wanted_of : (m : Machine) (id : CallId) (file part : ℕ) (bytes rounds : List ℕ) (found : List Piece) (c : Call) → IsDoneSoFar m id file part bytes rounds found c → IsWantedBy m id file c (wanted_by part c)
 wanted_of m id file part bytes rounds found (call.Write fd offset content) h = (h.0, h.1, earlier_done m id file offset (length content) part h.2)
-wanted_of m id file part bytes rounds found (call.Append fd content) h = quarter_fits m.config.chunk (length content) h
+wanted_of m id file part bytes rounds found (call.Append fd content) h = quarter_fits (chunk_size m file) (length content) h
 wanted_of m id file part bytes rounds found (call.Read fd offset count) h = tt
 wanted_of m id file part bytes rounds found (call.Length fd) h = tt
 wanted_of m id file part bytes rounds found other h = absurd h
@@ -219,9 +233,9 @@ abbrev IsAtPart : Call → ℕ → ℕ → Type 0
 IsAtPart (call.Write fd offset bytes) index place = place ≡ index
 IsAtPart other index place = Unit {0}
 
-part_there : (m : Machine) (id : CallId) (file part place : ℕ) (bytes rounds : List ℕ) (found : List Piece) (c : Call) → is_mutation c ≡ true → IsAtPart c part place → IsDoneSoFar m id file part bytes rounds found c → IsPartTo m id file place c (target_of m.config.chunk part c)
+part_there : (m : Machine) (id : CallId) (file part place : ℕ) (bytes rounds : List ℕ) (found : List Piece) (c : Call) → is_mutation c ≡ true → IsAtPart c part place → IsDoneSoFar m id file part bytes rounds found c → IsPartTo m id file place c (target_of (chunk_size m file) part c)
 part_there m id file part place bytes rounds found (call.Write fd offset content) is same h =
-    subst (λ (q : ℕ). IsPartTo m id file q (call.Write fd offset content) (target.Write (part_start m.config.chunk offset part))) (sym same) (h.0, h.1, refl, earlier_done m id file offset (length content) part h.2)
+    subst (λ (q : ℕ). IsPartTo m id file q (call.Write fd offset content) (target.Write (part_start (chunk_size m file) offset part))) (sym same) (h.0, h.1, refl, earlier_done m id file offset (length content) part h.2)
 part_there m id file part place bytes rounds found (call.Append fd content) is same h = tt
 part_there m id file part place bytes rounds found other is same h = absurd (true≢false (sym is))
 
@@ -240,7 +254,9 @@ part_named part place other is same = absurd (true≢false (sym is))
 module _ (config : Config) (servers clients : ℕ) (steps : List (Event × Choice)) (m n : Machine) (e : Event) (choice : Choice) (requests : AreRequestsOf (new_world config servers clients) steps m)
     (run : IsRunTo config (after_events (new_world config servers clients) steps).observer.trace m) (leads : LeadsTo m n)
     (later : IsRunTo config (happens (after_events (new_world config servers clients) steps) e choice).world.observer.trace n)
-    (files : AreFileClients (happens (after_events (new_world config servers clients) steps) e choice).world.clients n) where
+    (files : AreFileClients (happens (after_events (new_world config servers clients) steps) e choice).world.clients n)
+    (files_before : AreFileClients (after_events (new_world config servers clients) steps).clients m)
+  where
   abbrev Start : WorldState
   Start = new_world config servers clients
 
@@ -259,8 +275,12 @@ module _ (config : Config) (servers clients : ℕ) (steps : List (Event × Choic
   grows : Grows m n
   grows = grows_to m n leads (known_when_reached config m (run.0, run.1, run.3))
 
-  settings : n.config ≡ config
-  settings = (grows_to (new_machine config) n (later.0, later.1, later.3) (known_at_first config)).config
+  reached : IsReached config m
+  reached = (run.0, run.1, run.3)
+
+  -- the file of a call keeps its size
+  sized : (client number file : ℕ) → IsCallOn m client number file → chunk_size n file ≡ chunk_size m file
+  sized client number file h = sizes_kept config m n reached leads file (of_made m client number file (known_when_reached config m reached) h)
 
   sends : Sends W X
   sends = holds_after W (λ f x. Sends W x) (each_sends W) e choice
@@ -290,20 +310,20 @@ module _ (config : Config) (servers clients : ℕ) (steps : List (Event × Choic
         told = back (λ ms. IsToldChunk ms client a.file a.place handle.0 version.0) (told_on W.sent More client a.file a.place handle.0 version.0 a.told);
         bytes = a.bytes;
         pushed = back (λ ms. IsPushed ms id a.bytes) (pushed_later W.sent More id a.bytes a.pushed);
-        pushes = data_on m n grows a.place a.of_call.asked.call a.bytes a.pushes;
-        part = part_to_on m n grows (record { client = client; number = a.number }) a.file a.place a.of_call.asked.call aim a.part;
+        pushes = data_on m n grows a.file a.place a.of_call.asked.call a.bytes (sized client a.number a.file a.of_call) a.pushes;
+        part = part_to_on m n grows (record { client = client; number = a.number }) a.file a.place a.of_call.asked.call aim (sized client a.number a.file a.of_call) a.part;
         was_asked = asked_longer a.index Start steps ((e, choice) ∷ []) a.number (part_of a.of_call.asked.call a.place) id.seq a.was_asked;
       }
 
   request_on : (client : ℕ) (b : Body) → IsRequestOf Start steps m client b → IsRequestOf Start Steps n client b
   request_on client (body.Mutate id handle version aim deadline) h = attempt_on client id handle version aim h
   request_on client (body.Ask number file what deadline lost) h =
-      record { number = h.number; of_call = call_on m n grows client h.number file.0 h.of_call; wants = wanted_on m n grows (record { client = client; number = h.number }) file.0 h.of_call.asked.call what h.wants }
+      record { number = h.number; of_call = call_on m n grows client h.number file.0 h.of_call; wants = wanted_on m n grows (record { client = client; number = h.number }) file.0 h.of_call.asked.call what (sized client h.number file.0 h.of_call) h.wants }
   request_on client other h = tt
 
   -- one that is new
 
-  module _ (index : ℕ) (s t : ClientState) (there : element_at W.clients index ≡ Some s) (now : element_at X.world.clients index ≡ Some t) (up : IsTrue t.up) where
+  module _ (index : ℕ) (s t : ClientState) (there : element_at W.clients index ≡ Some s) (now : element_at X.world.clients index ≡ Some t) (up : IsTrue t.up) (up_before : IsTrue s.up) where
     id_is : s.id ≡ suc index
     id_is = (pushing.numbered.each index s there).id
 
@@ -359,11 +379,24 @@ module _ (config : Config) (servers clients : ℕ) (steps : List (Event × Choic
       own_is : data_id (suc index) g.number ≡ id
       own_is = ap (λ (k : ℕ). data_id k g.number) (sym id_is) ∙ sym g.id_is
 
-      size_is : s.config.chunk ≡ n.config.chunk
-      size_is = ap (λ (z : Config). z.chunk) (pushing.settings index s there ∙ sym settings)
+      abbrev file : ℕ
+      file = g.before.file.0
 
-      pushed_there : IsPushed W.sent id (bytes_to_send config.chunk g.before.index g.before.asked)
-      pushed_there = subst (λ (d : DataId). IsPushed W.sent d (bytes_to_send config.chunk g.before.index g.before.asked)) own_is (pushing.pushed index s there g.before g.chunk g.primary g.number g.before_is g.stage_is)
+      -- the client has its file open as the machine has it
+      row : IsFileOpen s g.before.file.0
+      row = (clients_files_are_open config servers clients W (steps, refl) index s there).call g.before g.before_is (subst (λ (st : Stage). IsOfFile st) (sym g.stage_is) tt)
+
+      opened_as : IsMadeWith m g.before.file.0 (row.0).shape
+      opened_as = (files_before index s there up_before).shapes g.before.file.0 row.0 row.1
+
+      size_is : file_chunk s g.before.file.0 ≡ chunk_size n g.before.file.0
+      size_is = open_size m s g.before.file.0 row.0 row.1 opened_as ∙ sym (sizes_kept config m n reached leads g.before.file.0 opened_as.0)
+
+      abbrev data : List ℕ
+      data = bytes_to_send (file_chunk s g.before.file.0) g.before.index g.before.asked
+
+      pushed_there : IsPushed W.sent id data
+      pushed_there = subst (λ (d : DataId). IsPushed W.sent d data) own_is (pushing.pushed index s there g.before g.chunk g.primary g.number g.before_is g.stage_is)
 
       calls_are : (s.current ≡ None) ⊎ (calls_made X.world.observer.trace (suc index) ≡ calls_made W.observer.trace (suc index)) → calls_made W.observer.trace (suc index) ≡ (opened.0).number
       calls_are (inl none) = none_some g.before (sym none ∙ g.before_is)
@@ -383,10 +416,11 @@ module _ (config : Config) (servers clients : ℕ) (steps : List (Event × Choic
             told = back (λ ms. IsToldChunk ms (suc index) g.before.file.0 goes_to.0 handle.0 version.0) (told_on W.sent More (suc index) g.before.file.0 goes_to.0 handle.0 version.0
                 (subst (λ (v : Version). IsToldChunk W.sent (suc index) g.before.file.0 goes_to.0 handle.0 v.0) (sym g.version_is)
                 (subst (λ (h : Handle). IsToldChunk W.sent (suc index) g.before.file.0 goes_to.0 h.0 g.chunk.round.0) (sym g.handle_is) goes_to.1)));
-            bytes = bytes_to_send config.chunk g.before.index g.before.asked;
-            pushed = back (λ ms. IsPushed ms id (bytes_to_send config.chunk g.before.index g.before.asked)) (pushed_later W.sent More id (bytes_to_send config.chunk g.before.index g.before.asked) pushed_there);
-            pushes = subst (λ (a : Call). AreDataOf n.config.chunk goes_to.0 a (bytes_to_send config.chunk g.before.index g.before.asked)) (sym (opened.1).call_is)
-                (subst (λ (z : Config). AreDataOf n.config.chunk goes_to.0 g.before.asked (bytes_to_send z.chunk g.before.index g.before.asked)) settings (data_there n.config.chunk g.before.index goes_to.0 g.before.asked mutates goes_to.2));
+            bytes = data;
+            pushed = back (λ ms. IsPushed ms id data) (pushed_later W.sent More id data pushed_there);
+            pushes = subst (λ (a : Call). AreDataOf (chunk_size n file) goes_to.0 a data) (sym (opened.1).call_is)
+                (subst (λ (z : ℕ). AreDataOf (chunk_size n file) goes_to.0 g.before.asked (bytes_to_send z g.before.index g.before.asked)) (sym size_is)
+                (data_there (chunk_size n file) g.before.index goes_to.0 g.before.asked mutates goes_to.2));
             part = subst (λ (a : Call). IsPartTo n (id_of (suc index) opened.0) g.before.file.0 goes_to.0 a aim) (sym (opened.1).call_is)
                 (subst (λ (y : Target). IsPartTo n (id_of (suc index) opened.0) g.before.file.0 goes_to.0 g.before.asked y) (ap (λ (z : ℕ). target_of z g.before.index g.before.asked) (sym size_is) ∙ sym g.aim_is)
                 (part_there n (id_of (suc index) opened.0) g.before.file.0 g.before.index goes_to.0 g.before.bytes g.before.rounds (opened.0).pieces g.before.asked mutates goes_to.2 (opened.1).done));
@@ -422,7 +456,7 @@ module _ (config : Config) (servers clients : ℕ) (steps : List (Event × Choic
   new_request client place x at from =
       let new = holds_after W (λ f y. AllNew W y) (each_new config W pushing) e choice client place x at from in
       subst (λ (c : ℕ). IsRequestOf Start Steps n c x.body) (sym new.client_is)
-      (own_request new.index new.before new.after new.before_is new.after_is new.up x place at (from ∙ ap (λ (c : ℕ). the_client c) new.client_is) x.body refl new.own new.calls)
+      (own_request new.index new.before new.after new.before_is new.after_is new.up new.up_before x place at (from ∙ ap (λ (c : ℕ). the_client c) new.client_is) x.body refl new.own new.calls)
 
   pub all_requests : AreRequestsOf Start Steps n
   all_requests client place x at from =

@@ -58,7 +58,7 @@ pub record IsMutateNow (s : ClientState) (o : Option CurrentCall) (id : DataId) 
   pub id_is : id ≡ data_id s.id number
   pub handle_is : handle ≡ chunk.handle
   pub version_is : version ≡ chunk.round
-  pub aim_is : aim ≡ target_of s.config.chunk before.index before.asked
+  pub aim_is : aim ≡ target_of (file_chunk s before.file.0) before.index before.asked
 
 -- what is sent is for the open call, on a file
 abbrev pub IsOwn : ClientState → Option CurrentCall → Body → Type 0
@@ -66,16 +66,20 @@ IsOwn s o (body.Ask number file what deadline lost) = (c : CurrentCall) × (o �
 IsOwn s o (body.Mutate id handle version aim deadline) = IsMutateNow s o id handle version aim
 IsOwn s o other = Unit {0}
 
--- these data were pushed for the part in hand
-abbrev IsPushBody : ClientState → CurrentCall → ℕ → Message → Type 0
-IsPushBody s c number m = (m.sender ≡ the_client s.id) × ((rest : List ℕ) × (m.body ≡ body.Push (data_id s.id number) (bytes_to_send s.config.chunk c.index c.asked) rest))
+-- these data were pushed for the part in hand, as the client has its file open
+abbrev IsPushBody : ℕ → ClientState → CurrentCall → ℕ → Message → Type 0
+IsPushBody own t c number m = (m.sender ≡ the_client own) × ((rest : List ℕ) × (m.body ≡ body.Push (data_id own number) (bytes_to_send (file_chunk t c.file.0) c.index c.asked) rest))
+
+-- the call is the one from before, and files have the same sizes
+abbrev IsSameAsBefore : ClientState → ClientState → CurrentCall → Type 0
+IsSameAsBefore s t c = (s.current ≡ Some c) × ((file : ℕ) → file_chunk t file ≡ file_chunk s file)
 
 -- what a step that sends these messages leaves of a client
 pub record IsLeft (s t : ClientState) (ms : List Message) : Type 0 where
   pub settings : t.config ≡ s.config
   pub says : (place : ℕ) (m : Message) → element_at ms place ≡ Some m → (m.sender ≡ the_client s.id) × (t.up ≡ s.up) × IsOwn s t.current m.body
   pub pushes : (c : CurrentCall) (chunk : ToldChunk) (primary : ServerId) (number : ℕ) → t.current ≡ Some c → c.stage ≡ SentData chunk primary number
-      → (s.current ≡ Some c) ⊎ ((m : Message) × IsSent ms m × IsPushBody s c number m)
+      → IsSameAsBefore s t c ⊎ ((m : Message) × IsSent ms m × IsPushBody s.id t c number m)
 
 -- a step
 
@@ -88,7 +92,7 @@ module _ (s : ClientState) where
     pub up : d.client.up ≡ s.up
     pub says : (m : Message) → d.sent ≡ Some m → (m.sender ≡ the_client s.id) × IsOwn s d.client.current m.body
     pub pushes : (c : CurrentCall) (chunk : ToldChunk) (primary : ServerId) (number : ℕ) → d.client.current ≡ Some c → c.stage ≡ SentData chunk primary number
-        → (s.current ≡ Some c) ⊎ ((m : Message) × (d.sent ≡ Some m) × IsPushBody s c number m)
+        → IsSameAsBefore s d.client c ⊎ ((m : Message) × (d.sent ≡ Some m) × IsPushBody s.id d.client c number m)
 
   -- a stage at which nothing is pushed
   unpushed : (o : Option CurrentCall) (e : CurrentCall) → o ≡ Some e → data_number e.stage ≡ None → (c : CurrentCall) (chunk : ToldChunk) (primary : ServerId) (number : ℕ) → o ≡ Some c → c.stage ≡ SentData chunk primary number → ⊥
@@ -143,10 +147,9 @@ module _ (s : ClientState) where
               ap (λ (n : ℕ). the_client n) h.0,
               (
                 hops_after g.members first.0,
-                ap (λ (n : ℕ). body.Push (data_id n (suc d.client.number)) (bytes_to_send d.client.config.chunk c.index c.asked) (hops_after g.members first.0)) h.0
-                    ∙ ap (λ (z : Config). body.Push (data_id s.id (suc d.client.number)) (bytes_to_send z.chunk c.index c.asked) (hops_after g.members first.0)) h.1
-                    ∙ ap (λ (n : ℕ). body.Push (data_id s.id n) (bytes_to_send s.config.chunk c.index c.asked) (hops_after g.members first.0)) (number_is x told primary number there staged)
-                    ∙ ap (λ (y : CurrentCall). body.Push (data_id s.id number) (bytes_to_send s.config.chunk y.index y.asked) (hops_after g.members first.0)) (same_some Now x there),
+                ap (λ (n : ℕ). body.Push (data_id n (suc d.client.number)) (bytes_to_send (file_chunk d.client c.file.0) c.index c.asked) (hops_after g.members first.0)) h.0
+                    ∙ ap (λ (n : ℕ). body.Push (data_id s.id n) (bytes_to_send (file_chunk d.client c.file.0) c.index c.asked) (hops_after g.members first.0)) (number_is x told primary number there staged)
+                    ∙ ap (λ (y : CurrentCall). body.Push (data_id s.id number) (bytes_to_send (file_chunk d.client y.file.0) y.index y.asked) (hops_after g.members first.0)) (same_some Now x there),
               ),
             ),
           );
@@ -217,7 +220,7 @@ module _ (s : ClientState) where
   at_stage c (HasAnswer reply) = (refl, refl, refl, refl)
 
   begun : Goes (client_begins s)
-  begun = record { settings = refl; up = refl; says = λ m is. none_some m is; pushes = λ c chunk primary number is staged. inl is }
+  begun = record { settings = refl; up = refl; says = λ m is. none_some m is; pushes = λ c chunk primary number is staged. inl (is, λ file. refl) }
 
   left_by : (d : ClientDoing) → Goes d → IsLeft s d.client (option_to_list d.sent)
   left_by d g =
@@ -234,7 +237,7 @@ module _ (s : ClientState) where
   stopped = record { settings = refl; says = λ place m at. none_some m at; pushes = λ c chunk primary number is staged. none_some c is }
 
   same : IsLeft s s []
-  same = record { settings = refl; says = λ place m at. none_some m at; pushes = λ c chunk primary number is staged. inl is }
+  same = record { settings = refl; says = λ place m at. none_some m at; pushes = λ c chunk primary number is staged. inl (is, λ file. refl) }
 
   refused : IsLeft s (record s { current = None }) []
   refused = record { settings = refl; says = λ place m at. none_some m at; pushes = λ c chunk primary number is staged. none_some c is }
@@ -299,7 +302,7 @@ pub record ArePushing (config : Config) (w : WorldState) : Type 0 where
   pub numbered : AreNumbered w.sent w.clients
   pub settings : (index : ℕ) (s : ClientState) → element_at w.clients index ≡ Some s → s.config ≡ config
   pub pushed : (index : ℕ) (s : ClientState) → element_at w.clients index ≡ Some s → (c : CurrentCall) (chunk : ToldChunk) (primary : ServerId) (number : ℕ) → s.current ≡ Some c → c.stage ≡ SentData chunk primary number
-      → IsPushed w.sent (data_id (suc index) number) (bytes_to_send config.chunk c.index c.asked)
+      → IsPushed w.sent (data_id (suc index) number) (bytes_to_send (file_chunk s c.file.0) c.index c.asked)
 
 pub stamped_sent : (k : ℕ) (ms : List Message) (m : Message) (place : ℕ) → element_at ms place ≡ Some m → (x : Message) × IsSent (stamped k ms) x × IsSameMessage x m
 stamped_sent k [] m place is = none_some m is
@@ -314,25 +317,29 @@ module _ (config : Config) (w : WorldState) (h : ArePushing config w) where
   one_left : (ms : List Message) (at : ℕ) (s t : ClientState) → element_at w.clients at ≡ Some s → IsLeft s t ms
       → ((index : ℕ) (u : ClientState) → element_at (with_at w.clients at t) index ≡ Some u → u.config ≡ config)
       × ((index : ℕ) (u : ClientState) → element_at (with_at w.clients at t) index ≡ Some u → (c : CurrentCall) (chunk : ToldChunk) (primary : ServerId) (number : ℕ) → u.current ≡ Some c → c.stage ≡ SentData chunk primary number
-      → IsPushed (w.sent ++ stamped K ms) (data_id (suc index) number) (bytes_to_send config.chunk c.index c.asked))
+      → IsPushed (w.sent ++ stamped K ms) (data_id (suc index) number) (bytes_to_send (file_chunk u c.file.0) c.index c.asked))
   one_left ms at s t there left = (
     λ index u is. elim (set_cases w.clients at t index u is) [
       | inl both ↦ subst (λ (x : ClientState). x.config ≡ config) (sym both.1) (left.settings ∙ h.settings at s there)
       | inr before ↦ h.settings index u before
     ],
     λ index u is c chunk primary number current staged. elim (set_cases w.clients at t index u is) [
-      | inl both ↦ subst (λ (n : ℕ). IsPushed (w.sent ++ stamped K ms) (data_id (suc n) number) (bytes_to_send config.chunk c.index c.asked)) (sym both.0)
-          (own c chunk primary number (subst (λ (x : ClientState). x.current ≡ Some c) both.1 current) staged)
-      | inr before ↦ pushed_later w.sent (stamped K ms) (data_id (suc index) number) (bytes_to_send config.chunk c.index c.asked) (h.pushed index u before c chunk primary number current staged)
+      | inl both ↦
+          subst (λ (n : ℕ). IsPushed (w.sent ++ stamped K ms) (data_id (suc n) number) (bytes_to_send (file_chunk u c.file.0) c.index c.asked)) (sym both.0)
+          (subst (λ (x : ClientState). IsPushed (w.sent ++ stamped K ms) (data_id (suc at) number) (bytes_to_send (file_chunk x c.file.0) c.index c.asked)) (sym both.1)
+          (own c chunk primary number (subst (λ (x : ClientState). x.current ≡ Some c) both.1 current) staged))
+      | inr before ↦ pushed_later w.sent (stamped K ms) (data_id (suc index) number) (bytes_to_send (file_chunk u c.file.0) c.index c.asked) (h.pushed index u before c chunk primary number current staged)
     ],
   )
     where
       id_is : s.id ≡ suc at
       id_is = (h.numbered.each at s there).id
 
-      own : (c : CurrentCall) (chunk : ToldChunk) (primary : ServerId) (number : ℕ) → t.current ≡ Some c → c.stage ≡ SentData chunk primary number → IsPushed (w.sent ++ stamped K ms) (data_id (suc at) number) (bytes_to_send config.chunk c.index c.asked)
+      own : (c : CurrentCall) (chunk : ToldChunk) (primary : ServerId) (number : ℕ) → t.current ≡ Some c → c.stage ≡ SentData chunk primary number → IsPushed (w.sent ++ stamped K ms) (data_id (suc at) number) (bytes_to_send (file_chunk t c.file.0) c.index c.asked)
       own c chunk primary number current staged = elim (left.pushes c chunk primary number current staged) [
-        | inl before ↦ pushed_later w.sent (stamped K ms) (data_id (suc at) number) (bytes_to_send config.chunk c.index c.asked) (h.pushed at s there c chunk primary number before staged)
+        | inl before ↦
+            subst (λ (size : ℕ). IsPushed (w.sent ++ stamped K ms) (data_id (suc at) number) (bytes_to_send size c.index c.asked)) (sym (before.1 c.file.0))
+            (pushed_later w.sent (stamped K ms) (data_id (suc at) number) (bytes_to_send (file_chunk s c.file.0) c.index c.asked) (h.pushed at s there c chunk primary number before.0 staged))
         | inr now ↦
             let x = stamped_sent K ms now.0 (now.1).0 (now.1).1 in
             record {
@@ -340,14 +347,13 @@ module _ (config : Config) (w : WorldState) (h : ArePushing config w) where
               rest = ((now.2).1).0;
               sent_is = sent_after w.sent (stamped K ms) x.0 x.1;
               sender_is = (x.2).0 ∙ (now.2).0 ∙ ap (λ (n : ℕ). the_client n) id_is;
-              body_is = (x.2).2 ∙ ((now.2).1).1 ∙ ap (λ (n : ℕ). body.Push (data_id n number) (bytes_to_send s.config.chunk c.index c.asked) ((now.2).1).0) id_is
-                  ∙ ap (λ (z : Config). body.Push (data_id (suc at) number) (bytes_to_send z.chunk c.index c.asked) ((now.2).1).0) (h.settings at s there);
+              body_is = (x.2).2 ∙ ((now.2).1).1 ∙ ap (λ (n : ℕ). body.Push (data_id n number) (bytes_to_send (file_chunk t c.file.0) c.index c.asked) ((now.2).1).0) id_is;
             }
       ]
 
   later : (more : List Message) → (index : ℕ) (s : ClientState) → element_at w.clients index ≡ Some s → (c : CurrentCall) (chunk : ToldChunk) (primary : ServerId) (number : ℕ) → s.current ≡ Some c → c.stage ≡ SentData chunk primary number
-      → IsPushed (w.sent ++ more) (data_id (suc index) number) (bytes_to_send config.chunk c.index c.asked)
-  later more index s at c chunk primary number is staged = pushed_later w.sent more (data_id (suc index) number) (bytes_to_send config.chunk c.index c.asked) (h.pushed index s at c chunk primary number is staged)
+      → IsPushed (w.sent ++ more) (data_id (suc index) number) (bytes_to_send (file_chunk s c.file.0) c.index c.asked)
+  later more index s at c chunk primary number is staged = pushed_later w.sent more (data_id (suc index) number) (bytes_to_send (file_chunk s c.file.0) c.index c.asked) (h.pushed index s at c chunk primary number is staged)
 
   each_pushing : HoldsAfter w (λ e x. ArePushing config x.world)
   each_pushing =

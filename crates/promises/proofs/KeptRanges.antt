@@ -33,7 +33,7 @@ use Rattle.promises.proofs.WaitingCalls.{waiting_since}
 use Rattle.promises.proofs.AnswerMoments.{AnsweredIn, answered_in, at, then, past, reached, to_past, reached_past, ends, way, later_file, descriptors_are_of_one_file}
 use Rattle.promises.proofs.SincePieces.{ReadSince, pieces_since}
 use Rattle.promises.proofs.PieceBytes.{IsFair, IsFound, begin, within, find, bytes_of}
-use Rattle.promises.proofs.ReadPieces.{leads_from, leads_to, settings, fair_piece, slice_there, size_at}
+use Rattle.promises.proofs.ReadPieces.{leads_from, leads_to, fair_piece, slice_there, size_at}
 
 -- fewer entries cover no more
 none_of_newer : {A : Type 0} (a b : Option A) → newer a b ≡ None → (a ≡ None) × (b ≡ None)

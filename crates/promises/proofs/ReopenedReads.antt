@@ -37,7 +37,7 @@ use Rattle.promises.proofs.Descriptors.{file_opened}
 use Rattle.promises.proofs.AnswerMoments.{AnsweredIn, answered_in, then, past, reached, to_past, way, descriptors_are_of_one_file}
 use Rattle.promises.proofs.SincePieces.{ReadSince, pieces_since}
 use Rattle.promises.proofs.PieceBytes.{IsFair, IsFound, begin, within, find, bytes_of}
-use Rattle.promises.proofs.ReadPieces.{leads_to, settings, fair_piece, size_at}
+use Rattle.promises.proofs.ReadPieces.{leads_to, fair_piece, size_at}
 use Rattle.promises.proofs.KeptRanges.{IsKept, cut_at, no_bytes, is_shown, by_round}
 use Rattle.promises.specs.Readers.{IsReadAfterOpen}
 use Rattle.promises.proofs.Follows.{Follows, follows_to, follows_open, look_is_late, never_past}
