@@ -163,7 +163,11 @@ impl Client {
         let number = self.next_number()?;
         let body = Body::Push {
             data: self.data_id(number),
-            bytes: bytes_to_send(self.chunk_size(current.file.0), current.index, &current.asked)?,
+            bytes: bytes_to_send(
+                self.chunk_size(current.file.0),
+                current.index,
+                &current.asked,
+            )?,
             rest: hops_after(self.alloc, group.members.as_slice(), first.0)?,
         };
         Ok(CallPlan {
@@ -216,7 +220,11 @@ impl Client {
             data: self.data_id(number),
             handle: chunk.handle,
             version: chunk.round,
-            target: target_of(self.chunk_size(current.file.0), current.index, &current.asked),
+            target: target_of(
+                self.chunk_size(current.file.0),
+                current.index,
+                &current.asked,
+            ),
             deadline: current.deadline,
         };
         Ok(CallPlan {

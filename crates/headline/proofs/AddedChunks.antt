@@ -30,6 +30,7 @@ use Rattle.protocol.specs.Logged.{Logged, LogDisk, LogChange, AppendRecord, Writ
 use Rattle.protocol.specs.Master.{PendingSnapshot}
 use Rattle.protocol.specs.MasterStep.{master_goes}
 use Rattle.protocol.specs.Observer.{Placed}
+use Rattle.relaxed_file.specs.Run as run
 use Rattle.protocol.specs.World.{WorldState, new_world, IsReached}
 use Rattle.laws_base.proofs.Entries.{AllOf}
 use Rattle.laws_names.specs.NameTrails.{log_read}
@@ -145,7 +146,7 @@ module _ (config : Config) (servers clients : ℕ) (w : WorldState) (r : IsReach
             let low : length handles ≤ suc past = subst (λ (q : Wanted). IsForNext q (length handles)) same_what next in
             let was : IsFullAt k.machine file.0 past =
             asks_are_full config servers clients w r clocks some ss k beside client place number past x file deadline lost at from (is ∙ ap (λ (q : Wanted). body.Ask number file q deadline lost) same_what) in
-            let reached : IsReached config k.machine = (beside.run.0, beside.run.1, beside.run.3) in
+            let reached : run.IsReached config k.machine = (beside.run.0, beside.run.1, beside.run.3) in
             let same = sizes_kept config k.machine j.machine reached led file.0 (made_by_count k.machine file.0 past (known_when_reached config k.machine reached) was.count) in
             let it : IsFullAt j.machine file.0 past = full_stays k.machine j.machine file.0 past grows same was in
             last_full j.machine file.0 past (chunk_count j.machine file.0) (omega (arith, low, count)) it.count it.full

@@ -42,39 +42,39 @@ module _ (config : Config) (servers clients : ℕ) (w : WorldState) (r : IsReach
     (j : ChunkSides) (is_log : IsLogOf (happens w e choice).world.master j.log) (rounds : HasRounds (IsLeaseOver (happens w e choice).world) j)
     (shapes : (file : ℕ) → table.contains_key j.log.table.files file ≡ true → shape_of j.log.table file ≡ (j.machine.files file).shape)
   where
-  abbrev v : WorldState
-  v = (happens w e choice).world
+    abbrev v : WorldState
+    v = (happens w e choice).world
 
-  before : IsTrue w.observer.are_clocks_kept
-  before = clocks_before w ((e, choice) ∷ []) clocks
+    before : IsTrue w.observer.are_clocks_kept
+    before = clocks_before w ((e, choice) ∷ []) clocks
 
-  module _ (handle version size : ℕ) (none : grants_of handle version w.sent ≡ 0) (g : IsSizeGranted v.sent handle version size) where
-    is_new : IsNewGrant w v handle version
-    is_new = let some = size_counts handle version size v.sent g in omega (arith, none, some)
+    module _ (handle version size : ℕ) (none : grants_of handle version w.sent ≡ 0) (g : IsSizeGranted v.sent handle version size) where
+      is_new : IsNewGrant w v handle version
+      is_new = let some = size_counts handle version size v.sent g in omega (arith, none, some)
 
-    step : IsGrantingStep w handle version v.master
-    step = granting_step config servers clients w r before handle version e choice is_new
+      step : IsGrantingStep w handle version v.master
+      step = granting_step config servers clients w r before handle version e choice is_new
 
-    up : IsTrue v.master.up
-    up = subst (λ (m : MasterState). IsTrue m.up) (sym step.goes) (goes_up w.master step.moment (input.Deliver step.message) step.refused step.up)
+      up : IsTrue v.master.up
+      up = subst (λ (m : MasterState). IsTrue m.up) (sym step.goes) (goes_up w.master step.moment (input.Deliver step.message) step.refused step.up)
 
-    log : j.log ≡ v.master.logged
-    log = log_is_up v.master j.log up is_log
+      log : j.log ≡ v.master.logged
+      log = log_is_up v.master j.log up is_log
 
-    attempted : IsAttempted w.master handle version
-    attempted = step.attempted
+      attempted : IsAttempted w.master handle version
+      attempted = step.attempted
 
-    left : (row : ChunkRow) × (chunk_of v.master.logged.table handle ≡ Some row)
-    left = (granted_chunks_stay config servers clients w r before e choice handle version is_new).2
+      left : (row : ChunkRow) × (chunk_of v.master.logged.table handle ≡ Some row)
+      left = (granted_chunks_stay config servers clients w r before e choice handle version is_new).2
 
-    with_size : (s : Spot) → IsRoundOpen j handle version s → IsOpenWithSize j handle version size
-    with_size s is_open =
-        let here : StandsAt j.log.table handle s = stands_there j handle s left.0 (ap (λ (l : Logged). chunk_of l.table handle) log ∙ left.1) is_open.place in
-        let there : StandsAt v.master.logged.table handle s = subst (λ (l : Logged). StandsAt l.table handle s) log here in
-        let told = grants_tell_their_rows_size config servers clients w r e choice handle version size none g attempted.row left.0 attempted.row_is left.1 in
-        let row = ((chunks_have_their_files_shapes config servers clients v (reached_later config servers clients w ((e, choice) ∷ []) r) up).0).chunks s.file s.index handle left.0 there left.1 in
-        let shape = row ∙ ap (λ (l : Logged). shape_of l.table s.file) (sym log) ∙ shapes s.file (stood_in j.log s.file s.index handle here) in
-        (s, is_open, told.1 ∙ ap (λ (x : Shape). x.chunk) shape)
+      with_size : (s : Spot) → IsRoundOpen j handle version s → IsOpenWithSize j handle version size
+      with_size s is_open =
+          let here : StandsAt j.log.table handle s = stands_there j handle s left.0 (ap (λ (l : Logged). chunk_of l.table handle) log ∙ left.1) is_open.place in
+          let there : StandsAt v.master.logged.table handle s = subst (λ (l : Logged). StandsAt l.table handle s) log here in
+          let told = grants_tell_their_rows_size config servers clients w r e choice handle version size none g attempted.row left.0 attempted.row_is left.1 in
+          let row = ((chunks_have_their_files_shapes config servers clients v (reached_later config servers clients w ((e, choice) ∷ []) r) up).0).chunks s.file s.index handle left.0 there left.1 in
+          let shape = row ∙ ap (λ (l : Logged). shape_of l.table s.file) (sym log) ∙ shapes s.file (stood_in j.log s.file s.index handle here) in
+          (s, is_open, told.1 ∙ ap (λ (x : Shape). x.chunk) shape)
 
-    pub granted_size_is_open : IsLeaseOver v handle version ⊎ IsOpenWithSize j handle version size
-    granted_size_is_open = elim (rounds handle version) [ inl over ↦ inl over | inr now ↦ inr (with_size now.0 now.1) ]
+      pub granted_size_is_open : IsLeaseOver v handle version ⊎ IsOpenWithSize j handle version size
+      granted_size_is_open = elim (rounds handle version) [ inl over ↦ inl over | inr now ↦ inr (with_size now.0 now.1) ]

@@ -257,210 +257,210 @@ module _ (config : Config) (servers clients : ℕ) (steps : List (Event × Choic
     (files : AreFileClients (happens (after_events (new_world config servers clients) steps) e choice).world.clients n)
     (files_before : AreFileClients (after_events (new_world config servers clients) steps).clients m)
   where
-  abbrev Start : WorldState
-  Start = new_world config servers clients
+    abbrev Start : WorldState
+    Start = new_world config servers clients
 
-  abbrev W : WorldState
-  W = after_events (new_world config servers clients) steps
+    abbrev W : WorldState
+    W = after_events (new_world config servers clients) steps
 
-  abbrev X : Happened
-  X = happens (after_events (new_world config servers clients) steps) e choice
+    abbrev X : Happened
+    X = happens (after_events (new_world config servers clients) steps) e choice
 
-  abbrev Steps : List (Event × Choice)
-  Steps = steps ++ (e, choice) ∷ []
+    abbrev Steps : List (Event × Choice)
+    Steps = steps ++ (e, choice) ∷ []
 
-  path : after_events Start Steps ≡ X.world
-  path = after_both Start steps ((e, choice) ∷ [])
+    path : after_events Start Steps ≡ X.world
+    path = after_both Start steps ((e, choice) ∷ [])
 
-  grows : Grows m n
-  grows = grows_to m n leads (known_when_reached config m (run.0, run.1, run.3))
+    grows : Grows m n
+    grows = grows_to m n leads (known_when_reached config m (run.0, run.1, run.3))
 
-  reached : IsReached config m
-  reached = (run.0, run.1, run.3)
+    reached : IsReached config m
+    reached = (run.0, run.1, run.3)
 
-  -- the file of a call keeps its size
-  sized : (client number file : ℕ) → IsCallOn m client number file → chunk_size n file ≡ chunk_size m file
-  sized client number file h = sizes_kept config m n reached leads file (of_made m client number file (known_when_reached config m reached) h)
+    -- the file of a call keeps its size
+    sized : (client number file : ℕ) → IsCallOn m client number file → chunk_size n file ≡ chunk_size m file
+    sized client number file h = sizes_kept config m n reached leads file (of_made m client number file (known_when_reached config m reached) h)
 
-  sends : Sends W X
-  sends = holds_after W (λ f x. Sends W x) (each_sends W) e choice
+    sends : Sends W X
+    sends = holds_after W (λ f x. Sends W x) (each_sends W) e choice
 
-  abbrev More : List Message
-  More = stamped sends.0 X.out.sent
+    abbrev More : List Message
+    More = stamped sends.0 X.out.sent
 
-  pushing : ArePushing config W
-  pushing = pushing_reached config servers clients steps
+    pushing : ArePushing config W
+    pushing = pushing_reached config servers clients steps
 
-  -- what is so of what was sent then is so of what was sent in these steps
-  back : (P : List Message → Type 0) → P (W.sent ++ More) → P (after_events Start Steps).sent
-  back P h = subst (λ (u : WorldState). P u.sent) (sym path) (subst P (sym sends.1) h)
+    -- what is so of what was sent then is so of what was sent in these steps
+    back : (P : List Message → Type 0) → P (W.sent ++ More) → P (after_events Start Steps).sent
+    back P h = subst (λ (u : WorldState). P u.sent) (sym path) (subst P (sym sends.1) h)
 
-  -- one that was there
+    -- one that was there
 
-  attempt_on : (client : ℕ) (id : DataId) (handle : Handle) (version : Version) (aim : Target) → IsAttemptOf Start steps m client id handle version aim → IsAttemptOf Start Steps n client id handle version aim
-  attempt_on client id handle version aim a =
-      record {
-        index = a.index;
-        client_is = a.client_is;
-        own = a.own;
-        number = a.number;
-        file = a.file;
-        of_call = call_on m n grows client a.number a.file a.of_call;
-        place = a.place;
-        told = back (λ ms. IsToldChunk ms client a.file a.place handle.0 version.0) (told_on W.sent More client a.file a.place handle.0 version.0 a.told);
-        bytes = a.bytes;
-        pushed = back (λ ms. IsPushed ms id a.bytes) (pushed_later W.sent More id a.bytes a.pushed);
-        pushes = data_on m n grows a.file a.place a.of_call.asked.call a.bytes (sized client a.number a.file a.of_call) a.pushes;
-        part = part_to_on m n grows (record { client = client; number = a.number }) a.file a.place a.of_call.asked.call aim (sized client a.number a.file a.of_call) a.part;
-        was_asked = asked_longer a.index Start steps ((e, choice) ∷ []) a.number (part_of a.of_call.asked.call a.place) id.seq a.was_asked;
-      }
+    attempt_on : (client : ℕ) (id : DataId) (handle : Handle) (version : Version) (aim : Target) → IsAttemptOf Start steps m client id handle version aim → IsAttemptOf Start Steps n client id handle version aim
+    attempt_on client id handle version aim a =
+        record {
+          index = a.index;
+          client_is = a.client_is;
+          own = a.own;
+          number = a.number;
+          file = a.file;
+          of_call = call_on m n grows client a.number a.file a.of_call;
+          place = a.place;
+          told = back (λ ms. IsToldChunk ms client a.file a.place handle.0 version.0) (told_on W.sent More client a.file a.place handle.0 version.0 a.told);
+          bytes = a.bytes;
+          pushed = back (λ ms. IsPushed ms id a.bytes) (pushed_later W.sent More id a.bytes a.pushed);
+          pushes = data_on m n grows a.file a.place a.of_call.asked.call a.bytes (sized client a.number a.file a.of_call) a.pushes;
+          part = part_to_on m n grows (record { client = client; number = a.number }) a.file a.place a.of_call.asked.call aim (sized client a.number a.file a.of_call) a.part;
+          was_asked = asked_longer a.index Start steps ((e, choice) ∷ []) a.number (part_of a.of_call.asked.call a.place) id.seq a.was_asked;
+        }
 
-  request_on : (client : ℕ) (b : Body) → IsRequestOf Start steps m client b → IsRequestOf Start Steps n client b
-  request_on client (body.Mutate id handle version aim deadline) h = attempt_on client id handle version aim h
-  request_on client (body.Ask number file what deadline lost) h =
-      record { number = h.number; of_call = call_on m n grows client h.number file.0 h.of_call; wants = wanted_on m n grows (record { client = client; number = h.number }) file.0 h.of_call.asked.call what (sized client h.number file.0 h.of_call) h.wants }
-  request_on client other h = tt
+    request_on : (client : ℕ) (b : Body) → IsRequestOf Start steps m client b → IsRequestOf Start Steps n client b
+    request_on client (body.Mutate id handle version aim deadline) h = attempt_on client id handle version aim h
+    request_on client (body.Ask number file what deadline lost) h =
+        record { number = h.number; of_call = call_on m n grows client h.number file.0 h.of_call; wants = wanted_on m n grows (record { client = client; number = h.number }) file.0 h.of_call.asked.call what (sized client h.number file.0 h.of_call) h.wants }
+    request_on client other h = tt
 
-  -- one that is new
+    -- one that is new
 
-  module _ (index : ℕ) (s t : ClientState) (there : element_at W.clients index ≡ Some s) (now : element_at X.world.clients index ≡ Some t) (up : IsTrue t.up) (up_before : IsTrue s.up) where
-    id_is : s.id ≡ suc index
-    id_is = (pushing.numbered.each index s there).id
+    module _ (index : ℕ) (s t : ClientState) (there : element_at W.clients index ≡ Some s) (now : element_at X.world.clients index ≡ Some t) (up : IsTrue t.up) (up_before : IsTrue s.up) where
+      id_is : s.id ≡ suc index
+      id_is = (pushing.numbered.each index s there).id
 
-    call_open : (c : CurrentCall) → t.current ≡ Some c → IsOfFile c.stage → (o : OpenCall) × IsFileCall n (suc index) c o
-    call_open c is of_file = elim (subst (λ (o : Option CurrentCall). IsCallAlike n (suc index) o) is (files index t now up).call) [
-      | inl naming ↦ absurd (subst (λ (st : Stage). IsOfFile st) naming of_file)
-      | inr there ↦ there
-    ]
-
-    module _ (c : CurrentCall) (o : OpenCall) (f : IsFileCall n (suc index) c o) where
-      abbrev on_file : IsCallOn n (suc index) o.number c.file.0
-      on_file = record { asked = o.asked; made = open_is_made n (suc index) o (known_when_reached config n (later.0, later.1, later.3)) f.is_open; file_is = f.file_is }
-
-      ask_of : (file : FileId) (what : Wanted) → file ≡ c.file → what ≡ wanted_by c.index c.asked → IsAskOf n (suc index) file.0 what
-      ask_of file what file_is what_is =
-          subst (λ (g : FileId). IsAskOf n (suc index) g.0 what) (sym file_is) (record {
-            number = o.number;
-            of_call = on_file;
-            wants = subst (λ (a : Call). IsWantedBy n (id_of (suc index) o) c.file.0 a what) (sym f.call_is)
-                (subst (λ (x : Wanted). IsWantedBy n (id_of (suc index) o) c.file.0 c.asked x) (sym what_is) (wanted_of n (id_of (suc index) o) c.file.0 c.index c.bytes c.rounds o.pieces c.asked f.done));
-          })
-
-    -- where it goes with its data
-    located : (b : CurrentCall) (chunk : ToldChunk) → s.current ≡ Some b → chunk_used b.stage ≡ Some chunk → (c : Call) → b.asked ≡ c → (place : ℕ) × IsToldChunk W.sent (suc index) b.file.0 place chunk.handle.0 chunk.round.0 × IsAtPart c b.index place
-    located b chunk current used (call.Write fd offset bytes) is =
-        (b.index, parts_go_to_their_chunk config servers clients W (steps, refl) index s there b chunk current used (ap has_index is), refl)
-    located b chunk current used other is =
-        let told = used_was_told config servers clients steps index s b chunk there current used in (
-          chunk.index,
-          record {
-            location = told.0;
-            told = told.2;
-            index_is = ap (λ (x : ToldChunk). x.index) told.1;
-            handle_is = ap (λ (x : ToldChunk). x.handle.0) told.1;
-            round_is = ap (λ (x : ToldChunk). x.round.0) told.1;
-          },
-          tt,
-        )
-
-    module _ (id : DataId) (handle : Handle) (version : Version) (aim : Target) (g : IsMutateNow s t.current id handle version aim) where
-      abbrev After : CurrentCall
-      After = record g.before { stage = SentMutate g.chunk g.number }
-
-      opened : (o : OpenCall) × IsFileCall n (suc index) After o
-      opened = call_open After g.after_is tt
-
-      mutates : is_mutation g.before.asked ≡ true
-      mutates = (opened.1).stage.0
-
-      goes_to : (place : ℕ) × IsToldChunk W.sent (suc index) g.before.file.0 place g.chunk.handle.0 g.chunk.round.0 × IsAtPart g.before.asked g.before.index place
-      goes_to = located g.before g.chunk g.before_is (ap (λ (st : Stage). chunk_used st) g.stage_is) g.before.asked refl
-
-      own_is : data_id (suc index) g.number ≡ id
-      own_is = ap (λ (k : ℕ). data_id k g.number) (sym id_is) ∙ sym g.id_is
-
-      abbrev file : ℕ
-      file = g.before.file.0
-
-      -- the client has its file open as the machine has it
-      row : IsFileOpen s g.before.file.0
-      row = (clients_files_are_open config servers clients W (steps, refl) index s there).call g.before g.before_is (subst (λ (st : Stage). IsOfFile st) (sym g.stage_is) tt)
-
-      opened_as : IsMadeWith m g.before.file.0 (row.0).shape
-      opened_as = (files_before index s there up_before).shapes g.before.file.0 row.0 row.1
-
-      size_is : file_chunk s g.before.file.0 ≡ chunk_size n g.before.file.0
-      size_is = open_size m s g.before.file.0 row.0 row.1 opened_as ∙ sym (sizes_kept config m n reached leads g.before.file.0 opened_as.0)
-
-      abbrev data : List ℕ
-      data = bytes_to_send (file_chunk s g.before.file.0) g.before.index g.before.asked
-
-      pushed_there : IsPushed W.sent id data
-      pushed_there = subst (λ (d : DataId). IsPushed W.sent d data) own_is (pushing.pushed index s there g.before g.chunk g.primary g.number g.before_is g.stage_is)
-
-      calls_are : (s.current ≡ None) ⊎ (calls_made X.world.observer.trace (suc index) ≡ calls_made W.observer.trace (suc index)) → calls_made W.observer.trace (suc index) ≡ (opened.0).number
-      calls_are (inl none) = none_some g.before (sym none ∙ g.before_is)
-      calls_are (inr same) = sym same ∙ sym ((calls_are_counted config X.world.observer.trace n later (suc index)).1 opened.0 (opened.1).is_open)
-
-      attempt_of : (deadline : Rattle.gfs_types.specs.declared.ids.Moment.Moment) (x : Message) (place : ℕ) → element_at X.out.sent place ≡ Some x → x.sender ≡ the_client (suc index) → x.body ≡ body.Mutate id handle version aim deadline
-          → (s.current ≡ None) ⊎ (calls_made X.world.observer.trace (suc index) ≡ calls_made W.observer.trace (suc index)) → IsAttemptOf Start Steps n (suc index) id handle version aim
-      attempt_of deadline x place at from is calls =
-          record {
-            index = index;
-            client_is = refl;
-            own = ap (λ (d : DataId). d.client.0) (sym own_is);
-            number = (opened.0).number;
-            file = g.before.file.0;
-            of_call = on_file After opened.0 opened.1;
-            place = goes_to.0;
-            told = back (λ ms. IsToldChunk ms (suc index) g.before.file.0 goes_to.0 handle.0 version.0) (told_on W.sent More (suc index) g.before.file.0 goes_to.0 handle.0 version.0
-                (subst (λ (v : Version). IsToldChunk W.sent (suc index) g.before.file.0 goes_to.0 handle.0 v.0) (sym g.version_is)
-                (subst (λ (h : Handle). IsToldChunk W.sent (suc index) g.before.file.0 goes_to.0 h.0 g.chunk.round.0) (sym g.handle_is) goes_to.1)));
-            bytes = data;
-            pushed = back (λ ms. IsPushed ms id data) (pushed_later W.sent More id data pushed_there);
-            pushes = subst (λ (a : Call). AreDataOf (chunk_size n file) goes_to.0 a data) (sym (opened.1).call_is)
-                (subst (λ (z : ℕ). AreDataOf (chunk_size n file) goes_to.0 g.before.asked (bytes_to_send z g.before.index g.before.asked)) (sym size_is)
-                (data_there (chunk_size n file) g.before.index goes_to.0 g.before.asked mutates goes_to.2));
-            part = subst (λ (a : Call). IsPartTo n (id_of (suc index) opened.0) g.before.file.0 goes_to.0 a aim) (sym (opened.1).call_is)
-                (subst (λ (y : Target). IsPartTo n (id_of (suc index) opened.0) g.before.file.0 goes_to.0 g.before.asked y) (ap (λ (z : ℕ). target_of z g.before.index g.before.asked) (sym size_is) ∙ sym g.aim_is)
-                (part_there n (id_of (suc index) opened.0) g.before.file.0 g.before.index goes_to.0 g.before.bytes g.before.rounds (opened.0).pieces g.before.asked mutates goes_to.2 (opened.1).done));
-            was_asked = asked_last index Start steps (e, choice) (opened.0).number (part_of (opened.0).asked.call goes_to.0) id.seq (record {
-              client = s;
-              current = g.before;
-              asked = x;
-              place = place;
-              id = id;
-              handle = handle;
-              version = version;
-              aim = aim;
-              deadline = deadline;
-              is = there;
-              current_is = g.before_is;
-              part_is = part_named g.before.index goes_to.0 g.before.asked mutates goes_to.2 ∙ ap (λ (a : Call). part_of a goes_to.0) (sym (opened.1).call_is);
-              made_is = calls_are calls;
-              sent_is = at;
-              sender_is = from;
-              body_is = is;
-              number_is = refl;
-            });
-          }
-
-    own_request : (x : Message) (place : ℕ) → element_at X.out.sent place ≡ Some x → x.sender ≡ the_client (suc index) → (b : Body) → x.body ≡ b → IsOwn s t.current b
-        → (s.current ≡ None) ⊎ (calls_made X.world.observer.trace (suc index) ≡ calls_made W.observer.trace (suc index)) → IsRequestOf Start Steps n (suc index) b
-    own_request x place at from (body.Mutate id handle version aim deadline) is own calls = attempt_of id handle version aim own deadline x place at from is calls
-    own_request x place at from (body.Ask number file what deadline lost) is own calls =
-        let opened = call_open own.0 own.1 own.2 in ask_of own.0 opened.0 opened.1 file what own.3 own.4
-    own_request x place at from other is own calls = tt
-
-  new_request : (client place : ℕ) (x : Message) → element_at X.out.sent place ≡ Some x → x.sender ≡ the_client client → IsRequestOf Start Steps n client x.body
-  new_request client place x at from =
-      let new = holds_after W (λ f y. AllNew W y) (each_new config W pushing) e choice client place x at from in
-      subst (λ (c : ℕ). IsRequestOf Start Steps n c x.body) (sym new.client_is)
-      (own_request new.index new.before new.after new.before_is new.after_is new.up new.up_before x place at (from ∙ ap (λ (c : ℕ). the_client c) new.client_is) x.body refl new.own new.calls)
-
-  pub all_requests : AreRequestsOf Start Steps n
-  all_requests client place x at from =
-      elim (later_cases W.sent sends.0 X.out.sent place x (subst (λ (ms : List Message). element_at ms place ≡ Some x) (ap (λ (u : WorldState). u.sent) path ∙ sends.1) at)) [
-        | inl before ↦ request_on client x.body (requests client place x before from)
-        | inr now ↦ subst (λ (b : Body). IsRequestOf Start Steps n client b) (now.2).2 (new_request client (now.1).0 now.0 (now.1).1 ((now.2).0 ∙ from))
+      call_open : (c : CurrentCall) → t.current ≡ Some c → IsOfFile c.stage → (o : OpenCall) × IsFileCall n (suc index) c o
+      call_open c is of_file = elim (subst (λ (o : Option CurrentCall). IsCallAlike n (suc index) o) is (files index t now up).call) [
+        | inl naming ↦ absurd (subst (λ (st : Stage). IsOfFile st) naming of_file)
+        | inr there ↦ there
       ]
+
+      module _ (c : CurrentCall) (o : OpenCall) (f : IsFileCall n (suc index) c o) where
+        abbrev on_file : IsCallOn n (suc index) o.number c.file.0
+        on_file = record { asked = o.asked; made = open_is_made n (suc index) o (known_when_reached config n (later.0, later.1, later.3)) f.is_open; file_is = f.file_is }
+
+        ask_of : (file : FileId) (what : Wanted) → file ≡ c.file → what ≡ wanted_by c.index c.asked → IsAskOf n (suc index) file.0 what
+        ask_of file what file_is what_is =
+            subst (λ (g : FileId). IsAskOf n (suc index) g.0 what) (sym file_is) (record {
+              number = o.number;
+              of_call = on_file;
+              wants = subst (λ (a : Call). IsWantedBy n (id_of (suc index) o) c.file.0 a what) (sym f.call_is)
+                  (subst (λ (x : Wanted). IsWantedBy n (id_of (suc index) o) c.file.0 c.asked x) (sym what_is) (wanted_of n (id_of (suc index) o) c.file.0 c.index c.bytes c.rounds o.pieces c.asked f.done));
+            })
+
+      -- where it goes with its data
+      located : (b : CurrentCall) (chunk : ToldChunk) → s.current ≡ Some b → chunk_used b.stage ≡ Some chunk → (c : Call) → b.asked ≡ c → (place : ℕ) × IsToldChunk W.sent (suc index) b.file.0 place chunk.handle.0 chunk.round.0 × IsAtPart c b.index place
+      located b chunk current used (call.Write fd offset bytes) is =
+          (b.index, parts_go_to_their_chunk config servers clients W (steps, refl) index s there b chunk current used (ap has_index is), refl)
+      located b chunk current used other is =
+          let told = used_was_told config servers clients steps index s b chunk there current used in (
+            chunk.index,
+            record {
+              location = told.0;
+              told = told.2;
+              index_is = ap (λ (x : ToldChunk). x.index) told.1;
+              handle_is = ap (λ (x : ToldChunk). x.handle.0) told.1;
+              round_is = ap (λ (x : ToldChunk). x.round.0) told.1;
+            },
+            tt,
+          )
+
+      module _ (id : DataId) (handle : Handle) (version : Version) (aim : Target) (g : IsMutateNow s t.current id handle version aim) where
+        abbrev After : CurrentCall
+        After = record g.before { stage = SentMutate g.chunk g.number }
+
+        opened : (o : OpenCall) × IsFileCall n (suc index) After o
+        opened = call_open After g.after_is tt
+
+        mutates : is_mutation g.before.asked ≡ true
+        mutates = (opened.1).stage.0
+
+        goes_to : (place : ℕ) × IsToldChunk W.sent (suc index) g.before.file.0 place g.chunk.handle.0 g.chunk.round.0 × IsAtPart g.before.asked g.before.index place
+        goes_to = located g.before g.chunk g.before_is (ap (λ (st : Stage). chunk_used st) g.stage_is) g.before.asked refl
+
+        own_is : data_id (suc index) g.number ≡ id
+        own_is = ap (λ (k : ℕ). data_id k g.number) (sym id_is) ∙ sym g.id_is
+
+        abbrev file : ℕ
+        file = g.before.file.0
+
+        -- the client has its file open as the machine has it
+        row : IsFileOpen s g.before.file.0
+        row = (clients_files_are_open config servers clients W (steps, refl) index s there).call g.before g.before_is (subst (λ (st : Stage). IsOfFile st) (sym g.stage_is) tt)
+
+        opened_as : IsMadeWith m g.before.file.0 (row.0).shape
+        opened_as = (files_before index s there up_before).shapes g.before.file.0 row.0 row.1
+
+        size_is : file_chunk s g.before.file.0 ≡ chunk_size n g.before.file.0
+        size_is = open_size m s g.before.file.0 row.0 row.1 opened_as ∙ sym (sizes_kept config m n reached leads g.before.file.0 opened_as.0)
+
+        abbrev part_data : List ℕ
+        part_data = bytes_to_send (file_chunk s g.before.file.0) g.before.index g.before.asked
+
+        pushed_there : IsPushed W.sent id part_data
+        pushed_there = subst (λ (d : DataId). IsPushed W.sent d part_data) own_is (pushing.pushed index s there g.before g.chunk g.primary g.number g.before_is g.stage_is)
+
+        calls_are : (s.current ≡ None) ⊎ (calls_made X.world.observer.trace (suc index) ≡ calls_made W.observer.trace (suc index)) → calls_made W.observer.trace (suc index) ≡ (opened.0).number
+        calls_are (inl none) = none_some g.before (sym none ∙ g.before_is)
+        calls_are (inr same) = sym same ∙ sym ((calls_are_counted config X.world.observer.trace n later (suc index)).1 opened.0 (opened.1).is_open)
+
+        attempt_of : (deadline : Rattle.gfs_types.specs.declared.ids.Moment.Moment) (x : Message) (place : ℕ) → element_at X.out.sent place ≡ Some x → x.sender ≡ the_client (suc index) → x.body ≡ body.Mutate id handle version aim deadline
+            → (s.current ≡ None) ⊎ (calls_made X.world.observer.trace (suc index) ≡ calls_made W.observer.trace (suc index)) → IsAttemptOf Start Steps n (suc index) id handle version aim
+        attempt_of deadline x place at from is calls =
+            record {
+              index = index;
+              client_is = refl;
+              own = ap (λ (d : DataId). d.client.0) (sym own_is);
+              number = (opened.0).number;
+              file = g.before.file.0;
+              of_call = on_file After opened.0 opened.1;
+              place = goes_to.0;
+              told = back (λ ms. IsToldChunk ms (suc index) g.before.file.0 goes_to.0 handle.0 version.0) (told_on W.sent More (suc index) g.before.file.0 goes_to.0 handle.0 version.0
+                  (subst (λ (v : Version). IsToldChunk W.sent (suc index) g.before.file.0 goes_to.0 handle.0 v.0) (sym g.version_is)
+                  (subst (λ (h : Handle). IsToldChunk W.sent (suc index) g.before.file.0 goes_to.0 h.0 g.chunk.round.0) (sym g.handle_is) goes_to.1)));
+              bytes = part_data;
+              pushed = back (λ ms. IsPushed ms id part_data) (pushed_later W.sent More id part_data pushed_there);
+              pushes = subst (λ (a : Call). AreDataOf (chunk_size n file) goes_to.0 a part_data) (sym (opened.1).call_is)
+                  (subst (λ (z : ℕ). AreDataOf (chunk_size n file) goes_to.0 g.before.asked (bytes_to_send z g.before.index g.before.asked)) (sym size_is)
+                  (data_there (chunk_size n file) g.before.index goes_to.0 g.before.asked mutates goes_to.2));
+              part = subst (λ (a : Call). IsPartTo n (id_of (suc index) opened.0) g.before.file.0 goes_to.0 a aim) (sym (opened.1).call_is)
+                  (subst (λ (y : Target). IsPartTo n (id_of (suc index) opened.0) g.before.file.0 goes_to.0 g.before.asked y) (ap (λ (z : ℕ). target_of z g.before.index g.before.asked) (sym size_is) ∙ sym g.aim_is)
+                  (part_there n (id_of (suc index) opened.0) g.before.file.0 g.before.index goes_to.0 g.before.bytes g.before.rounds (opened.0).pieces g.before.asked mutates goes_to.2 (opened.1).done));
+              was_asked = asked_last index Start steps (e, choice) (opened.0).number (part_of (opened.0).asked.call goes_to.0) id.seq (record {
+                client = s;
+                current = g.before;
+                asked = x;
+                place = place;
+                id = id;
+                handle = handle;
+                version = version;
+                aim = aim;
+                deadline = deadline;
+                is = there;
+                current_is = g.before_is;
+                part_is = part_named g.before.index goes_to.0 g.before.asked mutates goes_to.2 ∙ ap (λ (a : Call). part_of a goes_to.0) (sym (opened.1).call_is);
+                made_is = calls_are calls;
+                sent_is = at;
+                sender_is = from;
+                body_is = is;
+                number_is = refl;
+              });
+            }
+
+      own_request : (x : Message) (place : ℕ) → element_at X.out.sent place ≡ Some x → x.sender ≡ the_client (suc index) → (b : Body) → x.body ≡ b → IsOwn s t.current b
+          → (s.current ≡ None) ⊎ (calls_made X.world.observer.trace (suc index) ≡ calls_made W.observer.trace (suc index)) → IsRequestOf Start Steps n (suc index) b
+      own_request x place at from (body.Mutate id handle version aim deadline) is own calls = attempt_of id handle version aim own deadline x place at from is calls
+      own_request x place at from (body.Ask number file what deadline lost) is own calls =
+          let opened = call_open own.0 own.1 own.2 in ask_of own.0 opened.0 opened.1 file what own.3 own.4
+      own_request x place at from other is own calls = tt
+
+    new_request : (client place : ℕ) (x : Message) → element_at X.out.sent place ≡ Some x → x.sender ≡ the_client client → IsRequestOf Start Steps n client x.body
+    new_request client place x at from =
+        let new = holds_after W (λ f y. AllNew W y) (each_new config W pushing) e choice client place x at from in
+        subst (λ (c : ℕ). IsRequestOf Start Steps n c x.body) (sym new.client_is)
+        (own_request new.index new.before new.after new.before_is new.after_is new.up new.up_before x place at (from ∙ ap (λ (c : ℕ). the_client c) new.client_is) x.body refl new.own new.calls)
+
+    pub all_requests : AreRequestsOf Start Steps n
+    all_requests client place x at from =
+        elim (later_cases W.sent sends.0 X.out.sent place x (subst (λ (ms : List Message). element_at ms place ≡ Some x) (ap (λ (u : WorldState). u.sent) path ∙ sends.1) at)) [
+          | inl before ↦ request_on client x.body (requests client place x before from)
+          | inr now ↦ subst (λ (b : Body). IsRequestOf Start Steps n client b) (now.2).2 (new_request client (now.1).0 now.0 (now.1).1 ((now.2).0 ∙ from))
+        ]

@@ -47,151 +47,151 @@ use Rattle.relaxed_file.proofs.ShapesKept.{sizes_step}
 module _ (m n : Machine) (client : ℕ) (grows : Grows m n) (own : IsSameOwn (m.clients client) (n.clients client)) (o d : OpenCall) (goes : Goes m client o d)
     (sizes : (file : ℕ) → o.asked.file ≡ Some file → chunk_size n file ≡ chunk_size m file)
   where
-  number : d.number ≡ o.number
-  number = sym goes.0
+    number : d.number ≡ o.number
+    number = sym goes.0
 
-  asked : d.asked ≡ o.asked
-  asked = sym goes.1
+    asked : d.asked ≡ o.asked
+    asked = sym goes.1
 
-  pieces : (p : Piece) → Contains o.pieces p → Contains d.pieces p
-  pieces p there = one_more_or_none o.pieces d.pieces p (elim (goes.2) [ inl same ↦ inl same | inr more ↦ inr (more.0, more.2) ]) there
+    pieces : (p : Piece) → Contains o.pieces p → Contains d.pieces p
+    pieces p there = one_more_or_none o.pieces d.pieces p (elim (goes.2) [ inl same ↦ inl same | inr more ↦ inr (more.0, more.2) ]) there
 
-  offers : (x : Offer) → Contains o.offers x → Contains d.offers x
-  offers x there = one_more_or_none o.offers d.offers x (elim (goes.3) [ inl same ↦ inl same | inr more ↦ inr (offer_of m more.0 more.1, more.3) ]) there
+    offers : (x : Offer) → Contains o.offers x → Contains d.offers x
+    offers x there = one_more_or_none o.offers d.offers x (elim (goes.3) [ inl same ↦ inl same | inr more ↦ inr (offer_of m more.0 more.1, more.3) ]) there
 
-  outcomes : (x : Outcome) → Contains o.outcomes x → Contains d.outcomes x
-  outcomes x there = one_more_or_none o.outcomes d.outcomes x (elim (goes.4) [ inl same ↦ inl same | inr more ↦ inr (more.2, more.4) ]) there
+    outcomes : (x : Outcome) → Contains o.outcomes x → Contains d.outcomes x
+    outcomes x there = one_more_or_none o.outcomes d.outcomes x (elim (goes.4) [ inl same ↦ inl same | inr more ↦ inr (more.2, more.4) ]) there
 
-  lengths : (x : ℕ) → Contains o.lengths x → Contains d.lengths x
-  lengths x there = one_more_or_none o.lengths d.lengths x (elim (goes.6) [ inl same ↦ inl same | inr more ↦ inr (more.0, more.2) ]) there
+    lengths : (x : ℕ) → Contains o.lengths x → Contains d.lengths x
+    lengths x there = one_more_or_none o.lengths d.lengths x (elim (goes.6) [ inl same ↦ inl same | inr more ↦ inr (more.0, more.2) ]) there
 
-  note : (file index : ℕ) → (n.clients client).notes file index ≡ (m.clients client).notes file index
-  note file index = ap (λ (t : ℕ → ℕ → Option ℕ). t file index) own.2
+    note : (file index : ℕ) → (n.clients client).notes file index ≡ (m.clients client).notes file index
+    note file index = ap (λ (t : ℕ → ℕ → Option ℕ). t file index) own.2
 
-  success : (id : CallId) (file index : ℕ) (P : Mutation → Type 0) → HasSuccess m client id file index P → HasSuccess n client id file index P
-  success id file index P h =
-      let s = h.4 in
-      (h.0, note file index ∙ h.1, h.2, entry_stays (chunk_at m file index).order (chunk_at n file index).order h.2 (((grows.files file).chunks index).order) s.1 h.3, s, h.5)
+    success : (id : CallId) (file index : ℕ) (P : Mutation → Type 0) → HasSuccess m client id file index P → HasSuccess n client id file index P
+    success id file index P h =
+        let s = h.4 in
+        (h.0, note file index ∙ h.1, h.2, entry_stays (chunk_at m file index).order (chunk_at n file index).order h.2 (((grows.files file).chunks index).order) s.1 h.3, s, h.5)
 
-  -- under the call's number
-  success_of : (file index : ℕ) (P : Mutation → Type 0) → HasSuccess m client (id_of client o) file index P → HasSuccess n client (id_of client d) file index P
-  success_of file index P h = subst (λ (k : ℕ). HasSuccess n client (record { client = client; number = k }) file index P) (sym number) (success (id_of client o) file index P h)
+    -- under the call's number
+    success_of : (file index : ℕ) (P : Mutation → Type 0) → HasSuccess m client (id_of client o) file index P → HasSuccess n client (id_of client d) file index P
+    success_of file index P h = subst (λ (k : ℕ). HasSuccess n client (record { client = client; number = k }) file index P) (sym number) (success (id_of client o) file index P h)
 
-  read_on : (offset count part : ℕ) (bytes rounds : List ℕ) (y z : ℕ) → z ≡ y → IsReadSoFar y offset count part bytes rounds o.pieces → IsReadSoFar z offset count part bytes rounds d.pieces
-  read_on offset count part bytes rounds y z is h =
-      subst (λ (k : ℕ). IsReadSoFar k offset count part bytes rounds d.pieces) (sym is)
-      (record { pieces = h.pieces; are_whole = whole_on y offset count part (offset / y) o.pieces d.pieces h.pieces pieces h.are_whole; bytes_are = h.bytes_are; rounds_are = h.rounds_are })
+    read_on : (offset count part : ℕ) (bytes rounds : List ℕ) (y z : ℕ) → z ≡ y → IsReadSoFar y offset count part bytes rounds o.pieces → IsReadSoFar z offset count part bytes rounds d.pieces
+    read_on offset count part bytes rounds y z is h =
+        subst (λ (k : ℕ). IsReadSoFar k offset count part bytes rounds d.pieces) (sym is)
+        (record { pieces = h.pieces; are_whole = whole_on y offset count part (offset / y) o.pieces d.pieces h.pieces pieces h.are_whole; bytes_are = h.bytes_are; rounds_are = h.rounds_are })
 
-  part_on : (file : ℕ) → o.asked.file ≡ Some file → (offset count part : ℕ) → has_part (chunk_size n file) offset count part ≡ has_part (chunk_size m file) offset count part
-  part_on file of offset count part = ap (λ (k : ℕ). has_part k offset count part) (sizes file of)
+    part_on : (file : ℕ) → o.asked.file ≡ Some file → (offset count part : ℕ) → has_part (chunk_size n file) offset count part ≡ has_part (chunk_size m file) offset count part
+    part_on file of offset count part = ap (λ (k : ℕ). has_part k offset count part) (sizes file of)
 
-  pub done_on : (file part : ℕ) (bytes rounds : List ℕ) (c : Call) → o.asked.file ≡ Some file → IsDoneSoFar m (id_of client o) file part bytes rounds o.pieces c → IsDoneSoFar n (id_of client d) file part bytes rounds d.pieces c
-  done_on file part bytes rounds (call.Write fd offset content) of h =
-      (h.0, part_on file of offset (length content) part ∙ h.1, λ earlier low has. success_of file earlier IsWrite (h.2 earlier low (sym (part_on file of offset (length content) earlier) ∙ has)))
-  done_on file part bytes rounds (call.Append fd content) of h = ap (λ (k : ℕ). nat_lt (k / 4) (length content)) (sizes file of) ∙ h
-  done_on file part bytes rounds (call.Read fd offset count) of h =
-      (h.0, part_on file of offset count part ∙ h.1, read_on offset count part bytes rounds (chunk_size m file) (chunk_size n file) (sizes file of) h.2)
-  done_on file part bytes rounds (call.Length fd) of h = tt
-  done_on file part bytes rounds other of h = absurd h
+    pub done_on : (file part : ℕ) (bytes rounds : List ℕ) (c : Call) → o.asked.file ≡ Some file → IsDoneSoFar m (id_of client o) file part bytes rounds o.pieces c → IsDoneSoFar n (id_of client d) file part bytes rounds d.pieces c
+    done_on file part bytes rounds (call.Write fd offset content) of h =
+        (h.0, part_on file of offset (length content) part ∙ h.1, λ earlier low has. success_of file earlier IsWrite (h.2 earlier low (sym (part_on file of offset (length content) earlier) ∙ has)))
+    done_on file part bytes rounds (call.Append fd content) of h = ap (λ (k : ℕ). nat_lt (k / 4) (length content)) (sizes file of) ∙ h
+    done_on file part bytes rounds (call.Read fd offset count) of h =
+        (h.0, part_on file of offset count part ∙ h.1, read_on offset count part bytes rounds (chunk_size m file) (chunk_size n file) (sizes file of) h.2)
+    done_on file part bytes rounds (call.Length fd) of h = tt
+    done_on file part bytes rounds other of h = absurd h
 
-  noted_on : (file : ℕ) (c : Call) (chunk : ToldChunk) → IsNotedChunk m client file o c chunk → IsNotedChunk n client file d c chunk
-  noted_on file c chunk h = record { noted = note file chunk.index ∙ h.noted; last = λ is. offers (Told chunk.index chunk.round.0 (suc chunk.index)) (h.last is) }
+    noted_on : (file : ℕ) (c : Call) (chunk : ToldChunk) → IsNotedChunk m client file o c chunk → IsNotedChunk n client file d c chunk
+    noted_on file c chunk h = record { noted = note file chunk.index ∙ h.noted; last = λ is. offers (Told chunk.index chunk.round.0 (suc chunk.index)) (h.last is) }
 
-  -- an answer that waits
+    -- an answer that waits
 
-  file_of_call : (file : ℕ) → o.asked.file ≡ Some file → d.asked.file ≡ Some file
-  file_of_call file is = ap (λ (a : Asked). a.file) asked ∙ is
+    file_of_call : (file : ℕ) → o.asked.file ≡ Some file → d.asked.file ≡ Some file
+    file_of_call file is = ap (λ (a : Asked). a.file) asked ∙ is
 
-  call_of_call : (c : Call) → o.asked.call ≡ c → d.asked.call ≡ c
-  call_of_call c is = ap (λ (a : Asked). a.call) asked ∙ is
+    call_of_call : (c : Call) → o.asked.call ≡ c → d.asked.call ≡ c
+    call_of_call c is = ap (λ (a : Asked). a.call) asked ∙ is
 
-  write_on : (offset count : ℕ) → IfSome o.asked.file (λ file. (index : ℕ) → IsTrue (has_part (chunk_size m file) offset count index) → HasSuccess m client (id_of client o) file index IsWrite)
-      → IfSome d.asked.file (λ file. (index : ℕ) → IsTrue (has_part (chunk_size n file) offset count index) → HasSuccess n client (id_of client d) file index IsWrite)
-  write_on offset count h =
-      subst (λ (x : Option ℕ). IfSome x (λ file. (index : ℕ) → IsTrue (has_part (chunk_size n file) offset count index) → HasSuccess n client (id_of client d) file index IsWrite))
-      (sym (ap (λ (a : Asked). a.file) asked)) (by_file o.asked.file refl h)
-    where
-      by_file : (x : Option ℕ) → o.asked.file ≡ x → IfSome x (λ file. (index : ℕ) → IsTrue (has_part (chunk_size m file) offset count index) → HasSuccess m client (id_of client o) file index IsWrite)
-          → IfSome x (λ file. (index : ℕ) → IsTrue (has_part (chunk_size n file) offset count index) → HasSuccess n client (id_of client d) file index IsWrite)
-      by_file None is g = tt
-      by_file (Some file) is g = λ index has. success_of file index IsWrite (g index (sym (part_on file is offset count index) ∙ has))
+    write_on : (offset count : ℕ) → IfSome o.asked.file (λ file. (index : ℕ) → IsTrue (has_part (chunk_size m file) offset count index) → HasSuccess m client (id_of client o) file index IsWrite)
+        → IfSome d.asked.file (λ file. (index : ℕ) → IsTrue (has_part (chunk_size n file) offset count index) → HasSuccess n client (id_of client d) file index IsWrite)
+    write_on offset count h =
+        subst (λ (x : Option ℕ). IfSome x (λ file. (index : ℕ) → IsTrue (has_part (chunk_size n file) offset count index) → HasSuccess n client (id_of client d) file index IsWrite))
+        (sym (ap (λ (a : Asked). a.file) asked)) (by_file o.asked.file refl h)
+      where
+        by_file : (x : Option ℕ) → o.asked.file ≡ x → IfSome x (λ file. (index : ℕ) → IsTrue (has_part (chunk_size m file) offset count index) → HasSuccess m client (id_of client o) file index IsWrite)
+            → IfSome x (λ file. (index : ℕ) → IsTrue (has_part (chunk_size n file) offset count index) → HasSuccess n client (id_of client d) file index IsWrite)
+        by_file None is g = tt
+        by_file (Some file) is g = λ index has. success_of file index IsWrite (g index (sym (part_on file is offset count index) ∙ has))
 
-  answer_on : (c : Call) (reply : Answer) → is_mutation c ≡ true → IsDone m client o c reply → IsDone n client d c reply
-  answer_on (call.Write fd offset content) answer.Done is h =
-      (write_on offset (length content) h.0, subst (λ (a : Asked). IsSome a.file) (sym asked) h.1, h.2)
-  answer_on (call.Write fd offset content) other is h = outcomes (Replies other) h
-  answer_on (call.Append fd content) (answer.At x) is h =
-      let up = (grows.files h.0).count in
-      let low = h.5 in
-      (h.0, file_of_call h.0 h.1, h.2, h.3, h.4 ∙ ap (λ (k : ℕ). h.2 * k + h.3) (sym (sizes h.0 h.1)), omega (arith, up, low), success_of h.0 h.2 (IsAppendAt h.3) h.6)
-  answer_on (call.Append fd content) other is h = outcomes (Replies other) h
-  answer_on other reply is h = absurd (true≢false (sym is))
+    answer_on : (c : Call) (reply : Answer) → is_mutation c ≡ true → IsDone m client o c reply → IsDone n client d c reply
+    answer_on (call.Write fd offset content) answer.Done is h =
+        (write_on offset (length content) h.0, subst (λ (a : Asked). IsSome a.file) (sym asked) h.1, h.2)
+    answer_on (call.Write fd offset content) other is h = outcomes (Replies other) h
+    answer_on (call.Append fd content) (answer.At x) is h =
+        let up = (grows.files h.0).count in
+        let low = h.5 in
+        (h.0, file_of_call h.0 h.1, h.2, h.3, h.4 ∙ ap (λ (k : ℕ). h.2 * k + h.3) (sym (sizes h.0 h.1)), omega (arith, up, low), success_of h.0 h.2 (IsAppendAt h.3) h.6)
+    answer_on (call.Append fd content) other is h = outcomes (Replies other) h
+    answer_on other reply is h = absurd (true≢false (sym is))
 
-  collected_on : IsCause m client o Collected → IsCause n client d Collected
-  collected_on h = (h.0, file_of_call h.0 h.1, (grows.files h.0).collected h.2, ap (λ (a : Asked). uses_chunks a.call) asked ∙ h.3)
+    collected_on : IsCause m client o Collected → IsCause n client d Collected
+    collected_on h = (h.0, file_of_call h.0 h.1, (grows.files h.0).collected h.2, ap (λ (a : Asked). uses_chunks a.call) asked ∙ h.3)
 
-  cause_on : (r : Refusal) → IsLasting (answer.Refused r) → IsCause m client o r → IsCause n client d r
-  cause_on BadFd lasting h = (ap (λ (a : Asked). is_name_call a.call) asked ∙ h.0, ap (λ (a : Asked). a.file) asked ∙ h.1)
-  cause_on TooLong lasting h = absurd lasting
-  cause_on Collected lasting h = collected_on h
-  cause_on NoMemory lasting h = absurd lasting
-  cause_on other lasting h = absurd h
+    cause_on : (r : Refusal) → IsLasting (answer.Refused r) → IsCause m client o r → IsCause n client d r
+    cause_on BadFd lasting h = (ap (λ (a : Asked). is_name_call a.call) asked ∙ h.0, ap (λ (a : Asked). a.file) asked ∙ h.1)
+    cause_on TooLong lasting h = absurd lasting
+    cause_on Collected lasting h = collected_on h
+    cause_on NoMemory lasting h = absurd lasting
+    cause_on other lasting h = absurd h
 
-  return_on : (reply : Answer) → IsLasting reply → is_mutation o.asked.call ≡ true → MayReturn m client o reply → MayReturn n client d reply
-  return_on (answer.Refused r) lasting is h = elim h [
-    | inl told ↦ inl (outcomes (Replies (answer.Refused r)) told)
-    | inr rest ↦ elim rest [
-      | inl gives ↦ inr (inl (ap (λ (a : Asked). may_give_up a.call r) asked ∙ gives))
-      | inr cause ↦ inr (inr (cause_on r lasting cause))
+    return_on : (reply : Answer) → IsLasting reply → is_mutation o.asked.call ≡ true → MayReturn m client o reply → MayReturn n client d reply
+    return_on (answer.Refused r) lasting is h = elim h [
+      | inl told ↦ inl (outcomes (Replies (answer.Refused r)) told)
+      | inr rest ↦ elim rest [
+        | inl gives ↦ inr (inl (ap (λ (a : Asked). may_give_up a.call r) asked ∙ gives))
+        | inr cause ↦ inr (inr (cause_on r lasting cause))
+      ]
     ]
-  ]
-  return_on reply lasting is h = subst (λ (a : Asked). IsDone n client d a.call reply) (sym asked) (answer_on o.asked.call reply is h)
+    return_on reply lasting is h = subst (λ (a : Asked). IsDone n client d a.call reply) (sym asked) (answer_on o.asked.call reply is h)
 
-  pub stage_on : (file : ℕ) (c : Call) (st : Stage) → o.asked.call ≡ c → IsStageAt m client file o c st → IsStageAt n client file d c st
-  stage_on file c (SentData chunk primary k) is h = (h.0, noted_on file c chunk h.1)
-  stage_on file c (SentMutate chunk k) is h = (h.0, noted_on file c chunk h.1)
-  stage_on file c (SentRead chunk left k) is h = (h.0, noted_on file c chunk h.1)
-  stage_on file c (HasAnswer reply) is h = (h.0, h.1, return_on reply h.1 (ap is_mutation is ∙ h.0) h.2)
-  stage_on file c other is h = tt
+    pub stage_on : (file : ℕ) (c : Call) (st : Stage) → o.asked.call ≡ c → IsStageAt m client file o c st → IsStageAt n client file d c st
+    stage_on file c (SentData chunk primary k) is h = (h.0, noted_on file c chunk h.1)
+    stage_on file c (SentMutate chunk k) is h = (h.0, noted_on file c chunk h.1)
+    stage_on file c (SentRead chunk left k) is h = (h.0, noted_on file c chunk h.1)
+    stage_on file c (HasAnswer reply) is h = (h.0, h.1, return_on reply h.1 (ap is_mutation is ∙ h.0) h.2)
+    stage_on file c other is h = tt
 
-  -- what it is told
+    -- what it is told
 
-  offered_on : (file : ℕ) (c : Call) (l : Location) → IsOffered m client file o c l → IsOffered n client file d c l
-  offered_on file c l h =
-      record {
-        count = h.count;
-        offered = offers (Told l.index l.round.0 h.count) h.offered;
-        rising = subst (λ (x : Option ℕ). IfSome x (λ before. before ≤ l.round.0)) (sym (note file l.index)) h.rising;
-        last = h.last;
-      }
+    offered_on : (file : ℕ) (c : Call) (l : Location) → IsOffered m client file o c l → IsOffered n client file d c l
+    offered_on file c l h =
+        record {
+          count = h.count;
+          offered = offers (Told l.index l.round.0 h.count) h.offered;
+          rising = subst (λ (x : Option ℕ). IfSome x (λ before. before ≤ l.round.0)) (sym (note file l.index)) h.rising;
+          last = h.last;
+        }
 
-  told_on : (x : CurrentCall) (l : Option Location) → IsToldAt m client o x l → IsToldAt n client d x l
-  told_on x None h = offers (NoSuchChunk (index_asked x x.asked)) h
-  told_on x (Some l) h = offered_on x.file.0 x.asked l h
+    told_on : (x : CurrentCall) (l : Option Location) → IsToldAt m client o x l → IsToldAt n client d x l
+    told_on x None h = offers (NoSuchChunk (index_asked x x.asked)) h
+    told_on x (Some l) h = offered_on x.file.0 x.asked l h
 
-  refused_on : (k : ℕ) (live : List LiveAttempt) (r : Refusal) → IsFirm (body.Refused k r) → IsRefusedAt m client o live r → IsRefusedAt n client d live r
-  refused_on k live TooLong firm h = absurd firm
-  refused_on k live Collected firm h = collected_on h
-  refused_on k live other firm h = tt
+    refused_on : (k : ℕ) (live : List LiveAttempt) (r : Refusal) → IsFirm (body.Refused k r) → IsRefusedAt m client o live r → IsRefusedAt n client d live r
+    refused_on k live TooLong firm h = absurd firm
+    refused_on k live Collected firm h = collected_on h
+    refused_on k live other firm h = tt
 
-  settled_on : (file part index place : ℕ) (c : Call) → o.asked.file ≡ Some file → IsPartSettled m (id_of client o) file part index place c → IsPartSettled n (id_of client d) file part index place c
-  settled_on file part index place (call.Write fd offset content) of h = success_of file part IsWrite h
-  settled_on file part index place (call.Append fd content) of h =
-      let up = (grows.files file).count in
-      let low = h.1 in
-      (subst (λ (k : ℕ). IsWithinPlaces k index place) (sym (sizes file of)) h.0, omega (arith, up, low), success_of file index (IsAppendAt place) h.2)
-  settled_on file part index place other of h = tt
+    settled_on : (file part index place : ℕ) (c : Call) → o.asked.file ≡ Some file → IsPartSettled m (id_of client o) file part index place c → IsPartSettled n (id_of client d) file part index place c
+    settled_on file part index place (call.Write fd offset content) of h = success_of file part IsWrite h
+    settled_on file part index place (call.Append fd content) of h =
+        let up = (grows.files file).count in
+        let low = h.1 in
+        (subst (λ (k : ℕ). IsWithinPlaces k index place) (sym (sizes file of)) h.0, omega (arith, up, low), success_of file index (IsAppendAt place) h.2)
+    settled_on file part index place other of h = tt
 
-  pub said_on : (own_id : ℕ) (x : CurrentCall) → o.asked.file ≡ Some x.file.0 → (st : Stage) (b : Body) → IsFirm b → IsSaidAt m client own_id o x st b → IsSaidAt n client own_id d x st b
-  said_on own_id x of (AskedWhere k) (body.Told j l) firm h = λ same. told_on x l (h same)
-  said_on own_id x of (AskedWhere k) (body.Refused j r) firm h = λ same. refused_on j x.live r firm (h same)
-  said_on own_id x of (SentMutate chunk k) (body.Done id place) firm h = λ one two. settled_on x.file.0 x.index chunk.index place x.asked of (h one two)
-  said_on own_id x of (SentRead chunk left k) (body.Bytes j bytes) firm h = λ same plain. pieces (record { index = x.index; bytes = bytes; round = Some chunk.round.0 }) (h same plain)
-  said_on own_id x of (SentRead chunk left k) (body.LenIs j count) firm h = λ same is.
-      let both = h same is in
-      let same = sym (sizes x.file.0 of) in
-      (subst (λ (z : ℕ). IsWithinPlaces z chunk.index count) same both.0, subst (λ (z : ℕ). Contains d.lengths (chunk.index * z + count)) same (lengths (chunk.index * chunk_size m x.file.0 + count) both.1))
-  said_on own_id x of st b firm h = tt
+    pub said_on : (own_id : ℕ) (x : CurrentCall) → o.asked.file ≡ Some x.file.0 → (st : Stage) (b : Body) → IsFirm b → IsSaidAt m client own_id o x st b → IsSaidAt n client own_id d x st b
+    said_on own_id x of (AskedWhere k) (body.Told j l) firm h = λ same. told_on x l (h same)
+    said_on own_id x of (AskedWhere k) (body.Refused j r) firm h = λ same. refused_on j x.live r firm (h same)
+    said_on own_id x of (SentMutate chunk k) (body.Done id place) firm h = λ one two. settled_on x.file.0 x.index chunk.index place x.asked of (h one two)
+    said_on own_id x of (SentRead chunk left k) (body.Bytes j bytes) firm h = λ same plain. pieces (record { index = x.index; bytes = bytes; round = Some chunk.round.0 }) (h same plain)
+    said_on own_id x of (SentRead chunk left k) (body.LenIs j count) firm h = λ same is.
+        let both = h same is in
+        let same = sym (sizes x.file.0 of) in
+        (subst (λ (z : ℕ). IsWithinPlaces z chunk.index count) same both.0, subst (λ (z : ℕ). Contains d.lengths (chunk.index * z + count)) same (lengths (chunk.index * chunk_size m x.file.0 + count) both.1))
+    said_on own_id x of st b firm h = tt
 
 pub file_clients_stay : FileClientsStay
 file_clients_stay config m reached action allowed client of s h = (

@@ -134,210 +134,210 @@ module _ (config : Config) (servers clients : ℕ) (w : WorldState) (r : IsReach
     (k : ChunkSides) (settings : k.machine.config ≡ config) (orders_are : k.orders ≡ w.observer.orders) (log : IsLogOf w.master k.log) (h : AreChunksAlike k) (has : HasRounds (IsLeaseOver w) k)
     (machine_reached : run.IsReached config k.machine) (sized : AreRoundsSized w k)
   where
-  abbrev trace : List Visible
-  trace = (observed_moment w.config.skew_ms w.observer moment).trace
+    abbrev trace : List Visible
+    trace = (observed_moment w.config.skew_ms w.observer moment).trace
 
-  abbrev shown : List Seen
-  shown = (server_step s moment i choice).seen
+    abbrev shown : List Seen
+    shown = (server_step s moment i choice).seen
 
-  abbrev then_ : WorldState
-  then_ = (after_server w index moment (server_step s moment i choice)).world
+    abbrev then_ : WorldState
+    then_ = (after_server w index moment (server_step s moment i choice)).world
 
-  abbrev end : Table (List Placed)
-  end = orders_after_all trace k.orders shown
+    abbrev end : Table (List Placed)
+    end = orders_after_all trace k.orders shown
 
-  end_is : end ≡ then_.observer.orders
-  end_is = ap (λ (o : Table (List Placed)). orders_after_all trace o shown) orders_are
+    end_is : end ≡ then_.observer.orders
+    end_is = ap (λ (o : Table (List Placed)). orders_after_all trace o shown) orders_are
 
-  before : IsTrue w.observer.are_clocks_kept
-  before = (and_parts w.observer.are_clocks_kept w.observer.are_disks_kept kept).0
+    before : IsTrue w.observer.are_clocks_kept
+    before = (and_parts w.observer.are_clocks_kept w.observer.are_disks_kept kept).0
 
-  -- under a lease that counts the round is open, at its chunk's only place
-  open_under : (handle version : ℕ) (p : SerialOrder) → primary_of (server_at s moment) handle version ≡ Some p → (at : Spot) × IsRoundOpen k handle version at
-  open_under handle version p counts = counting_rounds_are_open config servers clients w r k has moment clocks index s there handle version p counts
+    -- under a lease that counts the round is open, at its chunk's only place
+    open_under : (handle version : ℕ) (p : SerialOrder) → primary_of (server_at s moment) handle version ≡ Some p → (at : Spot) × IsRoundOpen k handle version at
+    open_under handle version p counts = counting_rounds_are_open config servers clients w r k has moment clocks index s there handle version p counts
 
-  not_over_under : (handle version : ℕ) (p : SerialOrder) → primary_of (server_at s moment) handle version ≡ Some p → IsLeaseOver w handle version → ⊥
-  not_over_under handle version p counts over = none_some p (sym (over_leases_number_nothing config servers clients w r handle version over moment clocks index s there) ∙ counts)
+    not_over_under : (handle version : ℕ) (p : SerialOrder) → primary_of (server_at s moment) handle version ≡ Some p → IsLeaseOver w handle version → ⊥
+    not_over_under handle version p counts over = none_some p (sym (over_leases_number_nothing config servers clients w r handle version over moment clocks index s there) ∙ counts)
 
-  once_under : (handle version : ℕ) (p : SerialOrder) → primary_of (server_at s moment) handle version ≡ Some p → StandsNowhereElse k handle
-  once_under handle version p counts = elim (leased_chunks_stand_once config servers clients w r before k log handle version) [
-    | inl over ↦ absurd (not_over_under handle version p counts over)
-    | inr once ↦ once
-  ]
-
-  -- what becomes settled has one entry in the end
-
-  module _ (handle : Handle) (version : Version) (serial : Serial) (place : ℕ) (seen : element_at shown place ≡ Some (BecameSettled handle version serial)) where
-    acknowledged : IsAcknowledgedByAll w.sent (suc index) (server_at s moment) (server_step s moment i choice).state handle.0 version.0 serial.0
-    acknowledged = settled_mutations_were_acknowledged config servers clients w r index s there moment i choice came place handle version serial seen
-
-    version_is : (acknowledged.later).held.version ≡ version.0
-    version_is = ap (λ held. held.version) acknowledged.same ∙ (primary_there (server_at s moment) version.0 (table.get (server_at s moment).leases handle.0) acknowledged.lease acknowledged.counts).1
-
-    counted : serials_of version.0 (order_of then_.observer handle.0) ≡ first_numbers (acknowledged.later).serial
-    counted = subst (λ (v : ℕ). serials_of v (order_of then_.observer handle.0) ≡ first_numbers (acknowledged.later).serial) version_is
-        (leases_count_their_serials config servers clients then_ reached index (server_step s moment i choice).state (set_there w.servers index s (server_step s moment i choice).state there) handle.0 acknowledged.later acknowledged.held)
-
-    only_there : (at : ℕ) × IsOnlyPlace (placed_in then_.observer.orders handle.0) version.0 serial.0 at
-    only_there =
-        let has_entry = counted_entry version.0 serial.0 (acknowledged.later).serial (order_of then_.observer handle.0) counted (acknowledged.given).0 (acknowledged.given).1 in (
-          has_entry.0,
-          (
-            (has_entry.1, has_entry.2, has_entry.3, has_entry.4),
-            λ other q is round serial_is. serials_have_one_entry config servers clients then_ reached handle.0 other has_entry.0 q has_entry.1 is has_entry.2 (round ∙ sym has_entry.3) (serial_is ∙ sym has_entry.4),
-          ),
-        )
-
-    settling_due : IsSettlingDue (IsLeaseOver w) k end (BecameSettled handle version serial)
-    settling_due =
-        let was_open = open_under handle.0 version.0 acknowledged.lease acknowledged.counts in
-        let only = subst (λ (o : Table (List Placed)). (at : ℕ) × IsOnlyPlace (placed_in o handle.0) version.0 serial.0 at) (sym end_is) only_there in
-        (was_open.0, was_open.1, once_under handle.0 version.0 acknowledged.lease acknowledged.counts, not_over_under handle.0 version.0 acknowledged.lease acknowledged.counts, only.0, only.1)
-
-  one_due : (place : ℕ) (x : Seen) → element_at shown place ≡ Some x → NumbersNone x → IsOfServers x → IsSettlingDue (IsLeaseOver w) k end x
-  one_due place (Numbered q v n id m) seen none of = absurd none
-  one_due place (CopyStarted q copy) seen none of = absurd of
-  one_due place (BecameSettled q v n) seen none of = settling_due q v n place seen
-
-  -- what is numbered takes its place
-
-  module _ (calls : AreForOpenCalls w k) (handle : Handle) (version : Version) (serial : Serial) (id : DataId) (m : Mutation) (place : ℕ) (seen : element_at shown place ≡ Some (Numbered handle version serial id m)) where
-    asked : (x : Message) × (i ≡ input.Deliver x) × IsAskedFor (server_at s moment) w.sent x handle version serial id m
-    asked = numbered_mutations_were_asked_for config servers clients w r index s there moment i choice came place handle version serial id m seen
-
-    abbrev for_it : IsAskedFor (server_at s moment) w.sent asked.0 handle version serial id m
-    for_it = asked.2
-
-    was_open : (at : Spot) × IsRoundOpen k handle.0 version.0 at
-    was_open = open_under handle.0 version.0 (for_it).lease (for_it).lease_is
-
-    abbrev numbers : Numbers w index moment s i choice handle version id
-    numbers = record { is = there; came = came; place = place; serial = serial; placed = m; seen = seen }
-
-    alike : IsForOpenCall w k id (was_open.0) m
-    alike = calls index moment s i choice handle version id numbers clocks was_open.0 was_open.1
-
-    may : (lease : SerialOrder) × (table.get s.leases handle.0 ≡ Some lease) × (lease.held.version ≡ version.0)
-        × MayFollow (chunk_limit s lease.chunk) (entries_in w.observer.orders handle.0) version.0 m × ((bytes : List ℕ) × IsPushed w.sent id bytes × IsMadeOf (chunk_limit s lease.chunk) bytes m)
-    may = numbered_mutations_may_follow config servers clients w r kept index s there moment i choice came clocks place handle version serial id m seen
-
-    -- its lease was granted with the size of the file
-    granted : IsSizeGranted w.sent handle.0 version.0 (may.0).chunk
-    granted =
-        let told = (leases_are_told config servers clients w r index s there handle.0 may.0 may.1).0 in
-        (told.0, told.1, told.2, told.4, told.5, (may.0).held.members, subst (λ (v : ℕ). (told.1).body ≡ body.Grant told.4 (handle_of handle.0) (version_of v) told.5 (may.0).chunk (may.0).held.members) may.2 told.6)
-
-    told_size : (may.0).chunk ≡ chunk_size k.machine (was_open.0).file
-    told_size = elim (sized handle.0 version.0 (may.0).chunk granted) [
-      | inl over ↦ absurd (not_over_under handle.0 version.0 (for_it).lease (for_it).lease_is over)
-      | inr there ↦
-          let same = open_rounds_have_one_spot k h handle.0 version.0 version.0 there.0 was_open.0 (once_under handle.0 version.0 (for_it).lease (for_it).lease_is) there.1 was_open.1 in
-          there.2 ∙ ap (λ (t : Spot). chunk_size k.machine t.file) same
+    once_under : (handle version : ℕ) (p : SerialOrder) → primary_of (server_at s moment) handle version ≡ Some p → StandsNowhereElse k handle
+    once_under handle version p counts = elim (leased_chunks_stand_once config servers clients w r before k log handle version) [
+      | inl over ↦ absurd (not_over_under handle version p counts over)
+      | inr once ↦ once
     ]
 
-    size_is : chunk_limit s (may.0).chunk ≡ chunk_size k.machine (was_open.0).file
-    size_is =
-        let set = ap (λ (c : Config). c.chunk) (servers_within config servers clients w r index s there).set in
-        let low : (may.0).chunk ≤ s.config.chunk = subst (λ (n : ℕ). n ≤ s.config.chunk) (sym told_size) (subst (λ (n : ℕ). chunk_size k.machine (was_open.0).file ≤ n) (sym set) (size_within config k.machine machine_reached (was_open.0).file)) in
-        min-eq_left low ∙ told_size
+    -- what becomes settled has one entry in the end
 
-    wanted : IsWanted k trace id.client.0 was_open.0 m
-    wanted = record {
-      current = alike.current;
-      is_open = alike.is_open;
-      number_is = alike.number_is ∙ sym (same_calls w.config.skew_ms w.observer moment id.client.0);
-      file_is = alike.file_is;
-      asks = asks_for k.machine (record { client = id.client.0; number = (alike.current).number }) was_open.0 (entries_in w.observer.orders handle.0) version.0
-          (ap (λ (o : Table (List Placed)). entries_in o handle.0) (sym orders_are) ∙ (was_open.1).order) (sym (was_open.1).round) ((alike.current).asked).call m ((may.4).0)
-          (alike.pushed (may.4).0 (may.4).1) alike.part
-          (subst (λ (n : ℕ). MayFollow n (entries_in w.observer.orders handle.0) version.0 m) size_is may.3) (subst (λ (n : ℕ). IsMadeOf n (may.4).0 m) size_is (may.4).2);
-    }
+    module _ (handle : Handle) (version : Version) (serial : Serial) (place : ℕ) (seen : element_at shown place ≡ Some (BecameSettled handle version serial)) where
+      acknowledged : IsAcknowledgedByAll w.sent (suc index) (server_at s moment) (server_step s moment i choice).state handle.0 version.0 serial.0
+      acknowledged = settled_mutations_were_acknowledged config servers clients w r index s there moment i choice came place handle version serial seen
 
-    abbrev action : Action
-    action = Place id.client.0 (was_open.0).file (was_open.0).index m
+      version_is : (acknowledged.later).held.version ≡ version.0
+      version_is = ap (λ held. held.version) acknowledged.same ∙ (primary_there (server_at s moment) version.0 (table.get (server_at s moment).leases handle.0) acknowledged.lease acknowledged.counts).1
 
-    placed : Follows NoneEnds k (action ∷ []) (moved k (action ∷ []) k.log k.gone (orders_after trace k.orders (Numbered handle version serial id m)))
-    placed = numbered_mutations_are_placed k trace handle version serial id m was_open.0 h was_open.1 (once_under handle.0 version.0 (for_it).lease (for_it).lease_is) wanted
+      counted : serials_of version.0 (order_of then_.observer handle.0) ≡ first_numbers (acknowledged.later).serial
+      counted = subst (λ (v : ℕ). serials_of v (order_of then_.observer handle.0) ≡ first_numbers (acknowledged.later).serial) version_is
+          (leases_count_their_serials config servers clients then_ reached index (server_step s moment i choice).state (set_there w.servers index s (server_step s moment i choice).state there) handle.0 acknowledged.later acknowledged.held)
 
-    abbrev ordered : Table (List Placed)
-    ordered = orders_after trace k.orders (Numbered handle version serial id m)
+      only_there : (at : ℕ) × IsOnlyPlace (placed_in then_.observer.orders handle.0) version.0 serial.0 at
+      only_there =
+          let has_entry = counted_entry version.0 serial.0 (acknowledged.later).serial (order_of then_.observer handle.0) counted (acknowledged.given).0 (acknowledged.given).1 in (
+            has_entry.0,
+            (
+              (has_entry.1, has_entry.2, has_entry.3, has_entry.4),
+              λ other q is round serial_is. serials_have_one_entry config servers clients then_ reached handle.0 other has_entry.0 q has_entry.1 is has_entry.2 (round ∙ sym has_entry.3) (serial_is ∙ sym has_entry.4),
+            ),
+          )
 
-    still_open : IsRoundOpen (moved k (action ∷ []) k.log k.gone ordered) handle.0 version.0 was_open.0
-    still_open = elim (placed.keeps.rounds handle.0 version.0 was_open.0 was_open.1) [ inl none ↦ absurd none | inr still ↦ still ]
+      settling_due : IsSettlingDue (IsLeaseOver w) k end (BecameSettled handle version serial)
+      settling_due =
+          let was_open = open_under handle.0 version.0 acknowledged.lease acknowledged.counts in
+          let only = subst (λ (o : Table (List Placed)). (at : ℕ) × IsOnlyPlace (placed_in o handle.0) version.0 serial.0 at) (sym end_is) only_there in
+          (was_open.0, was_open.1, once_under handle.0 version.0 acknowledged.lease acknowledged.counts, not_over_under handle.0 version.0 acknowledged.lease acknowledged.counts, only.0, only.1)
 
-    others : (other : ℕ) → (other ≡ handle.0 → ⊥) → entries_in ordered other ≡ entries_in k.orders other
-    others other differs = ap (λ (o : Option (List Placed)). map (λ (p : Placed). p.entry) (unwrap_or o [])) (put_other k.orders handle.0 (placed_in k.orders handle.0 ++ new_entry trace version.0 serial.0 id m ∷ []) other differs)
+    one_due : (place : ℕ) (x : Seen) → element_at shown place ≡ Some x → NumbersNone x → IsOfServers x → IsSettlingDue (IsLeaseOver w) k end x
+    one_due place (Numbered q v n id m) seen none of = absurd none
+    one_due place (CopyStarted q copy) seen none of = absurd of
+    one_due place (BecameSettled q v n) seen none of = settling_due q v n place seen
 
-    abbrev entered : Chunk
-    entered = with_entry (chunk_in k.machine was_open.0) (record { client = id.client.0; number = (alike.current).number }) m
+    -- what is numbered takes its place
 
-    machine_is : after_all k.machine (action ∷ []) ≡ put_there_by k.machine id.client.0 alike.current (was_open.0).file (was_open.0).index m
-    machine_is = ap (λ (o : Option OpenCall). unwrap_or (option_map (λ (c : OpenCall). put_there_by k.machine id.client.0 c (was_open.0).file (was_open.0).index m) o) k.machine) alike.is_open
+    module _ (calls : AreForOpenCalls w k) (handle : Handle) (version : Version) (serial : Serial) (id : DataId) (m : Mutation) (place : ℕ) (seen : element_at shown place ≡ Some (Numbered handle version serial id m)) where
+      asked : (x : Message) × (i ≡ input.Deliver x) × IsAskedFor (server_at s moment) w.sent x handle version serial id m
+      asked = numbered_mutations_were_asked_for config servers clients w r index s there moment i choice came place handle version serial id m seen
 
-    elsewhere : (at : Spot) → (at ≡ was_open.0 → ⊥) → chunk_in (after_all k.machine (action ∷ [])) at ≡ chunk_in k.machine at
-    elsewhere at apart = ap (λ (x : Machine). chunk_in x at) machine_is ∙ (one_changed k.machine was_open.0 entered).elsewhere at apart
+      abbrev for_it : IsAskedFor (server_at s moment) w.sent asked.0 handle version serial id m
+      for_it = asked.2
 
-    placed_gone : AreGoneOrdersAlike k → AreGoneOrdersAlike (moved k (action ∷ []) k.log k.gone ordered)
-    placed_gone = gone_kept k (action ∷ []) ordered handle.0 version.0 was_open.0 h was_open.1 still_open others elsewhere
+      was_open : (at : Spot) × IsRoundOpen k handle.0 version.0 at
+      was_open = open_under handle.0 version.0 (for_it).lease (for_it).lease_is
 
-    placed_standing : KeepsStanding (IsLeaseOver w) k (moved k (action ∷ []) k.log k.gone ordered)
-    placed_standing =
-        standing_kept (IsLeaseOver w) k (action ∷ []) ordered handle.0 version.0 was_open.0 was_open.1 still_open (not_over_under handle.0 version.0 (for_it).lease (for_it).lease_is) others
-        (λ low less. later_entries low trace k.orders (Numbered handle version serial id m) handle.0 (λ same. less)) elsewhere
-        (λ file. ap (λ (x : Machine). chunk_count x file) machine_is ∙ (one_changed k.machine was_open.0 entered).counts file)
+      abbrev numbers : Numbers w index moment s i choice handle version id
+      numbers = record { is = there; came = came; place = place; serial = serial; placed = m; seen = seen }
 
-    -- the one try that comes
-    abbrev numbered_at : IsNumberedAt w then_ k
-    numbered_at =
-        record {
-          index = index;
-          moment = moment;
-          server = s;
-          input = i;
-          choice = choice;
-          handle = handle;
-          version = version;
-          id = id;
-          numbers = numbers;
-          counts = clocks;
-          step_is = refl;
-          spot = was_open.0;
-          was_open = was_open.1;
-        }
+      alike : IsForOpenCall w k id (was_open.0) m
+      alike = calls index moment s i choice handle version id numbers clocks was_open.0 was_open.1
 
-    placed_tries : RiseBy (IsRise w then_ k (Some numbered_at)) k.machine (after k.machine action)
-    placed_tries =
-        place_tries k.machine id.client.0 alike.current was_open.0 m (IsRise w then_ k (Some numbered_at)) alike.is_open
-        (λ c same no_pad. (refl, same ∙ (λ q. record { client = id.client.0; number = alike.number_is q }), no_pad))
+      may : (lease : SerialOrder) × (table.get s.leases handle.0 ≡ Some lease) × (lease.held.version ≡ version.0)
+          × MayFollow (chunk_limit s lease.chunk) (entries_in w.observer.orders handle.0) version.0 m × ((bytes : List ℕ) × IsPushed w.sent id bytes × IsMadeOf (chunk_limit s lease.chunk) bytes m)
+      may = numbered_mutations_may_follow config servers clients w r kept index s there moment i choice came clocks place handle version serial id m seen
 
-  -- the first thing shown may be a numbering, and each other one is a settlement
-  taken : AreForOpenCalls w k → (xs : List Seen) → shown ≡ xs → NumbersOnce xs → AllOf IsOfServers xs → (g : Option (IsNumberedAt w then_ k)) × ComesToOrders (IsLeaseOver w) k (orders_after_all trace k.orders xs) (IsRise w then_ k g)
-  taken calls [] is once of = (None, takes_nothing (IsLeaseOver w) k (λ t c. ⊥) h)
-  taken calls (CopyStarted q copy ∷ xs) is once of = absurd of.0
-  taken calls (BecameSettled q v n ∷ xs) is once of = (
-    None,
-    settles_all (IsLeaseOver w) k trace (BecameSettled q v n ∷ xs) h
-        (subst (λ (ys : List Seen). AllOf (IsSettlingDue (IsLeaseOver w) k (orders_after_all trace k.orders ys)) (BecameSettled q v n ∷ xs)) is
-        (all_placed (IsSettlingDue (IsLeaseOver w) k end) (BecameSettled q v n ∷ xs) (λ place x at. one_due place x (ap (λ (ys : List Seen). element_at ys place) is ∙ at)
-        (all_at NumbersNone (BecameSettled q v n ∷ xs) place x (tt, once) at) (all_at IsOfServers (BecameSettled q v n ∷ xs) place x of at)))),
-  )
-  taken calls (Numbered q v n id m ∷ xs) is once of =
-      let seen : element_at shown 0 ≡ Some (Numbered q v n id m) = ap (λ (ys : List Seen). element_at ys 0) is in
-      let first = placed calls q v n id m 0 seen in
-      let act : Action = action calls q v n id m 0 seen in
-      let orders : Table (List Placed) = orders_after trace k.orders (Numbered q v n id m) in
-      let g : IsNumberedAt w then_ k = numbered_at calls q v n id m 0 seen in (
-        Some g,
-        takes_more (IsLeaseOver w) k orders (orders_after_all trace orders xs) (IsRise w then_ k (Some g)) act refl first (placed_gone calls q v n id m 0 seen) (placed_standing calls q v n id m 0 seen) (placed_tries calls q v n id m 0 seen)
-            (settles_all (IsLeaseOver w) (moved k (act ∷ []) k.log k.gone orders) trace xs first.keeps.alike
-            (due_later (IsLeaseOver w) k (act ∷ []) orders (orders_after_all trace orders xs) xs first.keeps.rounds
-            (subst (λ (ys : List Seen). AllOf (IsSettlingDue (IsLeaseOver w) k (orders_after_all trace k.orders ys)) xs) is
-            (all_placed (IsSettlingDue (IsLeaseOver w) k end) xs (λ place x at. one_due (suc place) x (ap (λ (ys : List Seen). element_at ys (suc place)) is ∙ at) (all_at NumbersNone xs place x once at) (all_at IsOfServers xs place x of.1 at)))))),
-      )
+      -- its lease was granted with the size of the file
+      granted : IsSizeGranted w.sent handle.0 version.0 (may.0).chunk
+      granted =
+          let told = (leases_are_told config servers clients w r index s there handle.0 may.0 may.1).0 in
+          (told.0, told.1, told.2, told.4, told.5, (may.0).held.members, subst (λ (v : ℕ). (told.1).body ≡ body.Grant told.4 (handle_of handle.0) (version_of v) told.5 (may.0).chunk (may.0).held.members) may.2 told.6)
 
-  step_taken : AreForOpenCalls w k → (g : Option (IsNumberedAt w then_ k)) × ComesToOrders (IsLeaseOver w) k then_.observer.orders (IsRise w then_ k g)
-  step_taken calls =
-      let it = taken calls shown refl (step_once s moment i choice) (server_shown s moment i choice) in (it.0, subst (λ (o : Table (List Placed)). ComesToOrders (IsLeaseOver w) k o (IsRise w then_ k it.0)) end_is it.1)
+      told_size : (may.0).chunk ≡ chunk_size k.machine (was_open.0).file
+      told_size = elim (sized handle.0 version.0 (may.0).chunk granted) [
+        | inl over ↦ absurd (not_over_under handle.0 version.0 (for_it).lease (for_it).lease_is over)
+        | inr there ↦
+            let same = open_rounds_have_one_spot k h handle.0 version.0 version.0 there.0 was_open.0 (once_under handle.0 version.0 (for_it).lease (for_it).lease_is) there.1 was_open.1 in
+            there.2 ∙ ap (λ (t : Spot). chunk_size k.machine t.file) same
+      ]
+
+      size_is : chunk_limit s (may.0).chunk ≡ chunk_size k.machine (was_open.0).file
+      size_is =
+          let set = ap (λ (c : Config). c.chunk) (servers_within config servers clients w r index s there).set in
+          let low : (may.0).chunk ≤ s.config.chunk = subst (λ (n : ℕ). n ≤ s.config.chunk) (sym told_size) (subst (λ (n : ℕ). chunk_size k.machine (was_open.0).file ≤ n) (sym set) (size_within config k.machine machine_reached (was_open.0).file)) in
+          min-eq_left low ∙ told_size
+
+      wanted : IsWanted k trace id.client.0 was_open.0 m
+      wanted = record {
+        current = alike.current;
+        is_open = alike.is_open;
+        number_is = alike.number_is ∙ sym (same_calls w.config.skew_ms w.observer moment id.client.0);
+        file_is = alike.file_is;
+        asks = asks_for k.machine (record { client = id.client.0; number = (alike.current).number }) was_open.0 (entries_in w.observer.orders handle.0) version.0
+            (ap (λ (o : Table (List Placed)). entries_in o handle.0) (sym orders_are) ∙ (was_open.1).order) (sym (was_open.1).round) ((alike.current).asked).call m ((may.4).0)
+            (alike.pushed (may.4).0 (may.4).1) alike.part
+            (subst (λ (n : ℕ). MayFollow n (entries_in w.observer.orders handle.0) version.0 m) size_is may.3) (subst (λ (n : ℕ). IsMadeOf n (may.4).0 m) size_is (may.4).2);
+      }
+
+      abbrev action : Action
+      action = Place id.client.0 (was_open.0).file (was_open.0).index m
+
+      placed : Follows NoneEnds k (action ∷ []) (moved k (action ∷ []) k.log k.gone (orders_after trace k.orders (Numbered handle version serial id m)))
+      placed = numbered_mutations_are_placed k trace handle version serial id m was_open.0 h was_open.1 (once_under handle.0 version.0 (for_it).lease (for_it).lease_is) wanted
+
+      abbrev ordered : Table (List Placed)
+      ordered = orders_after trace k.orders (Numbered handle version serial id m)
+
+      still_open : IsRoundOpen (moved k (action ∷ []) k.log k.gone ordered) handle.0 version.0 was_open.0
+      still_open = elim (placed.keeps.rounds handle.0 version.0 was_open.0 was_open.1) [ inl none ↦ absurd none | inr still ↦ still ]
+
+      others : (other : ℕ) → (other ≡ handle.0 → ⊥) → entries_in ordered other ≡ entries_in k.orders other
+      others other differs = ap (λ (o : Option (List Placed)). map (λ (p : Placed). p.entry) (unwrap_or o [])) (put_other k.orders handle.0 (placed_in k.orders handle.0 ++ new_entry trace version.0 serial.0 id m ∷ []) other differs)
+
+      abbrev entered : Chunk
+      entered = with_entry (chunk_in k.machine was_open.0) (record { client = id.client.0; number = (alike.current).number }) m
+
+      machine_is : after_all k.machine (action ∷ []) ≡ put_there_by k.machine id.client.0 alike.current (was_open.0).file (was_open.0).index m
+      machine_is = ap (λ (o : Option OpenCall). unwrap_or (option_map (λ (c : OpenCall). put_there_by k.machine id.client.0 c (was_open.0).file (was_open.0).index m) o) k.machine) alike.is_open
+
+      elsewhere : (at : Spot) → (at ≡ was_open.0 → ⊥) → chunk_in (after_all k.machine (action ∷ [])) at ≡ chunk_in k.machine at
+      elsewhere at apart = ap (λ (x : Machine). chunk_in x at) machine_is ∙ (one_changed k.machine was_open.0 entered).elsewhere at apart
+
+      placed_gone : AreGoneOrdersAlike k → AreGoneOrdersAlike (moved k (action ∷ []) k.log k.gone ordered)
+      placed_gone = gone_kept k (action ∷ []) ordered handle.0 version.0 was_open.0 h was_open.1 still_open others elsewhere
+
+      placed_standing : KeepsStanding (IsLeaseOver w) k (moved k (action ∷ []) k.log k.gone ordered)
+      placed_standing =
+          standing_kept (IsLeaseOver w) k (action ∷ []) ordered handle.0 version.0 was_open.0 was_open.1 still_open (not_over_under handle.0 version.0 (for_it).lease (for_it).lease_is) others
+          (λ low less. later_entries low trace k.orders (Numbered handle version serial id m) handle.0 (λ same. less)) elsewhere
+          (λ file. ap (λ (x : Machine). chunk_count x file) machine_is ∙ (one_changed k.machine was_open.0 entered).counts file)
+
+      -- the one try that comes
+      abbrev numbered_at : IsNumberedAt w then_ k
+      numbered_at =
+          record {
+            index = index;
+            moment = moment;
+            server = s;
+            input = i;
+            choice = choice;
+            handle = handle;
+            version = version;
+            id = id;
+            numbers = numbers;
+            counts = clocks;
+            step_is = refl;
+            spot = was_open.0;
+            was_open = was_open.1;
+          }
+
+      placed_tries : RiseBy (IsRise w then_ k (Some numbered_at)) k.machine (after k.machine action)
+      placed_tries =
+          place_tries k.machine id.client.0 alike.current was_open.0 m (IsRise w then_ k (Some numbered_at)) alike.is_open
+          (λ c same no_pad. (refl, same ∙ (λ q. record { client = id.client.0; number = alike.number_is q }), no_pad))
+
+    -- the first thing shown may be a numbering, and each other one is a settlement
+    taken : AreForOpenCalls w k → (xs : List Seen) → shown ≡ xs → NumbersOnce xs → AllOf IsOfServers xs → (g : Option (IsNumberedAt w then_ k)) × ComesToOrders (IsLeaseOver w) k (orders_after_all trace k.orders xs) (IsRise w then_ k g)
+    taken calls [] is once of = (None, takes_nothing (IsLeaseOver w) k (λ t c. ⊥) h)
+    taken calls (CopyStarted q copy ∷ xs) is once of = absurd of.0
+    taken calls (BecameSettled q v n ∷ xs) is once of = (
+      None,
+      settles_all (IsLeaseOver w) k trace (BecameSettled q v n ∷ xs) h
+          (subst (λ (ys : List Seen). AllOf (IsSettlingDue (IsLeaseOver w) k (orders_after_all trace k.orders ys)) (BecameSettled q v n ∷ xs)) is
+          (all_placed (IsSettlingDue (IsLeaseOver w) k end) (BecameSettled q v n ∷ xs) (λ place x at. one_due place x (ap (λ (ys : List Seen). element_at ys place) is ∙ at)
+          (all_at NumbersNone (BecameSettled q v n ∷ xs) place x (tt, once) at) (all_at IsOfServers (BecameSettled q v n ∷ xs) place x of at)))),
+    )
+    taken calls (Numbered q v n id m ∷ xs) is once of =
+        let seen : element_at shown 0 ≡ Some (Numbered q v n id m) = ap (λ (ys : List Seen). element_at ys 0) is in
+        let first = placed calls q v n id m 0 seen in
+        let act : Action = action calls q v n id m 0 seen in
+        let orders : Table (List Placed) = orders_after trace k.orders (Numbered q v n id m) in
+        let g : IsNumberedAt w then_ k = numbered_at calls q v n id m 0 seen in (
+          Some g,
+          takes_more (IsLeaseOver w) k orders (orders_after_all trace orders xs) (IsRise w then_ k (Some g)) act refl first (placed_gone calls q v n id m 0 seen) (placed_standing calls q v n id m 0 seen) (placed_tries calls q v n id m 0 seen)
+              (settles_all (IsLeaseOver w) (moved k (act ∷ []) k.log k.gone orders) trace xs first.keeps.alike
+              (due_later (IsLeaseOver w) k (act ∷ []) orders (orders_after_all trace orders xs) xs first.keeps.rounds
+              (subst (λ (ys : List Seen). AllOf (IsSettlingDue (IsLeaseOver w) k (orders_after_all trace k.orders ys)) xs) is
+              (all_placed (IsSettlingDue (IsLeaseOver w) k end) xs (λ place x at. one_due (suc place) x (ap (λ (ys : List Seen). element_at ys (suc place)) is ∙ at) (all_at NumbersNone xs place x once at) (all_at IsOfServers xs place x of.1 at)))))),
+        )
+
+    step_taken : AreForOpenCalls w k → (g : Option (IsNumberedAt w then_ k)) × ComesToOrders (IsLeaseOver w) k then_.observer.orders (IsRise w then_ k g)
+    step_taken calls =
+        let it = taken calls shown refl (step_once s moment i choice) (server_shown s moment i choice) in (it.0, subst (λ (o : Table (List Placed)). ComesToOrders (IsLeaseOver w) k o (IsRise w then_ k it.0)) end_is it.1)
 
 -- an event
 
@@ -345,26 +345,26 @@ module _ (config : Config) (servers clients : ℕ) (w : WorldState) (r : IsReach
     (k : ChunkSides) (settings : k.machine.config ≡ config) (orders_are : k.orders ≡ w.observer.orders) (log : IsLogOf w.master k.log) (h : AreChunksAlike k) (has : HasRounds (IsLeaseOver w) k)
     (machine_reached : run.IsReached config k.machine) (sized : AreRoundsSized w k) (calls : AreForOpenCalls w k)
   where
-  abbrev IsTakenAt : Event → Happened → Type 0
-  IsTakenAt e x = IsReached config servers clients x.world → IsTrue x.world.observer.are_clocks_kept → (IsMastersStep w e → ⊥) → (g : Option (IsNumberedAt w x.world k)) × ComesToOrders (IsLeaseOver w) k x.world.observer.orders (IsRise w x.world k g)
+    abbrev IsTakenAt : Event → Happened → Type 0
+    IsTakenAt e x = IsReached config servers clients x.world → IsTrue x.world.observer.are_clocks_kept → (IsMastersStep w e → ⊥) → (g : Option (IsNumberedAt w x.world k)) × ComesToOrders (IsLeaseOver w) k x.world.observer.orders (IsRise w x.world k g)
 
-  same_taken : (u : WorldState) (o : Table (List Placed)) → o ≡ w.observer.orders → (g : Option (IsNumberedAt w u k)) × ComesToOrders (IsLeaseOver w) k o (IsRise w u k g)
-  same_taken u o is = (None, subst (λ (x : Table (List Placed)). ComesToOrders (IsLeaseOver w) k x (λ t c. ⊥)) (orders_are ∙ sym is) (takes_nothing (IsLeaseOver w) k (λ t c. ⊥) h))
+    same_taken : (u : WorldState) (o : Table (List Placed)) → o ≡ w.observer.orders → (g : Option (IsNumberedAt w u k)) × ComesToOrders (IsLeaseOver w) k o (IsRise w u k g)
+    same_taken u o is = (None, subst (λ (x : Table (List Placed)). ComesToOrders (IsLeaseOver w) k x (λ t c. ⊥)) (orders_are ∙ sym is) (takes_nothing (IsLeaseOver w) k (λ t c. ⊥) h))
 
-  none_shown : (u : WorldState) (trace : List Visible) (xs : List Seen) → xs ≡ [] → (g : Option (IsNumberedAt w u k)) × ComesToOrders (IsLeaseOver w) k (orders_after_all trace w.observer.orders xs) (IsRise w u k g)
-  none_shown u trace xs none = same_taken u (orders_after_all trace w.observer.orders xs) (ap (λ (ys : List Seen). orders_after_all trace w.observer.orders ys) none)
+    none_shown : (u : WorldState) (trace : List Visible) (xs : List Seen) → xs ≡ [] → (g : Option (IsNumberedAt w u k)) × ComesToOrders (IsLeaseOver w) k (orders_after_all trace w.observer.orders xs) (IsRise w u k g)
+    none_shown u trace xs none = same_taken u (orders_after_all trace w.observer.orders xs) (ap (λ (ys : List Seen). orders_after_all trace w.observer.orders ys) none)
 
-  each_taken : HoldsAfter w IsTakenAt
-  each_taken = record {
-    nothing = λ e reached clocks not. same_taken w w.observer.orders refl;
-    masters = λ e moment i choice given up reached clocks not. absurd (not (masters_input w e moment i given));
-    opens = λ e moment choice reached clocks not. none_shown _ (observed_moment w.config.skew_ms w.observer moment).trace (master_restart w.master moment choice).seen (restart_shown w.master moment choice);
-    serves = λ e index moment s i choice at given up reached clocks not. step_taken config servers clients w r kept index s at moment i choice (came_in w e (suc index) moment i given) clocks reached k settings orders_are log h has machine_reached sized calls;
-    restarts = λ e index moment s choice at reached clocks not. none_shown _ (observed_moment w.config.skew_ms w.observer moment).trace (server_restart s moment choice).seen (restarted_shown s moment choice choice.ending);
-    steps = λ e index moment s i choice at given up reached clocks not. same_taken _ _ (same_orders (observed_moment w.config.skew_ms w.observer moment) (suc index) (client_step s moment i choice).out.answer);
-    calls = λ e index moment s c choice at may reached clocks not. same_taken _ _ (same_orders _ (suc index) (client_call s moment c choice).out.answer);
-    rots = λ e index q s x place byte is_kept at there up reached clocks not. same_taken _ w.observer.orders refl;
-  }
+    each_taken : HoldsAfter w IsTakenAt
+    each_taken = record {
+      nothing = λ e reached clocks not. same_taken w w.observer.orders refl;
+      masters = λ e moment i choice given up reached clocks not. absurd (not (masters_input w e moment i given));
+      opens = λ e moment choice reached clocks not. none_shown _ (observed_moment w.config.skew_ms w.observer moment).trace (master_restart w.master moment choice).seen (restart_shown w.master moment choice);
+      serves = λ e index moment s i choice at given up reached clocks not. step_taken config servers clients w r kept index s at moment i choice (came_in w e (suc index) moment i given) clocks reached k settings orders_are log h has machine_reached sized calls;
+      restarts = λ e index moment s choice at reached clocks not. none_shown _ (observed_moment w.config.skew_ms w.observer moment).trace (server_restart s moment choice).seen (restarted_shown s moment choice choice.ending);
+      steps = λ e index moment s i choice at given up reached clocks not. same_taken _ _ (same_orders (observed_moment w.config.skew_ms w.observer moment) (suc index) (client_step s moment i choice).out.answer);
+      calls = λ e index moment s c choice at may reached clocks not. same_taken _ _ (same_orders _ (suc index) (client_call s moment c choice).out.answer);
+      rots = λ e index q s x place byte is_kept at there up reached clocks not. same_taken _ w.observer.orders refl;
+    }
 
 pub other_events_are_taken : OtherEventsAreTaken
 other_events_are_taken config servers clients w r kept e choice clocks not k settings orders_are log h has machine_reached sized calls =

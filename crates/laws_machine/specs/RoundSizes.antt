@@ -27,5 +27,5 @@ RoundSizesGoOn =
     → (k j : ChunkSides) → run.IsReached config k.machine → LeadsTo k.machine j.machine → AreChunksAlike k → k.log.next_file ≤ suc k.machine.file_count
     → ((handle version : ℕ) (s : Spot) → 1 ≤ grants_of handle version w.sent → IsRoundOpen k handle version s → IsLeaseOver (happens w e choice).world handle version ⊎ IsRoundOpen j handle version s)
     → ((handle version size : ℕ) → grants_of handle version w.sent ≡ 0 → IsSizeGranted (happens w e choice).world.sent handle version size
-        → IsLeaseOver (happens w e choice).world handle version ⊎ IsOpenWithSize j handle version size)
+    → IsLeaseOver (happens w e choice).world handle version ⊎ IsOpenWithSize j handle version size)
     → AreRoundsSized w k → AreRoundsSized (happens w e choice).world j
