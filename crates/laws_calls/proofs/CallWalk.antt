@@ -47,6 +47,7 @@ use Rattle.laws_base.proofs.ServerMoves.{IsCameIn}
 use Rattle.laws_steps.proofs.Caches.{after_look, after_drop}
 use Rattle.laws_steps.proofs.ClientWalk.{attempt_end, place_at, looked, heard_at, is_told_of, noted, closed, once_more, told_at}
 use Rattle.laws_steps.proofs.Budget.{IsNoMutate}
+use Rattle.laws_entries.proofs.Sendings.{noted_size}
 
 -- the same part of a call, with the same attempts that count as live
 abbrev pub IsSamePart : CurrentCall → CurrentCall → Type 0
@@ -89,9 +90,11 @@ pub all_any : (es : List (Place × Cached)) → AllOf AnyKept es
 all_any [] = tt
 all_any (e ∷ es) = (tt, all_any es)
 
--- a step so far, which sent nothing and answered nothing; P: of each location that is kept
+-- a step so far, which sent nothing and answered nothing, and left the sizes of files; P: of each location that is kept
 abbrev pub IsReady : (Place × Cached → Type 0) → ClientState → ClientDoing → Type 0
-IsReady P s d = (d.client.config ≡ s.config) × (d.client.now ≡ s.now) × (d.client.id ≡ s.id) × (d.client.number ≡ s.number) × (d.sent ≡ None) × (d.answer ≡ None) × AllOf P d.client.cache.entries
+IsReady P s d =
+    (d.client.config ≡ s.config) × (d.client.now ≡ s.now) × (d.client.id ≡ s.id) × (d.client.number ≡ s.number) × (d.sent ≡ None) × (d.answer ≡ None) × AllOf P d.client.cache.entries
+    × ((file : ℕ) → file_chunk d.client file ≡ file_chunk s file)
 
 -- Of a client s as it begins a step: P of each location that it keeps, X of one that its call uses, H of a call whose last attempt is over, D of one whose data are pushed, M of one that asked a primary, K of one whose data are settled, F of an answer that completes a call. Came is what may come in.
 pub record KeepsCall (s : ClientState) (Came : Body → Type 0) (P : Place × Cached → Type 0) (X : CurrentCall → ToldChunk → Type 0) (H : CurrentCall → Type 0) (D : Option Message → CurrentCall → ToldChunk → ℕ → Type 0) (M : CurrentCall → ToldChunk → ℕ → Type 0)
@@ -120,9 +123,9 @@ pub record KeepsCall (s : ClientState) (Came : Body → Type 0) (P : Place × Ca
   pub passes : (c : CurrentCall) (chunk : ToldChunk) (number : ℕ) (e : CurrentCall) → is_append c.asked ≡ true → M c chunk number → Came (body.Refused number ChunkFull)
       → e.asked ≡ c.asked → e.file ≡ c.file → e.index ≡ suc chunk.index → e.live ≡ (less_live c chunk).live → e.deadline ≡ c.deadline → H (less_live c chunk) → H e
   -- what a success comes to
-  pub appended : (c : CurrentCall) (chunk : ToldChunk) (place : ℕ) → is_append c.asked ≡ true → K c chunk place → H c × F c.asked (answer.At (place_in_file s.config.chunk chunk.index place))
-  pub next : (c e : CurrentCall) (chunk : ToldChunk) (place : ℕ) → is_append c.asked ≡ false → has_next_part s.config.chunk c.index c.asked ≡ true → e.asked ≡ c.asked → e.file ≡ c.file → e.index ≡ suc c.index → e.live ≡ c.live → e.deadline ≡ c.deadline → K c chunk place → H e
-  pub last : (c : CurrentCall) (chunk : ToldChunk) (place : ℕ) → is_append c.asked ≡ false → has_next_part s.config.chunk c.index c.asked ≡ false → K c chunk place → H c × F c.asked answer.Done
+  pub appended : (c : CurrentCall) (chunk : ToldChunk) (place : ℕ) → is_append c.asked ≡ true → K c chunk place → H c × F c.asked (answer.At (place_in_file (file_chunk s c.file.0) chunk.index place))
+  pub next : (c e : CurrentCall) (chunk : ToldChunk) (place : ℕ) → is_append c.asked ≡ false → has_next_part (file_chunk s c.file.0) c.index c.asked ≡ true → e.asked ≡ c.asked → e.file ≡ c.file → e.index ≡ suc c.index → e.live ≡ c.live → e.deadline ≡ c.deadline → K c chunk place → H e
+  pub last : (c : CurrentCall) (chunk : ToldChunk) (place : ℕ) → is_append c.asked ≡ false → has_next_part (file_chunk s c.file.0) c.index c.asked ≡ false → K c chunk place → H c × F c.asked answer.Done
 
 and_second : (a b : Bool) → a && b ≡ false → a ≡ true → b ≡ false
 and_second true b h is = h
@@ -155,6 +158,7 @@ module _ (s : ClientState) (X : CurrentCall → ToldChunk → Type 0) (H : Curre
   -- a step in which no primary is asked
   pub record IsCalm (d : ClientDoing) : Type 0 where
     pub kept : (d.client.config ≡ s.config) × (d.client.now ≡ s.now)
+    pub sizes : (d.client.current ≡ None) ⊎ ((file : ℕ) → file_chunk d.client file ≡ file_chunk s file)
     pub silent : (m : Message) → d.sent ≡ Some m → IsNoMutate m.body
     pub asks : (m : Message) → d.sent ≡ Some m → IsOwnAsk d.client.current m.body
     pub stands : StandsNow d.sent d.answer d.client.current
@@ -186,13 +190,13 @@ module _ (s : ClientState) (Came : Body → Type 0) (P : Place × Cached → Typ
 
   -- the cache
   looked_ready : (d : ClientDoing) (p : Place) → IsReady P s d → IsReady P s (looked d p)
-  looked_ready d p r = (r.0, r.1, r.2, r.3, r.4, r.5, after_look P d.client p r.6)
+  looked_ready d p r = (r.0, r.1, r.2, r.3, r.4, r.5, after_look P d.client p r.6, r.7)
 
   heard_ready : (d : ClientDoing) (c : CurrentCall) (l : Location) → IsReady P s d → IsReady P s (heard_at d c l)
-  heard_ready d c l r = (r.0, r.1, r.2, r.3, r.4, r.5, k.hears d c l r.6)
+  heard_ready d c l r = (r.0, r.1, r.2, r.3, r.4, r.5, k.hears d c l r.6, r.7)
 
   dropped : (c : CurrentCall) (chunk : ToldChunk) → IsReady P s (forgets (client_begins s) c chunk)
-  dropped c chunk = (refl, refl, refl, refl, refl, refl, after_drop P s.cache (record { file = c.file.0; index = chunk.index }) k.keyed)
+  dropped c chunk = (refl, refl, refl, refl, refl, refl, after_drop P s.cache (record { file = c.file.0; index = chunk.index }) k.keyed, λ file. refl)
 
   -- an index at which a location is looked for
   looked_for : (c : CurrentCall) (index : ℕ) → chunk_to_find c c.asked ≡ Some index → IsOfPart c.asked c.index index
@@ -216,10 +220,10 @@ module _ (s : ClientState) (Came : Body → Type 0) (P : Place × Cached → Typ
   none_asked o now none m is = none_some m (sym none ∙ is)
 
   waits : (d : ClientDoing) (c : CurrentCall) → IsReady P s d → At d.sent c c.stage → Calm (with_current d c)
-  waits d c r h = record { kept = (r.0, r.1); silent = none_silent d.sent r.4; asks = none_asked d.sent (Some c) r.4; stands = (r.5, h) }
+  waits d c r h = record { kept = (r.0, r.1); sizes = inr r.7; silent = none_silent d.sent r.4; asks = none_asked d.sent (Some c) r.4; stands = (r.5, h) }
 
-  replied : (d : ClientDoing) (reply : Answer) → IsReady P s d → E reply → Calm (answers d reply)
-  replied d reply r h = record { kept = (r.0, r.1); silent = none_silent d.sent r.4; asks = none_asked d.sent None r.4; stands = h }
+  replied : (d : ClientDoing) (reply : Answer) → (d.client.config ≡ s.config) × (d.client.now ≡ s.now) × (d.sent ≡ None) → E reply → Calm (answers d reply)
+  replied d reply r h = record { kept = (r.0, r.1); sizes = inl refl; silent = none_silent d.sent r.2; asks = none_asked d.sent None r.2; stands = h }
 
   none_live : (d : ClientDoing) (c : CurrentCall) → IsReady P s d → is_mutation c.asked && list_any (is_live_at d.client.now) c.live ≡ false → is_mutation c.asked ≡ true → list_any (is_live_at s.now) c.live ≡ false
   none_live d c r none mutates = subst (λ (n : ℕ). list_any (is_live_at n) c.live ≡ false) r.1 (and_second (is_mutation c.asked) (list_any (is_live_at d.client.now) c.live) none mutates)
@@ -227,7 +231,7 @@ module _ (s : ClientState) (Came : Body → Type 0) (P : Place × Cached → Typ
   completes_calm : (d : ClientDoing) (c : CurrentCall) (reply : Answer) → IsReady P s d → H c → F c.asked reply → Calm (completes d c reply)
   completes_calm d c reply r h f =
       on_cond Calm (is_mutation c.asked && list_any (is_live_at d.client.now) c.live) (with_current d (record c { stage = HasAnswer reply })) (answers d reply)
-      (λ _. waits d (record c { stage = HasAnswer reply }) r (k.same c (record c { stage = HasAnswer reply }) (refl, refl, refl, refl, refl) h, f)) (λ none. replied d reply r (ends c reply h f (none_live d c r none)))
+      (λ _. waits d (record c { stage = HasAnswer reply }) r (k.same c (record c { stage = HasAnswer reply }) (refl, refl, refl, refl, refl) h, f)) (λ none. replied d reply (r.0, r.1, r.4) (ends c reply h f (none_live d c r none)))
 
   gives_up_calm : (d : ClientDoing) (c : CurrentCall) → IsReady P s d → H c → Calm (gives_up d c)
   gives_up_calm d c r h = completes_calm d c (answer.Refused (last_refusal c)) r h (k.refuses c.asked (last_refusal c))
@@ -238,13 +242,14 @@ module _ (s : ClientState) (Came : Body → Type 0) (P : Place × Cached → Typ
       on_cond Calm (is_last_attempt c) (gives_up d (ended c)) (with_current d (ended c)) (λ _. gives_up_calm d (ended c) r over) (λ _. waits d (ended c) r over)
 
   asks_calm : (d : ClientDoing) (c : CurrentCall) → IsReady P s d → H c → Calm (asks d c)
-  asks_calm d c r h = record { kept = (r.0, r.1); silent = λ m is. one_silent _ tt m is; asks = λ m is. one_asked _ (asks d c).client.current (record c { lost_lease = false; stage = AskedWhere (suc d.client.number) }, refl, refl, refl) m is; stands = (r.5, k.same c _ (refl, refl, refl, refl, refl) h) }
+  asks_calm d c r h = record { kept = (r.0, r.1); sizes = inr r.7; silent = λ m is. one_silent _ tt m is; asks = λ m is. one_asked _ (asks d c).client.current (record c { lost_lease = false; stage = AskedWhere (suc d.client.number) }, refl, refl, refl) m is; stands = (r.5, k.same c _ (refl, refl, refl, refl, refl) h) }
 
   reads_calm : (d : ClientDoing) (c : CurrentCall) (chunk : ToldChunk) (hs : List Holder) → IsReady P s d → is_mutation c.asked ≡ false → X c chunk → H c → Calm (reads_next d c chunk hs)
   reads_calm d c chunk [] r plain fit h = refused_calm d (record c { is_nobody_serving = true }) r (k.same c (record c { is_nobody_serving = true }) (refl, refl, refl, refl, refl) h)
   reads_calm d c chunk (x ∷ rest) r plain fit h =
       record {
         kept = (r.0, r.1);
+        sizes = inr r.7;
         silent = λ m is. one_silent _ (on_cond IsNoMutate (is_length c.asked) (body.Len (suc d.client.number) chunk.handle x.version)
             (body.Read (suc d.client.number) chunk.handle x.version (read_start (file_chunk d.client c.file.0) c.index c.asked) (read_count (file_chunk d.client c.file.0) c.index c.asked)) (λ _. tt) (λ _. tt)) m is;
         asks = λ m is. one_asked _ (reads_next d c chunk (x ∷ rest)).client.current (on_cond (λ (b : Body). IsOwnAsk (reads_next d c chunk (x ∷ rest)).client.current b) (is_length c.asked) (body.Len (suc d.client.number) chunk.handle x.version)
@@ -253,11 +258,11 @@ module _ (s : ClientState) (Came : Body → Type 0) (P : Place × Cached → Typ
       }
 
   again_calm : (d : ClientDoing) (c : CurrentCall) (chunk : ToldChunk) → IsReady P s d → H c → Calm (committed d c (push_planned d.client c chunk None))
-  again_calm d c chunk r h = record { kept = (r.0, r.1); silent = λ m is. none_some m is; asks = λ m is. none_some m is; stands = (r.5, k.same c _ (refl, refl, refl, refl, refl) h) }
+  again_calm d c chunk r h = record { kept = (r.0, r.1); sizes = inr r.7; silent = λ m is. none_some m is; asks = λ m is. none_some m is; stands = (r.5, k.same c _ (refl, refl, refl, refl, refl) h) }
 
   push_to_calm : (d : ClientDoing) (c : CurrentCall) (chunk : ToldChunk) (g : Group) (o : Option ServerId) → IsReady P s d → is_mutation c.asked ≡ true → X c chunk → H c → Calm (committed d c (push_planned_to d.client c chunk g o))
   push_to_calm d c chunk g None r mutates x h = again_calm d c chunk r h
-  push_to_calm d c chunk g (Some first) r mutates x h = record { kept = (r.0, r.1); silent = λ m is. one_silent _ tt m is; asks = λ m is. one_asked _ (committed d c (push_planned_to d.client c chunk g (Some first))).client.current tt m is; stands = (r.5, (mutates, k.same c _ (refl, refl, refl, refl, refl) h, k.pushes d c chunk g first r mutates x h)) }
+  push_to_calm d c chunk g (Some first) r mutates x h = record { kept = (r.0, r.1); sizes = inr r.7; silent = λ m is. one_silent _ tt m is; asks = λ m is. one_asked _ (committed d c (push_planned_to d.client c chunk g (Some first))).client.current tt m is; stands = (r.5, (mutates, k.same c _ (refl, refl, refl, refl, refl) h, k.pushes d c chunk g first r mutates x h)) }
 
   push_calm : (d : ClientDoing) (c : CurrentCall) (chunk : ToldChunk) (o : Option Group) → IsReady P s d → is_mutation c.asked ≡ true → X c chunk → H c → Calm (committed d c (push_planned d.client c chunk o))
   push_calm d c chunk None r mutates x h = again_calm d c chunk r h
@@ -334,8 +339,8 @@ module _ (s : ClientState) (Came : Body → Type 0) (P : Place × Cached → Typ
   named_reply c reply plain h = ends c reply h (k.replies c.asked reply plain) (λ mutates. absurd (true≢false (sym mutates ∙ plain)))
 
   reply_calm : (d : ClientDoing) (c : CurrentCall) (reply : NameReply) → IsReady P s d → is_mutation c.asked ≡ false → H c → Calm (takes_reply d reply)
-  reply_calm d c (Opened file shape) r plain h = record { kept = (r.0, r.1); silent = none_silent d.sent r.4; asks = none_asked d.sent None r.4; stands = named_reply c _ plain h }
-  reply_calm d c (Answered reply) r plain h = replied d reply r (named_reply c reply plain h)
+  reply_calm d c (Opened file shape) r plain h = record { kept = (r.0, r.1); sizes = inl refl; silent = none_silent d.sent r.4; asks = none_asked d.sent None r.4; stands = named_reply c _ plain h }
+  reply_calm d c (Answered reply) r plain h = replied d reply (r.0, r.1, r.4) (named_reply c reply plain h)
 
   takes_named_calm : (d : ClientDoing) (c : CurrentCall) (st : Stage) (number : ℕ) (reply : NameReply) → IsReady P s d → At None c st → Calm d → Calm (takes_named d c st number reply)
   takes_named_calm d c AskedNames number reply r h p = on_cond Calm (c.number == number) (takes_reply d reply) d (λ _. reply_calm d c reply r h.0 h.1) (λ _. p)
@@ -372,7 +377,10 @@ module _ (s : ClientState) (Came : Body → Type 0) (P : Place × Cached → Typ
   d0 = client_begins s
 
   ready : IsReady P s (client_begins s)
-  ready = (refl, refl, refl, refl, refl, refl, k.keyed)
+  ready = (refl, refl, refl, refl, refl, refl, k.keyed, λ file. refl)
+
+  noted_ready : (file : ℕ) (index : Option ℕ) → IsReady P s (noted (client_begins s) file index)
+  noted_ready file index = (refl, refl, refl, refl, refl, refl, k.keyed, λ g. noted_size s file index g)
 
   primary_refuses_calm : (c : CurrentCall) (chunk : ToldChunk) (number : ℕ) (refusal : Refusal) → M c chunk number → Came (body.Refused number refusal) → Calm (primary_refuses (forgets (client_begins s) c chunk) c chunk refusal)
   primary_refuses_calm c chunk number NoChunk m came = refused_calm (forgets d0 c chunk) (stays_live d0 c chunk) (dropped c chunk) (k.stays c chunk number m)
@@ -394,11 +402,11 @@ module _ (s : ClientState) (Came : Body → Type 0) (P : Place × Cached → Typ
 
   succeeds_calm : (c : CurrentCall) (chunk : ToldChunk) (place : ℕ) → K c chunk place → Calm (succeeds (client_begins s) c chunk place)
   succeeds_calm c chunk place settled =
-      let reply : Answer = answer.At (place_in_file s.config.chunk chunk.index place) in
+      let reply : Answer = answer.At (place_in_file (file_chunk s c.file.0) chunk.index place) in
       let next : CurrentCall = record c { index = suc c.index; left = s.config.attempts; lost_lease = false } in
-      on_cond Calm (is_append c.asked) (completes (noted d0 c.file.0 (Some chunk.index)) c reply) (cond (has_next_part s.config.chunk c.index c.asked) (begins_next_part d0 c) (completes d0 c answer.Done))
-      (λ append. completes_calm (noted d0 c.file.0 (Some chunk.index)) c reply ready (k.appended c chunk place append settled).0 (k.appended c chunk place append settled).1)
-      (λ write. on_cond Calm (has_next_part s.config.chunk c.index c.asked) (begins_next_part d0 c) (completes d0 c answer.Done)
+      on_cond Calm (is_append c.asked) (completes (noted d0 c.file.0 (Some chunk.index)) c reply) (cond (has_next_part (file_chunk s c.file.0) c.index c.asked) (begins_next_part d0 c) (completes d0 c answer.Done))
+      (λ append. completes_calm (noted d0 c.file.0 (Some chunk.index)) c reply (noted_ready c.file.0 (Some chunk.index)) (k.appended c chunk place append settled).0 (k.appended c chunk place append settled).1)
+      (λ write. on_cond Calm (has_next_part (file_chunk s c.file.0) c.index c.asked) (begins_next_part d0 c) (completes d0 c answer.Done)
       (λ more. attempts_calm d0 next ready (k.next c next chunk place write more refl refl refl refl refl settled)) (λ none. completes_calm d0 c answer.Done ready (k.last c chunk place write none settled).0 (k.last c chunk place write none settled).1))
 
   takes_done_calm : (c : CurrentCall) (st : Stage) (id : DataId) (place : ℕ) → At None c st → Came (body.Done id place) → Calm d0 → Calm (takes_done (client_begins s) c st id place)
@@ -441,6 +449,7 @@ module _ (s : ClientState) (Came : Body → Type 0) (P : Place × Cached → Typ
       let begun : CurrentCall = record c { deadline = attempt_end d.client } in
       record {
         kept = (r.0, r.1);
+        sizes = inr r.7;
         silent = λ m is. one_silent _ (on_cond IsNoMutate (is_look c.asked) (body.Look c.number c.asked) (body.Name c.number begun.deadline c.asked) (λ _. tt) (λ _. tt)) m is;
         asks = λ m is. one_asked _ (attempts_names d c).client.current (on_cond (λ (b : Body). IsOwnAsk (attempts_names d c).client.current b) (is_look c.asked) (body.Look c.number c.asked) (body.Name c.number begun.deadline c.asked) (λ _. tt) (λ _. tt)) m is;
         stands = (r.5, (plain, k.begins c _ (refl, refl, refl, refl) (same_end d r) h));
@@ -449,7 +458,7 @@ module _ (s : ClientState) (Came : Body → Type 0) (P : Place × Cached → Typ
   ticks_names_calm : (c : CurrentCall) → is_mutation c.asked ≡ false → H c → Calm d0 → Calm (ticks_names (client_begins s) c)
   ticks_names_calm c plain h p =
       on_cond Calm (nat_lt s.now (c.deadline.0 + s.config.skew_ms)) d0 _ (λ _. p)
-      (λ _. on_cond Calm (is_last_attempt c) (answers d0 (answer.Refused Unknown)) (attempts_names d0 (ended c)) (λ _. replied d0 (answer.Refused Unknown) ready (named_reply c (answer.Refused Unknown) plain h))
+      (λ _. on_cond Calm (is_last_attempt c) (answers d0 (answer.Refused Unknown)) (attempts_names d0 (ended c)) (λ _. replied d0 (answer.Refused Unknown) (refl, refl, refl) (named_reply c (answer.Refused Unknown) plain h))
       (λ _. naming_calm d0 (ended c) ready plain (k.same c (ended c) (refl, refl, refl, refl, refl) h)))
 
   ticks_unanswered_calm : (c : CurrentCall) (forget : ClientDoing → ClientDoing) → IsReady P s (forget d0) → (nat_lt s.now (c.deadline.0 + s.config.skew_ms) ≡ false → H c) → Calm d0 → Calm (ticks_unanswered (client_begins s) c forget)
@@ -466,7 +475,7 @@ module _ (s : ClientState) (Came : Body → Type 0) (P : Place × Cached → Typ
   ticks_calm c (SentRead chunk left number) h p = ticks_unanswered_calm c (λ e. forgets e c chunk) (dropped c chunk) (λ _. h.1) p
 
   pub begun_calm : StandsNow s X H D M F E Z None None s.current → IsCalm s X H D M F E Z (client_begins s)
-  begun_calm h = record { kept = (refl, refl); silent = λ m is. none_some m is; asks = λ m is. none_some m is; stands = h }
+  begun_calm h = record { kept = (refl, refl); sizes = inr (λ file. refl); silent = λ m is. none_some m is; asks = λ m is. none_some m is; stands = h }
 
   pub does_leave : (i : NodeInput) (o : Option CurrentCall) → s.current ≡ o → IsCameIn Came i → StandsNow s X H D M F E Z None None o → Calm d0 → Left (client_does (client_begins s) i o)
   does_leave i None now came h p = inl p
@@ -475,27 +484,27 @@ module _ (s : ClientState) (Came : Body → Type 0) (P : Place × Cached → Typ
 
   -- calls
 
-  module _ (Asked : Call → Type 0) (filed : (c : Call) (file index : ℕ) (last : Option ℕ) → is_name_call c ≡ false → table.get s.descriptors (fd_of c) ≡ Some file → Asked c → IsFirst s.config.chunk c index → H (new_call s.config.attempts 0 c file index last)) (named : (c : Call) → is_name_call c ≡ true → Asked c → H (new_call s.config.attempts (suc s.call_count) c 0 0 None))
+  module _ (Asked : Call → Type 0) (filed : (c : Call) (file index : ℕ) (last : Option ℕ) → is_name_call c ≡ false → table.get s.descriptors (fd_of c) ≡ Some file → Asked c → IsFirst (file_chunk s file) c index → H (new_call s.config.attempts 0 c file index last)) (named : (c : Call) → is_name_call c ≡ true → Asked c → H (new_call s.config.attempts (suc s.call_count) c 0 0 None))
       (at_once : (reply : Answer) → E reply) where
     file_calm : (c : Call) (file : ℕ) → is_name_call c ≡ false → table.get s.descriptors (fd_of c) ≡ Some file → Asked c → Calm d0 → Calm (calls_file (client_begins s) c file)
-    file_calm (call.Close fd) file plain at asks p = replied (closed s fd file) answer.Done ready (at_once answer.Done)
+    file_calm (call.Close fd) file plain at asks p = replied (closed s fd file) answer.Done (refl, refl, refl) (at_once answer.Done)
     file_calm (call.Length fd) file plain at asks p = attempts_calm d0 (new_call s.config.attempts 0 (call.Length fd) file 0 None) ready (filed (call.Length fd) file 0 None plain at asks tt)
     file_calm (call.Write fd offset bytes) file plain at asks p =
         let c : CurrentCall = new_call s.config.attempts 0 (call.Write fd offset bytes) file (offset / file_chunk s file) None in
-        on_cond Calm (is_range_too_long offset (length bytes)) _ _ (λ _. replied d0 (answer.Refused TooLong) ready (at_once (answer.Refused TooLong)))
-        (λ _. on_cond Calm (length bytes == 0) _ (attempts d0 c) (λ _. replied d0 answer.Done ready (at_once answer.Done)) (λ _. attempts_calm d0 c ready (filed (call.Write fd offset bytes) file (offset / file_chunk s file) None plain at asks refl)))
+        on_cond Calm (is_range_too_long offset (length bytes)) _ _ (λ _. replied d0 (answer.Refused TooLong) (refl, refl, refl) (at_once (answer.Refused TooLong)))
+        (λ _. on_cond Calm (length bytes == 0) _ (attempts d0 c) (λ _. replied d0 answer.Done (refl, refl, refl) (at_once answer.Done)) (λ _. attempts_calm d0 c ready (filed (call.Write fd offset bytes) file (offset / file_chunk s file) None plain at asks refl)))
     file_calm (call.Append fd bytes) file plain at asks p =
         let c : CurrentCall = new_call s.config.attempts 0 (call.Append fd bytes) file 0 (last_append s.files file) in
-        on_cond Calm (nat_lt (file_chunk s file / 4) (length bytes)) _ (attempts (noted d0 file None) c) (λ _. replied d0 (answer.Refused TooLong) ready (at_once (answer.Refused TooLong)))
-        (λ _. attempts_calm (noted d0 file None) c ready (filed (call.Append fd bytes) file 0 (last_append s.files file) plain at asks refl))
+        on_cond Calm (nat_lt (file_chunk s file / 4) (length bytes)) _ (attempts (noted d0 file None) c) (λ _. replied d0 (answer.Refused TooLong) (refl, refl, refl) (at_once (answer.Refused TooLong)))
+        (λ _. attempts_calm (noted d0 file None) c (noted_ready file None) (filed (call.Append fd bytes) file 0 (last_append s.files file) plain at asks refl))
     file_calm (call.Read fd offset count) file plain at asks p =
         let c : CurrentCall = new_call s.config.attempts 0 (call.Read fd offset count) file (offset / file_chunk s file) None in
-        on_cond Calm (is_range_too_long offset count) _ _ (λ _. replied d0 (answer.Refused TooLong) ready (at_once (answer.Refused TooLong)))
-        (λ _. on_cond Calm (count == 0) _ (attempts d0 c) (λ _. replied d0 (answer.Bytes [] []) ready (at_once (answer.Bytes [] []))) (λ _. attempts_calm d0 c ready (filed (call.Read fd offset count) file (offset / file_chunk s file) None plain at asks tt)))
+        on_cond Calm (is_range_too_long offset count) _ _ (λ _. replied d0 (answer.Refused TooLong) (refl, refl, refl) (at_once (answer.Refused TooLong)))
+        (λ _. on_cond Calm (count == 0) _ (attempts d0 c) (λ _. replied d0 (answer.Bytes [] []) (refl, refl, refl) (at_once (answer.Bytes [] []))) (λ _. attempts_calm d0 c ready (filed (call.Read fd offset count) file (offset / file_chunk s file) None plain at asks tt)))
     file_calm other file plain at asks p = p
 
     calls_on_calm : (c : Call) (o : Option ℕ) → is_name_call c ≡ false → table.get s.descriptors (fd_of c) ≡ o → Asked c → Calm d0 → Calm (calls_on (client_begins s) c o)
-    calls_on_calm c None plain at asks p = replied d0 (answer.Refused BadFd) ready (at_once (answer.Refused BadFd))
+    calls_on_calm c None plain at asks p = replied d0 (answer.Refused BadFd) (refl, refl, refl) (at_once (answer.Refused BadFd))
     calls_on_calm c (Some file) plain at asks p = file_calm c file plain at asks p
 
     plain_name : (c : Call) → is_name_call c ≡ true → is_mutation c ≡ false
@@ -509,4 +518,4 @@ module _ (s : ClientState) (Came : Body → Type 0) (P : Place × Cached → Typ
         (λ name. naming_calm (once_more s) (new_call s.config.attempts (suc s.call_count) c 0 0 None) ready (plain_name c name) (named c name asks)) (λ plain. calls_on_calm c (table.get s.descriptors (fd_of c)) plain refl asks p)
 
     pub at_once_calm : (reply : Answer) → Calm (answers (client_begins s) reply)
-    at_once_calm reply = replied d0 reply ready (at_once reply)
+    at_once_calm reply = replied d0 reply (refl, refl, refl) (at_once reply)

@@ -231,7 +231,7 @@ module _ (sent : List Message) (client size file : ℕ) (A : Call) where
   abbrev pub CameAs : Body → Type 0
   CameAs b = (m : Message) × IsAmong sent m × (m.body ≡ b)
 
-module _ (sent : List Message) (size file : ℕ) (A : Call) (s : ClientState) (same_size : s.config.chunk ≡ size) (used : (number : ℕ) (aim : Target) → HasAsked sent s.id number aim → number ≤ s.number) where
+module _ (sent : List Message) (size file : ℕ) (A : Call) (s : ClientState) (same_size : file_chunk s file ≡ size) (used : (number : ℕ) (aim : Target) → HasAsked sent s.id number aim → number ≤ s.number) where
   abbrev Between : CurrentCall → Type 0
   Between c = IsBetween sent s.id size file A s.number c
 
@@ -265,8 +265,8 @@ module _ (sent : List Message) (size file : ℕ) (A : Call) (s : ClientState) (s
       same : id ≡ data_id s.id number
       same = ap (λ (n : ℕ). data_id n id.seq) own ∙ ap (λ (n : ℕ). data_id s.id n) seq
 
-  all_placed : (c : CurrentCall) → c.asked ≡ A → has_next_part s.config.chunk c.index c.asked ≡ false → first_chunk size A ≤ c.index → AreTold sent s.id size s.number file A (suc c.index) → AllTold sent s.id size file A
-  all_placed c asked none begun h =
+  all_placed : (c : CurrentCall) → c.asked ≡ A → c.file.0 ≡ file → has_next_part (file_chunk s c.file.0) c.index c.asked ≡ false → first_chunk size A ≤ c.index → AreTold sent s.id size s.number file A (suc c.index) → AllTold sent s.id size file A
+  all_placed c asked of none begun h =
       record {
         numbers = h.numbers;
         told = λ part has. h.told part (below part has) has;
@@ -274,7 +274,7 @@ module _ (sent : List Message) (size file : ℕ) (A : Call) (s : ClientState) (s
       }
     where
       none_next : has_next_part size c.index A ≡ false
-      none_next = subst (λ (n : ℕ). has_next_part n c.index A ≡ false) same_size (subst (λ (x : Call). has_next_part s.config.chunk c.index x ≡ false) asked none)
+      none_next = subst (λ (n : ℕ). has_next_part n c.index A ≡ false) (ap (λ (f : ℕ). file_chunk s f) of ∙ same_size) (subst (λ (x : Call). has_next_part (file_chunk s c.file.0) c.index x ≡ false) asked none)
 
       below : (part : ℕ) → has_chunk size A part ≡ true → part < suc c.index
       below part has = write_beyond size c.index A part begun none_next has
@@ -298,9 +298,9 @@ module _ (sent : List Message) (size file : ℕ) (A : Call) (s : ClientState) (s
         denied = λ c chunk number refusal h came is. (h.0, more_told sent s.id size file A (h.1).0 s.number c.index (below c chunk number h) (h.1).1, h.4);
         done = λ c chunk number id place h came own is. done_placed c chunk number id place h came own is;
         passes = λ c chunk number e append m came asked same index live deadline h. append_between (less_live c chunk) e append asked same h;
-        appended = λ c chunk place append h. ((h.0, h.1, h.3), λ is. absurd (let both : answer.At (place_in_file s.config.chunk chunk.index place) ≡ answer.Done = is in cc));
+        appended = λ c chunk place append h. ((h.0, h.1, h.3), λ is. absurd (let both : answer.At (place_in_file (file_chunk s c.file.0) chunk.index place) ≡ answer.Done = is in cc));
         next = λ c e chunk place write more asked same index live deadline h. (asked ∙ h.0, subst (λ (n : ℕ). AreTold sent s.id size s.number file A n) (sym index) h.2, ap (λ (f : FileId). f.0) same ∙ h.3);
-        last = λ c chunk place write none h. ((h.0, h.1, h.3), λ is. subst (λ (x : Call). AllTold sent s.id size file x) (sym h.0) (all_placed c h.0 none (h.1).begun h.2));
+        last = λ c chunk place write none h. ((h.0, h.1, h.3), λ is. subst (λ (x : Call). AllTold sent s.id size file x) (sym h.0) (all_placed c h.0 h.3 none (h.1).begun h.2));
       }
     where
       below : (c : CurrentCall) (chunk : ToldChunk) (number : ℕ) (h : IsUnderWay sent s.id size file A c chunk number) → (h.1).0 ≤ s.number
@@ -319,7 +319,7 @@ module _ (sent : List Message) (size file : ℕ) (A : Call) (s : ClientState) (s
             rest = hops_after g.members first.0;
             sender_is = ap (λ (n : ℕ). the_client n) r.2;
             body_is = ap (λ (n : ℕ). body.Push (data_id n (suc d.client.number)) (bytes_to_send (file_chunk d.client c.file.0) c.index c.asked) (hops_after g.members first.0)) r.2
-                ∙ ap (λ (n : ℕ). body.Push (data_id s.id (suc d.client.number)) (bytes_to_send n c.index c.asked) (hops_after g.members first.0)) (ap (λ (g : Config). g.chunk) r.0 ∙ same_size)
+                ∙ ap (λ (n : ℕ). body.Push (data_id s.id (suc d.client.number)) (bytes_to_send n c.index c.asked) (hops_after g.members first.0)) (r.7 c.file.0 ∙ ap (λ (f : ℕ). file_chunk s f) h.2 ∙ same_size)
                 ∙ ap (λ (x : Call). body.Push (data_id s.id (suc d.client.number)) (bytes_to_send size c.index x) (hops_after g.members first.0)) h.0;
           },
         ),
@@ -340,7 +340,7 @@ module _ (sent : List Message) (size file : ℕ) (A : Call) (s : ClientState) (s
       (subst (λ (o : Option CurrentCall). StandsNow s AnyUsed (IsBetween sent s.id size file A s.number) (HasData sent s.id size file A) (IsUnderWay sent s.id size file A) (FineReply sent s.id size file A) (λ reply. FineReply sent s.id size file A A reply) (Unit {0}) None None o) (sym now) (refl, h)))
 
   -- a call that is made
-  new_between : (attempts number : ℕ) (c : Call) (its index : ℕ) (last : Option ℕ) → c ≡ A → its ≡ file → IsFirst s.config.chunk c index → Between (new_call attempts number c its index last)
+  new_between : (attempts number : ℕ) (c : Call) (its index : ℕ) (last : Option ℕ) → c ≡ A → its ≡ file → IsFirst (file_chunk s its) c index → Between (new_call attempts number c its index last)
   new_between attempts number c its index last is same first = (
     is,
     record {
@@ -354,7 +354,7 @@ module _ (sent : List Message) (size file : ℕ) (A : Call) (s : ClientState) (s
   )
     where
       first_size : IsFirst size A index
-      first_size = subst (λ (n : ℕ). IsFirst n A index) same_size (subst (λ (x : Call). IsFirst s.config.chunk x index) is first)
+      first_size = subst (λ (n : ℕ). IsFirst n A index) (ap (λ (f : ℕ). file_chunk s f) same ∙ same_size) (subst (λ (x : Call). IsFirst (file_chunk s its) x index) is first)
 
       at_least : first_chunk size A ≤ index
       at_least = first_is size A index first_size
@@ -370,7 +370,7 @@ module _ (sent : List Message) (size file : ℕ) (A : Call) (s : ClientState) (s
       (begun_calm s (CameAs sent s.id size file A) AnyKept AnyUsed (IsBetween sent s.id size file A s.number) (HasData sent s.id size file A) (IsUnderWay sent s.id size file A) (IsPlaced sent s.id size file A s.number) (FineReply sent s.id size file A) (λ reply. Unit {0}) (Unit {0}) told_keeps (λ c reply h fine live. tt)
       (subst (λ (o : Option CurrentCall). StandsNow s AnyUsed (IsBetween sent s.id size file A s.number) (HasData sent s.id size file A) (IsUnderWay sent s.id size file A) (FineReply sent s.id size file A) (λ reply. Unit {0}) (Unit {0}) None None o) (sym none) tt))
     where
-      named_first : (c : Call) → is_name_call c ≡ true → IsFirst s.config.chunk c 0
+      named_first : (c : Call) → is_name_call c ≡ true → IsFirst (file_chunk s 0) c 0
       named_first (call.Write fd offset bytes) name = absurd (true≢false (sym name))
       named_first (call.Append fd bytes) name = refl
       named_first other name = tt
