@@ -28,7 +28,7 @@ use Rattle.protocol.specs.Tables.{element_at}
 use Rattle.protocol.specs.Sending.{data_id, the_client, client_number}
 use Rattle.protocol.specs.Choice.{Choice}
 use Rattle.protocol.specs.Observer.{Placed, observed_moment, order_of, calls_made}
-use Rattle.protocol.specs.Client.{ClientState, ClientDoing}
+use Rattle.protocol.specs.Client.{ClientState, ClientDoing, file_chunk}
 use Rattle.protocol.specs.ClientAttempts.{is_mutation, target_of}
 use Rattle.protocol.specs.ClientStep.{client_at, client_step, client_call}
 use Rattle.protocol.specs.MasterStep.{master_step, master_restart}
@@ -220,7 +220,7 @@ module _ (config : Config) (servers clients : ℕ) (steps : List (Event × Choic
       by_cases : MayAsk sent_in.client a.asked → part ≡ None
       by_cases (inl silent) = absurd (subst (λ (b : Body). IsNoMutate b) a.body_is silent)
       by_cases (inr p) =
-          no_part (sent_in.client).config.chunk (p.current).index (p.current).asked part p.mutates
+          no_part (file_chunk sent_in.client (p.current).file.0) (p.current).index (p.current).asked part p.mutates
           (sym (ap (aim_in a.aim) p.body_is) ∙ (ap (aim_in a.aim) a.body_is ∙ same_aim))
           (ap (λ (c : CurrentCall). part_of c.asked c.index) (same_some p.current a.current (sym p.current_is ∙ (ap (λ (x : ClientState). x.current) same_client ∙ a.current_is))) ∙ a.part_is)
 

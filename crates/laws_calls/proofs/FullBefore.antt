@@ -52,6 +52,7 @@ use Rattle.laws_calls.proofs.CallWalk.{AnyUsed, StandsNow, IsAsking}
 use Rattle.laws_calls.proofs.LaterCalls.{last_at}
 use Rattle.laws_calls.proofs.UsedIndexes.{came_in, no_call, used_was_told}
 use Rattle.laws_calls.proofs.PastChunks.{IsDenied, IsFit, IsWay, AnyData, AnyReply, AnyEnd, FitAt, fit_on, stands_on, fit_of, Calm, Leaving, step_leaves, call_leaves, AskFits, ask_on, own_ask_fits}
+use Rattle.laws_base.specs.Laws.{IsSizeGranted}
 
 append_target : (size index : ℕ) (asked : Call) → is_append asked ≡ true → target_of size index asked ≡ target.Append
 append_target size index (call.Append fd bytes) is = refl
@@ -279,8 +280,10 @@ asks_past_a_chunk_find_it_full config servers clients w r kept some place client
       handle = denied.handle.0;
       round = denied.round;
       chunk = denied.chunk;
-      full = subst (λ (n : ℕ). IsTrue (is_full w n)) handle_is full.full;
-      ends = subst (λ (n : ℕ). HasFullEnd w.config.chunk (order_of w.observer n) denied.round) handle_is (subst (λ (v : ℕ). HasFullEnd w.config.chunk (order_of w.observer full.handle.0) v) version_is full.ends);
+      size = full.size;
+      granted = subst (λ (n : ℕ). IsSizeGranted w.sent n denied.round full.size) handle_is (subst (λ (v : ℕ). IsSizeGranted w.sent full.handle.0 v full.size) version_is full.granted);
+      full = subst (λ (n : ℕ). IsTrue (is_full w n full.size)) handle_is full.full;
+      ends = subst (λ (n : ℕ). HasFullEnd full.size (order_of w.observer n) denied.round) handle_is (subst (λ (v : ℕ). HasFullEnd full.size (order_of w.observer full.handle.0) v) version_is full.ends);
     }
   where
     denied : IsDenied w.sent client file.0 past

@@ -18,7 +18,7 @@ use Rattle.client_state.specs.declared.call.ToldChunk.{ToldChunk}
 use Rattle.client_state.specs.declared.call.Stage.{Stage}
 use Rattle.client_state.specs.declared.call.Stage.TheVariants.{AskedNames, AskedWhere, MustAskAgain, SentData, SentMutate, SentRead, IsOver, HasAnswer}
 use Rattle.protocol.specs.Sending.{the_client}
-use Rattle.protocol.specs.Client.{ClientState, ClientDoing, client_begins}
+use Rattle.protocol.specs.Client.{ClientState, ClientDoing, client_begins, file_chunk}
 use Rattle.protocol.specs.ClientAttempts.{is_mutation, is_append, wanted_by}
 use Rattle.protocol.specs.ClientStep.{new_call, calls, client_does}
 use Rattle.laws_base.proofs.ServerMoves.{IsCameIn}
@@ -207,7 +207,7 @@ module _ (sent : List Message) (client : ℕ) (s : ClientState) where
     step_leaves i came =
         does_leave s (Came sent client) AnyKept AnyUsed (IsFit sent client) AnyData (IsWay sent client) (λ c chunk place. IsFit sent client c) AnyReply AnyEnd (Unit {0}) past_keeps (λ c reply h f none. tt) i s.current refl came (stands_now s.current fits) begun
 
-    new_fit : (attempts number : ℕ) (c : Call) (file index : ℕ) (last : Option ℕ) → IsFirst s.config.chunk c index → IsFit sent client (new_call attempts number c file index last)
+    new_fit : (attempts number : ℕ) (c : Call) (file index : ℕ) (last : Option ℕ) → IsFirst (file_chunk s file) c index → IsFit sent client (new_call attempts number c file index last)
     new_fit attempts number (call.Append fd bytes) file index last first append = subst (λ (n : ℕ). IsPast sent client file n) (sym first) tt
     new_fit attempts number other file index last first append = absurd (true≢false (sym append))
 

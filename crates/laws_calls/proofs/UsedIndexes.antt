@@ -112,7 +112,7 @@ pub record IsPlannedBy (s : ClientState) (m : Message) : Type 0 where
   pub number : ℕ
   pub current_is : s.current ≡ Some current
   pub mutates : is_mutation current.asked ≡ true
-  pub body_is : m.body ≡ body.Mutate (data_id s.id number) chunk.handle chunk.round (target_of s.config.chunk current.index current.asked) current.deadline
+  pub body_is : m.body ≡ body.Mutate (data_id s.id number) chunk.handle chunk.round (target_of (file_chunk s current.file.0) current.index current.asked) current.deadline
 
 abbrev pub MayAsk : ClientState → Message → Type 0
 MayAsk s m = IsNoMutate m.body ⊎ IsPlannedBy s m
@@ -185,7 +185,7 @@ module _ (config : Config) (servers clients : ℕ) (w : WorldState) (r : IsReach
         number = g.number;
         current_is = g.current_is;
         mutates = g.mutates;
-        body_is = sym (ap (λ (x : Message). x.body) (same_some (message (the_client s.id) (the_server g.primary.0) (body.Mutate (data_id s.id g.number) g.chunk.handle g.chunk.round (target_of s.config.chunk g.current.index g.current.asked) g.current.deadline)) m (sym (ap (λ (x : ClientDoing). x.sent) g.is) ∙ is)));
+        body_is = sym (ap (λ (x : Message). x.body) (same_some (message (the_client s.id) (the_server g.primary.0) (body.Mutate (data_id s.id g.number) g.chunk.handle g.chunk.round (target_of (file_chunk s g.current.file.0) g.current.index g.current.asked) g.current.deadline)) m (sym (ap (λ (x : ClientDoing). x.sent) g.is) ∙ is)));
       }),
       tt,
     )
