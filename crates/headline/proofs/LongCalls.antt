@@ -22,7 +22,7 @@ use Rattle.messages.specs.declared.message.Wanted.{Wanted}
 use Rattle.messages.specs.declared.message.Wanted.TheVariants as wanted
 use Rattle.relaxed_file.specs.Order.{CallId, Entry}
 use Rattle.relaxed_file.specs.Parts.{has_part, part_start, part_end, is_range_too_long}
-use Rattle.relaxed_file.specs.Machine.{Machine, Asked, Chunk, OpenCall, chunk_count}
+use Rattle.relaxed_file.specs.Machine.{Machine, Asked, Chunk, OpenCall, chunk_count, chunk_size}
 use Rattle.relaxed_file.specs.Answers.{is_too_long, HasSuccess, IsWrite}
 use Rattle.relaxed_file.specs.Run as run
 use Rattle.relaxed_file.proofs.AskedFor.{open_is_made}
@@ -36,7 +36,7 @@ use Rattle.client_state.specs.declared.call.Stage.TheVariants.{AskedWhere}
 use Rattle.protocol.specs.Tables.{element_at}
 use Rattle.protocol.specs.Sending.{the_client}
 use Rattle.protocol.specs.Choice.{Choice}
-use Rattle.protocol.specs.Client.{ClientState}
+use Rattle.protocol.specs.Client.{ClientState, file_chunk}
 use Rattle.protocol.specs.ClientAttempts.{wanted_by}
 use Rattle.protocol.specs.Logged.{Logged}
 use Rattle.protocol.specs.Master.{PendingSnapshot}
@@ -58,10 +58,13 @@ use Rattle.laws_calls.specs.ToldIndexes.{IsAskFor}
 use Rattle.laws_calls.proofs.AskedIndexes.{asks_are_for_the_part_in_hand}
 use Rattle.laws_names.specs.Alike.{is_there}
 use Rattle.laws_machine.specs.ChunksAlike.{ChunkSides}
-use Rattle.laws_machine.specs.FileClients.{id_of, IsDoneSoFar, IsFileCall, IsCallAlike}
+use Rattle.laws_machine.specs.FileClients.{id_of, IsDoneSoFar, IsFileCall, IsCallAlike, IsFileOpen}
 use Rattle.laws_machine.specs.SentRequests.{IsPartTo, IsAttemptOf, IsRequestOf, AreRequestsOf, IsRefusedCall}
 use Rattle.laws_machine.specs.WholeWorlds.{IsBeside}
 use Rattle.laws_machine.proofs.CountedCalls.{calls_are_counted}
+use Rattle.laws_machine.proofs.ClientFiles.{clients_files_are_open}
+use Rattle.laws_machine.proofs.FileWalk.{open_size}
+use Rattle.laws_machine.specs.ToldShapes.{IsMadeWith}
 use Rattle.laws_calls.proofs.Parts.{none_below, none_beyond, first_there, none_of_nothing}
 use Rattle.headline.proofs.AskedOnce.{Sends, each_sends, asked_once}
 use Rattle.headline.proofs.CountsBefore.{HasCount, counts_are_before}
@@ -215,6 +218,22 @@ module _ (config : Config) (servers clients : ℕ) (steps : List (Event × Choic
     call_made =
         ap (λ (n : ℕ). (m.clients (suc index)).calls n) (sym ((calls_are_counted config W.observer.trace m beside.run (suc index)).1 o f.is_open)) ∙ open_is_made m (suc index) o known f.is_open
 
+    -- the client has the call's file open as the machine has it
+    row : IsFileOpen s x.file.0
+    row = (clients_files_are_open config servers clients W r index s at).call x current (subst (λ (st : Stage). IsOfFile st) (sym staged) tt)
+
+    opened_as : IsMadeWith m x.file.0 (row.0).shape
+    opened_as = (beside.files index s at up).shapes x.file.0 row.0 row.1
+
+    pub file_made : x.file.0 ≤ m.file_count
+    file_made = opened_as.0
+
+    abbrev Size : ℕ
+    Size = chunk_size m x.file.0
+
+    size_is : file_chunk s x.file.0 ≡ Size
+    size_is = open_size m s x.file.0 row.0 row.1 opened_as
+
     module _ (short : IsShortFor (after_events (new_world config servers clients) steps) (the_client (suc index)) number) (awake : IsTrue (after_events (new_world config servers clients) steps).master.up)
         (requests : AreRequestsOf (new_world config servers clients) steps k.machine) where
       ask : IsAskFor W.sent (suc index) x number
@@ -276,38 +295,38 @@ module _ (config : Config) (servers clients : ℕ) (steps : List (Event × Choic
         done : IsDoneSoFar m (id_of (suc index) o) x.file.0 x.index x.bytes x.rounds o.pieces (call.Write fd offset bytes)
         done = subst (λ (c : Call). IsDoneSoFar m (id_of (suc index) o) x.file.0 x.index x.bytes x.rounds o.pieces c) asked_is f.done
 
-        first_of : (i : ℕ) → x.index ≡ i → i ≤ offset / m.config.chunk
+        first_of : (i : ℕ) → x.index ≡ i → i ≤ offset / Size
         first_of zero is = omega arith
-        first_of (suc e) is = elim (cases_lt e (offset / m.config.chunk)) [
+        first_of (suc e) is = elim (cases_lt e (offset / Size)) [
           | inl past ↦ omega (arith, past)
           | inr before ↦
-              let has = part_before m.config.chunk offset (length bytes) e (ap (λ (i : ℕ). has_part m.config.chunk offset (length bytes) i) (sym is) ∙ done.1) before in
+              let has = part_before Size offset (length bytes) e (ap (λ (i : ℕ). has_part Size offset (length bytes) i) (sym is) ∙ done.1) before in
               let there = settled_low e (done.2 e (omega (arith, is)) has) in
               absurd (omega (arith, there, low, is))
         ]
 
-        first : x.index ≤ offset / m.config.chunk
+        first : x.index ≤ offset / Size
         first = first_of x.index refl
 
-        long : is_too_long m.config.chunk o.asked.chunks_before o.asked.call ≡ true
+        long : is_too_long Size o.asked.chunks_before o.asked.call ≡ true
         long =
-            ap (λ (c : Option ℕ). is_too_long m.config.chunk c o.asked.call) counted.1 ∙ ap (λ (c : Call). is_too_long m.config.chunk (Some counted.0) c) (f.call_is ∙ asked_is)
-            ∙ too_long m.config.chunk counted.0 offset bytes fd (some_count m.config.chunk offset (length bytes) x.index done.1) (let few = counted.2 in omega (arith, few, low, first))
+            ap (λ (c : Option ℕ). is_too_long Size c o.asked.call) counted.1 ∙ ap (λ (c : Call). is_too_long Size (Some counted.0) c) (f.call_is ∙ asked_is)
+            ∙ too_long Size counted.0 offset bytes fd (some_count Size offset (length bytes) x.index done.1) (let few = counted.2 in omega (arith, few, low, first))
 
         none_live : x.live ≡ []
         none_live =
-            elim ((subst (λ (c : Call). LivesWereTold W.sent (suc index) m.config.chunk c x.file.0 x.index x.live) asked_is
-            (subst (λ (g : Config). LivesWereTold W.sent (suc index) g.chunk x.asked x.file.0 x.index x.live) (sym beside.chunks.settings) (lives_were_told config servers clients W r index s at x number current staged))).1) [
+            elim ((subst (λ (c : Call). LivesWereTold W.sent (suc index) Size c x.file.0 x.index x.live) asked_is
+            (subst (λ (n : ℕ). LivesWereTold W.sent (suc index) n x.asked x.file.0 x.index x.live) size_is (lives_were_told config servers clients W r index s at x number current staged))).1) [
               | inl none ↦ none
               | inr told ↦ absurd (let there = told_low told.0 told.1 told.2 told.4 in let past = told.3 in omega (arith, there, past, low, first))
             ]
 
-        part_in : (id : CallId) (file place : ℕ) (aim : Target) → IsPartTo m id file place (call.Write fd offset bytes) aim → has_part m.config.chunk offset (length bytes) place ≡ true
+        part_in : (id : CallId) (file place : ℕ) (aim : Target) → IsPartTo m id file place (call.Write fd offset bytes) aim → has_part (chunk_size m file) offset (length bytes) place ≡ true
         part_in id file place (target.Write to) h = h.1
         part_in id file place other h = absurd h
 
         none_of : (part : Option ℕ) (q : ℕ) → WasAsked index Start steps made part q → IsMutateOf W.sent (suc index) q → ⊥
-        none_of part q was y = absurd (let there = told_low a.place y.handle.0 y.version.0 told in let past = none_below m.config.chunk offset (length bytes) a.place has in omega (arith, there, past, low, first))
+        none_of part q was y = absurd (let there = told_low a.place y.handle.0 y.version.0 told in let past = none_below Size offset (length bytes) a.place has in omega (arith, there, past, low, first))
           where
             a : IsAttemptOf Start steps m (suc index) y.id y.handle y.version y.aim
             a = subst (λ (b : Body). IsRequestOf Start steps m (suc index) b) y.body_is (requests (suc index) y.place y.message y.is y.sender_is)
@@ -327,10 +346,10 @@ module _ (config : Config) (servers clients : ℕ) (steps : List (Event × Choic
             file_is : a.file ≡ x.file.0
             file_is = same_some a.file x.file.0 (sym a.of_call.file_is ∙ ap (λ (c : Asked). c.file) asked_same ∙ f.file_is)
 
-            has : has_part m.config.chunk offset (length bytes) a.place ≡ true
+            has : has_part Size offset (length bytes) a.place ≡ true
             has =
-                part_in (record { client = suc index; number = a.number }) a.file a.place y.aim
-                (subst (λ (c : Call). IsPartTo m (record { client = suc index; number = a.number }) a.file a.place c y.aim) (ap (λ (c : Asked). c.call) asked_same ∙ f.call_is ∙ asked_is) a.part)
+                subst (λ (g : ℕ). has_part (chunk_size m g) offset (length bytes) a.place ≡ true) file_is (part_in (record { client = suc index; number = a.number }) a.file a.place y.aim
+                (subst (λ (c : Call). IsPartTo m (record { client = suc index; number = a.number }) a.file a.place c y.aim) (ap (λ (c : Asked). c.call) asked_same ∙ f.call_is ∙ asked_is) a.part))
 
             told : IsToldChunk W.sent (suc index) x.file.0 a.place y.handle.0 y.version.0
             told = subst (λ (g : ℕ). IsToldChunk W.sent (suc index) g a.place y.handle.0 y.version.0) file_is a.told
@@ -338,7 +357,7 @@ module _ (config : Config) (servers clients : ℕ) (steps : List (Event × Choic
         of_write : IsRefusedCall Start steps m index x
         of_write =
             record {
-              long = λ asked is. subst (λ (c : Asked). is_too_long m.config.chunk c.chunks_before c.call ≡ true) (same_some o.asked asked (sym call_made ∙ is)) long;
+              long = λ asked is. subst (λ (c : Asked). is_too_long Size c.chunks_before c.call ≡ true) (same_some o.asked asked (sym call_made ∙ is)) long;
               none_live = none_live;
               none_asked = λ part q was. none_of part q was (was_sent index Start steps made part q was);
             }

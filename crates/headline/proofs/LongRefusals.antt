@@ -17,7 +17,7 @@ use Rattle.gfs_types.specs.declared.ids.Version.{Version}
 use Rattle.messages.specs.declared.message.Message.{Message}
 use Rattle.messages.specs.declared.message.Target.{Target}
 use Rattle.relaxed_file.specs.Order.{CallId}
-use Rattle.relaxed_file.specs.Machine.{Machine, Asked, Chunk, OpenCall, IsOpen, chunk_at, chunk_count}
+use Rattle.relaxed_file.specs.Machine.{Machine, Asked, Chunk, OpenCall, IsOpen, chunk_at, chunk_count, chunk_size}
 use Rattle.relaxed_file.specs.Chunks.{tries_in, tries_below}
 use Rattle.relaxed_file.specs.Answers.{is_too_long}
 use Rattle.relaxed_file.specs.Run.{LeadsTo, IsRunTo}
@@ -57,11 +57,12 @@ use Rattle.laws_machine.specs.WholeWorlds.{AreFileClients, IsBeside}
 use Rattle.laws_machine.specs.WholeClients.{GivesClient}
 use Rattle.laws_machine.proofs.CountedCalls.{calls_are_counted}
 use Rattle.laws_machine.proofs.WholeClients.{came}
-use Rattle.headline.proofs.LongCalls.{call_made}
+use Rattle.headline.proofs.LongCalls.{call_made, file_made}
 use Rattle.headline.proofs.RefusalsStay.{asked_split, asks_no_primary}
 use Rattle.headline.proofs.TriesStay.{tries_stay_numbered}
 use Rattle.headline.proofs.ClientWords.{refusals_come_from}
 use Rattle.headline.specs.LongRefusals.{RefusalsForLengthAreSo}
+use Rattle.headline.proofs.RequestsStay.{sizes_kept}
 
 no_tries : (chunks : ℕ → Chunk) (id : CallId) → ((index : ℕ) → tries_in id (chunks index) ≡ 0) → (count : ℕ) → tries_below chunks id count ≡ 0
 no_tries chunks id none zero = refl
@@ -178,12 +179,13 @@ module _ (config : Config) (servers clients : ℕ) (w : WorldState) (r : IsReach
     made_at : (j.machine.clients (suc index)).calls made ≡ Some o.asked
     made_at = ap (λ (n : ℕ). (j.machine.clients (suc index)).calls n) (sym number_is) ∙ open_is_made j.machine (suc index) o (known_when_reached config j.machine (run.0, run.1, run.3)) is_open
 
-    long : is_too_long j.machine.config.chunk o.asked.chunks_before o.asked.call ≡ true
+    long : is_too_long (chunk_size j.machine x.file.0) o.asked.chunks_before o.asked.call ≡ true
     long =
         let before = call_made config q.servers q.clients q.steps ss k beside_there index s client_there up x current number staged in
         let same = same_some _ o.asked (sym ((grows.clients (suc index)).calls made _ before) ∙ made_at) in
-        subst (λ (c : Config). is_too_long c.chunk o.asked.chunks_before o.asked.call ≡ true) (sym grows.config)
-        (subst (λ (a : Asked). is_too_long k.machine.config.chunk a.chunks_before a.call ≡ true) same (refused.long _ before))
+        subst (λ (z : ℕ). is_too_long z o.asked.chunks_before o.asked.call ≡ true)
+        (sym (sizes_kept config k.machine j.machine (beside.run.0, beside.run.1, beside.run.3) leads x.file.0 (file_made config q.servers q.clients q.steps ss k beside_there index s client_there up x current number staged)))
+        (subst (λ (a : Asked). is_too_long (chunk_size k.machine x.file.0) a.chunks_before a.call ≡ true) same (refused.long _ before))
 
     -- nothing of it is placed
 

@@ -9,7 +9,7 @@ use Rattle.messages.specs.declared.event.Event.{Event}
 use Rattle.messages.specs.declared.message.Body.{Body}
 use Rattle.messages.specs.declared.message.Body.TheVariants as body
 use Rattle.messages.specs.declared.message.Message.{Message}
-use Rattle.relaxed_file.specs.Machine.{Machine, Asked}
+use Rattle.relaxed_file.specs.Machine.{Machine, Asked, chunk_size}
 use Rattle.relaxed_file.specs.Answers.{is_too_long}
 use Rattle.relaxed_file.specs.Run.{LeadsTo, IsRunTo}
 use Rattle.relaxed_file.proofs.Grows.{Grows, grows_to, known_when_reached}
@@ -38,9 +38,9 @@ use Rattle.laws_machine.specs.SentRequests.{AreRequestsOf, IsRefusedCall, AreRef
 use Rattle.laws_machine.specs.WholeWorlds.{AreFileClients, IsBeside}
 use Rattle.headline.specs.NumberedCalls.{RequestsStayOfCalls}
 use Rattle.headline.proofs.AskedOnce.{Sends, each_sends}
-use Rattle.headline.proofs.LongCalls.{call_made, refused_now}
+use Rattle.headline.proofs.LongCalls.{call_made, refused_now, file_made}
 use Rattle.headline.proofs.RefusalEvents.{IsWaitingOn, IsAskingAnew, WaitOn, each_waits, IsShortFor, IsLongWord, RefusesLong, each_refuses}
-use Rattle.headline.proofs.RequestsStay.{IsNew, AllNew, each_new, all_requests}
+use Rattle.headline.proofs.RequestsStay.{IsNew, AllNew, each_new, all_requests, sizes_kept}
 use Rattle.headline.proofs.SentNow.{IsMutateNow, IsOwn, pushing_reached}
 
 -- what was asked in some steps and one more was asked in that one or before
@@ -112,8 +112,9 @@ module _ (config : Config) (servers clients : ℕ) (steps : List (Event × Choic
               let before = call_made config servers clients steps ss k beside index v.client v.is v.up x v.current_is number staged in
               let there = (grows.clients (suc index)).calls (calls_made W.observer.trace (suc index)) _ before in
               let same = same_some _ asked (sym there ∙ ap (λ (q : ℕ). (n.clients (suc index)).calls q) (sym calls_are) ∙ is) in
-              subst (λ (c : Config). is_too_long c.chunk asked.chunks_before asked.call ≡ true) (sym grows.config)
-              (subst (λ (a : Asked). is_too_long k.machine.config.chunk a.chunks_before a.call ≡ true) same (h.long _ before));
+              subst (λ (z : ℕ). is_too_long z asked.chunks_before asked.call ≡ true)
+              (sym (sizes_kept config k.machine n (beside.run.0, beside.run.1, beside.run.3) leads x.file.0 (file_made config servers clients steps ss k beside index v.client v.is v.up x v.current_is number staged)))
+              (subst (λ (a : Asked). is_too_long (chunk_size k.machine x.file.0) a.chunks_before a.call ≡ true) same (h.long _ before));
           none_live = h.none_live;
           none_asked = λ part q was. elim (asked_split index Start steps (e, choice) (calls_made W.observer.trace (suc index)) part q (subst (λ (made : ℕ). WasAsked index Start Steps made part q) calls_are was)) [
             | inl before ↦ h.none_asked part q before
