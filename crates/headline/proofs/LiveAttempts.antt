@@ -96,7 +96,7 @@ module _ (sent : List Message) (client : ℕ) (size : ℕ → ℕ) where
       (subst (λ (f : FileId). LivesWereTold sent client (size f.0) c.asked f.0 e.index e.live) (sym file)
       (subst (λ (i : ℕ). LivesWereTold sent client (size c.file.0) c.asked c.file.0 i e.live) (sym index) (past_next (size c.file.0) c.asked c.index h.0, inr h.1)))
 
--- what is sent doesn't matter
+  -- what is sent doesn't matter
   relaxed : (o : Option Message) (c : CurrentCall) (st : Stage) → StandsAt AnyUsed Hand AnyPushed Asked AnyReply o c st → StandsAt AnyUsed Hand AnyPushed Asked AnyReply None c st
   relaxed o c AskedNames h = h
   relaxed o c (AskedWhere number) h = h
