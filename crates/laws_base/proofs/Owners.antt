@@ -4,7 +4,7 @@ use Rattle.std.specs.Prelude.{◌==◌, nat_le, count_by, unwrap_or}
 use Rattle.std.specs.List.{list_any, sum_by}
 use Rattle.std.specs.Ordering.{nat_cmp, eq_by_cmp, is_eq}
 use Rattle.std.specs.Cmp.{nat_cmp_total}
-use Rattle.std.proofs.lemmas.Bool.{true≢false, eqb-true, leb-true}
+use Rattle.std.proofs.lemmas.Bool.{true≢false, cases_lt, eqb-true, leb-true}
 use Rattle.std.proofs.lemmas.List.Sums.{sum_by-cons}
 use Rattle.std.specs.FinMap as table
 use Rattle.std.specs.FinMap.Entries.{find, put, by_order}
@@ -14,7 +14,7 @@ use Rattle.protocol.specs.Tables.{removed_all, element_at, with_at}
 use Rattle.chunk_table.specs.ChunkTable.{ChunkRow, ChunkTable, new_row, new_chunk_table, row_shared, changed_by, share_one, share_all, left_by, leave_one, leave_all, handles_of, add_file, add_chunk, copy_file, drop_file, with_row, swap, owned_row, with_owned, added_row}
 use Rattle.laws_base.specs.Laws.{times_in}
 use Rattle.laws_base.proofs.Steps.{on_cond, none_some, same_some, tally, count-cons, count-append, same_or_not, put_there, put_other, gone_there, gone_other, now_gone}
-use Rattle.laws_base.proofs.Entries.{same_number}
+use Rattle.laws_base.proofs.Entries.{AllOf, same_number, IsFound, all_found}
 use Rattle.laws_base.proofs.MasterMoves.{removed_other}
 use Rattle.laws_base.proofs.ChunkRows.{Rows}
 use Rattle.laws_base.proofs.FilesNamed.{Files}
@@ -215,6 +215,32 @@ no_times q = no_entries (λ e. stands q e.1) (table.entries (table.empty {X = Li
 
 pub none_counted : AreCounted new_chunk_table
 none_counted q = ap references_of (table.get-empty nat_cmp q) ∙ sym (no_times q)
+
+-- a handle that stands in files stands in one of them
+
+one_of_sum : (files : Files) (q : ℕ) (es : List (ℕ × List ℕ)) → AllOf (IsFound (table.entries files)) es → 1 ≤ sum_by (λ e. stands q e.1) es → (file : ℕ) × (1 ≤ stands q (chunks_at files file))
+one_of_sum files q [] all more = absurd (let none : sum_by (λ e. stands q e.1) [] ≡ 0 = refl in omega (arith, more, none))
+one_of_sum files q (e ∷ es) all more =
+    elim (cases_lt 0 (stands q e.1)) [
+      | inl here ↦ (e.0, subst (λ (o : Option (List ℕ)). 1 ≤ stands q (unwrap_or o [])) (sym (table.get-entries files e.0 ∙ all.0)) (omega (arith, here)))
+      | inr none ↦ one_of_sum files q es all.1 (let whole = sum_by-cons (λ (x : ℕ × List ℕ). stands q x.1) e es in omega (arith, whole, none, more))
+    ]
+
+pub stands_in_one : (files : Files) (q : ℕ) → 1 ≤ times_in files q → (file : ℕ) × (1 ≤ stands q (chunks_at files file))
+stands_in_one files q more = one_of_sum files q (table.entries files) (all_found (table.entries files) (table.entries_sorted files)) more
+
+-- and at a place of its list
+pub stands_at_place : (hs : List ℕ) (q : ℕ) → 1 ≤ stands q hs → (j : ℕ) × (element_at hs j ≡ Some q)
+stands_at_place [] q more = absurd (let low : 1 ≤ stands q [] = more in omega (arith, low))
+stands_at_place (x ∷ xs) q more =
+    elim (same_or_not q x) [
+      | inl same ↦ (0, ap (λ (n : ℕ). Some n) (sym same))
+      | inr other ↦
+          let whole = count-cons (λ h. h == q) x xs in
+          let none = tally_other x q other in
+          let rest = stands_at_place xs q (omega (arith, whole, none, more)) in
+          (suc rest.0, rest.1)
+    ]
 
 -- a handle of a file has a row
 pub chunk_row : (t : ChunkTable) (id q : ℕ) → AreCounted t → 1 ≤ stands q (handles_of t id) → HasRow t.chunks q

@@ -169,7 +169,7 @@ look_same : (o p f g : Option ChunkRow) → o ≡ f → p ≡ g → IsSameRow f 
 look_same o p f g a b h = ap (λ (x : Option ChunkRow). option_map without_end x) a ∙ h ∙ sym (ap (λ (x : Option ChunkRow). option_map without_end x) b)
 
 -- without a copy a handle is in no list of copies
-free_of : (copies : Table Copy) (q : ℕ) (row : ChunkRow) (rows : Rows) → table.get (removed_all rows (table.keys copies)) q ≡ Some row → table.get copies q ≡ None
+pub free_of : (copies : Table Copy) (q : ℕ) (row : ChunkRow) (rows : Rows) → table.get (removed_all rows (table.keys copies)) q ≡ Some row → table.get copies q ≡ None
 free_of copies q row rows is = by_copy (table.get copies q) refl
   where
     by_copy : (o : Option Copy) → table.get copies q ≡ o → o ≡ None

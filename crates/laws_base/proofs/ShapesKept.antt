@@ -38,7 +38,7 @@ HasShape shapes file = (shape : Shape) × (table.get shapes file ≡ Some shape)
 abbrev StandsIn : ℕ → Option (List ℕ) → Type 0
 StandsIn q o = 1 ≤ stands q (unwrap_or o [])
 
-stands_somewhere : (files : Files) (file q : ℕ) → 1 ≤ stands q (chunks_at files file) → HasFile files file
+pub stands_somewhere : (files : Files) (file q : ℕ) → 1 ≤ stands q (chunks_at files file) → HasFile files file
 stands_somewhere files file q at = by_file (table.get files file) at
   where
     by_file : (o : Option (List ℕ)) → StandsIn q o → is_some o ≡ true
@@ -66,7 +66,7 @@ WasShaped rows q row = (old : ChunkRow) × (table.get rows q ≡ Some old) × (o
 abbrev pub KeepsShapes : Rows → Rows → Type 0
 KeepsShapes rows more = (q : ℕ) (row : ChunkRow) → table.get more q ≡ Some row → WasShaped rows q row
 
-same_keeps : (rows : Rows) → KeepsShapes rows rows
+pub same_keeps : (rows : Rows) → KeepsShapes rows rows
 same_keeps rows q row is = (row, is, refl)
 
 pub joined_keeps : (a b c : Rows) → KeepsShapes a b → KeepsShapes b c → KeepsShapes a c

@@ -34,7 +34,7 @@ AreTold shapes = (file : ℕ) (s : Shape) → table.get shapes file ≡ Some s �
 abbrev pub HasShapesOf : ChunkTable → ChunkTable → Type 0
 HasShapesOf t u = (file : ℕ) (s : Shape) → HasFile t.files file → table.get t.shapes file ≡ Some s → table.get u.shapes file ≡ Some s
 
-shape_is : (t : ChunkTable) (file : ℕ) (s : Shape) → table.get t.shapes file ≡ Some s → shape_of t file ≡ s
+pub shape_is : (t : ChunkTable) (file : ℕ) (s : Shape) → table.get t.shapes file ≡ Some s → shape_of t file ≡ s
 shape_is t file s is = ap (λ (o : Option Shape). unwrap_or o no_shape) is
 
 -- a file that was there before another one was put

@@ -5,9 +5,9 @@ use Rattle.gfs_types.specs.declared.mutation.Mutation.TheVariants.{Write, Append
 use Rattle.messages.specs.declared.event.Event.{Event}
 use Rattle.messages.specs.declared.message.Body.TheVariants as body
 use Rattle.protocol.specs.Choice.{Choice}
-use Rattle.protocol.specs.Observer.{Placed}
+use Rattle.protocol.specs.Observer.{Placed, order_of}
 use Rattle.protocol.specs.World.{WorldState, new_world, happens, after_events}
-use Rattle.laws_entries.specs.ChunkOrders.{IsNumberedNow, WasNumbered}
+use Rattle.laws_entries.specs.ChunkOrders.{IsNumberedNow, WasNumbered, WasCopied, IsSource}
 use Rattle.laws_entries.proofs.Numbering.{entries_were_numbered}
 use Rattle.laws_steps.specs.Replicas.{IsPlacedBehind, IsPlacedByReplica}
 use Rattle.laws_steps.proofs.Placings.{mutations_are_placed_by_replicas}
@@ -27,18 +27,22 @@ within size count bytes (Write offset written) placed = placed.1
 within size count bytes (Append offset written) placed = placed.2
 within size count bytes (Pad offset end) placed = (placed.1, placed.3)
 
-pub entries_lie_within_the_chunk : EntriesLieWithinTheChunk
-entries_lie_within_the_chunk config servers clients steps handle place p at = (
+-- where each entry was numbered, and within which size
+pub entry_sized : (config : Config) (servers clients : ℕ) (steps : List (Event × Choice)) (handle place : ℕ) (p : Placed) → element_at (order_of (after_events (new_world config servers clients) steps).observer handle) place ≡ Some p
+    → (from size : ℕ) × IsSizeGranted (after_events (new_world config servers clients) steps).sent from p.entry.round size × LiesWithin (min size config.chunk) p.entry.mutation
+    × IsSource (WasCopied (new_world config servers clients) steps) from handle
+entry_sized config servers clients steps handle place p at = (
   (now.named).0,
   by.lease.chunk,
   granted,
   subst (λ (m : Mutation). LiesWithin (min by.lease.chunk config.chunk) m) (sym (ap (λ (q : Placed). q.entry.mutation) now.entry_is))
       (within (min by.lease.chunk config.chunk) _ by.bytes (now.numbers).placed
       (subst (λ (c : Config). IsPlacedBehind (min by.lease.chunk c.chunk) (length by.replica.bytes) by.bytes (now.numbers).placed) (servers_within config servers clients v (before, refl) now.index now.server (now.numbers).is).set by.placed)),
+  subst (λ (q : ℕ). IsSource (WasCopied (new_world config servers clients) steps) q handle) (sym now.handle_is) was.2,
 )
   where
-    was : (from : ℕ) × WasNumbered (new_world config servers clients) steps from p
-    was = let one = entries_were_numbered config servers clients steps handle place p at in (one.0, one.1)
+    was : (from : ℕ) × WasNumbered (new_world config servers clients) steps from p × IsSource (WasCopied (new_world config servers clients) steps) from handle
+    was = entries_were_numbered config servers clients steps handle place p at
 
     before : List (Event × Choice)
     before = (was.1).before
@@ -77,3 +81,6 @@ entries_lie_within_the_chunk config servers clients steps handle place p at = (
           (by.lease).held.members,
           subst (λ (n : ℕ). (told.1).body ≡ body.Grant told.4 (handle_of (now.named).0) (version_of n) told.5 (by.lease).chunk (by.lease).held.members) round_is told.6,
         )
+
+pub entries_lie_within_the_chunk : EntriesLieWithinTheChunk
+entries_lie_within_the_chunk config servers clients steps handle place p at = let one = entry_sized config servers clients steps handle place p at in (one.0, one.1, one.2, one.3)

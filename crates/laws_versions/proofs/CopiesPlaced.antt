@@ -181,7 +181,7 @@ ends_begun m d choice Goes h = h
 ends_begun m d choice Lost h = inl refl
 ends_begun m d choice (Stops made) h = inl refl
 
-step_begun : (m : MasterState) (moment : ℕ) (i : NodeInput) (choice : Choice) → (IsTrue m.up → Below m.logged) → ShowsBegun m (master_step m moment i choice)
+pub step_begun : (m : MasterState) (moment : ℕ) (i : NodeInput) (choice : Choice) → (IsTrue m.up → Below m.logged) → ShowsBegun m (master_step m moment i choice)
 step_begun m moment i choice below =
     let d : MasterDoing = master_goes m moment i choice.refused in
     on_cond (ShowsBegun m) m.up (master_bounded m d choice) (no_step m)

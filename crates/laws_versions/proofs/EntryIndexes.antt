@@ -24,7 +24,7 @@ use Rattle.laws_versions.proofs.ReplacedChunks.{kept_before}
 
 -- lists
 
-take_front : (xs ys : List (Event × Choice)) → take (length xs) (xs ++ ys) ≡ xs
+pub take_front : (xs ys : List (Event × Choice)) → take (length xs) (xs ++ ys) ≡ xs
 take_front [] ys = refl
 take_front (x ∷ xs) ys = ap (λ (zs : List (Event × Choice)). x ∷ zs) (take_front xs ys)
 
@@ -32,21 +32,21 @@ take_all : (xs : List (Event × Choice)) → take (length xs) xs ≡ xs
 take_all [] = refl
 take_all (x ∷ xs) = ap (λ (zs : List (Event × Choice)). x ∷ zs) (take_all xs)
 
-take_more : (n m : ℕ) (xs : List (Event × Choice)) → n ≤ m → (more : List (Event × Choice)) × (take m xs ≡ take n xs ++ more)
+pub take_more : (n m : ℕ) (xs : List (Event × Choice)) → n ≤ m → (more : List (Event × Choice)) × (take m xs ≡ take n xs ++ more)
 take_more zero m xs low = (take m xs, refl)
 take_more (suc n) zero xs low = absurd (omega (arith, low))
 take_more (suc n) (suc m) [] low = ([], refl)
 take_more (suc n) (suc m) (x ∷ xs) low = let rest = take_more n m xs (omega (arith, low)) in (rest.0, ap (λ (zs : List (Event × Choice)). x ∷ zs) rest.1)
 
-joined : (xs : List (Event × Choice)) (x : Event × Choice) (ys : List (Event × Choice)) → (xs ++ x ∷ []) ++ ys ≡ xs ++ x ∷ ys
+pub joined : (xs : List (Event × Choice)) (x : Event × Choice) (ys : List (Event × Choice)) → (xs ++ x ∷ []) ++ ys ≡ xs ++ x ∷ ys
 joined [] x ys = refl
 joined (z ∷ xs) x ys = ap (λ (zs : List (Event × Choice)). z ∷ zs) (joined xs x ys)
 
-one_longer : (xs : List (Event × Choice)) (x : Event × Choice) → length (xs ++ x ∷ []) ≡ suc (length xs)
+pub one_longer : (xs : List (Event × Choice)) (x : Event × Choice) → length (xs ++ x ∷ []) ≡ suc (length xs)
 one_longer [] x = refl
 one_longer (z ∷ xs) x = ap (λ (n : ℕ). suc n) (one_longer xs x)
 
-within : (xs ys : List (Event × Choice)) → length xs ≤ length (xs ++ ys)
+pub within : (xs ys : List (Event × Choice)) → length xs ≤ length (xs ++ ys)
 within [] ys = omega arith
 within (x ∷ xs) ys = let rest = within xs ys in omega (arith, rest)
 

@@ -86,7 +86,7 @@ module _ (l : Logged) where
     pub next : l.next_handle ≤ k.next_handle
     pub rows : (handle : ℕ) (row : ChunkRow) → table.get (rows_of k) handle ≡ Some row → IsSizeIn handle row.shape.chunk
 
-  same_sized : AreSized l
+  pub same_sized : AreSized l
   same_sized = record { next = omega arith; rows = λ handle row is. inl (row, is, refl) }
 
   kept_sized : (k m : Logged) → k.next_handle ≤ m.next_handle → KeepsShapes (rows_of k) (rows_of m) → AreSized k → AreSized m
@@ -109,14 +109,14 @@ module _ (l : Logged) where
             ];
       }
 
-  swapped_sized : (k : Logged) (handle version primary : ℕ) (members : List ℕ) (o : Option Copy) → AreSized k
+  pub swapped_sized : (k : Logged) (handle version primary : ℕ) (members : List ℕ) (o : Option Copy) → AreSized k
       → AreSized (swapped_in (record k { table = grant k.table handle version primary members }) handle o)
   swapped_sized k handle version primary members None h =
       kept_sized k (swapped_in (record k { table = grant k.table handle version primary members }) handle None) (omega arith) (grant_keeps k handle version primary members None) h
   swapped_sized k handle version primary members (Some c) h =
       kept_sized k (swapped_in (record k { table = grant k.table handle version primary members }) handle (Some c)) (omega arith) (grant_keeps k handle version primary members (Some c)) h
 
-  sized_after : (k : Logged) (r : Record) → IsDue (Unit {0}) k r → AreSized k → AreSized (after_record k r)
+  pub sized_after : (k : Logged) (r : Record) → IsDue (Unit {0}) k r → AreSized k → AreSized (after_record k r)
   sized_after k (log.Snapshot client n from to) due h =
       let es : List (Path × Node) = copied_entries k.names from to in
       kept_sized k (after_record k (log.Snapshot client n from to)) (omega arith)
@@ -215,7 +215,7 @@ module _ (config : Config) (servers clients : ℕ) (w : WorldState) (r : IsReach
       (record { none = known.idle; disk = refl; same = known.same; tied = known.tied; stops = logged.found [] }, record { sized = same_sized now; said = tt }) in
       (((end.0).1).sized, ((end.0).1).said)
 
-  step_sized : (moment : ℕ) (i : NodeInput) (choice : Choice) → AreTellingSizes now (master_step w.master moment i choice).out.sent
+  pub step_sized : (moment : ℕ) (i : NodeInput) (choice : Choice) → AreTellingSizes now (master_step w.master moment i choice).out.sent
   step_sized moment i choice =
       let m : MasterState = w.master in
       let d : MasterDoing = master_goes m moment i choice.refused in

@@ -17,6 +17,8 @@ pub mod ToldOrders
 pub mod ToldSizes
 pub mod GrantedSizes
 pub mod RowSizes
+pub mod HandleSizes
+pub mod OneSizes
 pub mod TrueWords
 pub mod ServerWords
 pub mod HoldersKnown

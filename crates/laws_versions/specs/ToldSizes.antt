@@ -1,5 +1,5 @@
 -- Laws of every lawful list of events on the shapes of files and sizes of chunks that messages carry, that public functions of this crate state.
-use Rattle.std.specs.Prelude.{◌≡◌, ℕ, ◌<◌, List, Some, IsTrue}
+use Rattle.std.specs.Prelude.{◌≡◌, ℕ, ◌≤◌, ◌<◌, min, List, Some, IsTrue}
 use Rattle.std.specs.FinMap as table
 use Rattle.gfs_types.specs.declared.config.Config.{Config}
 use Rattle.gfs_types.specs.declared.ids.DataId.{DataId}
@@ -21,8 +21,11 @@ use Rattle.protocol.specs.Tables.{element_at}
 use Rattle.protocol.specs.Choice.{Choice}
 use Rattle.protocol.specs.Logged.{Logged, Copy}
 use Rattle.protocol.specs.MasterStep.{master_step}
-use Rattle.protocol.specs.World.{WorldState, happens, IsReached}
+use Rattle.protocol.specs.Observer.{Placed, order_of}
+use Rattle.protocol.specs.World.{WorldState, new_world, happens, after_events, IsReached}
 use Rattle.laws_base.specs.Laws.{IsSizeGranted, grants_of}
+use Rattle.laws_entries.specs.ChunkOrders.{WasCopied, IsSource}
+use Rattle.laws_entries.specs.PlacedEntries.{LiesWithin}
 
 -- one of the messages before this place is a Grant of the version to this node, with this size of the chunk
 abbrev pub WasGrantedWith : List Message → ℕ → Node → Handle → Version → ℕ → Type 0
@@ -65,3 +68,24 @@ GrantsTellTheirRowsSize =
     → (handle version size : ℕ) → grants_of handle version w.sent ≡ 0 → IsSizeGranted (happens w e choice).world.sent handle version size
     → (before after : ChunkRow) → chunk_of w.master.logged.table handle ≡ Some before → chunk_of (happens w e choice).world.master.logged.table handle ≡ Some after
     → (size ≡ before.shape.chunk) × (size ≡ after.shape.chunk)
+
+-- All Grants of a chunk, whatever their versions, tell one size, of 64 bytes at least (sections 2.3 and 3.1).
+abbrev pub ChunksHaveOneSize : Type 0
+ChunksHaveOneSize =
+    (config : Config) (servers clients : ℕ) (w : WorldState) → IsReached config servers clients w
+    → (handle version later size other : ℕ) → IsSizeGranted w.sent handle version size → IsSizeGranted w.sent handle later other → (size ≡ other) × (64 ≤ size)
+
+-- Those of a copy, and of a copy's copy, tell the size that those of its source tell (section 3.4).
+abbrev pub CopiesHaveTheirSourcesSize : Type 0
+CopiesHaveTheirSourcesSize =
+    (config : Config) (servers clients : ℕ) (steps : List (Event × Choice)) (from handle : ℕ) → IsSource (WasCopied (new_world config servers clients) steps) from handle
+    → (version later size other : ℕ) → IsSizeGranted (after_events (new_world config servers clients) steps).sent from version size
+    → IsSizeGranted (after_events (new_world config servers clients) steps).sent handle later other → size ≡ other
+
+-- So each entry in the order of a chunk that was granted was placed in a round that was granted with the same size, of this chunk or of one of which it is a copy, and lies within it (section 3.3).
+abbrev pub EntriesAreOfTheirChunksSize : Type 0
+EntriesAreOfTheirChunksSize =
+    (config : Config) (servers clients : ℕ) (steps : List (Event × Choice)) (handle place : ℕ) (p : Placed)
+    → element_at (order_of (after_events (new_world config servers clients) steps).observer handle) place ≡ Some p
+    → (version size : ℕ) → IsSizeGranted (after_events (new_world config servers clients) steps).sent handle version size
+    → (from : ℕ) × IsSizeGranted (after_events (new_world config servers clients) steps).sent from p.entry.round size × LiesWithin (min size config.chunk) p.entry.mutation

@@ -1,6 +1,6 @@
 //! Laws of the shapes of files and sizes of chunks that messages carry, in every lawful list of events from a new cell: restarts, stops in a step, losses, repeats, refused memory and rot.
 
-ghost use Rattle.laws_versions.specs.ToldSizes.{ForwardsTellTheGrantedSize, GrantsTellTheirFilesSizes, GrantsTellTheirRowsSize, ToldShapesAreTheirFiles};
+ghost use Rattle.laws_versions.specs.ToldSizes.{ChunksHaveOneSize, CopiesHaveTheirSourcesSize, EntriesAreOfTheirChunksSize, ForwardsTellTheGrantedSize, GrantsTellTheirFilesSizes, GrantsTellTheirRowsSize, ToldShapesAreTheirFiles};
 
 /// A Forward tells the size of the chunk with which its version was granted: such a Grant was sent to its sender before.
 pub fn forwards_tell_the_granted_size()
@@ -20,4 +20,19 @@ pub fn told_shapes_are_their_files()
 /// A version that an event grants, of a chunk that had a row before it and has one after it, is granted with the size of both rows.
 pub fn grants_tell_their_rows_size()
     ensures { GrantsTellTheirRowsSize }
+{}
+
+/// All Grants of a chunk, whatever their versions, tell one size, of 64 bytes at least.
+pub fn chunks_have_one_size()
+    ensures { ChunksHaveOneSize }
+{}
+
+/// The Grants of a copy, and of a copy's copy, tell the size that those of its source tell.
+pub fn copies_have_their_sources_size()
+    ensures { CopiesHaveTheirSourcesSize }
+{}
+
+/// Each entry in the order of a chunk that was granted was placed in a round that was granted with the same size, of this chunk or of one of which it is a copy, and lies within it.
+pub fn entries_are_of_their_chunks_size()
+    ensures { EntriesAreOfTheirChunksSize }
 {}
