@@ -1,5 +1,5 @@
 -- In each world that is reached, a client asks for a chunk past one, to append to it, only where that one was told to be full.
-use Rattle.std.proofs.Common.{IsTrue, ◌≡◌, inl, inr, ℕ, zero, suc, true, false, true≢false, List, [], ◌∷◌, ◌++◌, length, map, Option, Some, None, refl, sym, ap, subst, ◌∙◌}
+use Rattle.std.proofs.Common.{IsTrue, ◌≡◌, inl, inr, ℕ, zero, suc, true, false, true≢false, List, [], ◌∷◌, ◌++◌, length, map, min, Option, Some, None, refl, sym, ap, subst, ◌∙◌}
 use Rattle.std.specs.Option.{option_to_list}
 use Rattle.gfs_types.specs.declared.config.Config.{Config}
 use Rattle.gfs_types.specs.declared.ids.Handle.{Handle}
@@ -282,8 +282,8 @@ asks_past_a_chunk_find_it_full config servers clients w r kept some place client
       chunk = denied.chunk;
       size = full.size;
       granted = subst (λ (n : ℕ). IsSizeGranted w.sent n denied.round full.size) handle_is (subst (λ (v : ℕ). IsSizeGranted w.sent full.handle.0 v full.size) version_is full.granted);
-      full = subst (λ (n : ℕ). IsTrue (is_full w n full.size)) handle_is full.full;
-      ends = subst (λ (n : ℕ). HasFullEnd full.size (order_of w.observer n) denied.round) handle_is (subst (λ (v : ℕ). HasFullEnd full.size (order_of w.observer full.handle.0) v) version_is full.ends);
+      full = subst (λ (n : ℕ). IsTrue (is_full w n (min full.size w.config.chunk))) handle_is full.full;
+      ends = subst (λ (n : ℕ). HasFullEnd (min full.size w.config.chunk) (order_of w.observer n) denied.round) handle_is (subst (λ (v : ℕ). HasFullEnd (min full.size w.config.chunk) (order_of w.observer full.handle.0) v) version_is full.ends);
     }
   where
     denied : IsDenied w.sent client file.0 past

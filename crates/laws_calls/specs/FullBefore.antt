@@ -1,5 +1,5 @@
 -- The law of every lawful list of events on asks past a chunk, that a public function of this crate states.
-use Rattle.std.specs.Prelude.{◌≡◌, ◌≤◌, ℕ, suc, Bool, Some, IsTrue}
+use Rattle.std.specs.Prelude.{◌≡◌, ◌≤◌, ℕ, suc, min, Bool, Some, IsTrue}
 use Rattle.gfs_types.specs.declared.config.Config.{Config}
 use Rattle.gfs_types.specs.declared.ids.FileId.{FileId}
 use Rattle.gfs_types.specs.declared.ids.Moment.{Moment}
@@ -15,15 +15,15 @@ use Rattle.protocol_invariant.specs.AttemptParts.{is_full}
 use Rattle.laws_replicas.specs.FullOrders.{HasFullEnd}
 use Rattle.laws_calls.specs.AnsweredWrites.{IsToldChunk}
 
--- The client was told a chunk of this index of the file, and that chunk's order has an entry that ends at the chunk's end, of a round up to the told one, by the size that a Grant of the told round told.
+-- The client was told a chunk of this index of the file, and that chunk's order has an entry that ends at the chunk's end, of a round up to the told one, by the size that a Grant of the told round told, within a slot.
 pub record IsFullBefore (w : WorldState) (client file index : ℕ) : Type 0 where
   pub handle : ℕ
   pub round : ℕ
   pub chunk : IsToldChunk w.sent client file index handle round
   pub size : ℕ
   pub granted : IsSizeGranted w.sent handle round size
-  pub full : IsTrue (is_full w handle size)
-  pub ends : HasFullEnd size (order_of w.observer handle) round
+  pub full : IsTrue (is_full w handle (min size w.config.chunk))
+  pub ends : HasFullEnd (min size w.config.chunk) (order_of w.observer handle) round
 
 -- Where clocks are kept, a client asks for a chunk past one, to append to it, only where that one is full in this sense (section 3.3). A chunk has at least one byte.
 abbrev pub AsksPastAChunkFindItFull : Type 0

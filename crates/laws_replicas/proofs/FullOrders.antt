@@ -1,6 +1,7 @@
 -- In each world that is reached with kept clocks, each attempt whose chunk is told to be full, or kept as such, was sent for a chunk whose order has an entry that ends at the chunk's end.
 use Rattle.std.proofs.Common.{◌≡◌, ℕ, zero, suc, ◌+◌, ◌≤◌, Bool, true, false, cond, List, [], ◌∷◌, ◌++◌, length, map, Option, Some, None, refl, sym, ap, subst, ◌∙◌, inl, inr, arith}
-use Rattle.std.specs.Prelude.{◌||◌, ◌==◌, IsTrue}
+use Rattle.std.proofs.Math.Nat.{le-min}
+use Rattle.std.specs.Prelude.{◌||◌, ◌==◌, min, IsTrue}
 use Rattle.std.specs.FinMap as table
 use Rattle.std.specs.List.{list_any}
 use Rattle.std.specs.Option.{option_to_list}
@@ -12,7 +13,8 @@ use Rattle.gfs_types.specs.declared.ids.Handle.{Handle}
 use Rattle.gfs_types.specs.declared.ids.Version.{Version}
 use Rattle.gfs_types.specs.declared.ids.Moment.{Moment}
 use Rattle.gfs_types.specs.declared.refusal.Refusal.TheVariants.{ChunkFull}
-use Rattle.gfs_types.specs.declared.mutation.Mutation.TheVariants.{Pad}
+use Rattle.gfs_types.specs.declared.mutation.Mutation.{Mutation}
+use Rattle.gfs_types.specs.declared.mutation.Mutation.TheVariants.{Write, Append, Pad}
 use Rattle.gfs_types.specs.Mutations.{end_of}
 use Rattle.messages.specs.declared.event.Event.{Event}
 use Rattle.messages.specs.declared.event.NodeInput.{NodeInput}
@@ -32,7 +34,7 @@ use Rattle.protocol.specs.declared.seen.Seen.TheVariants.{Numbered}
 use Rattle.protocol.specs.Observer.{Placed, observed_moment, placed_in, order_of}
 use Rattle.protocol.specs.Client.{ClientState, ClientDoing}
 use Rattle.protocol.specs.ClientStep.{client_at, client_step, client_call}
-use Rattle.protocol.specs.Server.{ServerState, ServerDoing, started_server, server_begins, primary_of}
+use Rattle.protocol.specs.Server.{ServerState, ServerDoing, chunk_limit, started_server, server_begins, primary_of}
 use Rattle.protocol.specs.ServerWrites.{mutates_under}
 use Rattle.protocol.specs.ServerStep.{server_at, server_takes, server_goes, server_ends, server_step, server_restart}
 use Rattle.protocol.specs.MasterStep.{master_step, master_restart}
@@ -57,6 +59,10 @@ use Rattle.laws_entries.proofs.FullOrders.{IsCaused, Causes, right_on, caused_on
 use Rattle.laws_entries.proofs.FullAnswers.{AreRight, Leaves, IsFullEnd, step_leaves, none_right, restart_leaves}
 use Rattle.laws_entries.proofs.FullPlaces.{placed_first, denied_full}
 use Rattle.laws_versions.proofs.ClosedVersions.{clocks_before}
+use Rattle.laws_base.specs.Laws.{IsSizeGranted}
+use Rattle.laws_base.proofs.LeasesTold.{leases_are_told}
+use Rattle.laws_entries.specs.PlacedEntries.{LiesWithin}
+use Rattle.laws_versions.proofs.OneSizes.{chunks_have_one_size, entries_are_of_their_chunks_size}
 use Rattle.laws_replicas.specs.CopiedEntries.{Follows}
 use Rattle.laws_replicas.specs.FullOrders.{HasFullEnd, FullChunksHaveAFullOrder}
 use Rattle.laws_replicas.proofs.OrdersGrow.{IsAny, same_follows, HaveGrown, orders_grow}
@@ -76,8 +82,8 @@ listed size (q ∷ order) zero p at is =
     ap (λ (b : Bool). b || list_any (λ x. end_of x.entry.mutation == size) order) (eq-eqb (end_of q.entry.mutation) size (ap (λ (x : Placed). end_of x.entry.mutation) (same_some q p at) ∙ is))
 listed size (q ∷ order) (suc place) p at is = or_right (end_of q.entry.mutation == size) (list_any (λ x. end_of x.entry.mutation == size) order) (listed size order place p at is)
 
--- the data were to be placed in a chunk whose order has such an entry
-record IsEnded (size : ℕ) (w : WorldState) (id : DataId) : Type 0 where
+-- the data were to be placed in a chunk whose order has such an entry, by the size with which the version was granted
+record IsEnded (slot : ℕ) (w : WorldState) (id : DataId) : Type 0 where
   asked : Message
   handle : Handle
   version : Version
@@ -85,15 +91,22 @@ record IsEnded (size : ℕ) (w : WorldState) (id : DataId) : Type 0 where
   deadline : Moment
   sent_is : IsAmong w.sent asked
   body_is : asked.body ≡ body.Mutate id handle version aim deadline
-  ends : HasFullEnd size (order_of w.observer handle.0) version.0
+  size : ℕ
+  granted : IsSizeGranted w.sent handle.0 version.0 size
+  ends : HasFullEnd (min size slot) (order_of w.observer handle.0) version.0
 
 ends_on : (size version : ℕ) (from to : List Placed) → Follows IsAny from to → HasFullEnd size from version → HasFullEnd size to version
 ends_on size version from to follows h =
     let there = follows h.0 h.1 h.2 tt in
     (h.0, there.0, there.1, subst (λ (n : ℕ). n ≤ version) (sym (ap (λ (x : Placed). x.entry.round) there.2)) h.3, ap (λ (x : Placed). end_of x.entry.mutation) there.2 ∙ h.4)
 
-ended_on : (size : ℕ) (w v : WorldState) (more : List Message) → v.sent ≡ w.sent ++ more → HaveGrown w v → (id : DataId) → IsEnded size w id → IsEnded size v id
-ended_on size w v more sent grown id h =
+-- a Grant that was sent was sent
+granted_on : (sent all more : List Message) → all ≡ sent ++ more → (handle version size : ℕ) → IsSizeGranted sent handle version size → IsSizeGranted all handle version size
+granted_on sent all more grown handle version size g =
+    (g.0, g.1, ap (λ (ms : List Message). element_at ms g.0) grown ∙ kept_place sent more g.0 g.1 g.2, g.3, g.4, g.5, g.6)
+
+ended_on : (slot : ℕ) (w v : WorldState) (more : List Message) → v.sent ≡ w.sent ++ more → HaveGrown w v → (id : DataId) → IsEnded slot w id → IsEnded slot v id
+ended_on slot w v more sent grown id h =
     record {
       asked = h.asked;
       handle = h.handle;
@@ -102,8 +115,20 @@ ended_on size w v more sent grown id h =
       deadline = h.deadline;
       sent_is = ((h.sent_is).0, ap (λ (ms : List Message). element_at ms (h.sent_is).0) sent ∙ kept_place w.sent more (h.sent_is).0 h.asked (h.sent_is).1);
       body_is = h.body_is;
-      ends = ends_on size h.version.0 (order_of w.observer h.handle.0) (order_of v.observer h.handle.0) (grown h.handle.0) h.ends;
+      size = h.size;
+      granted = granted_on w.sent v.sent more sent h.handle.0 h.version.0 h.size h.granted;
+      ends = ends_on (min h.size slot) h.version.0 (order_of w.observer h.handle.0) (order_of v.observer h.handle.0) (grown h.handle.0) h.ends;
     }
+
+-- what lies within a chunk ends within it
+within_end : (size : ℕ) (m : Mutation) → LiesWithin size m → end_of m ≤ size
+within_end size (Write offset bytes) lies = lies
+within_end size (Append offset bytes) lies = lies
+within_end size (Pad offset end) lies = let same = lies.1 in omega (arith, same)
+
+-- as much as a chunk of this size may have at least, and no more
+both_ends : (end count size : ℕ) → end ≡ count → size ≤ count → end ≤ size → end ≡ size
+both_ends end count size same least most = omega (arith, same, least, most)
 
 -- words that tell of no full chunk
 
@@ -176,8 +201,9 @@ module _ (config : Config) (servers clients : ℕ) (some : 1 ≤ config.chunk) w
 
       module _ (grown : HaveGrown w (after_server w index moment (server_step s moment i choice)).world) where
         -- the replica was full
-        by_replica : (handle : Handle) (version : ℕ) (p : SerialOrder) → primary_of (server_at s moment) handle.0 version ≡ Some p → (row : Row) × (row_at s.disk handle.0 ≡ Some row) × (row.count ≡ config.chunk) → HasFullEnd config.chunk (order_of w.observer handle.0) version
-        by_replica handle version p primary found = there ends
+        by_replica : (handle : Handle) (version : ℕ) (p : SerialOrder) → primary_of (server_at s moment) handle.0 version ≡ Some p → IsSizeGranted w.sent handle.0 version p.chunk
+            → (row : Row) × (row_at s.disk handle.0 ≡ Some row) × (min p.chunk config.chunk ≤ row.count) → HasFullEnd (min p.chunk config.chunk) (order_of w.observer handle.0) version
+        by_replica handle version p primary granted found = there ends
           where
             one : (x : Replica) × (replica_of s.disk handle.0 ≡ Some x) × (length x.bytes ≡ found.0.count)
             one = row_there (replica_of s.disk handle.0) found.0 found.1
@@ -185,8 +211,17 @@ module _ (config : Config) (servers clients : ℕ) (some : 1 ≤ config.chunk) w
             ends : EndsAtEntry (order_of w.observer handle.0) one.0.version (length one.0.bytes)
             ends = (replicas_end_at_entries config servers clients w r kept index s at).0 handle.0 one.0 one.1
 
-            long : length one.0.bytes ≡ config.chunk
-            long = one.2 ∙ found.2
+            -- a chunk has at least one byte
+            least : 1 ≤ min p.chunk config.chunk
+            least = let told = (chunks_have_one_size config servers clients w r handle.0 version version p.chunk p.chunk granted granted).1 in le-min (omega (arith, told)) some
+
+            -- each entry of the order is of the chunk's size
+            most : (place : ℕ) (e : Placed) → element_at (order_of w.observer handle.0) place ≡ Some e → end_of e.entry.mutation ≤ min p.chunk config.chunk
+            most place e stands =
+                let of =
+                entries_are_of_their_chunks_size config servers clients r.0 handle.0 place e (subst (λ (v : WorldState). element_at (order_of v.observer handle.0) place ≡ Some e) (sym r.1) stands) version p.chunk
+                (subst (λ (v : WorldState). IsSizeGranted v.sent handle.0 version p.chunk) (sym r.1) granted) in
+                within_end (min p.chunk config.chunk) e.entry.mutation of.2
 
             version_is : one.0.version ≡ version
             version_is =
@@ -194,17 +229,23 @@ module _ (config : Config) (servers clients : ℕ) (some : 1 ≤ config.chunk) w
                 let has = leases_have_their_replica config servers clients w r index s at handle.0 p held.0 in
                 ap (λ (x : Replica). x.version) (same_some one.0 has.0 (sym one.1 ∙ has.1)) ∙ (has.2 ∙ held.1)
 
-            there : EndsAtEntry (order_of w.observer handle.0) one.0.version (length one.0.bytes) → HasFullEnd config.chunk (order_of w.observer handle.0) version
-            there (inl none) = absurd (omega (arith, none, long, some))
-            there (inr entry) = (entry.0, entry.1, entry.2, subst (λ (n : ℕ). (entry.1).entry.round ≤ n) version_is entry.3, entry.4 ∙ long)
+            there : EndsAtEntry (order_of w.observer handle.0) one.0.version (length one.0.bytes) → HasFullEnd (min p.chunk config.chunk) (order_of w.observer handle.0) version
+            there (inl none) = absurd (let long = one.2 in let full = found.2 in let low = least in omega (arith, none, long, full, low))
+            there (inr entry) = (
+              entry.0,
+              entry.1,
+              entry.2,
+              subst (λ (n : ℕ). (entry.1).entry.round ≤ n) version_is entry.3,
+              both_ends (end_of (entry.1).entry.mutation) found.0.count (min p.chunk config.chunk) (entry.4 ∙ one.2) found.2 (most entry.0 entry.1 entry.2),
+            )
 
         -- a pad is placed
-        by_pad : (handle version : ℕ) (p : SerialOrder) (id : DataId) (offset : ℕ) (handle_is : Handle) → handle_is.0 ≡ handle → p.held.version ≡ version → (place : ℕ) → element_at (server_step s moment i choice).seen place ≡ Some (Numbered handle_is (version_of p.held.version) (serial_of (p.serial + 1)) id (Pad offset config.chunk))
-            → HasFullEnd config.chunk (order_of After.world.observer handle) version
+        by_pad : (handle version : ℕ) (p : SerialOrder) (id : DataId) (offset : ℕ) (handle_is : Handle) → handle_is.0 ≡ handle → p.held.version ≡ version → (place : ℕ) → element_at (server_step s moment i choice).seen place ≡ Some (Numbered handle_is (version_of p.held.version) (serial_of (p.serial + 1)) id (Pad offset (min p.chunk config.chunk)))
+            → HasFullEnd (min p.chunk config.chunk) (order_of After.world.observer handle) version
         by_pad handle version p id offset named same under place shown =
-            let there = numbered_there (observed_moment w.config.skew_ms w.observer moment).trace w.observer.orders (server_step s moment i choice).seen place named (version_of p.held.version) (serial_of (p.serial + 1)) id (Pad offset config.chunk) (server_shown s moment i choice) shown in
+            let there = numbered_there (observed_moment w.config.skew_ms w.observer moment).trace w.observer.orders (server_step s moment i choice).seen place named (version_of p.held.version) (serial_of (p.serial + 1)) id (Pad offset (min p.chunk config.chunk)) (server_shown s moment i choice) shown in
             let round : (there.1).entry.round ≡ version = ap (λ (x : Placed). x.entry.round) there.3 ∙ under in
-            subst (λ (n : ℕ). HasFullEnd config.chunk (order_of After.world.observer n) version) same (there.0, there.1, there.2, omega (arith, round), ap (λ (x : Placed). end_of x.entry.mutation) there.3)
+            subst (λ (n : ℕ). HasFullEnd (min p.chunk config.chunk) (order_of After.world.observer n) version) same (there.0, there.1, there.2, omega (arith, round), ap (λ (x : Placed). end_of x.entry.mutation) there.3)
 
         whole_step : server_step s moment i choice ≡ server_ends s (server_goes s moment i) choice choice.ending
         whole_step = ap (λ (b : Bool). cond b (server_ends s (server_goes s moment i) choice choice.ending) (no_step s)) up
@@ -221,17 +262,28 @@ module _ (config : Config) (servers clients : ℕ) (some : 1 ≤ config.chunk) w
               deadline = deadline;
               sent_is = ((came m is).0, kept_place w.sent New (came m is).0 m (came m is).1);
               body_is = asked;
+              size = p.chunk;
+              granted = granted_on w.sent After.world.sent New refl handle.0 version.0 p.chunk granted;
               ends = elim (end) [
                 | inl denied ↦
                     let found = denied_full (server_at s moment) handle.0 p id t deadline.0 (primary_of (server_at s moment) handle.0 version.0) primary new denied in
-                    ends_on config.chunk version.0 (order_of w.observer handle.0) (order_of After.world.observer handle.0) (grown handle.0) (by_replica handle version.0 p primary (found.0, found.1, found.2 ∙ chunk_is))
-                | inr placed ↦ by_pad handle.0 version.0 p id placed.0 handle refl (primary_there (server_at s moment) version.0 (table.get s.leases handle.0) p primary).1 0 (shown ∙ (ap (λ (e : ServerDoing). element_at e.seen 0) (goes_is ∙ placed.1) ∙ placed_first (server_at s moment) handle.0 p id (Pad placed.0 s.config.chunk) placed.2
-                    ∙ ap (λ (n : ℕ). Some (Numbered handle (version_of p.held.version) (serial_of (p.serial + 1)) id (Pad placed.0 n))) chunk_is))
+                    ends_on (min p.chunk config.chunk) version.0 (order_of w.observer handle.0) (order_of After.world.observer handle.0) (grown handle.0)
+                    (by_replica handle version.0 p primary granted (found.0, found.1, subst (λ (n : ℕ). n ≤ (found.0).count) limit_is found.2))
+                | inr placed ↦ by_pad handle.0 version.0 p id placed.0 handle refl (primary_there (server_at s moment) version.0 (table.get s.leases handle.0) p primary).1 0 (shown ∙ (ap (λ (e : ServerDoing). element_at e.seen 0) (goes_is ∙ placed.1) ∙ placed_first (server_at s moment) handle.0 p id (Pad placed.0 (chunk_limit s p.chunk)) placed.2
+                    ∙ ap (λ (n : ℕ). Some (Numbered handle (version_of p.held.version) (serial_of (p.serial + 1)) id (Pad placed.0 n))) limit_is))
               ];
             }
           where
-            chunk_is : s.config.chunk ≡ config.chunk
-            chunk_is = ap (λ (g : Config). g.chunk) (servers_within config servers clients w r index s at).set
+            limit_is : chunk_limit s p.chunk ≡ min p.chunk config.chunk
+            limit_is = ap (λ (g : Config). min p.chunk g.chunk) (servers_within config servers clients w r index s at).set
+
+            lease_there : (table.get s.leases handle.0 ≡ Some p) × (p.held.version ≡ version.0)
+            lease_there = primary_there (server_at s moment) version.0 (table.get s.leases handle.0) p primary
+
+            granted : IsSizeGranted w.sent handle.0 version.0 p.chunk
+            granted =
+                let told = (leases_are_told config servers clients w r index s at handle.0 p lease_there.0).0 in
+                subst (λ (n : ℕ). IsSizeGranted w.sent handle.0 n p.chunk) lease_there.1 (told.0, told.1, told.2, told.4, told.5, p.held.members, told.6)
 
             goes_is : server_goes s moment i ≡ mutates_under (server_begins (server_at s moment)) handle.0 id t deadline.0 (primary_of (server_at s moment) handle.0 version.0)
             goes_is = ap (λ (j : NodeInput). server_goes s moment j) is ∙ ap (λ (b : Body). server_takes (server_begins (server_at s moment)) m b) asked
@@ -353,12 +405,17 @@ full_chunks_have_a_full_order config servers clients w r kept some place client 
       sent_is = one.sent_is;
       sender_is = subst (λ (b : Body). IsOwn (one.asked).sender b) one.body_is (mutates_are_own config servers clients w r (one.sent_is).0 one.asked (one.sent_is).1);
       body_is = one.body_is;
-      full = subst (λ (n : ℕ). IsTrue (list_any (λ (q : Placed). end_of q.entry.mutation == n) (order_of w.observer one.handle.0))) (sym (ap (λ (c : Config). c.chunk) (settings_stay config servers clients w r)))
-          (listed config.chunk (order_of w.observer one.handle.0) (one.ends).0 (one.ends).1 (one.ends).2 (one.ends).4);
-      ends = subst (λ (n : ℕ). HasFullEnd n (order_of w.observer one.handle.0) one.version.0) (sym (ap (λ (c : Config). c.chunk) (settings_stay config servers clients w r))) one.ends;
+      size = one.size;
+      granted = one.granted;
+      full = subst (λ (n : ℕ). IsTrue (list_any (λ (q : Placed). end_of q.entry.mutation == n) (order_of w.observer one.handle.0))) (sym slot_is)
+          (listed (min one.size config.chunk) (order_of w.observer one.handle.0) (one.ends).0 (one.ends).1 (one.ends).2 (one.ends).4);
+      ends = subst (λ (n : ℕ). HasFullEnd n (order_of w.observer one.handle.0) one.version.0) (sym slot_is) one.ends;
     }
   where
     one : IsEnded config.chunk w (data_id client number)
     one =
         subst (λ (n : Node). IsCaused (IsEnded config.chunk w) (body.Refused number ChunkFull) n) receiver
         (subst (λ (b : Body). IsCaused (IsEnded config.chunk w) b m.receiver) is ((sound_reached config servers clients some w r kept).told place m at))
+
+    slot_is : min one.size w.config.chunk ≡ min one.size config.chunk
+    slot_is = ap (λ (c : Config). min one.size c.chunk) (settings_stay config servers clients w r)

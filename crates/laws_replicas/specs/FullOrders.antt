@@ -1,5 +1,5 @@
 -- The law of every lawful list of events on chunks that are told to be full, that a public function of this crate states.
-use Rattle.std.specs.Prelude.{◌≡◌, ◌≤◌, ℕ, List, Some, IsTrue}
+use Rattle.std.specs.Prelude.{◌≡◌, ◌≤◌, ℕ, min, List, Some, IsTrue}
 use Rattle.gfs_types.specs.declared.config.Config.{Config}
 use Rattle.gfs_types.specs.declared.ids.DataId.{DataId}
 use Rattle.gfs_types.specs.declared.ids.Handle.{Handle}
@@ -22,7 +22,7 @@ use Rattle.protocol_invariant.specs.AttemptParts.{is_full}
 abbrev pub HasFullEnd : (size : ℕ) → List Placed → (version : ℕ) → Type 0
 HasFullEnd size order version = (place : ℕ) × (p : Placed) × (element_at order place ≡ Some p) × (p.entry.round ≤ version) × (end_of p.entry.mutation ≡ size)
 
--- The client of these data asked to place them in a chunk, under a version, and that chunk's order has an entry of a round up to it that ends at the chunk's end, by the size that a Grant of the version told.
+-- The client of these data asked to place them in a chunk, under a version, and that chunk's order has an entry of a round up to it that ends at the chunk's end, by the size that a Grant of the version told, within a slot.
 pub record IsOfFullOrder (w : WorldState) (id : DataId) : Type 0 where
   pub asked : Message
   pub handle : Handle
@@ -34,8 +34,8 @@ pub record IsOfFullOrder (w : WorldState) (id : DataId) : Type 0 where
   pub body_is : asked.body ≡ body.Mutate id handle version aim deadline
   pub size : ℕ
   pub granted : IsSizeGranted w.sent handle.0 version.0 size
-  pub full : IsTrue (is_full w handle.0 size)
-  pub ends : HasFullEnd size (order_of w.observer handle.0) version.0
+  pub full : IsTrue (is_full w handle.0 (min size w.config.chunk))
+  pub ends : HasFullEnd (min size w.config.chunk) (order_of w.observer handle.0) version.0
 
 -- Where clocks are kept, ChunkFull is told only of data whose chunk is full in this sense (section 3.3). A chunk has at least one byte.
 abbrev pub FullChunksHaveAFullOrder : Type 0
