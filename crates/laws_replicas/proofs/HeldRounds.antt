@@ -23,7 +23,7 @@ use Rattle.protocol.specs.Choice.{Choice, Ending, Goes, Lost, Stops}
 use Rattle.protocol.specs.declared.seen.Seen.{Seen}
 use Rattle.protocol.specs.declared.seen.Seen.TheVariants.{Numbered, BecameSettled, CopyStarted}
 use Rattle.protocol.specs.Observer.{Placed, observed_moment, placed_in, orders_after_all}
-use Rattle.protocol.specs.Server.{ServerState}
+use Rattle.protocol.specs.Server.{chunk_limit, ServerState}
 use Rattle.protocol.specs.ServerStep.{server_step, server_restarts, server_restart}
 use Rattle.protocol.specs.MasterStep.{master_step}
 use Rattle.protocol.specs.ClientStep.{client_step, client_call}
@@ -153,7 +153,7 @@ module _ (config : Config) (servers clients : ℕ) (w : WorldState) (r : IsReach
             | inr apart ↦ absurd (apart.0 (sym (versions_have_one_primary config servers clients w r index other s u at apart.1 handle.0 by.lease p by.lease_is lease (sym by.version_is ∙ round))))
           ]
         where
-          by : IsPlacedByReplica config.chunk s handle.0 version.0 serial.0 id m
+          by : IsPlacedByReplica s handle.0 version.0 serial.0 id m
           by = mutations_are_placed_by_replicas config servers clients w r index s at moment i choice place handle version serial id m seen
 
           reach : IsApplied s.disk (server_step s moment i choice).state.disk handle.0 serial.0 m → replica_of (server_step s moment i choice).state.disk handle.0 ≡ Some now → end_of m ≤ length now.bytes
@@ -235,13 +235,13 @@ held_rounds_are_applied config servers clients w r index s at handle p is place 
 pub records_come_behind_their_round : RecordsComeBehindTheirRound
 records_come_behind_their_round config servers clients w r index s at moment i choice shown handle version serial id m seen place e there round = behind m by.placed
   where
-    by : IsPlacedByReplica config.chunk s handle.0 version.0 serial.0 id m
+    by : IsPlacedByReplica s handle.0 version.0 serial.0 id m
     by = mutations_are_placed_by_replicas config servers clients w r index s at moment i choice shown handle version serial id m seen
 
     low : end_of e.entry.mutation ≤ length (by.replica).bytes
     low = ends_within config servers clients w r handle.0 place e there index s at by.lease by.lease_is (round ∙ by.version_is) by.replica by.replica_is
 
-    behind : (x : Mutation) → IsPlacedBehind config.chunk (length (by.replica).bytes) by.bytes x → ComesBehind (end_of e.entry.mutation) x
+    behind : (x : Mutation) → IsPlacedBehind (chunk_limit s (by.lease).chunk) (length (by.replica).bytes) by.bytes x → ComesBehind (end_of e.entry.mutation) x
     behind (Write offset bytes) placed = tt
     behind (Append offset bytes) placed = let start = placed.1 in let bound = low in omega (arith, start, bound)
     behind (Pad offset end) placed = let start = placed.0 in let bound = low in omega (arith, start, bound)

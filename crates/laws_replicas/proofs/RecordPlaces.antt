@@ -1,6 +1,7 @@
 -- A record that a server numbers is at most a quarter of a chunk, and begins below the chunk's end; a pad comes in place of such a record.
 use Rattle.std.proofs.Common.{◌≡◌, ◌≢◌, ℕ, ◌≤◌, false, List, length, Some, sym, subst, ◌∙◌, arith}
 use Rattle.std.specs.Prelude.{◌*◌, ◌/◌, nat_lt}
+use Rattle.std.specs.FinMap as table
 use Rattle.std.proofs.lemmas.Bool.{ltb-false}
 use Rattle.std.proofs.Math.Nat.{mul-div-le}
 use Rattle.gfs_types.specs.declared.config.Config.{Config}
@@ -18,7 +19,8 @@ use Rattle.protocol.specs.Tables.{element_at}
 use Rattle.protocol.specs.Choice.{Choice}
 use Rattle.protocol.specs.declared.seen.Seen.{Seen}
 use Rattle.protocol.specs.declared.seen.Seen.TheVariants.{Numbered, BecameSettled, CopyStarted}
-use Rattle.protocol.specs.Server.{ServerState}
+use Rattle.protocol.specs.Server.{chunk_limit, ServerState}
+use Rattle.primary_order.specs.SerialOrder.{SerialOrder}
 use Rattle.protocol.specs.ServerStep.{server_at, server_step}
 use Rattle.protocol.specs.World.{WorldState, IsReached}
 use Rattle.laws_base.proofs.ServerWalk.{IsPlacedAt, IsRecord}
@@ -26,6 +28,7 @@ use Rattle.laws_steps.proofs.ServerSays.{IsShown as IsNoted, step_shows}
 use Rattle.laws_base.proofs.Entries.{AllOf}
 use Rattle.laws_base.proofs.MembersRecorded.{all_at}
 use Rattle.laws_entries.specs.Entries.{IsAmong}
+use Rattle.laws_entries.proofs.RoundsPassed.{primary_there}
 
 -- what is numbered of these data in a chunk of this size
 abbrev pub IsShort : (size : ℕ) → List ℕ → Mutation → Type 0
@@ -41,21 +44,24 @@ quarter size count short =
 
 -- what this server shows of its data
 abbrev pub IsShown : ServerState → Seen → Type 0
-IsShown s (Numbered handle version serial id m) = (bytes : List ℕ) × (data_of s.pushed id ≡ Some bytes) × IsShort s.config.chunk bytes m
+IsShown s (Numbered handle version serial id m) =
+    (lease : SerialOrder) × (table.get s.leases handle.0 ≡ Some lease) × (bytes : List ℕ) × (data_of s.pushed id ≡ Some bytes) × IsShort (chunk_limit s lease.chunk) bytes m
 IsShown s (BecameSettled handle version serial) = Unit {0}
 IsShown s (CopyStarted handle copy) = Unit {0}
 
 short_record : (size count : ℕ) (bytes : List ℕ) (m : Mutation) → IsPlacedAt size count bytes m → IsRecord size count bytes m → IsShort size bytes m
 short_record size count bytes (mutation.Write offset written) at whole = tt
-short_record size count bytes (mutation.Append offset written) at whole = (quarter size (length bytes) whole.0, λ same. whole.1 (sym at.1 ∙ same))
+short_record size count bytes (mutation.Append offset written) at whole = (quarter size (length bytes) whole.0, λ same. let less = whole.1 in let place = at.1 in omega (arith, less, place, same))
 short_record size count bytes (mutation.Pad offset end) at whole = quarter size (length bytes) whole
 
 shown_short : (s : ServerState) (i : NodeInput) (x : Seen) → IsNoted s i x → IsShown s x
 shown_short s i (Numbered handle version serial id m) h =
     let n = h.0 in (
+      n.a.p,
+      subst (λ (q : Handle). table.get s.leases q.0 ≡ Some n.a.p) (sym (h.1).0) (primary_there s (n.a.c.version).0 (table.get s.leases (n.a.c.handle).0) n.a.p n.a.primary).0,
       n.bytes,
       subst (λ (x : DataId). data_of s.pushed x ≡ Some n.bytes) (sym h.2) n.pushed,
-      subst (λ (x : Mutation). IsShort s.config.chunk n.bytes x) (sym h.3) (short_record s.config.chunk n.a.row.count n.bytes n.placed n.at n.whole),
+      subst (λ (x : Mutation). IsShort (chunk_limit s n.a.p.chunk) n.bytes x) (sym h.3) (short_record (chunk_limit s n.a.p.chunk) n.a.row.count n.bytes n.placed n.at n.whole),
     )
 shown_short s i (BecameSettled handle version serial) h = tt
 shown_short s i (CopyStarted handle copy) h = tt
@@ -64,7 +70,8 @@ shown_short s i (CopyStarted handle copy) h = tt
 pub numbered_short : (config : Config) (servers clients : ℕ) (w : WorldState) → IsReached config servers clients w → (index : ℕ) (s : ServerState)
     → element_at w.servers index ≡ Some s → (moment : ℕ) (i : NodeInput) (choice : Choice)
     → ((m : Message) → i ≡ input.Deliver m → IsAmong w.sent m) → (shown : ℕ) (handle : Handle) (version : Version) (serial : Serial) (id : DataId) (m : Mutation)
-    → element_at (server_step s moment i choice).seen shown ≡ Some (Numbered handle version serial id m) → (bytes : List ℕ) × (data_of s.pushed id ≡ Some bytes) × IsShort s.config.chunk bytes m
+    → element_at (server_step s moment i choice).seen shown ≡ Some (Numbered handle version serial id m)
+    → (lease : SerialOrder) × (table.get s.leases handle.0 ≡ Some lease) × (bytes : List ℕ) × (data_of s.pushed id ≡ Some bytes) × IsShort (chunk_limit s lease.chunk) bytes m
 numbered_short config servers clients w r index s at moment i choice came shown handle version serial id m seen =
     all_at (IsShown s) (server_step s moment i choice).seen shown (Numbered handle version serial id m) step seen
   where

@@ -10,7 +10,7 @@ use Rattle.gfs_types.specs.Mutations.{end_of}
 use Rattle.gfs_types.specs.Image.{image, image_length, bytes_from}
 use Rattle.protocol.specs.Tables.{element_at}
 use Rattle.protocol.specs.Observer.{Placed, observed_moment, order_of}
-use Rattle.protocol.specs.Server.{ServerState}
+use Rattle.protocol.specs.Server.{chunk_limit, ServerState}
 use Rattle.protocol.specs.World.{WorldState, IsReached}
 use Rattle.laws_base.specs.Laws.{is_grant, grants_of}
 use Rattle.laws_base.proofs.Steps.{none_some, same_some}
@@ -88,7 +88,7 @@ module _ (config : Config) (servers clients : ℕ) (w : WorldState) (r : IsReach
 pub records_come_behind_settled_entries : RecordsComeBehindSettledEntries
 records_come_behind_settled_entries config servers clients w r kept index s at moment i choice came then_clocks shown handle version serial id m seen place e there settled = behind m by.placed
   where
-    by : IsPlacedByReplica config.chunk s handle.0 version.0 serial.0 id m
+    by : IsPlacedByReplica s handle.0 version.0 serial.0 id m
     by = mutations_are_placed_by_replicas config servers clients w r index s at moment i choice shown handle version serial id m seen
 
     have : (g : IsImageOf (order_of w.observer handle.0) (by.replica).version (by.replica).serial (by.replica).bytes) × HasSettled (order_of w.observer handle.0) (by.replica).version (marked g.marks (order_of w.observer handle.0))
@@ -105,7 +105,7 @@ records_come_behind_settled_entries config servers clients w r kept index s at m
     low =
         subst (λ (bs : List ℕ). end_of e.entry.mutation ≤ length bs) (sym (have.0).bytes_are) (ends_within config servers clients w r handle.0 (have.0).marks place e there (have.1 place e there settled round))
 
-    behind : (x : Mutation) → IsPlacedBehind config.chunk (length (by.replica).bytes) by.bytes x → ComesBehind (end_of e.entry.mutation) x
+    behind : (x : Mutation) → IsPlacedBehind (chunk_limit s (by.lease).chunk) (length (by.replica).bytes) by.bytes x → ComesBehind (end_of e.entry.mutation) x
     behind (Write offset bytes) placed = tt
     behind (Append offset bytes) placed = let start = placed.1 in let bound = low in omega (arith, start, bound)
     behind (Pad offset end) placed = let start = placed.0 in let bound = low in omega (arith, start, bound)

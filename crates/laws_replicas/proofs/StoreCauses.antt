@@ -1,5 +1,6 @@
 -- Why a server's step changes its disk: at most one replica is changed, by what the message that it takes asks for.
 use Rattle.std.proofs.Common.{◌≡◌, ◌⊎◌, ℕ, ◌+◌, ◌-◌, ◌<◌, ◌≤◌, true, List, [], ◌∷◌, ◌++◌, length, Option, Some, None, refl, sym, subst, inl, inr}
+use Rattle.std.proofs.Math.Nat.{min-le_right}
 use Rattle.std.specs.FinMap as table
 use Rattle.gfs_types.specs.declared.ids.DataId.{DataId}
 use Rattle.gfs_types.specs.declared.ids.OrderNo.{OrderNo}
@@ -255,7 +256,7 @@ module _ (s : ServerState) (i : NodeInput) where
         version_is = t.f.same;
         later = t.later;
         made = made_of c.handle.0 c.serial.0 kept c.named t.x t.from t.end_place t.stored;
-        writable = writes s c.handle.0 c.serial.0 kept c.named t.x t.from t.end_place t.stored sound t.fits;
+        writable = writes s c.handle.0 c.serial.0 kept c.named t.x t.from t.end_place t.stored sound (let most = min-le_right c.chunk s.config.chunk in let fits = t.fits in omega (arith, most, fits));
       }))
       tt)
 
