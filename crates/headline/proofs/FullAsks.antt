@@ -1,21 +1,30 @@
 -- Past a chunk for which a client asked, to append to it, the machine's chunk is full: what was told of it stands for that chunk up to the told round, and of such a round is an entry that ends at the chunk's end.
-use Rattle.std.proofs.Common.{◌≡◌, ℕ, zero, suc, ◌≤◌, Bool, true, false, cond, List, [], ◌∷◌, Some, refl, sym, ap, subst, ◌∙◌, arith}
+use Rattle.std.proofs.Common.{◌≡◌, ℕ, zero, suc, ◌≤◌, min, Bool, true, false, cond, List, [], ◌∷◌, Some, refl, sym, ap, subst, ◌∙◌, arith}
 use Rattle.std.specs.Prelude.{◌==◌, ◌||◌, nat_le, filter, map, IsTrue}
 use Rattle.std.specs.List.{list_any}
 use Rattle.std.proofs.lemmas.Bool.{eq-eqb, leb-false, or_right}
+use Rattle.std.proofs.Math.Nat.{min-eq_left}
 use Rattle.gfs_types.specs.declared.config.Config.{Config}
+use Rattle.gfs_types.specs.declared.shape.Shape.{Shape}
 use Rattle.gfs_types.specs.Mutations.{end_of}
 use Rattle.messages.specs.declared.message.Location.{Location}
 use Rattle.relaxed_file.specs.Order.{Entry}
-use Rattle.relaxed_file.specs.Machine.{chunk_at}
+use Rattle.relaxed_file.specs.Machine.{chunk_at, chunk_size}
 use Rattle.protocol.specs.Tables.{Table, element_at}
 use Rattle.protocol.specs.Observer.{Placed, placed_in, order_of}
 use Rattle.laws_base.proofs.Steps.{on_cond, none_some, same_some}
 use Rattle.laws_steps.proofs.Lengths.{settings_stay}
+use Rattle.laws_base.specs.Laws.{IsSizeGranted}
+use Rattle.laws_steps.specs.Reads.{IsTold}
+use Rattle.laws_versions.specs.ReplacedChunks.{IsToldAt}
+use Rattle.laws_versions.proofs.OneSizes.{told_shapes_have_the_granted_size}
+use Rattle.laws_versions.proofs.RowSizes.{size_counts}
 use Rattle.laws_replicas.specs.FullOrders.{HasFullEnd}
 use Rattle.laws_calls.specs.FullBefore.{IsFullBefore}
 use Rattle.laws_calls.proofs.FullBefore.{asks_past_a_chunk_find_it_full}
+use Rattle.laws_calls.proofs.GrantedRounds.{granted_from_one}
 use Rattle.laws_machine.specs.HoldersApart.{StandsUpTo}
+use Rattle.laws_machine.proofs.ServerSteps.{size_within}
 use Rattle.headline.specs.AskedChunks.{IsFullAt, AsksAreFull}
 
 -- entries that end at the chunk's end, of rounds up to a version
@@ -61,20 +70,48 @@ asks_are_full config servers clients w r clocks some ss k beside client place nu
     l : Location
     l = before.chunk.location
 
-    size : ℕ
-    size = k.machine.config.chunk
+    granted : IsSizeGranted w.sent l.handle.0 l.round.0 before.size
+    granted =
+        subst (λ (n : ℕ). IsSizeGranted w.sent n l.round.0 before.size) (sym before.chunk.handle_is) (subst (λ (n : ℕ). IsSizeGranted w.sent before.handle n before.size) (sym before.chunk.round_is) before.granted)
+
+    -- the client was told it with a granted round
+    t : IsTold w.sent client file.0 l
+    t = before.chunk.told
+
+    told_at : IsToldAt w.sent client file.0 l (t.sent_is).0
+    told_at =
+        record {
+          number = t.number;
+          asked = t.asked;
+          told = t.told;
+          sent_is = (t.sent_is).1;
+          receiver_is = t.receiver_is;
+          body_is = t.body_is;
+          granted = granted_from_one config servers clients w r l.handle.0 l.round.0 (size_counts l.handle.0 l.round.0 before.size w.sent granted);
+        }
+
+    -- so with the size of the machine's file, which is a slot's at most
+    size_is : before.size ≡ chunk_size k.machine file.0
+    size_is =
+        sym (told_shapes_have_the_granted_size config servers clients w r clocks client file.0 l (t.sent_is).0 told_at l.round.0 before.size granted) ∙ ap (λ (x : Shape). x.chunk) (beside.shapes.located client file.0 l (t.sent_is).0 told_at).1
+
+    slot_is : min before.size w.config.chunk ≡ chunk_size k.machine file.0
+    slot_is =
+        let low : chunk_size k.machine file.0 ≤ w.config.chunk =
+        subst (λ (c : Config). chunk_size k.machine file.0 ≤ c.chunk) (sym (settings_stay config servers clients w r)) (size_within config k.machine (beside.run.0, beside.run.1, beside.run.3) file.0) in
+        min-eq_left (subst (λ (n : ℕ). n ≤ w.config.chunk) (sym size_is) low) ∙ size_is
 
     stands : StandsUpTo k file.0 l.index l.handle.0 l.round.0
     stands = ((beside.chunks.holders client file.0 l before.chunk.told).round).stands
 
-    ended : HasFullEnd size (placed_in k.orders l.handle.0) l.round.0
+    ended : HasFullEnd (chunk_size k.machine file.0) (placed_in k.orders l.handle.0) l.round.0
     ended =
-        subst (λ (n : ℕ). HasFullEnd n (placed_in k.orders l.handle.0) l.round.0) (ap (λ (c : Config). c.chunk) (settings_stay config servers clients w r ∙ sym beside.chunks.settings))
-        (subst (λ (os : Table (List Placed)). HasFullEnd w.config.chunk (placed_in os l.handle.0) l.round.0) (sym beside.chunks.orders)
-        (subst (λ (n : ℕ). HasFullEnd w.config.chunk (order_of w.observer n) l.round.0) (sym before.chunk.handle_is)
-        (subst (λ (n : ℕ). HasFullEnd w.config.chunk (order_of w.observer before.handle) n) (sym before.chunk.round_is) before.ends)))
+        subst (λ (n : ℕ). HasFullEnd n (placed_in k.orders l.handle.0) l.round.0) slot_is
+        (subst (λ (os : Table (List Placed)). HasFullEnd (min before.size w.config.chunk) (placed_in os l.handle.0) l.round.0) (sym beside.chunks.orders)
+        (subst (λ (n : ℕ). HasFullEnd (min before.size w.config.chunk) (order_of w.observer n) l.round.0) (sym before.chunk.handle_is)
+        (subst (λ (n : ℕ). HasFullEnd (min before.size w.config.chunk) (order_of w.observer before.handle) n) (sym before.chunk.round_is) before.ends)))
 
-    full : IsTrue (list_any (λ e. end_of e.mutation == size) (chunk_at k.machine file.0 l.index).order)
+    full : IsTrue (list_any (λ e. end_of e.mutation == chunk_size k.machine file.0) (chunk_at k.machine file.0 l.index).order)
     full =
-        one_there size l.round.0 (chunk_at k.machine file.0 l.index).order
-        (subst (λ (es : List Entry). list_any (λ e. end_of e.mutation == size) es ≡ true) stands.entries (one_within size l.round.0 (placed_in k.orders l.handle.0) ended.0 ended.1 ended.2 ended.3 ended.4))
+        one_there (chunk_size k.machine file.0) l.round.0 (chunk_at k.machine file.0 l.index).order
+        (subst (λ (es : List Entry). list_any (λ e. end_of e.mutation == chunk_size k.machine file.0) es ≡ true) stands.entries (one_within (chunk_size k.machine file.0) l.round.0 (placed_in k.orders l.handle.0) ended.0 ended.1 ended.2 ended.3 ended.4))

@@ -1,9 +1,9 @@
 -- What an event of a server says to clients that wait is so at the machine.
-use Rattle.std.proofs.Common.{◌≡◌, ◌⊎◌, ℕ, suc, ◌+◌, ◌*◌, ◌<◌, ◌≤◌, Bool, true, false, cond, List, [], ◌∷◌, ◌++◌, length, Option, Some, None, refl, sym, ap, subst, ◌∙◌, inl, inr, arith}
+use Rattle.std.proofs.Common.{◌≡◌, ◌⊎◌, ℕ, suc, ◌+◌, ◌*◌, ◌<◌, ◌≤◌, min, Bool, true, false, cond, List, [], ◌∷◌, ◌++◌, length, Option, Some, None, refl, sym, ap, subst, ◌∙◌, inl, inr, arith}
 use Rattle.std.specs.Prelude.{◌==◌, nat_le, filter, Contains, IsTrue, IsFalse}
 use Rattle.std.specs.List.{list_all}
 use Rattle.std.proofs.lemmas.Bool.{true≢false, and_parts, and_from, cases_lt}
-use Rattle.std.proofs.Math.Nat.{suc-mul}
+use Rattle.std.proofs.Math.Nat.{suc-mul, mul-le-mul_left, min-le_right}
 use Rattle.gfs_types.specs.declared.config.Config.{Config}
 use Rattle.gfs_types.specs.declared.call.Call.{Call}
 use Rattle.gfs_types.specs.declared.call.Call.TheVariants as call
@@ -25,7 +25,7 @@ use Rattle.messages.specs.declared.message.Location.{Location}
 use Rattle.messages.specs.declared.message.Message.{Message}
 use Rattle.messages.specs.declared.message.Target.{Target}
 use Rattle.relaxed_file.specs.Order.{Entry, IsSelection, mutations_of}
-use Rattle.relaxed_file.specs.Machine.{Machine, OpenCall, IsOpen, FileState, chunk_at}
+use Rattle.relaxed_file.specs.Machine.{Machine, OpenCall, IsOpen, FileState, chunk_at, chunk_size}
 use Rattle.relaxed_file.specs.Run.{Action, Look, Measure, IsLawful, after_all, IsRunTo}
 use Rattle.client_state.specs.declared.call.CurrentCall.{CurrentCall}
 use Rattle.client_state.specs.declared.call.ToldChunk.{ToldChunk}
@@ -38,7 +38,7 @@ use Rattle.replica_store.specs.Replicas.{Replica, ServerDisk, row_of, row_at, re
 use Rattle.protocol.specs.Tables.{element_at}
 use Rattle.protocol.specs.Sending.{the_client, the_server, data_id}
 use Rattle.protocol.specs.Choice.{Choice}
-use Rattle.protocol.specs.Client.{ClientState}
+use Rattle.protocol.specs.Client.{ClientState, file_chunk}
 use Rattle.protocol.specs.ClientAttempts.{is_length, is_mutation, read_start, read_count, chunk_of}
 use Rattle.protocol.specs.Observer.{order_of}
 use Rattle.protocol.specs.World.{WorldState, happens, IsReached, is_kept}
@@ -77,7 +77,11 @@ use Rattle.laws_machine.specs.HoldersApart.{StandsUpTo}
 use Rattle.laws_machine.specs.ToldHolders.{IsShownAs}
 use Rattle.laws_machine.specs.WaitedSuccesses.{WaitsForDone, HasTheCall}
 use Rattle.laws_machine.specs.WholeWorlds.{AreFileClients, IsServersEvent, is_of_looks}
+use Rattle.laws_steps.specs.FileCalls.{IsOfFile}
+use Rattle.laws_machine.proofs.ClientFiles.{clients_files_are_open}
 use Rattle.laws_machine.proofs.CountedCalls.{calls_are_counted}
+use Rattle.laws_machine.proofs.FileWalk.{open_size}
+use Rattle.laws_machine.proofs.ServerSteps.{size_within}
 use Rattle.laws_machine.proofs.FileAnswers.{reads_are_looks, lengths_are_measured}
 use Rattle.laws_machine.proofs.ToldHolders.{holders_are_seen, answers_show_the_chunk}
 use Rattle.laws_machine.proofs.WaitedSuccesses.{waited_successes_are_settled}
@@ -143,8 +147,12 @@ place_within size place (Write offset bytes) within is = let same = same_some of
 place_within size place (Append offset bytes) within is = let same = same_some offset place is in omega (arith, within, same)
 place_within size place (Pad offset end) within is = none_some place is
 
-within_places : (size index place : ℕ) → suc index * size ≤ counter_limit → place ≤ size → IsWithinPlaces size index place
-within_places size index place whole low = let sum : suc index * size ≡ index * size + size = suc-mul index size in omega (arith, whole, low, sum)
+-- a place of a chunk that is no larger than a slot
+within_places : (size slot index place : ℕ) → suc index * slot ≤ counter_limit → size ≤ slot → place ≤ slot → IsWithinPlaces size index place
+within_places size slot index place whole fits low =
+    let sum : suc index * slot ≡ index * slot + slot = suc-mul index slot in
+    let less : index * size ≤ index * slot = mul-le-mul_left index fits in
+    omega (arith, whole, low, sum, less)
 
 abbrev CountIn : Body → ℕ
 CountIn (body.LenIs number count) = count
@@ -226,8 +234,15 @@ module _ (config : Config) (servers clients : ℕ) (w : WorldState) (r : IsReach
         id_is : s.id ≡ suc index
         id_is = ((numbered_reached config servers clients w r).each index s at).id
 
-        size_is : n.config.chunk ≡ config.chunk
-        size_is = ap (λ (c : Config). c.chunk) (h.settings ∙ beside.settings)
+        -- a call on a file goes by the size that it has at the machine
+        size_at : IsOfFile x.stage → chunk_size n x.file.0 ≡ file_chunk s x.file.0
+        size_at staged =
+            let row = (clients_files_are_open config servers clients w r index s at).call x now staged in
+            sym (open_size n s x.file.0 row.0 row.1 ((h.clients index s at up).shapes x.file.0 row.0 row.1))
+
+        -- which is a slot's at most
+        most : chunk_size n x.file.0 ≤ config.chunk
+        most = size_within config n (h.run.0, h.run.1, h.run.3) x.file.0
 
         -- of the chunk by which the call goes
 
@@ -236,10 +251,8 @@ module _ (config : Config) (servers clients : ℕ) (w : WorldState) (r : IsReach
             subst (λ (v : WorldState). element_at v.clients index ≡ Some s → (l : Location) × (chunk_of l ≡ chunk) × IsTold v.sent (suc index) x.file.0 l) r.1
             (λ there. used_was_told config servers clients r.0 index s x chunk there now is_used) at
 
-        end_within : (chunk : ToldChunk) (l : Location) → chunk_of l ≡ chunk → IsTold w.sent (suc index) x.file.0 l → suc chunk.index * n.config.chunk ≤ counter_limit
-        end_within chunk l same told =
-            subst (λ (size : ℕ). suc chunk.index * size ≤ counter_limit) (sym size_is)
-            (subst (λ (c : ToldChunk). suc c.index * config.chunk ≤ counter_limit) same (within (suc index) x.file.0 l told))
+        end_within : (chunk : ToldChunk) (l : Location) → chunk_of l ≡ chunk → IsTold w.sent (suc index) x.file.0 l → suc chunk.index * config.chunk ≤ counter_limit
+        end_within chunk l same told = subst (λ (c : ToldChunk). suc c.index * config.chunk ≤ counter_limit) same (within (suc index) x.file.0 l told)
 
         abbrev FitsAt : Stage → Type 0
         FitsAt st = StandsAt Fits AnyCall Pushed Asking AnyReply None x st
@@ -260,21 +273,27 @@ module _ (config : Config) (servers clients : ℕ) (w : WorldState) (r : IsReach
           a : IsAnsweredBy w then_ y.receiver y.body
           a = word.answered number answers
 
-          reading : (q : IsReading w.sent (suc index) config.chunk x chunk left number) × (chunk.round.0 ≤ q.holder.version.0)
+          abbrev Size : ℕ
+          Size = file_chunk s x.file.0
+
+          size_is : chunk_size n x.file.0 ≡ file_chunk s x.file.0
+          size_is = size_at (subst (λ (st : Stage). IsOfFile st) (sym stage) tt)
+
+          reading : (q : IsReading w.sent (suc index) (file_chunk s x.file.0) x chunk left number) × (chunk.round.0 ≤ q.holder.version.0)
           reading =
-              subst (λ (v : WorldState). element_at v.clients index ≡ Some s → (q : IsReading v.sent (suc index) config.chunk x chunk left number) × (chunk.round.0 ≤ q.holder.version.0)) r.1
+              subst (λ (v : WorldState). element_at v.clients index ≡ Some s → (q : IsReading v.sent (suc index) (file_chunk s x.file.0) x chunk left number) × (chunk.round.0 ≤ q.holder.version.0)) r.1
               (λ there. let law = reads_are_of_the_told_version config servers clients r.0 index s x chunk left number there now stage in (law.0, law.2)) at
 
-          abbrev q : IsReading w.sent (suc index) config.chunk x chunk left number
+          abbrev q : IsReading w.sent (suc index) (file_chunk s x.file.0) x chunk left number
           q = reading.0
 
           one : a.request ≡ q.request
           one =
               one_request w.sent (suc index) number (requests_are_numbered_once config servers clients w r (suc index) number).0 a.request q.request a.sent_is (a.from ∙ to) (asks_number a.server.disk a.row a.request.body y.body number a.so answers)
-              q.sent_is q.sender_is (ap (is_request number) q.body_is ∙ request_number config.chunk number x chunk q.holder)
+              q.sent_is q.sender_is (ap (is_request number) q.body_is ∙ request_number Size number x chunk q.holder)
 
-          so : IsSoAt a.server.disk a.row config.chunk x chunk q.holder y.body
-          so = so_of a.server.disk a.row config.chunk number x chunk q.holder (is_length x.asked) y.body refl
+          so : IsSoAt a.server.disk a.row (file_chunk s x.file.0) x chunk q.holder y.body
+          so = so_of a.server.disk a.row Size number x chunk q.holder (is_length x.asked) y.body refl
               (subst (λ (b : Body). IsReadBy a.server.disk a.row b y.body) (ap (λ (m : Message). m.body) one ∙ q.body_is) a.so)
 
           holder_at : element_at q.location.holders (length q.earlier) ≡ Some q.holder
@@ -298,15 +317,14 @@ module _ (config : Config) (servers clients : ℕ) (w : WorldState) (r : IsReach
             selection = subst (λ (f : ℕ → FileState). IsSelection a.row.version.0 ((f x.file.0).chunks chunk.index).order found.0) (sym h.files) (found.1).selection;
           }
 
-          shown : IsShownAs n.config.chunk x found.0 y.body
+          shown : IsShownAs (chunk_size n x.file.0) x found.0 y.body
           shown =
               subst (λ (size : ℕ). IsShownAs size x found.0 y.body) (sym size_is)
-              (answers_show_the_chunk a.server config.chunk x chunk a.row (chunk_at j.machine x.file.0 chunk.index).order found.0
+              (answers_show_the_chunk a.server Size x chunk a.row (chunk_at j.machine x.file.0 chunk.index).order found.0
               found.2 y.body so.2)
 
-          row_low : a.row.count ≤ n.config.chunk
+          row_low : a.row.count ≤ config.chunk
           row_low =
-              subst (λ (size : ℕ). a.row.count ≤ size) (sym size_is)
               (row_within a.server.disk config.chunk chunk.handle.0 a.row (λ x at. (replicas_lie_within_the_chunk config servers clients w r a.index a.server a.server_is).0 chunk.handle.0 x at) so.0)
 
           same_index : IsFalse (is_length x.asked) → chunk.index ≡ x.index
@@ -347,7 +365,7 @@ module _ (config : Config) (servers clients : ℕ) (w : WorldState) (r : IsReach
               lawful = (gives.0, tt);
               so = λ firm z opened numbers not.
                   subst (λ (bs : List ℕ). Contains z.pieces (record { index = x.index; bytes = bs; round = Some chunk.round.0 }))
-                  (sym (subst (λ (b : Body). IsShownAs n.config.chunk x chosen b) says (shown chunk left number stage answers))) (gives.1 z opened);
+                  (sym (subst (λ (b : Body). IsShownAs (chunk_size n x.file.0) x chosen b) says (shown chunk left number stage answers))) (gives.1 z opened);
             }
 
         -- a length
@@ -361,17 +379,20 @@ module _ (config : Config) (servers clients : ℕ) (w : WorldState) (r : IsReach
             let version : ℕ = (a chunk left number stage answers).row.version.0 in
             let gives = lengths_are_measured n (suc index) x p alike chunk left number stage is_long version chosen (seen_by chunk left number stage answers) in
             let looks : List Action = Measure (suc index) x.file.0 chunk.index chunk.round.0 chunk.round.0 version chosen ∷ [] in
-            let size : (after_all n looks).config ≡ n.config = (looks_leave n looks refl).0 in
-            let length_is : count ≡ image_length (mutations_of chosen) = subst (λ (b : Body). IsShownAs n.config.chunk x chosen b) says (shown chunk left number stage answers) in
+            let size : chunk_size (after_all n looks) x.file.0 ≡ chunk_size n x.file.0 = ap (λ (f : ℕ → FileState). (f x.file.0).shape.chunk) (looks_leave n looks refl).1 in
+            let length_is : count ≡ image_length (mutations_of chosen) = subst (λ (b : Body). IsShownAs (chunk_size n x.file.0) x chosen b) says (shown chunk left number stage answers) in
             let told = used chunk (ap (λ (st : Stage). chunk_used st) stage) in
-            let low : count ≤ n.config.chunk = subst (λ (b : Body). CountIn b ≤ n.config.chunk) says (count_low (a chunk left number stage answers).server.disk config.chunk x chunk n.config.chunk (a chunk left number stage answers).row y.body (so chunk left number stage answers).2 (row_low chunk left number stage answers)) in
+            let low : count ≤ config.chunk =
+            subst (λ (b : Body). CountIn b ≤ config.chunk) says (count_low (a chunk left number stage answers).server.disk (file_chunk s x.file.0) x chunk config.chunk (a chunk left number stage answers).row y.body (so chunk left number stage answers).2 (row_low chunk left number stage answers)) in
             record {
               looks = looks;
               of_looks = refl;
               lawful = (gives.0, tt);
               so = λ firm z opened numbers is.
-                  subst (λ (c : Config). IsWithinPlaces c.chunk chunk.index count × Contains z.lengths (chunk.index * c.chunk + count)) (sym size)
-                  (within_places n.config.chunk chunk.index count (end_within chunk told.0 told.1 told.2) low, subst (λ (k : ℕ). Contains z.lengths (chunk.index * n.config.chunk + k)) (sym length_is) (gives.1 z opened));
+                  subst (λ (c : ℕ). IsWithinPlaces c chunk.index count × Contains z.lengths (chunk.index * c + count)) (sym size) (
+                    within_places (chunk_size n x.file.0) config.chunk chunk.index count (end_within chunk told.0 told.1 told.2) most low,
+                    subst (λ (k : ℕ). Contains z.lengths (chunk.index * chunk_size n x.file.0 + k)) (sym length_is) (gives.1 z opened),
+                  );
             }
 
         -- a success
@@ -403,19 +424,20 @@ module _ (config : Config) (servers clients : ℕ) (w : WorldState) (r : IsReach
                 (λ there sent. noted_successes_have_entries config servers clients later.0 index s there chunk number (ap (λ (c : Option CurrentCall). waited c) now ∙ ap (λ (st : Stage). waits_at st) stage) place y sent id offset says own same)
                 client_then is
 
-            low : offset ≤ n.config.chunk
+            low : offset ≤ config.chunk
             low =
-                subst (λ (size : ℕ). offset ≤ size) (sym size_is)
-                (place_within config.chunk offset entry.placed.entry.mutation
-                (subst (λ (v : WorldState). element_at (order_of v.observer chunk.handle.0) entry.place ≡ Some entry.placed → LiesWithin config.chunk entry.placed.entry.mutation) later.1
-                (λ there. entries_lie_within_the_chunk config servers clients later.0 chunk.handle.0 entry.place entry.placed there) entry.is)
-                entry.place_is)
+                let law =
+                entries_lie_within_the_chunk config servers clients later.0 chunk.handle.0 entry.place entry.placed
+                (subst (λ (v : WorldState). element_at (order_of v.observer chunk.handle.0) entry.place ≡ Some entry.placed) (sym later.1) entry.is) in
+                let place_low = place_within (min law.1 config.chunk) offset entry.placed.entry.mutation law.3 entry.place_is in
+                let slot = min-le_right law.1 config.chunk in
+                omega (arith, place_low, slot)
 
             settled : IsPartSettled n (id_of (suc index) z) x.file.0 x.index chunk.index offset x.asked
             settled =
                 subst (λ (v : WorldState). IsTrue v.observer.are_clocks_kept → WaitsForDone v index x chunk number offset → HasTheCall v k index x z chunk → IsPartSettled n (id_of (suc index) z) x.file.0 x.index chunk.index offset x.asked) later.1
                 (λ kept_then waits has. waited_successes_are_settled config servers clients later.0 kept_then index x chunk number offset waits k z has (h.run.0, h.run.1, h.run.3)
-                (within_places n.config.chunk chunk.index offset (end_within chunk told_by.0 told_by.1 told_by.2) low))
+                (within_places (chunk_size n x.file.0) config.chunk chunk.index offset (end_within chunk told_by.0 told_by.1 told_by.2) most low))
                 clocks
                 (record { client = s; client_is = client_then; current_is = now; stage_is = stage; sent_at = place; done = y; sent_is = is; id = id; body_is = says; own = own; number_is = same })
                 the_call

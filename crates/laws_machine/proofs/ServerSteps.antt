@@ -111,7 +111,7 @@ module _ (m : Machine) (id : CallId) (s : Spot) (order : List Entry) (round : �
   asks_for other x given own left follow made = absurd own
 
 -- a file of the machine has chunks of the settings' size at most
-size_within : (config : Config) (m : Machine) → run.IsReached config m → (file : ℕ) → chunk_size m file ≤ config.chunk
+pub size_within : (config : Config) (m : Machine) → run.IsReached config m → (file : ℕ) → chunk_size m file ≤ config.chunk
 size_within config m reached file = elim (shapes_fit config m reached file) [
   | inl usual ↦ let same = ap (λ (x : Shape). x.chunk) usual in omega (arith, same)
   | inr fitting ↦

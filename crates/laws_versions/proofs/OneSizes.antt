@@ -12,6 +12,7 @@ use Rattle.messages.specs.declared.event.NodeInput.{NodeInput}
 use Rattle.messages.specs.declared.event.NodeInput.TheVariants as input
 use Rattle.messages.specs.declared.message.Body.{Body}
 use Rattle.messages.specs.declared.message.Body.TheVariants as body
+use Rattle.messages.specs.declared.message.Location.{Location}
 use Rattle.messages.specs.declared.message.Message.{Message}
 use Rattle.log_records.specs.declared.record.Record.{Record}
 use Rattle.log_records.specs.declared.record.Record.TheVariants as log
@@ -54,7 +55,12 @@ use Rattle.laws_steps.proofs.RequestsOnce.{later_cases}
 use Rattle.laws_entries.specs.ChunkOrders.{IsCopiedNow, WasCopied, Linked, IsSource}
 use Rattle.laws_entries.specs.PlacedEntries.{LiesWithin}
 use Rattle.laws_entries.proofs.Within.{entry_sized}
-use Rattle.laws_versions.specs.ToldSizes.{ChunksHaveOneSize, CopiesHaveTheirSourcesSize, EntriesAreOfTheirChunksSize}
+use Rattle.laws_steps.specs.ToldShapes.{IsShapeIn}
+use Rattle.laws_versions.specs.ReplacedChunks.{IsToldAt}
+use Rattle.laws_versions.specs.ToldSizes.{ChunksHaveOneSize, CopiesHaveTheirSourcesSize, EntriesAreOfTheirChunksSize, ToldShapesHaveTheGrantedSize}
+use Rattle.laws_versions.proofs.AskedSteps.{IsToldOf}
+use Rattle.laws_versions.proofs.ReplacedChunks.{kept_before}
+use Rattle.laws_versions.proofs.ToldAnswers.{told_now, told_shaped}
 use Rattle.laws_versions.proofs.MasterCauses.{Attempts, Causes, uncaused_nothing, step_caused}
 use Rattle.laws_versions.proofs.ExtendLaws.{restart_silent}
 use Rattle.laws_versions.proofs.UnaskedSteps.{IsNoAsk, KeepsThese, KeepsReports, taken_kept}
@@ -447,6 +453,38 @@ module _ (config : Config) (servers clients : ℕ) (steps : List (Event × Choic
       u : WorldState
       u = after_events (new_world config servers clients) h.before
 
+  -- so does a location that was told
+  told_known : IsTrue (after_events (new_world config servers clients) steps).observer.are_clocks_kept → (client file : ℕ) (l : Location) (place : ℕ)
+      → IsToldAt (after_events (new_world config servers clients) steps).sent client file l place → Known l.handle.0 l.shape.chunk
+  told_known clocks client file l place t =
+      record { n = length h.before; has = subst (λ (w : WorldState). HasSize w l.handle.0 l.shape.chunk) (sym (same_world h.before (h.step ∷ h.after) h.steps_are)) (now.0, (now.1).row, (now.1).at, by_shape shaped) }
+    where
+      h : SentIn (new_world config servers clients) steps place t.told
+      h = sent_in (new_world config servers clients) steps place t.told (omega arith) t.sent_is
+
+      u : WorldState
+      u = after_events (new_world config servers clients) h.before
+
+      path : after_events u (h.step ∷ h.after) ≡ after_events (new_world config servers clients) steps
+      path = sym (ap (λ (xs : List (Event × Choice)). after_events (new_world config servers clients) xs) h.steps_are ∙ after_both (new_world config servers clients) h.before (h.step ∷ h.after))
+
+      clocks_then : IsTrue u.observer.are_clocks_kept
+      clocks_then = kept_before (after_events (new_world config servers clients) steps) clocks u (h.step ∷ h.after) path
+
+      now : IsTrue u.master.up × IsToldOf u.master.logged file l
+      now =
+          told_now config servers clients (after_events (new_world config servers clients) steps) (steps, refl) u (h.before, refl) clocks_then h.step h.after path client file l place t h.unsent h.sent_is
+
+      shaped : IsShapeIn u.master.logged l.handle.0 l.shape
+      shaped = told_shaped config servers clients (after_events (new_world config servers clients) steps) u (h.before, refl) clocks_then h.step client file l place t h.unsent h.sent_is
+
+      used : l.handle.0 < u.master.logged.next_handle
+      used = let rows = rowed config servers clients u (h.before, refl) now.0 in row_below u.master.logged (state_of u.master.disk) rows.same rows.tied l.handle.0 (now.1).row (now.1).at
+
+      by_shape : IsShapeIn u.master.logged l.handle.0 l.shape → (now.1).row.shape.chunk ≡ l.shape.chunk
+      by_shape (inl row) = ap (λ (x : ChunkRow). x.shape.chunk) (same_some (now.1).row row.0 (sym (now.1).at ∙ row.1)) ∙ ap (λ (s : Shape). s.chunk) row.2
+      by_shape (inr new) = absurd (let low = used in let high = new.0 in omega (arith, low, high))
+
   source_size : (from handle : ℕ) → IsSource (WasCopied (new_world config servers clients) steps) from handle → (version later size other : ℕ)
       → IsSizeGranted (after_events (new_world config servers clients) steps).sent from version size → IsSizeGranted (after_events (new_world config servers clients) steps).sent handle later other → size ≡ other
   source_size from handle source version later size other first second =
@@ -472,3 +510,9 @@ entries_are_of_their_chunks_size config servers clients steps handle place p at 
       subst (λ (n : ℕ). IsSizeGranted (after_events (new_world config servers clients) steps).sent one.0 p.entry.round n) same one.2,
       subst (λ (n : ℕ). LiesWithin (min n config.chunk) p.entry.mutation) same one.3,
     )
+
+pub told_shapes_have_the_granted_size : ToldShapesHaveTheGrantedSize
+told_shapes_have_the_granted_size config servers clients w r clocks client file l place told_at version size granted =
+    once config servers clients r.0 l.handle.0 l.shape.chunk size
+    (told_known config servers clients r.0 (subst (λ (v : WorldState). IsTrue v.observer.are_clocks_kept) (sym r.1) clocks) client file l place (subst (λ (v : WorldState). IsToldAt v.sent client file l place) (sym r.1) told_at))
+    (granted_known config servers clients r.0 l.handle.0 version size (subst (λ (v : WorldState). IsSizeGranted v.sent l.handle.0 version size) (sym r.1) granted))

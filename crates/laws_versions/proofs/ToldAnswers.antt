@@ -31,6 +31,8 @@ use Rattle.laws_base.proofs.Entries.{AllOf, same_number}
 use Rattle.laws_base.proofs.MembersRecorded.{all_at, all_in_order}
 use Rattle.laws_base.proofs.MessagesSent.{IsSent, sent_before}
 use Rattle.laws_steps.specs.Attempts.{is_from_client, is_request}
+use Rattle.laws_steps.specs.ToldShapes.{IsShapeIn}
+use Rattle.laws_steps.proofs.ToldShapes.{told_shapes_are_of_their_chunks}
 use Rattle.laws_steps.proofs.Events.{IsGiven, HoldsAfter, holds_after}
 use Rattle.laws_steps.proofs.ClientNumbers.{IsSaid as IsClientsWord, IsStepOf, of_step, of_call}
 use Rattle.laws_steps.proofs.RequestsOnce.{AreNumbered, numbered_reached, requests_are_numbered_once}
@@ -97,6 +99,7 @@ pub record IsAnswer (u : WorldState) (m : Message) (number : ℕ) (l : Location)
   pub sender_is : ask.sender ≡ m.receiver
   pub body_is : ask.body ≡ body.Ask number file what deadline lost
   pub told : IsToldOf u.master.logged file.0 l
+  pub shape : IsShapeIn u.master.logged l.handle.0 l.shape
 
 abbrev AreAnswers : WorldState → WorldState → Type 0
 AreAnswers u v = (place : ℕ) (m : Message) → length u.sent ≤ place → element_at v.sent place ≡ Some m → (number : ℕ) (l : Location) → m.body ≡ body.Told number (Some l) → 1 ≤ l.round.0 → IsAnswer u m number l
@@ -159,6 +162,7 @@ each_answered config servers clients u r clocks =
           sender_is = sym one.1 ∙ (new.2).1;
           body_is = subst (λ (n : ℕ). (ask.message).body ≡ body.Ask n ask.file ask.what ask.deadline ask.lost) (sym one.0) ask.is;
           told = one.2;
+          shape = told_shapes_are_of_their_chunks u.master moment i choice (new.1).0 new.0 (new.1).1 number l ((new.2).2 ∙ is);
         }
 
 -- two asks of a client under one number are one
@@ -183,6 +187,12 @@ pub record WasToldIn (config : Config) (servers clients : ℕ) (v : WorldState) 
   pub rest : after_events before steps ≡ v
   pub up : IsTrue before.master.up
   pub told : IsToldOf before.master.logged file l
+
+-- with which shape it was told
+pub told_shaped : (config : Config) (servers clients : ℕ) (w u : WorldState) → IsReached config servers clients u → IsTrue u.observer.are_clocks_kept → (step : Event × Choice) (client file : ℕ) (l : Location) (place : ℕ) (t : IsToldAt w.sent client file l place)
+    → length u.sent ≤ place → element_at (happens u step.0 step.1).world.sent place ≡ Some t.told → IsShapeIn u.master.logged l.handle.0 l.shape
+told_shaped config servers clients w u reached clocks step client file l place t from at =
+    (holds_after u (λ e x. AreAnswers u x.world) (each_answered config servers clients u reached clocks) step.0 step.1 place t.told from at t.number l t.body_is t.granted).shape
 
 module _ (config : Config) (servers clients : ℕ) (w : WorldState) (r : IsReached config servers clients w) where
   -- a location that was told since a world, in its next step

@@ -26,6 +26,7 @@ use Rattle.protocol.specs.World.{WorldState, new_world, happens, after_events, I
 use Rattle.laws_base.specs.Laws.{IsSizeGranted, grants_of}
 use Rattle.laws_entries.specs.ChunkOrders.{WasCopied, IsSource}
 use Rattle.laws_entries.specs.PlacedEntries.{LiesWithin}
+use Rattle.laws_versions.specs.ReplacedChunks.{IsToldAt}
 
 -- one of the messages before this place is a Grant of the version to this node, with this size of the chunk
 abbrev pub WasGrantedWith : List Message → ℕ → Node → Handle → Version → ℕ → Type 0
@@ -89,3 +90,10 @@ EntriesAreOfTheirChunksSize =
     → element_at (order_of (after_events (new_world config servers clients) steps).observer handle) place ≡ Some p
     → (version size : ℕ) → IsSizeGranted (after_events (new_world config servers clients) steps).sent handle version size
     → (from : ℕ) × IsSizeGranted (after_events (new_world config servers clients) steps).sent from p.entry.round size × LiesWithin (min size config.chunk) p.entry.mutation
+
+-- Where clocks are kept, a location that was told of a chunk that was granted tells the size with which it was granted (sections 2.3 and 3.1).
+abbrev pub ToldShapesHaveTheGrantedSize : Type 0
+ToldShapesHaveTheGrantedSize =
+    (config : Config) (servers clients : ℕ) (w : WorldState) → IsReached config servers clients w → IsTrue w.observer.are_clocks_kept
+    → (client file : ℕ) (l : Location) (place : ℕ) → IsToldAt w.sent client file l place
+    → (version size : ℕ) → IsSizeGranted w.sent l.handle.0 version size → l.shape.chunk ≡ size

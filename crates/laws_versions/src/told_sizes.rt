@@ -1,6 +1,6 @@
 //! Laws of the shapes of files and sizes of chunks that messages carry, in every lawful list of events from a new cell: restarts, stops in a step, losses, repeats, refused memory and rot.
 
-ghost use Rattle.laws_versions.specs.ToldSizes.{ChunksHaveOneSize, CopiesHaveTheirSourcesSize, EntriesAreOfTheirChunksSize, ForwardsTellTheGrantedSize, GrantsTellTheirFilesSizes, GrantsTellTheirRowsSize, ToldShapesAreTheirFiles};
+ghost use Rattle.laws_versions.specs.ToldSizes.{ChunksHaveOneSize, CopiesHaveTheirSourcesSize, EntriesAreOfTheirChunksSize, ForwardsTellTheGrantedSize, GrantsTellTheirFilesSizes, GrantsTellTheirRowsSize, ToldShapesAreTheirFiles, ToldShapesHaveTheGrantedSize};
 
 /// A Forward tells the size of the chunk with which its version was granted: such a Grant was sent to its sender before.
 pub fn forwards_tell_the_granted_size()
@@ -35,4 +35,9 @@ pub fn copies_have_their_sources_size()
 /// Each entry in the order of a chunk that was granted was placed in a round that was granted with the same size, of this chunk or of one of which it is a copy, and lies within it.
 pub fn entries_are_of_their_chunks_size()
     ensures { EntriesAreOfTheirChunksSize }
+{}
+
+/// Where clocks are kept, a location that was told of a chunk that was granted tells the size with which it was granted.
+pub fn told_shapes_have_the_granted_size()
+    ensures { ToldShapesHaveTheGrantedSize }
 {}
