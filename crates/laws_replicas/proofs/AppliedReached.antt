@@ -1,5 +1,5 @@
 -- What is carried along of the entries that replicas have applied, and of those that Images show: one induction over reached worlds with kept clocks and disks, for whatever each event keeps.
-use Rattle.std.proofs.Common.{◌≡◌, ℕ, suc, ◌+◌, ◌≤◌, Bool, true, false, List, [], ◌∷◌, ◌++◌, length, Option, Some, None, refl, sym, ap, subst, ◌∙◌, inl, inr}
+use Rattle.std.proofs.Common.{◌≡◌, ℕ, suc, ◌+◌, ◌≤◌, min, Bool, true, false, List, [], ◌∷◌, ◌++◌, length, Option, Some, None, refl, sym, ap, subst, ◌∙◌, inl, inr}
 use Rattle.std.specs.Prelude.{◌&&◌, nat_le, not, IsTrue}
 use Rattle.std.specs.Option.{option_to_list}
 use Rattle.std.specs.FinMap as table
@@ -260,7 +260,8 @@ module _ (J : ShownBy) (K : AppliedBy) (config : Config) (servers clients : ℕ)
       module _ (later : Later v) where
         entry_within : (handle place : ℕ) (p : Placed) → element_at (order_of v.observer handle) place ≡ Some p → start_of p.entry.mutation ≤ end_of p.entry.mutation
         entry_within handle place p there =
-            starts_before_end config.chunk p.entry.mutation (entries_lie_within_the_chunk config servers clients later.0.0 handle place p (ap (λ (u : WorldState). element_at (order_of u.observer handle) place) later.0.1 ∙ there))
+            let lies = entries_lie_within_the_chunk config servers clients later.0.0 handle place p (ap (λ (u : WorldState). element_at (order_of u.observer handle) place) later.0.1 ∙ there) in
+            starts_before_end (min lies.1 config.chunk) p.entry.mutation lies.3
 
         stepped : IsGood (K w index) v.observer.orders t
         stepped =

@@ -1,5 +1,5 @@
 -- In each reached world with kept clocks replicas and Images end where entries of their orders do.
-use Rattle.std.proofs.Common.{◌≡◌, ℕ, suc, Bool, true, false, List, [], ◌∷◌, ◌++◌, length, take, Option, Some, None, refl, sym, ap, subst, ◌∙◌, inl, inr}
+use Rattle.std.proofs.Common.{◌≡◌, ℕ, suc, min, Bool, true, false, List, [], ◌∷◌, ◌++◌, length, take, Option, Some, None, refl, sym, ap, subst, ◌∙◌, inl, inr}
 use Rattle.std.specs.Prelude.{filter, IsTrue, ◌≤◌}
 use Rattle.std.specs.Option.{option_to_list}
 use Rattle.std.specs.FinMap as table
@@ -230,7 +230,8 @@ module _ (config : Config) (servers clients : ℕ) (w : WorldState) (r : IsReach
 
   entry_within : (v : WorldState) → IsReached config servers clients v → (handle place : ℕ) (p : Placed) → element_at (order_of v.observer handle) place ≡ Some p → start_of p.entry.mutation ≤ end_of p.entry.mutation
   entry_within v later handle place p there =
-      starts_before_end config.chunk p.entry.mutation (entries_lie_within_the_chunk config servers clients later.0 handle place p (ap (λ (u : WorldState). element_at (order_of u.observer handle) place) later.1 ∙ there))
+      let lies = entries_lie_within_the_chunk config servers clients later.0 handle place p (ap (λ (u : WorldState). element_at (order_of u.observer handle) place) later.1 ∙ there) in
+      starts_before_end (min lies.1 config.chunk) p.entry.mutation lies.3
 
   each_ended : HoldsAfter w (λ e x. IsReached config servers clients x.world → AreAllEnded x.world)
   each_ended =

@@ -245,7 +245,7 @@ module _ (config : Config) (servers clients : ℕ) (w : WorldState) (r : IsReach
                   ]
             ]
           where
-            by : IsPlacedByReplica config.chunk s q.0 v.0 n.0 id m
+            by : IsPlacedByReplica s q.0 v.0 n.0 id m
             by = mutations_are_placed_by_replicas config servers clients w r index s at moment i choice place q v n id m seen
 
         pub own_round : HasRound (placed_in After handle) x.version ps

@@ -1,5 +1,5 @@
 -- In each reached world with kept clocks and disks replicas and Images are images of their orders.
-use Rattle.std.proofs.Common.{◌≡◌, ℕ, zero, suc, Bool, true, false, List, [], ◌∷◌, ◌++◌, length, take, Option, Some, None, refl, sym, ap, subst, ◌∙◌, inl, inr}
+use Rattle.std.proofs.Common.{◌≡◌, ℕ, zero, suc, min, Bool, true, false, List, [], ◌∷◌, ◌++◌, length, take, Option, Some, None, refl, sym, ap, subst, ◌∙◌, inl, inr}
 use Rattle.std.specs.Prelude.{◌&&◌, nat_le, not, filter, IsTrue, ◌+◌, ◌≤◌}
 use Rattle.std.specs.Option.{option_to_list}
 use Rattle.std.specs.FinMap as table
@@ -361,7 +361,8 @@ module _ (config : Config) (servers clients : ℕ) (w : WorldState) (r : IsReach
     where
       entry_within : (v : WorldState) → IsReached config servers clients v → (handle place : ℕ) (p : Placed) → element_at (order_of v.observer handle) place ≡ Some p → start_of p.entry.mutation ≤ end_of p.entry.mutation
       entry_within v later handle place p there =
-          starts_before_end config.chunk p.entry.mutation (entries_lie_within_the_chunk config servers clients later.0 handle place p (ap (λ (u : WorldState). element_at (order_of u.observer handle) place) later.1 ∙ there))
+          let lies = entries_lie_within_the_chunk config servers clients later.0 handle place p (ap (λ (u : WorldState). element_at (order_of u.observer handle) place) later.1 ∙ there) in
+          starts_before_end (min lies.1 config.chunk) p.entry.mutation lies.3
 
       kept_both : (a b : Bool) → IsTrue a → IsTrue b → IsTrue (a && b)
       kept_both true b x y = y
