@@ -48,7 +48,7 @@ use Rattle.laws_entries.proofs.OnceShown.{NumbersNone, NumbersOnce, step_once}
 use Rattle.laws_entries.proofs.Numbering.{restarted_shown, entries_were_numbered}
 use Rattle.laws_entries.proofs.RoundsPassed.{IsOfServers, server_shown, primary_there}
 use Rattle.laws_entries.proofs.RisingRounds.{under_lease}
-use Rattle.laws_replicas.specs.LawfulOrders.{MayFollow, IsMadeOf, HasData, IsLawful, GoesOn, OrdersAreLawful}
+use Rattle.laws_replicas.specs.LawfulOrders.{IsMadeOf, HasData, IsLawful, GoesOn, OrdersAreLawful}
 use Rattle.laws_replicas.specs.SkippedRounds.{up_to}
 use Rattle.laws_replicas.proofs.Acknowledging.{settled_mutations_were_acknowledged}
 use Rattle.laws_replicas.proofs.AppliedReached.{kept_of, kept_both}

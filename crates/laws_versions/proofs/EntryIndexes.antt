@@ -46,7 +46,7 @@ pub one_longer : (xs : List (Event × Choice)) (x : Event × Choice) → length 
 one_longer [] x = refl
 one_longer (z ∷ xs) x = ap (λ (n : ℕ). suc n) (one_longer xs x)
 
-pub within : (xs ys : List (Event × Choice)) → length xs ≤ length (xs ++ ys)
+within : (xs ys : List (Event × Choice)) → length xs ≤ length (xs ++ ys)
 within [] ys = omega arith
 within (x ∷ xs) ys = let rest = within xs ys in omega (arith, rest)
 

@@ -1,9 +1,8 @@
 -- The size of a chunk, by its row at a master that is up and by its files in each log: it stays, once the handle was used.
-use Rattle.std.proofs.Common.{◌≡◌, ◌⊎◌, ℕ, ◌≤◌, ◌<◌, List, Option, Some, None, refl, sym, ap, subst, ◌∙◌, inl, inr, arith}
-use Rattle.std.specs.Prelude.{unwrap_or}
+use Rattle.std.proofs.Common.{◌≡◌, ◌⊎◌, ℕ, ◌≤◌, ◌<◌, Option, Some, None, refl, sym, ap, subst, ◌∙◌, inl, inr, arith}
 use Rattle.std.specs.FinMap as table
 use Rattle.gfs_types.specs.declared.shape.Shape.{Shape}
-use Rattle.chunk_table.specs.ChunkTable.{ChunkRow, no_shape, shape_of}
+use Rattle.chunk_table.specs.ChunkTable.{ChunkRow, shape_of}
 use Rattle.protocol.specs.Tables.{Table}
 use Rattle.protocol.specs.Logged.{Logged, Copy, after_record}
 use Rattle.laws_base.proofs.Steps.{none_some}

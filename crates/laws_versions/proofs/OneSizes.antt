@@ -18,7 +18,7 @@ use Rattle.log_records.specs.declared.record.Record.{Record}
 use Rattle.log_records.specs.declared.record.Record.TheVariants as log
 use Rattle.chunk_table.specs.ChunkTable.{ChunkRow, chunk_of, handles_of, grant}
 use Rattle.protocol.specs.Tables.{element_at}
-use Rattle.protocol.specs.Sending.{handle_of, version_of, server_id, order_number}
+use Rattle.protocol.specs.Sending.{handle_of, version_of, order_number}
 use Rattle.protocol.specs.Choice.{Choice, Ending, Goes, Lost, Stops}
 use Rattle.protocol.specs.Seen.{Taken, no_step}
 use Rattle.protocol.specs.declared.seen.Seen.{Seen}
@@ -28,7 +28,6 @@ use Rattle.protocol.specs.Master.{MasterState, MasterDoing, master_begins}
 use Rattle.protocol.specs.MasterStep.{master_at, master_goes, master_ends, master_bounded, master_step, master_restart, may_end}
 use Rattle.protocol.specs.ServerStep.{server_step, server_restart}
 use Rattle.protocol.specs.ClientStep.{client_step, client_call}
-use Rattle.protocol.specs.Observer.{Placed, order_of}
 use Rattle.protocol.specs.World.{WorldState, Happened, new_world, stamped, after_master, happens, after_events, IsReached}
 use Rattle.laws_base.specs.Laws.{IsSizeGranted}
 use Rattle.laws_base.proofs.ClientMoves.{HasNoOrder, quiet_orders, client_quiet, call_quiet}
@@ -52,7 +51,7 @@ use Rattle.laws_steps.proofs.Histories.{SentIn, sent_in, after_both}
 use Rattle.laws_steps.proofs.LeasesStayOver.{reached_later}
 use Rattle.laws_steps.proofs.MasterPremises.{IsOfCalls, is_told, IsTold}
 use Rattle.laws_steps.proofs.RequestsOnce.{later_cases}
-use Rattle.laws_entries.specs.ChunkOrders.{IsCopiedNow, WasCopied, Linked, IsSource}
+use Rattle.laws_entries.specs.ChunkOrders.{WasCopied, Linked, IsSource}
 use Rattle.laws_entries.specs.PlacedEntries.{LiesWithin}
 use Rattle.laws_entries.proofs.Within.{entry_sized}
 use Rattle.laws_steps.specs.ToldShapes.{IsShapeIn}
@@ -68,7 +67,7 @@ use Rattle.laws_versions.proofs.GrantedSizes.{TellsSize, step_sized}
 use Rattle.laws_versions.proofs.HandleIndexes.{AreFiled, filed_on, filed_up}
 use Rattle.laws_versions.proofs.HandleSizes.{IsLogSized, IsStateSized, size_keeps, row_of_file, row_told}
 use Rattle.laws_versions.proofs.CopiesPlaced.{Begun, step_begun, below_reached, copies_are_new, handles_in, only}
-use Rattle.laws_versions.proofs.EntryIndexes.{take_front, take_more, joined, one_longer, within}
+use Rattle.laws_versions.proofs.EntryIndexes.{take_front, take_more, joined, one_longer}
 
 -- a Grant comes by a Recorded or a Report, and no handle is used anew in such a step
 
