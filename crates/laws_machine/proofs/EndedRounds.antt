@@ -47,7 +47,7 @@ use Rattle.laws_versions.proofs.ExtendLaws.{restart_silent}
 use Rattle.laws_versions.proofs.SharedChunks.{quiet_sent, shared_chunks_have_no_lease, shared_chunks_in_the_log_have_no_lease}
 use Rattle.laws_replicas.proofs.CopiedOrders.{copies_under_way_are_not_granted}
 use Rattle.protocol_invariant.specs.Actions.{Spot}
-use Rattle.laws_machine.specs.ChunksAlike.{ChunkSides, StandsAt, StoodAt, IsRoundOpen, KeepsRounds, HasRounds}
+use Rattle.laws_machine.specs.ChunksAlike.{ChunkSides, StandsAt, StoodAt, IsRoundOpen, KeepsRounds, HasRounds, AreChunksAlike}
 use Rattle.laws_machine.specs.EntrySteps.{StandsNowhereElse}
 use Rattle.laws_machine.specs.OpenRounds.{NewRoundsAreOpen}
 use Rattle.laws_machine.proofs.Sides.{gone_or_there}

@@ -1,5 +1,5 @@
 -- What a server numbers and settles in a step, the machine places and settles.
-use Rattle.std.proofs.Common.{◌≡◌, ℕ, zero, suc, ◌+◌, ◌*◌, ◌<◌, ◌≤◌, Bool, true, false, List, [], ◌∷◌, length, Some, refl, sym, ap, subst, ◌∙◌, inl, inr, map, ◌++◌, Option, None}
+use Rattle.std.proofs.Common.{◌≡◌, ℕ, zero, suc, ◌+◌, ◌*◌, ◌<◌, ◌≤◌, Bool, true, false, List, [], ◌∷◌, length, Some, refl, sym, ap, subst, ◌∙◌, inl, inr, map, ◌++◌, Option, None, arith}
 use Rattle.std.specs.Prelude.{IsTrue, unwrap_or, option_map, nat_le, ◌==◌, ◌&&◌, ◌%◌}
 use Rattle.std.specs.List.{list_all}
 use Rattle.std.specs.FinMap as table

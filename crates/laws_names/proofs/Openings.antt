@@ -1,5 +1,5 @@
 -- A master that opens: the machine beside the log that was decided is beside it, and beside each log that a stop may leave.
-use Rattle.std.proofs.Common.{ℕ, suc, [], refl}
+use Rattle.std.proofs.Common.{ℕ, suc, [], refl, ◌∙◌}
 use Rattle.std.specs.Prelude.{◌&&◌, not}
 use Rattle.std.specs.FinMap as table
 use Rattle.gfs_types.specs.declared.config.Config.{Config}

@@ -1,5 +1,5 @@
 -- Why a server's step changes its disk: at most one replica is changed, by what the message that it takes asks for.
-use Rattle.std.proofs.Common.{◌≡◌, ◌⊎◌, ℕ, ◌+◌, ◌-◌, ◌<◌, ◌≤◌, true, List, [], ◌∷◌, ◌++◌, length, Option, Some, None, refl, sym, subst, inl, inr}
+use Rattle.std.proofs.Common.{◌≡◌, ◌⊎◌, ℕ, ◌+◌, ◌-◌, ◌<◌, ◌≤◌, true, List, [], ◌∷◌, ◌++◌, length, Option, Some, None, refl, sym, subst, inl, inr, arith}
 use Rattle.std.proofs.Math.Nat.{min-le_right}
 use Rattle.std.specs.FinMap as table
 use Rattle.gfs_types.specs.declared.ids.DataId.{DataId}

@@ -1,5 +1,5 @@
 -- What a read shows of the parts of a write that was answered before the file was opened again.
-use Rattle.std.proofs.Common.{◌≡◌, ℕ, ◌+◌, ◌-◌, ◌*◌, ◌/◌, ◌<◌, ◌≤◌, min, List, [], length, length-take, take, drop, Option, Some, None, refl, ◌∙◌, ap, subst, arith}
+use Rattle.std.proofs.Common.{◌≡◌, ℕ, ◌+◌, ◌-◌, ◌*◌, ◌/◌, ◌<◌, ◌≤◌, min, List, [], length, length-take, take, drop, Option, Some, None, refl, ◌∙◌, ap, subst, arith, sym}
 use Rattle.std.specs.Prelude.{slice_get, IsTrue, IsSome, IsSomeAnd}
 use Rattle.std.proofs.lemmas.Bool.{false≢true, ltb-true}
 use Rattle.gfs_types.specs.declared.call.Call.TheVariants as call
