@@ -53,6 +53,7 @@ pub mod ToldHolders
 pub mod ToldRounds
 pub mod ToldShapes
 pub mod RoundSizes
+pub mod FittingSizes
 pub mod TriesRise
 pub mod ToldStanding
 pub mod UnaskedAdds

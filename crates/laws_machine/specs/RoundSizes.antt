@@ -29,3 +29,9 @@ RoundSizesGoOn =
     → ((handle version size : ℕ) → grants_of handle version w.sent ≡ 0 → IsSizeGranted (happens w e choice).world.sent handle version size
     → IsLeaseOver (happens w e choice).world handle version ⊎ IsOpenWithSize j handle version size)
     → AreRoundsSized w k → AreRoundsSized (happens w e choice).world j
+
+-- Where clocks are kept, a Grant tells a size of 64 bytes at least, and the settings' at most (sections 2.3 and 3.1).
+abbrev pub GrantedSizesFitTheSettings : Type 0
+GrantedSizesFitTheSettings =
+    (config : Config) (servers clients : ℕ) (w : WorldState) → IsReached config servers clients w → IsTrue w.observer.are_clocks_kept
+    → (handle version size : ℕ) → IsSizeGranted w.sent handle version size → (64 ≤ size) × (size ≤ config.chunk)

@@ -2,7 +2,7 @@
 
 ghost use Rattle.laws_machine.specs.ToldRounds.{CountingRoundsAreOpenWhereTold, NoRoundIsToldAtFirst, ToldRoundsGoOn, ToldRoundsStayOver};
 ghost use Rattle.laws_machine.specs.ToldShapes.{ToldShapesGoOn};
-ghost use Rattle.laws_machine.specs.RoundSizes.{RoundSizesGoOn};
+ghost use Rattle.laws_machine.specs.RoundSizes.{GrantedSizesFitTheSettings, RoundSizesGoOn};
 
 /// In a new cell nothing was told.
 pub fn no_round_is_told_at_first()
@@ -32,4 +32,9 @@ pub fn told_shapes_go_on()
 /// From one world to the next the open round of each lease has the size that its Grant told, also where the file was collected.
 pub fn round_sizes_go_on()
     ensures { RoundSizesGoOn }
+{}
+
+/// Where clocks are kept, a Grant tells a size of 64 bytes at least, and the settings' at most.
+pub fn granted_sizes_fit_the_settings()
+    ensures { GrantedSizesFitTheSettings }
 {}

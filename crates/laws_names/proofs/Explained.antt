@@ -10,13 +10,13 @@ use Rattle.laws_names.proofs.Worlds.{beside_reached}
 pub names_are_explained : NamesAreExplained
 names_are_explained config servers clients w r kept up =
     let b = ((beside_reached config servers clients w r).1 kept).state up in
-    (b.0, ((b.2).run, (b.2).seen, (b.2).clock), record { names = ((b.2).alike).names; next = ((b.2).alike).next; files = ((b.2).alike).files })
+    (b.0, ((b.2).run, (b.2).seen, (b.2).clock), record { names = ((b.2).alike).names; next = ((b.2).alike).next; files = ((b.2).alike).files; shapes = ((b.2).alike).shapes })
 
 pub names_in_the_log_are_explained : NamesInTheLogAreExplained
 names_in_the_log_are_explained config servers clients w r kept decided =
     let on = beside_reached config servers clients w r in
     let b = found_beside config servers clients w r on.0 w.observer.trace w.observer.greatest (on.1 kept) decided in
-    (b.0, ((b.2).run, (b.2).seen, (b.2).clock), record { names = ((b.2).alike).names; next = ((b.2).alike).next; files = ((b.2).alike).files })
+    (b.0, ((b.2).run, (b.2).seen, (b.2).clock), record { names = ((b.2).alike).names; next = ((b.2).alike).next; files = ((b.2).alike).files; shapes = ((b.2).alike).shapes })
 
 pub name_calls_came_to_their_answer : NameCallsCameToTheirAnswer
 name_calls_came_to_their_answer config servers clients w r kept before after client reply is =

@@ -9,6 +9,7 @@ use Rattle.relaxed_file.specs.NameStep.{is_name_call}
 use Rattle.relaxed_file.specs.Run.{Visible, Answered, visible}
 use Rattle.machine_names.specs.NameRuns.{LeadsByNames}
 use Rattle.machine_names.specs.NameTraces.{none_called, last_calls, name_trace, WasComeTo}
+use Rattle.chunk_table.specs.ChunkTable.{shape_of}
 use Rattle.protocol.specs.Choice.{decided_changes}
 use Rattle.protocol.specs.Logged.{Logged, log_changed_by_all, replayed}
 use Rattle.protocol.specs.World.{WorldState, IsReached}
@@ -18,11 +19,12 @@ use Rattle.laws_names.specs.Alike.{is_there}
 abbrev pub IsRunBeside : WorldState → Machine → Type 0
 IsRunBeside w m = (run : LeadsByNames (new_machine w.config) m) × (visible run.0 ≡ name_trace w.observer.trace) × (m.clock ≡ w.observer.greatest)
 
--- names, files and the next file's number are the machine's
+-- names, files with their shapes, and the next file's number are the machine's
 pub record HasItsNames (m : Machine) (l : Logged) : Type 0 where
   pub names : l.names ≡ m.names
   pub next : l.next_file ≡ suc m.file_count
   pub files : (file : ℕ) → table.contains_key l.table.files file ≡ is_there m file
+  pub shapes : (file : ℕ) → IsTrue (table.contains_key l.table.files file) → shape_of l.table file ≡ (m.files file).shape
 
 -- The names of a master that is up.
 abbrev pub NamesAreExplained : Type 0

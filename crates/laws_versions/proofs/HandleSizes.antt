@@ -34,15 +34,18 @@ module _ (l : Logged) (counted : AreCounted l.table) (shaped : IsShaped l) (told
       let at = stands_in_one l.table.files q (omega (arith, some, refs, whole)) in
       (at.0, at.1, shaped.files.chunks at.0 q row at.1 is)
 
+  -- each row has the shape of a file: of one in which its handle stands, or of that for which it is a copy
+  pub row_in_file : (q : ℕ) (row : ChunkRow) → table.get (rows_of l) q ≡ Some row → (table.get l.copies q ≡ None → IsOwned (table.get (rows_of l) q))
+      → ((c : Copy) → table.get l.copies q ≡ Some c → HasFile l.table.files c.file) → (file : ℕ) × HasFile l.table.files file × (row.shape ≡ shape_of l.table file)
+  row_in_file q row is owned there = by_copy (table.get l.copies q) refl
+    where
+      by_copy : (o : Option Copy) → table.get l.copies q ≡ o → (file : ℕ) × HasFile l.table.files file × (row.shape ≡ shape_of l.table file)
+      by_copy None none = let of = row_of_file q row is (owned none) in (of.0, stands_somewhere l.table.files of.0 q of.1, of.2)
+      by_copy (Some c) some = (c.file, there c some, shaped.copies q c row some is)
+
   pub row_told : (q : ℕ) (row : ChunkRow) → table.get (rows_of l) q ≡ Some row → (table.get l.copies q ≡ None → IsOwned (table.get (rows_of l) q))
       → ((c : Copy) → table.get l.copies q ≡ Some c → HasFile l.table.files c.file) → 64 ≤ row.shape.chunk
-  row_told q row is owned there = by_copy (table.get l.copies q) refl
-    where
-      by_copy : (o : Option Copy) → table.get l.copies q ≡ o → 64 ≤ row.shape.chunk
-      by_copy None none =
-          let of = row_of_file q row is (owned none) in
-          subst (λ (s : Shape). 64 ≤ s.chunk) (sym of.2) (file_told of.0 (stands_somewhere l.table.files of.0 q of.1))
-      by_copy (Some c) some = subst (λ (s : Shape). 64 ≤ s.chunk) (sym (shaped.copies q c row some is)) (file_told c.file (there c some))
+  row_told q row is owned there = let of = row_in_file q row is owned there in subst (λ (s : Shape). 64 ≤ s.chunk) (sym of.2) (file_told of.0 of.1)
 
 -- a handle that was used, of a chunk of this size
 

@@ -1,5 +1,5 @@
 -- With which sizes a chunk is granted: with that of its row as the Grant goes, which stays; and a copy has its source's.
-use Rattle.std.proofs.Common.{◌≡◌, ◌⊎◌, ℕ, suc, ◌≤◌, ◌<◌, true, false, true≢false, Bool, List, [], ◌∷◌, ◌++◌, length, take, Option, Some, None, refl, sym, ap, subst, ◌∙◌, inl, inr, arith}
+use Rattle.std.proofs.Common.{◌≡◌, ◌⊎◌, ℕ, zero, suc, ◌≤◌, ◌<◌, true, false, true≢false, Bool, List, [], ◌∷◌, ◌++◌, length, take, Option, Some, None, refl, sym, ap, subst, ◌∙◌, inl, inr, arith}
 use Rattle.std.specs.Prelude.{IsTrue, min}
 use Rattle.std.specs.FinMap as table
 use Rattle.std.proofs.lemmas.Bool.{cases_lt}
@@ -16,7 +16,7 @@ use Rattle.messages.specs.declared.message.Location.{Location}
 use Rattle.messages.specs.declared.message.Message.{Message}
 use Rattle.log_records.specs.declared.record.Record.{Record}
 use Rattle.log_records.specs.declared.record.Record.TheVariants as log
-use Rattle.chunk_table.specs.ChunkTable.{ChunkRow, chunk_of, handles_of, grant}
+use Rattle.chunk_table.specs.ChunkTable.{ChunkRow, chunk_of, handles_of, shape_of, grant}
 use Rattle.protocol.specs.Tables.{element_at}
 use Rattle.protocol.specs.Sending.{handle_of, version_of, order_number}
 use Rattle.protocol.specs.Choice.{Choice, Ending, Goes, Lost, Stops}
@@ -31,6 +31,7 @@ use Rattle.protocol.specs.ClientStep.{client_step, client_call}
 use Rattle.protocol.specs.World.{WorldState, Happened, new_world, stamped, after_master, happens, after_events, IsReached}
 use Rattle.laws_base.specs.Laws.{IsSizeGranted}
 use Rattle.laws_base.proofs.ClientMoves.{HasNoOrder, quiet_orders, client_quiet, call_quiet}
+use Rattle.laws_base.proofs.FilesNamed.{HasFile}
 use Rattle.laws_base.proofs.GrantedIssued.{granted_is_at_most_issued}
 use Rattle.laws_base.proofs.GrantsOnce.{row_below}
 use Rattle.laws_base.proofs.LeaseOrders.{grant_body, GrantsNothing, says_grant}
@@ -65,7 +66,7 @@ use Rattle.laws_versions.proofs.ExtendLaws.{restart_silent}
 use Rattle.laws_versions.proofs.UnaskedSteps.{IsNoAsk, KeepsThese, KeepsReports, taken_kept}
 use Rattle.laws_versions.proofs.GrantedSizes.{TellsSize, step_sized}
 use Rattle.laws_versions.proofs.HandleIndexes.{AreFiled, filed_on, filed_up}
-use Rattle.laws_versions.proofs.HandleSizes.{IsLogSized, IsStateSized, size_keeps, row_of_file, row_told}
+use Rattle.laws_versions.proofs.HandleSizes.{IsLogSized, IsStateSized, size_keeps, row_of_file, row_in_file, row_told}
 use Rattle.laws_versions.proofs.CopiesPlaced.{Begun, step_begun, below_reached, copies_are_new, handles_in, only}
 use Rattle.laws_versions.proofs.EntryIndexes.{take_front, take_more, joined, one_longer}
 
@@ -491,6 +492,44 @@ module _ (config : Config) (servers clients : ℕ) (steps : List (Event × Choic
 
   least : (handle size : ℕ) → Known handle size → 64 ≤ size
   least handle size t = has_least config servers clients (W t.n) (take t.n steps, refl) handle size t.has
+
+-- a list begins with its first ones
+begins_with : (n : ℕ) (xs : List (Event × Choice)) → (more : List (Event × Choice)) × (xs ≡ take n xs ++ more)
+begins_with zero xs = (xs, refl)
+begins_with (suc n) [] = ([], refl)
+begins_with (suc n) (x ∷ xs) = let rest = begins_with n xs in (rest.0, ap (λ (zs : List (Event × Choice)). x ∷ zs) rest.1)
+
+-- where a chunk was granted, a file had this size before, at a master that was up
+pub granted_by_file : (config : Config) (servers clients : ℕ) (w : WorldState) → IsReached config servers clients w → IsTrue w.observer.are_clocks_kept → (handle version size : ℕ) → IsSizeGranted w.sent handle version size
+    → (u : WorldState) × IsReached config servers clients u × IsTrue u.observer.are_clocks_kept × IsTrue u.master.up × (file : ℕ) × HasFile u.master.logged.table.files file × ((shape_of u.master.logged.table file).chunk ≡ size)
+granted_by_file config servers clients w r clocks handle version size granted =
+    (u, reached, kept_before w clocks u more.0 path, (known.has).0, of.0, of.1, sym (ap (λ (s : Shape). s.chunk) of.2) ∙ (known.has).3)
+  where
+    known : Known config servers clients r.0 handle size
+    known = granted_known config servers clients r.0 handle version size (subst (λ (v : WorldState). IsSizeGranted v.sent handle version size) (sym r.1) granted)
+
+    u : WorldState
+    u = after_events (new_world config servers clients) (take known.n r.0)
+
+    reached : IsReached config servers clients u
+    reached = (take known.n r.0, refl)
+
+    more : (xs : List (Event × Choice)) × (r.0 ≡ take known.n r.0 ++ xs)
+    more = begins_with known.n r.0
+
+    path : after_events u more.0 ≡ w
+    path = sym (ap (λ (xs : List (Event × Choice)). after_events (new_world config servers clients) xs) more.1 ∙ after_both (new_world config servers clients) (take known.n r.0) more.0) ∙ r.1
+
+    rows : IsUpToLog IsFoundRows IsRowedLog rows_kept u.master
+    rows = rowed config servers clients u reached (known.has).0
+
+    log : IsUpToLog IsFoundTold IsToldLog told_kept u.master
+    log = told config servers clients u reached (known.has).0
+
+    of : (file : ℕ) × HasFile u.master.logged.table.files file × ((known.has).1.shape ≡ shape_of u.master.logged.table file)
+    of =
+        row_in_file u.master.logged rows.tied.base.counted log.tied.base.here log.tied.told handle (known.has).1 (known.has).2 (λ none. rows.tied.owned handle none)
+        (λ c some. log.tied.base.base.base.here.copied handle c some)
 
 pub chunks_have_one_size : ChunksHaveOneSize
 chunks_have_one_size config servers clients w r handle version later size other first second =
