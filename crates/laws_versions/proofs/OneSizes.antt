@@ -390,8 +390,8 @@ module _ (config : Config) (servers clients : ℕ) (steps : List (Event × Choic
     abbrev ahead : List (Event × Choice)
     ahead = was.before ++ was.step ∷ []
 
-    reached : IsReached config servers clients x.world
-    reached = reached_later config servers clients u (was.step ∷ []) (was.before, refl)
+    begun_reached : IsReached config servers clients x.world
+    begun_reached = reached_later config servers clients u (was.step ∷ []) (was.before, refl)
 
     then_ : W (length was.before) ≡ u
     then_ = same_world was.before (was.step ∷ was.after) was.steps_are
@@ -400,7 +400,7 @@ module _ (config : Config) (servers clients : ℕ) (steps : List (Event × Choic
     now = same_world ahead was.after (was.steps_are ∙ sym (joined was.before was.step was.after)) ∙ after_both start was.before (was.step ∷ [])
 
     sized : IsCopySized config servers clients source copy x.world
-    sized = copy_sized config servers clients u x.world (was.before, refl) reached (was.now).moment (was.now).input (was.now).choice (ap (λ (y : Happened). y.world.master) (was.now).step_is) (was.now).place source copy (was.now).seen
+    sized = copy_sized config servers clients u x.world (was.before, refl) begun_reached (was.now).moment (was.now).input (was.now).choice (ap (λ (y : Happened). y.world.master) (was.now).step_is) (was.now).place source copy (was.now).seen
 
     new : IsTrue u.master.up × (u.master.logged.next_handle ≤ copy)
     new = copies_are_new config servers clients u (was.before, refl) (was.now).moment (was.now).input (was.now).choice (was.now).place (handle_of source) (handle_of copy) (was.now).seen
@@ -413,7 +413,7 @@ module _ (config : Config) (servers clients : ℕ) (steps : List (Event × Choic
               let none : size ≡ suc size = only_one (suc size) (subst (λ (w : WorldState). Is config servers clients copy (suc size) w) (sym now) (all (suc size))) in
               absurd (omega (arith, none))
           | inr at ↦
-              let same : size ≡ at.0 = only_one at.0 (subst (λ (w : WorldState). Is config servers clients copy at.0 w) (sym now) (has_filed config servers clients x.world reached copy at.0 at.2)) in
+              let same : size ≡ at.0 = only_one at.0 (subst (λ (w : WorldState). Is config servers clients copy at.0 w) (sym now) (has_filed config servers clients x.world begun_reached copy at.0 at.2)) in
               subst (λ (n : ℕ). Known source n) (sym same) (record { n = length ahead; has = subst (λ (w : WorldState). HasSize w source at.0) (sym now) at.1 })
         ]
 
@@ -523,13 +523,13 @@ granted_by_file config servers clients w r clocks handle version size granted =
     rows : IsUpToLog IsFoundRows IsRowedLog rows_kept u.master
     rows = rowed config servers clients u reached (known.has).0
 
-    log : IsUpToLog IsFoundTold IsToldLog told_kept u.master
-    log = told config servers clients u reached (known.has).0
+    in_log : IsUpToLog IsFoundTold IsToldLog told_kept u.master
+    in_log = told config servers clients u reached (known.has).0
 
     of : (file : ℕ) × HasFile u.master.logged.table.files file × ((known.has).1.shape ≡ shape_of u.master.logged.table file)
     of =
-        row_in_file u.master.logged rows.tied.base.counted log.tied.base.here log.tied.told handle (known.has).1 (known.has).2 (λ none. rows.tied.owned handle none)
-        (λ c some. log.tied.base.base.base.here.copied handle c some)
+        row_in_file u.master.logged rows.tied.base.counted in_log.tied.base.here in_log.tied.told handle (known.has).1 (known.has).2 (λ none. rows.tied.owned handle none)
+        (λ c some. in_log.tied.base.base.base.here.copied handle c some)
 
 pub chunks_have_one_size : ChunksHaveOneSize
 chunks_have_one_size config servers clients w r handle version later size other first second =
