@@ -3,3 +3,4 @@ pub mod Sent
 pub mod Settings
 pub mod Standing
 pub mod NewSeats
+pub mod NewLocks
