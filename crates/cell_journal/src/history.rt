@@ -210,22 +210,7 @@ impl History {
     pub fn close(self) -> ClosedHistory
         ensures { result ≡ closed self.cell self.entries true }
     {
-        let Self {
-            cell,
-            rows,
-            count: _,
-            reserved: _,
-            clocks,
-            earlier: _,
-            base_len: _,
-            list,
-        } = self;
-        ClosedHistory {
-            cell,
-            rows,
-            clocks,
-            end: ListEnd::over(list.close()),
-        }
+        self.park().close()
     }
 
     /// The journal as it is, to which nothing is added any more, and the list beside it, which may go on behind another journal. Takes no
