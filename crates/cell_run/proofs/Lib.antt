@@ -4,3 +4,4 @@ pub mod Settings
 pub mod Standing
 pub mod NewSeats
 pub mod NewLocks
+pub mod Parking

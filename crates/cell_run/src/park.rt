@@ -66,6 +66,7 @@ impl Cell {
 }
 
 // Parks a cell whose threads have ended, in room that there is.
+#[tactic(auto, using(crate::proofs::Parking::parked_cell))]
 fn park_in<R: Wait + Clock>(
     rt: &R,
     cell: EndedCell,
