@@ -7,6 +7,8 @@ use cell_run::ParkFault;
 use cell_run::cell::{Cell, ClientSeat};
 use cell_seats::gate::OpenGate;
 use cell_seats::mailboxes::Policy;
+use gfs_types::answer::Answer;
+use gfs_types::call::Call;
 use gfs_types::lists::Text;
 use gfs_types::refusal::Refusal;
 use std::alloc::Global;
@@ -19,12 +21,12 @@ use std::time::{Clock, Duration};
 const NAMES: [&str; 5] = ["/a", "/b", "/c", "/d", "/e"];
 
 /// What came of parking a cell.
-#[derive(Clone, Copy, Debug, PartialEq, Eq)]
+#[derive(Clone, Copy, PartialEq, Eq)]
 enum Outcome {
     /// With so many steps in its journal.
     Parked(usize),
-    /// Memory was refused, and this came of a call on the cell that came back.
-    RunsOn(Result<(), Refusal>),
+    /// Memory was refused. Whether a call on the cell that came back was done.
+    RunsOn(bool),
     /// Clocks were not kept, and there are so many steps in the journal, and so many seats came back.
     Closed(usize, usize),
 }
@@ -38,7 +40,11 @@ fn mkdir<R: Wait + Clock>(
     ensures { seat.new.cell ≡ seat.old.cell }
 {
     match Text::from_str(name, alloc) {
-        Ok(path) => seat.mkdir(rt, path),
+        Ok(path) => match seat.call(rt, Call::Mkdir(path)) {
+            Ok(Answer::Done) => Ok(()),
+            Ok(_) => Err(Refusal::Unknown),
+            Err(refusal) => Err(refusal),
+        },
         Err(_) => Err(Refusal::NoMemory),
     }
 }
@@ -57,6 +63,7 @@ fn mkdir_all<R: Wait + Clock>(rt: &R, alloc: Global, seat: &mut ClientSeat) -> u
 }
 
 // Parks a cell with one of its seats.
+#[tactic(auto, using(crate::proofs::Parkings::one_named))]
 fn park_with<R: Threads + Wait + Clock>(
     rt: &R,
     alloc: Global,
@@ -68,7 +75,7 @@ fn park_with<R: Threads + Wait + Clock>(
     let mut seats = Vec::new(alloc);
     if seats.push(seat).is_err() {
         drop(cell.close(rt));
-        return Outcome::RunsOn(Err(Refusal::NoMemory));
+        return Outcome::RunsOn(false);
     }
     match cell.park(rt, seats) {
         Ok(parked) => Outcome::Parked(parked.journal().len()),
@@ -85,8 +92,8 @@ fn called_again<R: Threads + Wait + Clock>(
     mut seats: Vec<ClientSeat>,
 ) -> Outcome {
     let called = match seats.pop() {
-        Some(mut seat) => mkdir(rt, alloc, &mut seat, "/again"),
-        None => Err(Refusal::Unknown),
+        Some(mut seat) => mkdir(rt, alloc, &mut seat, "/again").is_ok(),
+        None => false,
     };
     drop(cell.close(rt));
     Outcome::RunsOn(called)
@@ -114,7 +121,7 @@ fn a_parked_cell_has_its_journal(rt: HostRuntime) -> Result<(), Fail> {
     let cell = Cell::start(rt, alloc, small(3), 3, OpenGate)?;
     let is_well = match park_after_calls(&rt, alloc, cell) {
         Some((seen, Outcome::Parked(count))) => seen > 0 && seen <= count as u64,
-        Some((_, outcome)) => outcome == Outcome::RunsOn(Ok(())),
+        Some((_, outcome)) => outcome == Outcome::RunsOn(true),
         None => false,
     };
     assert!(rt; is_well);
