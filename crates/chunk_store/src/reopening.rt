@@ -1,12 +1,13 @@
 //! Opening a store again whose disk has begun again.
 
-ghost use Rattle.std.specs.Prelude.{◌≡◌, ◌≤◌, ◌%◌, length, IfOk, OnOk};
+ghost use Rattle.std.specs.Prelude.{◌≡◌, ◌<◌, ◌≤◌, ◌%◌, length, IfOk, IsErrOf, OnOk};
 ghost use Rattle.disk.specs.Device.{Follows, NoMore};
 ghost use Rattle.disk_redo.specs.Redo.{IsAtRest};
 ghost use Rattle.store_changes.specs.Areas.{area_of};
 ghost use Rattle.store_disk.specs.Places.{disk_size};
 ghost use Rattle.chunk_store.specs.Finding.{IsFoundAmong};
 ghost use Rattle.chunk_store.specs.Reopening.{StillSays};
+ghost use Rattle.chunk_store.specs.declared.fault.OpenFault.TheVariants as faults;
 ghost use Rattle.chunk_store.specs.Volumes.{IsReady, IsReopened};
 
 use crate::disk_opening::open_disk;
@@ -28,6 +29,7 @@ fn find<D: StoppableDisk>(
     ensures rest { OnOk result (IsAtRest D.seen D.may_leave (area_of layout.chunk layout.block) disk.new) }
     ensures large { OnOk result (disk_size layout.chunk layout.block layout.slots ≤ length (D.seen disk.new)) }
     ensures stops { Follows (StillSays layout.chunk layout.block layout.slots) (D.may_leave disk.old) (D.may_leave disk.new) }
+    ensures cause { IsErrOf result faults.Device → 0 < D.failed disk.new }
 {
     match disk.restart() {
         Ok(()) => {}
@@ -44,6 +46,7 @@ impl<D: StoppableDisk> StoreVolume<D> {
         ensures unchanged { self.new ≡ record self.old { disk = self.new.disk } }
         ensures seen { D.seen self.new.disk ≡ D.seen self.old.disk }
         ensures crash { NoMore (D.may_leave self.old.disk) (D.may_leave self.new.disk) }
+        ensures failed { D.failed self.new.disk ≡ D.failed self.old.disk }
     {
         self.disk.stop_after(calls, torn);
     }
@@ -52,6 +55,7 @@ impl<D: StoppableDisk> StoreVolume<D> {
         ensures unchanged { self.new ≡ record self.old { disk = self.new.disk } }
         ensures seen { D.seen self.new.disk ≡ D.seen self.old.disk }
         ensures crash { NoMore (D.may_leave self.old.disk) (D.may_leave self.new.disk) }
+        ensures failed { D.failed self.new.disk ≡ D.failed self.old.disk }
     {
         self.disk.stop_after_restart(calls, torn);
     }
@@ -62,6 +66,7 @@ impl<D: StoppableDisk> StoreVolume<D> {
         ensures ready { OnOk result (IsReady D.seen D.may_leave self.new) }
         ensures layout { self.new.layout ≡ self.old.layout }
         ensures stops { Follows (StillSays self.old.layout.chunk self.old.layout.block self.old.layout.slots) (D.may_leave self.old.disk) (D.may_leave self.new.disk) }
+        ensures cause { IsErrOf result faults.Device → 0 < D.failed self.new.disk }
     {
         let found = find(alloc, &mut self.disk, self.layout)?;
         self.order = found.order;

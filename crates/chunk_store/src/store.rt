@@ -473,6 +473,7 @@ impl<D: StoppableDisk> Store<D> {
         ensures unchanged { self.new ≡ record self.old { disk = self.new.disk } }
         ensures seen { D.seen self.new.disk ≡ D.seen self.old.disk }
         ensures crash { NoMore (D.may_leave self.old.disk) (D.may_leave self.new.disk) }
+        ensures failed { D.failed self.new.disk ≡ D.failed self.old.disk }
     {
         self.volume.stop_after(calls, torn);
     }
@@ -482,6 +483,7 @@ impl<D: StoppableDisk> Store<D> {
         ensures unchanged { self.new ≡ record self.old { disk = self.new.disk } }
         ensures seen { D.seen self.new.disk ≡ D.seen self.old.disk }
         ensures crash { NoMore (D.may_leave self.old.disk) (D.may_leave self.new.disk) }
+        ensures failed { D.failed self.new.disk ≡ D.failed self.old.disk }
     {
         self.volume.stop_after_restart(calls, torn);
     }
@@ -492,6 +494,8 @@ impl<D: StoppableDisk> Store<D> {
         ensures layout { self.new.layout ≡ self.old.layout }
         ensures stops { Follows (StillSays self.old.layout.chunk self.old.layout.block self.old.layout.slots) (D.may_leave self.old.disk) (D.may_leave self.new.disk) }
         ensures open { self.new.is_open ≡ is_ok result }
+        // Since its disk has begun again it has failed.
+        ensures cause { IsErrOf result opening_faults.Device → 0 < D.failed self.new.disk }
     {
         self.is_open = false;
         self.volume.reopen(alloc)?;

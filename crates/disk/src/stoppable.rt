@@ -1,7 +1,8 @@
 //! Disks that a script can stop.
 
-ghost use Rattle.std.specs.Prelude.{◌≡◌, OnErr, OnOk};
+ghost use Rattle.std.specs.Prelude.{◌≡◌, IsErrOf, OnErr, OnOk};
 ghost use Rattle.disk.specs.Device.{NoMore, Only};
+ghost use Rattle.disk.specs.declared.device.DiskFault.TheVariants.{Device};
 
 use crate::device::{Disk, DiskFault};
 use gfs_types::torn::Torn;
@@ -12,17 +13,22 @@ pub trait StoppableDisk: Disk {
     /// ranges that were written since the last sync as `torn` says. Changes no byte.
     fn stop_after(&mut self, calls: u64, torn: Torn)
         ensures seen { Self.seen self.new ≡ Self.seen self.old }
-        ensures crash { NoMore (Self.may_leave self.old) (Self.may_leave self.new) };
+        ensures crash { NoMore (Self.may_leave self.old) (Self.may_leave self.new) }
+        ensures failed { Self.failed self.new ≡ Self.failed self.old };
 
     /// The same, once it has begun again. Of several the last one counts.
     fn stop_after_restart(&mut self, calls: u64, torn: Torn)
         ensures seen { Self.seen self.new ≡ Self.seen self.old }
-        ensures crash { NoMore (Self.may_leave self.old) (Self.may_leave self.new) };
+        ensures crash { NoMore (Self.may_leave self.old) (Self.may_leave self.new) }
+        ensures failed { Self.failed self.new ≡ Self.failed self.old };
 
-    /// It begins again, with what a stop at this moment leaves. At an error, which is `NoMemory`, it is as it was.
+    /// It begins again, with what a stop at this moment leaves, and counts its failures anew. At an error, which is `NoMemory`, it is as it was.
     fn restart(&mut self) -> Result<(), DiskFault>
         ensures lawful { OnOk result (Self.may_leave self.old (Self.seen self.new)) }
         ensures durable { OnOk result (Only (Self.seen self.new) (Self.may_leave self.new)) }
         ensures seen { OnErr result (Self.seen self.new ≡ Self.seen self.old) }
-        ensures crash { OnErr result (NoMore (Self.may_leave self.old) (Self.may_leave self.new)) };
+        ensures crash { OnErr result (NoMore (Self.may_leave self.old) (Self.may_leave self.new)) }
+        ensures anew { OnOk result (Self.failed self.new ≡ 0) }
+        ensures failed { OnErr result (Self.failed self.new ≡ Self.failed self.old) }
+        ensures cause { IsErrOf result Device → ⊥ };
 }

@@ -1,5 +1,5 @@
 -- Faults of the disk, of the store on it and of its opening, as the servers' store has them; and when one is answered.
-use Rattle.std.specs.Prelude.{ℕ, ◌<◌, ◌≤◌, Result, IsErrOf}
+use Rattle.std.specs.Prelude.{◌≡◌, ℕ, ◌<◌, ◌≤◌, Result, IfErr, IsErrOf}
 use Rattle.disk.specs.declared.device.DiskFault.{DiskFault}
 use Rattle.disk.specs.declared.device.DiskFault.TheVariants as disk
 use Rattle.server_store.specs.declared.fault.ReplicaStoreFault.{ReplicaStoreFault}
@@ -14,7 +14,7 @@ of_disk disk.Device = store.DiskFailed
 of_disk disk.NoMemory = store.NoMemory
 
 abbrev pub of_opening : OpenFault → ReplicaStoreFault
-of_opening opening.Damaged = store.DiskFailed
+of_opening opening.Damaged = store.Damaged
 of_opening opening.Device = store.DiskFailed
 of_opening opening.NoMemory = store.NoMemory
 
@@ -31,3 +31,8 @@ of_change change.NoMemory = store.NoMemory
 pub record HasCause {T : Type 0} (before now : ℕ) (result : Result T ReplicaStoreFault) : Type 0 where
   pub later : before ≤ now
   pub failed : IsErrOf result store.DiskFailed → before < now
+
+-- likewise, where the error comes with how the store stands
+pub record HasCauseOf {T U : Type 0} (before now : ℕ) (result : Result T (ReplicaStoreFault × U)) : Type 0 where
+  pub later : before ≤ now
+  pub failed : IfErr result (λ e. e.0 ≡ store.DiskFailed → before < now)

@@ -27,6 +27,18 @@ changes_of Open = []
 changes_of (Unread change byte) = option_to_list change
 changes_of (Changing change) = change ∷ []
 
+-- what a store's callers see of it
+pub record DiskStoreView : Type 0 where
+  pub disk : ServerDisk
+  pub under_way : List StoreChange
+  pub is_open : Bool
+  pub failed : ℕ
+
+abbrev pub is_standing_open : DiskStoreState → Bool
+is_standing_open Open = true
+is_standing_open (Unread change byte) = false
+is_standing_open (Changing change) = false
+
 -- an open store has to be read anew; what is under way stays so
 abbrev pub closed : DiskStoreState → DiskStoreState
 closed Open = Unread None None

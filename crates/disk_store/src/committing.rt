@@ -4,7 +4,8 @@ ghost use Rattle.std.specs.Prelude.{◌≡◌, ◌⊎◌, true, false, [], ◌�
 ghost use Rattle.replica_store.specs.Replicas.{ServerDisk, disk_changed, is_disk_full};
 ghost use Rattle.server_store.specs.declared.fault.ReplicaStoreFault.TheVariants as faults;
 ghost use Rattle.store_changes.specs.declared.fault.StoreFault.TheVariants as making_faults;
-ghost use Rattle.disk_store.specs.Faults.{of_change};
+ghost use Rattle.disk_store.specs.Faults.{HasCauseOf, of_change};
+ghost use Rattle.server_store.specs.Stores.{IsCopyable};
 ghost use Rattle.disk_store.specs.Standing.{IsKept, IsUnfit, changes_of, writes};
 ghost use Rattle.disk_store.specs.declared.standing.DiskStoreState.TheVariants.{Open, Unread, Changing};
 
@@ -66,6 +67,9 @@ pub fn commit<D: Disk>(
     ensures open { IfErr result (λ e. changes_of e.1 ≡ change ∷ []) }
     ensures err { (d : ServerDisk) → IsKept D.seen D.may_leave store.old known.old.order known.old.rows d standing
         → IfErr result (λ e. IsKept D.seen D.may_leave store.new known.new.order known.new.rows d e.1) }
+    // Of a change that was begun: a copy's bytes match their digests.
+    ensures cause { (d : ServerDisk) → IsKept D.seen D.may_leave store.old known.old.order known.old.rows d standing → standing ≡ Open → IsCopyable d change
+        → HasCauseOf (D.failed store.old.disk) (D.failed store.new.disk) result }
     ensures no_room { (d : ServerDisk) → IsKept D.seen D.may_leave store.old known.old.order known.old.rows d standing
         → IfErr result (λ e. e.0 ≡ faults.NoRoom → IsUnfit store.old.layout.chunk known.old.rows d change ⊎ (is_disk_full store.old.layout.slots d ≡ true)) }
 {

@@ -53,18 +53,15 @@ impl<D: StoppableDisk + Drop> Drop for DiskStore<D> {
 }
 
 impl<D: StoppableDisk> Model for DiskStore<D> {
-    ghost use Rattle.std.specs.Prelude.{List};
     ghost use Rattle.std.specs.FinMap as map;
     ghost use Rattle.std.specs.Coded.{codes, coded_ℕ};
-    ghost use Rattle.replica_store.specs.Replicas.{ServerDisk};
-    ghost use Rattle.replica_store.specs.declared.change.StoreChange.{StoreChange as StoreChangeValue};
-    ghost use Rattle.disk_store.specs.Standing.{IsKept, changes_of};
+    ghost use Rattle.disk_store.specs.Standing.{DiskStoreView, IsKept, changes_of, is_standing_open};
 
-    ghost Value = { ServerDisk × List StoreChangeValue };
+    ghost Value = { DiskStoreView };
 
     ghost coded = { Prim.hlevel (codes, map.code, coded_ℕ) };
 
-    ghost view = { λ s. (s.said, changes_of s.standing) };
+    ghost view = { λ s. record { disk = s.said; under_way = changes_of s.standing; is_open = is_standing_open s.standing; failed = D.failed s.store.disk } };
 
     ghost invariant = { λ s. IsKept D.seen D.may_leave s.store s.known.order s.known.rows s.said s.standing };
 }
@@ -73,7 +70,8 @@ impl<D: StoppableDisk + Drop> DiskStore<D> {
     /// A new store on a disk that holds none, for chunks of whole blocks.
     pub fn new(alloc: Global, disk: D, layout: Layout) -> Result<DiskStore<D>, ReplicaStoreFault>
         requires { layout.chunk % layout.block ≡ 0 }
-        ensures { IfOk result (λ s. s ≡ (new_server_disk layout.block, [])) }
+        ensures new { IfOk result (λ s. (s.disk ≡ new_server_disk layout.block) × (s.under_way ≡ [])) }
+        ensures open { IfOk result (λ s. s.is_open ≡ true) }
     {
         let mut disk = disk;
         if disk.size() < layout.disk_size() {
@@ -96,9 +94,13 @@ impl<D: StoppableDisk + Drop> DiskStore<D> {
 }
 
 impl<D: StoppableDisk> ReplicaStore for DiskStore<D> {
-    ghost disk = { λ s. s.0 };
+    ghost disk = { λ s. s.disk };
 
-    ghost under_way = { λ s. s.1 };
+    ghost under_way = { λ s. s.under_way };
+
+    ghost is_open = { λ s. s.is_open };
+
+    ghost failed = { λ s. s.failed };
 
     fn row(&self, handle: Handle) -> Option<Row> {
         self.known.row(handle)

@@ -17,12 +17,13 @@ pub(crate) fn fault_of_disk(fault: DiskFault) -> ReplicaStoreFault
     }
 }
 
-/// A fault of the opening: a disk that is another layout's counts as one that failed.
+/// A fault of the opening.
 pub fn fault_of_opening(fault: OpenFault) -> ReplicaStoreFault
     ensures { result ≡ of_opening fault }
 {
     match fault {
-        OpenFault::Damaged | OpenFault::Device => ReplicaStoreFault::DiskFailed,
+        OpenFault::Damaged => ReplicaStoreFault::Damaged,
+        OpenFault::Device => ReplicaStoreFault::DiskFailed,
         OpenFault::NoMemory => ReplicaStoreFault::NoMemory,
     }
 }

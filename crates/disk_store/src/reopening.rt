@@ -41,6 +41,7 @@ pub fn open_again<D: StoppableDisk>(
     ensures err { (order : OrderNo) (rows : Rows) (d : ServerDisk) → IsKept D.seen D.may_leave store.old order rows d standing.now
         → OnErr result (IsKept D.seen D.may_leave store.new order rows d standing.now) }
     ensures no_room { IsErrOf result faults.NoRoom → ⊥ }
+    ensures cause { IsErrOf result faults.DiskFailed → 0 < D.failed store.new.disk }
 {
     match store.reopen(alloc) {
         Ok(()) => {}

@@ -148,6 +148,10 @@ impl ReplicaStore for MemoryStore {
 
     ghost under_way = { λ s. s.1 };
 
+    ghost is_open = { λ _. true };
+
+    ghost failed = { λ _. 0 };
+
     fn row(&self, handle: Handle) -> Option<Row> {
         Some(self.replica(handle)?.row())
     }

@@ -1,11 +1,12 @@
 //! What every log of the master promises.
 
-ghost use Rattle.std.specs.Prelude.{◌≡◌, ◌<◌, ◌^◌, ◌↔◌, ℕ, List, [], ◌∷◌, ◌++◌, true, false, length, slice_get, IfOk, OnOk, OnErr, IsErrOf};
+ghost use Rattle.std.specs.Prelude.{◌≡◌, ◌<◌, ◌^◌, ◌↔◌, ℕ, Bool, List, [], ◌∷◌, ◌++◌, true, false, length, slice_get, IfOk, OnOk, OnErr, IsErrOf};
 ghost use Rattle.log_records.specs.declared.record.Record.{Record};
 ghost use Rattle.log_codec.specs.Payloads.{IsWritable};
 ghost use Rattle.protocol.specs.Logged.{LogDisk, LogChange, AppendRecord, WriteCheckpoint, log_changed};
 ghost use Rattle.protocol.specs.LogSizes.{used_size, record_fits, checkpoint_fits};
 ghost use Rattle.operation_log.specs.declared.fault.OperationLogFault.TheVariants.{Full, Unwritable};
+ghost use Rattle.operation_log.specs.Faults.{MayFail, StaysOpen};
 ghost use Rattle.operation_log.specs.Logs.{MayBeUnderWay};
 
 use crate::fault::OperationLogFault;
@@ -28,6 +29,12 @@ pub trait OperationLog {
     /// The bytes of the log's disk.
     ghost log_bytes: { Self → ℕ };
 
+    /// It has been opened, and its disk hasn't failed since. One that isn't open answers `Device` to each call that needs its disk, until it is opened again.
+    ghost is_open: { Self → Bool };
+
+    /// How often its disk has failed since it began.
+    ghost failed: { Self → ℕ };
+
     /// The bytes of an area that the log takes.
     fn used(&self) -> u64
         ensures size { result ≡ used_size (disk self.now).items (disk self.now).records }
@@ -49,7 +56,9 @@ pub trait OperationLog {
         ensures unwritable { IsErrOf result Unwritable ↔ (record_fits (log_bytes self.old) (disk self.old).items (disk self.old).records entry.now ≡ true) × (IsWritable entry.now → ⊥) }
         ensures full_changes_nothing { IsErrOf result Full → under_way self.new ≡ [] }
         ensures unwritable_changes_nothing { IsErrOf result Unwritable → under_way self.new ≡ [] }
-        ensures size { log_bytes self.new ≡ log_bytes self.old };
+        ensures size { log_bytes self.new ≡ log_bytes self.old }
+        ensures open { StaysOpen (is_open self.old) (is_open self.new) result }
+        ensures cause { MayFail (is_open self.old) (failed self.old) (failed self.new) result };
 
     /// Begins to write a checkpoint; what was written of another one is forgotten. The log stays as it is.
     fn begin_checkpoint(&mut self) -> Result<(), OperationLogFault>
@@ -57,7 +66,9 @@ pub trait OperationLog {
         ensures ok { OnOk result (writing self.new ≡ []) }
         ensures disk { disk self.new ≡ disk self.old }
         ensures under_way { under_way self.new ≡ [] }
-        ensures size { log_bytes self.new ≡ log_bytes self.old };
+        ensures size { log_bytes self.new ≡ log_bytes self.old }
+        ensures open { StaysOpen (is_open self.old) (is_open self.new) result }
+        ensures cause { MayFail (is_open self.old) (failed self.old) (failed self.new) result };
 
     /// Adds an item to the checkpoint that is being written. The log stays as it is. Full comes exactly where the items don't fit
     /// with this one; Unwritable exactly where they do and the format has no bytes for it.
@@ -68,7 +79,9 @@ pub trait OperationLog {
         ensures under_way { under_way self.new ≡ [] }
         ensures full { IsErrOf result Full ↔ checkpoint_fits (log_bytes self.old) (writing self.old ++ item.now ∷ []) ≡ false }
         ensures unwritable { IsErrOf result Unwritable ↔ (checkpoint_fits (log_bytes self.old) (writing self.old ++ item.now ∷ []) ≡ true) × (IsWritable item.now → ⊥) }
-        ensures size { log_bytes self.new ≡ log_bytes self.old };
+        ensures size { log_bytes self.new ≡ log_bytes self.old }
+        ensures open { StaysOpen (is_open self.old) (is_open self.new) result }
+        ensures cause { MayFail (is_open self.old) (failed self.old) (failed self.new) result };
 
     /// Ends the checkpoint: its items take the place of the log's items and records. After an error it may be under way.
     fn end_checkpoint(&mut self) -> Result<(), OperationLogFault>
@@ -78,7 +91,9 @@ pub trait OperationLog {
         ensures done { OnOk result (under_way self.new ≡ []) }
         ensures err { OnErr result (disk self.new ≡ disk self.old) }
         ensures begun { OnErr result (MayBeUnderWay (WriteCheckpoint (writing self.old)) (under_way self.new)) }
-        ensures size { log_bytes self.new ≡ log_bytes self.old };
+        ensures size { log_bytes self.new ≡ log_bytes self.old }
+        ensures open { StaysOpen (is_open self.old) (is_open self.new) result }
+        ensures cause { MayFail (is_open self.old) (failed self.old) (failed self.new) result };
 
     /// How many items and records there are.
     fn len(&self) -> u64
@@ -91,5 +106,7 @@ pub trait OperationLog {
         ensures value { IfOk result (λ e. e ≡ slice_get ((disk self.old).items ++ (disk self.old).records) place) }
         ensures disk { disk self.new ≡ disk self.old }
         ensures under_way { under_way self.new ≡ [] }
-        ensures size { log_bytes self.new ≡ log_bytes self.old };
+        ensures size { log_bytes self.new ≡ log_bytes self.old }
+        ensures open { StaysOpen (is_open self.old) (is_open self.new) result }
+        ensures cause { MayFail (is_open self.old) (failed self.old) (failed self.new) result };
 }

@@ -1,6 +1,6 @@
 //! A log in memory, with the sizes of one on a disk.
 
-ghost use Rattle.std.specs.Prelude.{◌≡◌, ◌+◌, ◌<◌, ◌^◌, [], ◌∷◌, ◌++◌, slice_get, is_some, IfSome};
+ghost use Rattle.std.specs.Prelude.{◌≡◌, ◌+◌, ◌<◌, ◌^◌, [], ◌∷◌, ◌++◌, true, slice_get, is_some, IfSome};
 ghost use Rattle.std.specs.Option.{option_copied};
 ghost use Rattle.protocol.specs.LogSizes.{checkpoint_size, checkpoint_fits};
 ghost use Rattle.operation_log.specs.Memory.{new_memory_log};
@@ -90,6 +90,10 @@ impl OperationLog for MemoryLog {
     ghost writing = { λ l. l.writing };
 
     ghost log_bytes = { λ l. l.log_bytes };
+
+    ghost is_open = { λ _. true };
+
+    ghost failed = { λ _. 0 };
 
     fn used(&self) -> u64 {
         self.used

@@ -277,6 +277,7 @@ impl<D: StoppableDisk> Log<D> {
         ensures same { SameButDisk self.old self.new }
         ensures seen { D.seen self.new.disk ≡ D.seen self.old.disk }
         ensures crash { NoMore (D.may_leave self.old.disk) (D.may_leave self.new.disk) }
+        ensures failed { D.failed self.new.disk ≡ D.failed self.old.disk }
     {
         self.volume.disk.stop_after(calls, torn);
     }
@@ -286,6 +287,7 @@ impl<D: StoppableDisk> Log<D> {
         ensures same { SameButDisk self.old self.new }
         ensures seen { D.seen self.new.disk ≡ D.seen self.old.disk }
         ensures crash { NoMore (D.may_leave self.old.disk) (D.may_leave self.new.disk) }
+        ensures failed { D.failed self.new.disk ≡ D.failed self.old.disk }
     {
         self.volume.disk.stop_after_restart(calls, torn);
     }
@@ -301,6 +303,8 @@ impl<D: StoppableDisk> Log<D> {
         ensures size { self.new.size ≡ self.old.size }
         // A stop leaves what one before it might have left, or an empty log where none stood there.
         ensures stops { Follows IsReopened (D.may_leave self.old.disk) (D.may_leave self.new.disk) }
+        // Since its disk has begun again it has failed.
+        ensures cause { IsErrOf result faults.Device → 0 < D.failed self.new.disk }
     {
         self.is_open = false;
         let found = find_again(&mut self.volume.disk, alloc, self.volume.size)?;

@@ -17,6 +17,8 @@ pub enum ReplicaStoreFault {
     DiskFailed,
     /// A place past the last one, or a replica more, than the store can have.
     NoRoom,
+    /// What stands on the disk is no store of this layout. An opening's alone.
+    Damaged,
 }
 
 impl fmt::Display for ReplicaStoreFault {
@@ -27,6 +29,7 @@ impl fmt::Display for ReplicaStoreFault {
             ReplicaStoreFault::NoMemory => write!(f, "no memory"),
             ReplicaStoreFault::DiskFailed => write!(f, "the disk failed"),
             ReplicaStoreFault::NoRoom => write!(f, "no room"),
+            ReplicaStoreFault::Damaged => write!(f, "the disk is damaged"),
         }
     }
 }

@@ -11,10 +11,14 @@ pub trait StoppableStore: ReplicaStore {
     /// `torn` says.
     fn stop_after(&mut self, calls: u64, torn: Torn)
         ensures disk { Self.disk self.new ≡ Self.disk self.old }
-        ensures under_way { Self.under_way self.new ≡ Self.under_way self.old };
+        ensures under_way { Self.under_way self.new ≡ Self.under_way self.old }
+        ensures open { Self.is_open self.new ≡ Self.is_open self.old }
+        ensures failed { Self.failed self.new ≡ Self.failed self.old };
 
     /// The same, from the moment on at which the store is opened again and its disk has begun again.
     fn stop_after_restart(&mut self, calls: u64, torn: Torn)
         ensures disk { Self.disk self.new ≡ Self.disk self.old }
-        ensures under_way { Self.under_way self.new ≡ Self.under_way self.old };
+        ensures under_way { Self.under_way self.new ≡ Self.under_way self.old }
+        ensures open { Self.is_open self.new ≡ Self.is_open self.old }
+        ensures failed { Self.failed self.new ≡ Self.failed self.old };
 }

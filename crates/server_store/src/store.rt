@@ -1,9 +1,10 @@
 //! The store of a server's replicas.
 
-ghost use Rattle.std.specs.Prelude.{◌≡◌, ◌+◌, ◌<◌, List, [], ◌∷◌, OnOk, OnErr, IfOk};
+ghost use Rattle.std.specs.Prelude.{◌≡◌, ◌+◌, ◌<◌, ℕ, Bool, true, List, [], ◌∷◌, OnOk, OnErr, IfOk, IsErrOf};
 ghost use Rattle.std.specs.FinMap as map;
 ghost use Rattle.replica_store.specs.Replicas.{ServerDisk, disk_changed, disk_changed_by_all, row_at, read_at, is_copyable_at, is_writable_at, is_disk_full};
-ghost use Rattle.server_store.specs.Stores.{IsFound, MadePart, disk_rotten, replica_lines};
+ghost use Rattle.server_store.specs.Stores.{HasCause, IsCopyable, IsFound, MadePart, disk_rotten, replica_lines};
+ghost use Rattle.server_store.specs.declared.fault.ReplicaStoreFault.TheVariants.{DiskFailed};
 
 use crate::fault::ReplicaStoreFault;
 use bytes::Bytes;
@@ -25,6 +26,12 @@ pub trait ReplicaStore {
 
     /// The change that a commit that failed may have made.
     ghost under_way: { Self → List StoreChange };
+
+    /// It has been opened, and no change has failed since. One that isn't open answers `DiskFailed` to each call that needs its disk, until it is opened again.
+    ghost is_open: { Self → Bool };
+
+    /// How often its disk has failed since it began.
+    ghost failed: { Self → ℕ };
 
     /// What is known of a replica, from memory.
     fn row(&self, handle: Handle) -> Option<Row>
@@ -58,14 +65,18 @@ pub trait ReplicaStore {
         requires { under_way self.old ≡ [] }
         ensures disk { disk self.new ≡ disk self.old }
         ensures nothing { under_way self.new ≡ [] }
-        ensures value { IfOk result (λ b. b ≡ is_writable_at (disk self.old) handle.0 offset end) };
+        ensures value { IfOk result (λ b. b ≡ is_writable_at (disk self.old) handle.0 offset end) }
+        ensures open { is_open self.new ≡ is_open self.old }
+        ensures cause { HasCause (is_open self.old) (failed self.old) (failed self.new) result };
 
     /// Whether every block of the replica matches its digest. False where there is no such replica.
     fn is_copyable(&mut self, handle: Handle) -> Result<bool, ReplicaStoreFault>
         requires { under_way self.old ≡ [] }
         ensures disk { disk self.new ≡ disk self.old }
         ensures nothing { under_way self.new ≡ [] }
-        ensures value { IfOk result (λ b. b ≡ is_copyable_at (disk self.old) handle.0) };
+        ensures value { IfOk result (λ b. b ≡ is_copyable_at (disk self.old) handle.0) }
+        ensures open { is_open self.new ≡ is_open self.old }
+        ensures cause { HasCause (is_open self.old) (failed self.old) (failed self.new) result };
 
     /// The bytes from `offset` on, at most `count`, as they are on the disk; those past the replica's end aren't there. None where there
     /// is no such replica, or a block that the read touches doesn't match its digest.
@@ -79,7 +90,9 @@ pub trait ReplicaStore {
         requires { under_way self.old ≡ [] }
         ensures disk { disk self.new ≡ disk self.old }
         ensures nothing { under_way self.new ≡ [] }
-        ensures value { IfOk result (λ b. b ≡ read_at (disk self.old) handle.0 offset count) };
+        ensures value { IfOk result (λ b. b ≡ read_at (disk self.old) handle.0 offset count) }
+        ensures open { is_open self.new ≡ is_open self.old }
+        ensures cause { HasCause (is_open self.old) (failed self.old) (failed self.new) result };
 
     /// Makes a change, which a stop leaves made or not. After an error it is under way, and the store keeps it: the store is to be opened
     /// again, which finds it made or not.
@@ -88,14 +101,19 @@ pub trait ReplicaStore {
         ensures disk { OnOk result (disk self.new ≡ disk_changed (disk self.old) change) }
         ensures nothing { OnOk result (under_way self.new ≡ []) }
         ensures err { OnErr result (disk self.new ≡ disk self.old) }
-        ensures open { OnErr result (under_way self.new ≡ change ∷ []) };
+        ensures open { OnErr result (under_way self.new ≡ change ∷ []) }
+        ensures stays_open { OnOk result (is_open self.new ≡ true) }
+        ensures cause { IsCopyable (disk self.old) change → HasCause (is_open self.old) (failed self.old) (failed self.new) result };
 
     /// Opens the store again, as a restart does, and finds what was under way made or not. An error leaves all as it was.
     fn reopen(&mut self) -> Result<(), ReplicaStoreFault>
         ensures disk { OnOk result (IsFound (disk self.old) (under_way self.old) (disk self.new)) }
         ensures nothing { OnOk result (under_way self.new ≡ []) }
         ensures err { OnErr result (disk self.new ≡ disk self.old) }
-        ensures open { OnErr result (under_way self.new ≡ under_way self.old) };
+        ensures open { OnErr result (under_way self.new ≡ under_way self.old) }
+        ensures opened { OnOk result (is_open self.new ≡ true) }
+        // Its disk counts anew once it begins again.
+        ensures cause { IsErrOf result DiskFailed → 0 < failed self.new };
 
     /// A byte of a replica becomes another on the disk, past its digest, as a failing disk might do; nothing happens where there is no
     /// such replica. An error leaves all as it was; NoRoom: no replica of this store can have a byte at that place.
@@ -103,7 +121,8 @@ pub trait ReplicaStore {
         requires { under_way self.old ≡ [] }
         ensures disk { OnOk result (disk self.new ≡ disk_rotten (disk self.old) handle.0 place byte) }
         ensures nothing { under_way self.new ≡ [] }
-        ensures err { OnErr result (disk self.new ≡ disk self.old) };
+        ensures err { OnErr result (disk self.new ≡ disk self.old) }
+        ensures cause { HasCause (is_open self.old) (failed self.old) (failed self.new) result };
 }
 
 /// Makes changes in their order. At an error some were made, from the first on, and the next one is under way.

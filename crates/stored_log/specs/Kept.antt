@@ -1,5 +1,5 @@
 -- A log on a disk, and what is known of it.
-use Rattle.std.specs.Prelude.{◌≡◌, ◌⊎◌, ℕ, ◌<◌, ◌≤◌, ◌^◌, true, List, [], ◌∷◌, ◌++◌, Option, None, Some}
+use Rattle.std.specs.Prelude.{◌≡◌, ◌⊎◌, ℕ, ◌<◌, ◌≤◌, ◌^◌, Bool, true, false, List, [], ◌∷◌, ◌++◌, Option, None, Some}
 use Rattle.std.specs.List.{AllByRecursion}
 use Rattle.log_records.specs.declared.record.Record.{Record}
 use Rattle.log_codec.specs.Payloads.{IsWritable}
@@ -13,12 +13,20 @@ use Rattle.protocol.specs.LogSizes.{used_size}
 use Rattle.stored_log.specs.declared.standing.LogStanding.{LogStanding}
 use Rattle.stored_log.specs.declared.standing.LogStanding.TheVariants.{Open, Unread, Appending, Checkpointing}
 
--- the log, the change that isn't decided, the items of the checkpoint that is being written, and the bytes of the disk
+-- the log, the change that isn't decided, the items of the checkpoint that is being written, the bytes of the disk, whether the log is open, and how often the disk has failed
 pub record DiskLogState : Type 0 where
   pub disk : LogDisk
   pub under_way : List LogChange
   pub writing : List Record
   pub log_bytes : ℕ
+  pub is_open : Bool
+  pub failed : ℕ
+
+abbrev pub is_standing_open : LogStanding → Bool
+is_standing_open Open = true
+is_standing_open Unread = false
+is_standing_open (Appending entry) = false
+is_standing_open (Checkpointing items) = false
 
 abbrev pub changes_of : LogStanding → List LogChange
 changes_of Open = []

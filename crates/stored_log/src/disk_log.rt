@@ -54,7 +54,7 @@ pub struct DiskLog<D: Disk> {
 }
 
 impl<D: Disk> Model for DiskLog<D> {
-    ghost use Rattle.stored_log.specs.Kept.{all_entries, changes_of, DiskLogState, HasDiskSize, IsKept, IsWritten, KeepsWalk, Takes};
+    ghost use Rattle.stored_log.specs.Kept.{all_entries, changes_of, DiskLogState, HasDiskSize, IsKept, IsWritten, is_standing_open, KeepsWalk, Takes};
 
     ghost Value = { DiskLogState };
 
@@ -63,6 +63,8 @@ impl<D: Disk> Model for DiskLog<D> {
       under_way = changes_of l.standing;
       writing = l.writing.items;
       log_bytes = l.log_bytes;
+      is_open = is_standing_open l.standing;
+      failed = D.failed l.log.disk;
     } };
 
     ghost invariant = { λ l. IsKept D.may_leave l.log l.standing
@@ -99,6 +101,8 @@ impl<D: Disk> DiskLog<D> {
         ensures size { IfOk result (λ l. l.log_bytes ≡ length (D.seen disk)) }
         ensures read_of_error { IfErr result (λ e. IsReopened (D.seen disk) (D.seen e.0)) }
         ensures any_moment_of_error { IfErr result (λ e. LeavesOnly D.moment D.left_since disk e.0 (IsOpening (D.seen disk) (D.may_leave disk))) }
+        ensures open { IfOk result (λ l. l.is_open ≡ true) }
+        ensures cause { IfErr result (λ e. e.1 ≡ faults.Device → D.failed disk < D.failed e.0) }
     {
         let log_bytes = disk.size() as u64;
         match Log::open_with_walk(disk, alloc) {
@@ -115,6 +119,8 @@ impl<D: Disk> DiskLog<D> {
         ensures disk { result.disk ≡ record { items = log.area.items; records = log.area.records } }
         ensures decided { result.under_way ≡ [] }
         ensures size { result.log_bytes ≡ log_bytes }
+        ensures open { result.is_open ≡ true }
+        ensures log { result.failed ≡ D.failed log.disk }
     {
         let used = log.used() as u64;
         DiskLog {
@@ -135,6 +141,8 @@ impl<D: Disk> DiskLog<D> {
         ensures new { IfOk result (λ l. l.disk ≡ new_log) }
         ensures decided { IfOk result (λ l. l.under_way ≡ []) }
         ensures size { IfOk result (λ l. l.log_bytes ≡ length (D.seen disk)) }
+        ensures open { IfOk result (λ l. l.is_open ≡ true) }
+        ensures cause { IfErr result (λ e. e.1 ≡ faults.Device → D.failed disk < D.failed e.0) }
     {
         let opened = DiskLog::open(disk, alloc)?;
         if opened.log.item_count() > 0 || opened.log.record_count() > 0 {
@@ -176,6 +184,10 @@ impl<D: Disk> OperationLog for DiskLog<D> {
     ghost writing = { λ l. l.writing };
 
     ghost log_bytes = { λ l. l.log_bytes };
+
+    ghost is_open = { λ l. l.is_open };
+
+    ghost failed = { λ l. l.failed };
 
     fn used(&self) -> u64 {
         self.used

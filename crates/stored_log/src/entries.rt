@@ -4,6 +4,9 @@ ghost use Rattle.std.specs.Prelude.{◌≡◌, ◌<◌, ◌≤◌, true, List, l
 ghost use Rattle.log_records.specs.declared.record.Record.{Record};
 ghost use Rattle.oplog.specs.Logs.{SameButDisk};
 ghost use Rattle.oplog.specs.Walks.{IsWalk, passed};
+ghost use Rattle.operation_log.specs.Faults.{MayFail};
+ghost use Rattle.operation_log.specs.declared.fault.OperationLogFault.TheVariants as faults;
+ghost use Rattle.stored_log.specs.Faults.{fault_of};
 ghost use Rattle.stored_log.specs.Kept.{all_entries, KeepsWalk};
 
 use disk::Disk;
@@ -13,7 +16,9 @@ use operation_log::fault::OperationLogFault;
 use oplog::{Log, LogFault, Walk};
 use std::alloc::Global;
 
-pub(crate) fn fault_of(fault: LogFault) -> OperationLogFault {
+pub(crate) fn fault_of(fault: LogFault) -> OperationLogFault
+    ensures { result ≡ fault_of fault }
+{
     match fault {
         LogFault::Full | LogFault::Damaged => OperationLogFault::Damaged,
         LogFault::Device => OperationLogFault::Device,
@@ -21,7 +26,9 @@ pub(crate) fn fault_of(fault: LogFault) -> OperationLogFault {
     }
 }
 
-fn fault_read(fault: DecodeFault) -> OperationLogFault {
+fn fault_read(fault: DecodeFault) -> OperationLogFault
+    ensures { result ≡ faults.Device → ⊥ }
+{
     match fault {
         DecodeFault::Damaged => OperationLogFault::Damaged,
         DecodeFault::NoMemory => OperationLogFault::NoMemory,
@@ -40,6 +47,7 @@ fn walk_before<D: Disk>(
     ensures walk { IfOk result (λ w. IsWalk (all_entries log.old) w) }
     ensures place { IfOk result (λ w. passed w ≤ place) }
     ensures same { SameButDisk log.old log.new }
+    ensures cause { MayFail true (D.failed log.old.disk) (D.failed log.new.disk) result }
 {
     if let Some(walk) = walk {
         if walk.place() <= place {
@@ -76,6 +84,7 @@ pub(crate) fn entry_at<D: Disk>(
     ensures entry { IfOk result (λ x. x.0 ≡ slice_get (all_entries log.old) place) }
     ensures walk { IfOk result (λ x. IsWalk (all_entries log.old) x.1) }
     ensures same { SameButDisk log.old log.new }
+    ensures cause { MayFail true (D.failed log.old.disk) (D.failed log.new.disk) result }
 {
     let mut walk = walk_before(log, alloc, walk, place)?;
     match walk_to(&mut walk, place, alloc) {
