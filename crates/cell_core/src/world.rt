@@ -110,7 +110,7 @@ impl<A: Allocator + Clone> World<A> {
         requires least { 64 ≤ config.chunk }
         requires most { config.chunk ≤ largest_chunk }
         requires skew { config.skew_ms ≤ 60000 }
-        requires stores { All (λ s. (s.0 ≡ new_server_disk config.block) × (s.1 ≡ [])) stores.items }
+        requires stores { All (λ s. (s.disk ≡ new_server_disk config.block) × (s.under_way ≡ [])) stores.items }
         requires count { length stores.items ≤ 65535 }
         requires master { ⟦<WorldMaster<A> as CellMaster>⟧.state master ≡ new_master config (length stores.items) }
         requires files { ⟦<WorldMaster<A> as CellMaster>⟧.files master ≡ table.empty }

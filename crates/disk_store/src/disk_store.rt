@@ -1,6 +1,6 @@
 //! The store over its disk.
 
-ghost use Rattle.std.specs.Prelude.{◌≡◌, ◌%◌, [], IfOk};
+ghost use Rattle.std.specs.Prelude.{◌≡◌, ◌%◌, [], true, IfOk};
 ghost use Rattle.replica_store.specs.Replicas.{new_server_disk};
 
 use crate::change::SaidChange;

@@ -1,6 +1,6 @@
 //! Disks that are read anew.
 
-ghost use Rattle.std.specs.Prelude.{◌≡◌, IfOk, IsErrOf, OnErr};
+ghost use Rattle.std.specs.Prelude.{◌≡◌, ◌<◌, IfOk, IsErrOf, OnErr};
 ghost use Rattle.chunk_store.specs.Stores.{IsOpen};
 ghost use Rattle.gfs_types.specs.declared.ids.OrderNo.{OrderNo};
 ghost use Rattle.replica_store.specs.Replicas.{ServerDisk};

@@ -13,7 +13,7 @@ use std::alloc::Global;
 use std::test::Fail;
 
 pub(crate) fn new_store(alloc: Global) -> Result<DiskStore<NodeDisk>, ReplicaStoreFault>
-    ensures { IfOk result (λ s. s.1 ≡ []) }
+    ensures { IfOk result (λ s. s.under_way ≡ []) }
 {
     let layout = layout();
     let disk = NodeDisk::new(alloc, layout.disk_size())?;

@@ -6,6 +6,6 @@ use Rattle.cell_core.proofs.making.new_stores.Given as goal
 -- so many new stores were made
 abbrev pub invariant-loop : goal.invariant-loop
 invariant-loop l = record {
-  new : All (λ s. (s.0 ≡ new_server_disk l.fn.config.block) × (s.1 ≡ [])) l.stores.items;
+  new : All (λ s. (s.disk ≡ new_server_disk l.fn.config.block) × (s.under_way ≡ [])) l.stores.items;
   count : length l.stores.items ≡ l.counter;
 }

@@ -1,7 +1,6 @@
-use Rattle.std.proofs.Common.{List, refl, ap, ◌∙◌}
-use Rattle.replica_store.specs.Replicas.{ServerDisk, disk_changed}
-use Rattle.replica_store.specs.declared.change.StoreChange.{StoreChange}
-use Rattle.disk_store.specs.Standing.{changes_of}
+use Rattle.std.proofs.Common.{refl, ap, ◌∙◌}
+use Rattle.replica_store.specs.Replicas.{disk_changed}
+use Rattle.disk_store.specs.Standing.{DiskStoreView, changes_of}
 use Rattle.disk_store.specs.declared.standing.DiskStoreState.TheVariants.{Open}
 use Rattle.disk_store.proofs.Keeping.{as_said}
 use Rattle.disk_store.proofs.disk_store.DiskStoreReplicaStore.commit.Goals as goal
@@ -12,7 +11,7 @@ commit-requires-clause-kept g c =
     (was.said, as_said g.D.Disk.seen g.D.Disk.may_leave was.store was.known.order was.known.rows was.said was.said was.standing c.replace-standing.result refl c.replace-standing.ensures.value c.self.invariant)
 
 pub commit-requires-clause-nothing : goal.commit-requires-clause-nothing
-commit-requires-clause-nothing g c = ap changes_of c.replace-standing.ensures.value ∙ ap (λ (s : ServerDisk × List StoreChange). s.1) c.self.view_is ∙ c.requires
+commit-requires-clause-nothing g c = ap changes_of c.replace-standing.ensures.value ∙ ap (λ (s : DiskStoreView). s.under_way) c.self.view_is ∙ c.requires
 
 pub invariant_of-self : goal.invariant_of-self
 invariant_of-self g c =
@@ -24,7 +23,7 @@ invariant_of-self g c =
 
 pub returns-in-Ok-clause-disk : goal.returns-in-Ok-clause-disk
 returns-in-Ok-clause-disk g c =
-    c.change.ensures ∙ ap (disk_changed c.self.inside.said) c.in-Ok.ensures.made ∙ ap (λ (s : ServerDisk × List StoreChange). disk_changed s.0 c.args.change) c.self.view_is
+    c.change.ensures ∙ ap (disk_changed c.self.inside.said) c.in-Ok.ensures.made ∙ ap (λ (s : DiskStoreView). disk_changed s.disk c.args.change) c.self.view_is
 
 pub returns-in-Ok-clause-nothing : goal.returns-in-Ok-clause-nothing
 returns-in-Ok-clause-nothing g c = ap changes_of c.replace-standing.ensures.after
@@ -37,7 +36,7 @@ invariant_of-self-in-Err g c =
     c.in-Err.ensures.err was.said kept
 
 pub returns-in-Err-clause-err : goal.returns-in-Err-clause-err
-returns-in-Err-clause-err g c = ap (λ (s : ServerDisk × List StoreChange). s.0) c.self.view_is
+returns-in-Err-clause-err g c = ap (λ (s : DiskStoreView). s.disk) c.self.view_is
 
 pub returns-in-Err-clause-open : goal.returns-in-Err-clause-open
 returns-in-Err-clause-open g c = c.in-Err.ensures.open

@@ -1,7 +1,7 @@
-use Rattle.std.proofs.Common.{◌≡◌, List, ap, ◌∙◌, subst}
+use Rattle.std.proofs.Common.{◌≡◌, ap, ◌∙◌, subst}
 use Rattle.std.specs.Prelude.{IfOk}
-use Rattle.replica_store.specs.Replicas.{ServerDisk, is_writable_at}
-use Rattle.replica_store.specs.declared.change.StoreChange.{StoreChange}
+use Rattle.replica_store.specs.Replicas.{is_writable_at}
+use Rattle.disk_store.specs.Standing.{DiskStoreView}
 use Rattle.disk_store.proofs.Commits.{looked_kept, open_as}
 use Rattle.disk_store.proofs.disk_store.DiskStoreReplicaStore.is_writable.Goals as goal
 
@@ -16,13 +16,13 @@ invariant_of-self g c =
     looked_kept g.D.Disk.seen g.D.Disk.may_leave was.store was.known.order was.known.rows was.said was.standing c.self.invariant c.is_writable.new.store c.is_writable.ensures.unchanged c.is_writable.ensures.still_open c.in-Open.is
 
 pub returns-clause-disk : goal.returns-clause-disk
-returns-clause-disk g c = ap (λ (s : ServerDisk × List StoreChange). s.0) c.self.view_is
+returns-clause-disk g c = ap (λ (s : DiskStoreView). s.disk) c.self.view_is
 
 pub returns-clause-nothing : goal.returns-clause-nothing
-returns-clause-nothing g c = ap (λ (s : ServerDisk × List StoreChange). s.1) c.self.view_is ∙ c.requires
+returns-clause-nothing g c = ap (λ (s : DiskStoreView). s.under_way) c.self.view_is ∙ c.requires
 
 pub returns-clause-value : goal.returns-clause-value
 returns-clause-value g c =
     let was = c.self.inside in
-    subst (λ (s : ServerDisk × List StoreChange). IfOk c.is_writable.result (λ o. o ≡ is_writable_at s.0 c.args.handle.0 c.args.offset c.args.end)) c.self.view_is
+    subst (λ (s : DiskStoreView). IfOk c.is_writable.result (λ o. o ≡ is_writable_at s.disk c.args.handle.0 c.args.offset c.args.end)) c.self.view_is
     (c.is_writable.ensures.value was.said (open_as g.D.Disk.seen g.D.Disk.may_leave was.store was.known.order was.known.rows was.said was.standing c.self.invariant c.in-Open.is))

@@ -1,8 +1,6 @@
-use Rattle.std.proofs.Common.{inl, List, refl, sym, ap, ◌∙◌, subst}
-use Rattle.replica_store.specs.Replicas.{ServerDisk}
-use Rattle.replica_store.specs.declared.change.StoreChange.{StoreChange}
+use Rattle.std.proofs.Common.{inl, refl, sym, ap, ◌∙◌, subst}
 use Rattle.server_store.specs.Stores.{IsFound}
-use Rattle.disk_store.specs.Standing.{changes_of, closed, found_made, with_made}
+use Rattle.disk_store.specs.Standing.{DiskStoreView, changes_of, closed, found_made, with_made}
 use Rattle.disk_store.specs.declared.standing.DiskStoreState.TheVariants.{Open}
 use Rattle.disk_store.proofs.Keeping.{as_said, closed_is, closed_kept, closed_not_open, found_said, found_under_way}
 use Rattle.disk_store.proofs.disk_store.DiskStoreReplicaStore.reopen.Goals as goal
@@ -32,12 +30,12 @@ invariant_of-self g c =
     c.in-Err.ensures.err was.known.order was.known.rows was.said kept
 
 pub returns-in-Err-clause-err : goal.returns-in-Err-clause-err
-returns-in-Err-clause-err g c = ap (λ (s : ServerDisk × List StoreChange). s.0) c.self.view_is
+returns-in-Err-clause-err g c = ap (λ (s : DiskStoreView). s.disk) c.self.view_is
 
 pub returns-in-Err-clause-open : goal.returns-in-Err-clause-open
 returns-in-Err-clause-open g c =
     let is = c.closed-standing.ensures ∙ ap closed c.replace.ensures.value in
-    ap changes_of is ∙ closed_is c.self.inside.standing ∙ ap (λ (s : ServerDisk × List StoreChange). s.1) c.self.view_is
+    ap changes_of is ∙ closed_is c.self.inside.standing ∙ ap (λ (s : DiskStoreView). s.under_way) c.self.view_is
 
 pub invariant_of-self-in-None : goal.invariant_of-self-in-None
 invariant_of-self-in-None g c =
@@ -50,7 +48,7 @@ invariant_of-self-in-None g c =
     (ap (with_made was.said) (sym c.in-None.is ∙ c.made_in-made.ensures)) c.replace.ensures.after (c.in-Ok.ensures.ok was.known.order was.known.rows was.said kept)
 
 pub returns-in-None-clause-disk : goal.returns-in-None-clause-disk
-returns-in-None-clause-disk g c = inl (ap (λ (s : ServerDisk × List StoreChange). s.0) c.self.view_is)
+returns-in-None-clause-disk g c = inl (ap (λ (s : DiskStoreView). s.disk) c.self.view_is)
 
 pub returns-in-None-clause-nothing : goal.returns-in-None-clause-nothing
 returns-in-None-clause-nothing g c = ap changes_of c.replace.ensures.after
@@ -71,7 +69,7 @@ returns-in-Some-clause-disk g c =
     let is = c.closed-standing.ensures ∙ ap closed c.replace.ensures.value in
     let change = c.in-Some.change in
     let known = c.in-Ok.known in
-    subst (λ (s : ServerDisk × List StoreChange). IsFound s.0 s.1 c.change.new.self) c.self.view_is
+    subst (λ (s : DiskStoreView). IsFound s.disk s.under_way c.change.new.self) c.self.view_is
     (found_said was.said c.change.new.self (changes_of c.closed-standing.result) (changes_of was.standing) change (ap changes_of is ∙ closed_is was.standing)
     (found_under_way known.order known.rows c.closed-standing.result change (sym c.made_in-made.ensures ∙ c.in-Some.is)) c.change.ensures)
 

@@ -1,7 +1,6 @@
-use Rattle.std.proofs.Common.{List, refl, sym, ap, ◌∙◌}
-use Rattle.replica_store.specs.Replicas.{ServerDisk}
-use Rattle.replica_store.specs.declared.change.StoreChange.{StoreChange}
+use Rattle.std.proofs.Common.{refl, sym, ap, ◌∙◌}
 use Rattle.server_store.specs.Stores.{disk_rotten}
+use Rattle.disk_store.specs.Standing.{DiskStoreView}
 use Rattle.disk_store.specs.declared.standing.DiskStoreState.TheVariants.{Open}
 use Rattle.disk_store.proofs.Keeping.{as_said}
 use Rattle.disk_store.proofs.disk_store.DiskStoreReplicaStore.rot.Goals as goal
@@ -27,7 +26,7 @@ invariant_of-self-2 g c =
     (c.in_ok-standing.ensures.ok was.known.order was.known.rows was.said kept)
 
 pub returns-clause-disk : goal.returns-clause-disk
-returns-clause-disk g c = c.change.ensures ∙ ap (λ (s : ServerDisk × List StoreChange). disk_rotten s.0 c.args.handle.0 c.args.place c.args.byte) c.self.view_is
+returns-clause-disk g c = c.change.ensures ∙ ap (λ (s : DiskStoreView). disk_rotten s.disk c.args.handle.0 c.args.place c.args.byte) c.self.view_is
 
 pub returns-clause-nothing : goal.returns-clause-nothing
 returns-clause-nothing g c = c.in_ok-standing.ensures.nothing

@@ -1,8 +1,6 @@
-use Rattle.std.proofs.Common.{List, sym, ap, subst}
-use Rattle.replica_store.specs.Replicas.{ServerDisk}
-use Rattle.replica_store.specs.declared.change.StoreChange.{StoreChange}
+use Rattle.std.proofs.Common.{sym, ap, subst}
 use Rattle.chunk_store.specs.Stores.{StoreState}
-use Rattle.disk_store.specs.Standing.{IsKept}
+use Rattle.disk_store.specs.Standing.{DiskStoreView, IsKept}
 use Rattle.disk_store.proofs.Quiet.{quiet_kept}
 use Rattle.disk_store.proofs.disk_store.DiskStoreStoppableStore.stop_after_restart.Goals as goal
 
@@ -14,7 +12,7 @@ invariant_of-self g c =
     (quiet_kept disk.seen disk.may_leave was.store was.known.order was.known.rows was.said c.stop_after_restart.new.self.disk c.stop_after_restart.ensures.seen c.stop_after_restart.ensures.crash was.standing c.self.invariant)
 
 pub returns-clause-disk : goal.returns-clause-disk
-returns-clause-disk g c = ap (λ (s : ServerDisk × List StoreChange). s.0) c.self.view_is
+returns-clause-disk g c = ap (λ (s : DiskStoreView). s.disk) c.self.view_is
 
 pub returns-clause-under_way : goal.returns-clause-under_way
-returns-clause-under_way g c = ap (λ (s : ServerDisk × List StoreChange). s.1) c.self.view_is
+returns-clause-under_way g c = ap (λ (s : DiskStoreView). s.under_way) c.self.view_is
