@@ -1,6 +1,6 @@
 -- What a fault is answered as, and its cause.
-use Rattle.std.proofs.Common.{◌≡◌, ◌⊎◌, inl, inr, ℕ, Bool, true, false, refl, sym, ap, ◌∙◌, None, Some, Result, Ok, Err}
-use Rattle.std.specs.Prelude.{◌↔◌, ◌≢◌, IsErrOf}
+use Rattle.std.proofs.Common.{◌≡◌, ◌⊎◌, inl, inr, ℕ, ◌<◌, ◌≤◌, Bool, true, false, refl, sym, ap, ◌∙◌, arith, None, Some, Result, Ok, Err}
+use Rattle.std.specs.Prelude.{◌↔◌, ◌≢◌, IsErrAnd, IsErrOf}
 use Rattle.disk.specs.Device.{HasCause as IsOfDisk}
 use Rattle.disk.specs.declared.device.DiskFault.{DiskFault}
 use Rattle.disk.specs.declared.device.DiskFault.TheVariants as disk
@@ -16,8 +16,11 @@ use Rattle.store_changes.specs.declared.fault.StoreFault.TheVariants as change
 use Rattle.store_disk.proofs.Looked.{no_row, one_row}
 use Rattle.chunk_store.specs.declared.fault.OpenFault.{OpenFault}
 use Rattle.chunk_store.specs.declared.fault.OpenFault.TheVariants as opening
-use Rattle.disk_store.specs.Faults.{HasCause, of_change, of_disk, of_opening}
-use Rattle.disk_store.specs.Standing.{writes}
+use Rattle.server_store.specs.Stores.{HasCause as IsOfStore}
+use Rattle.disk_store.specs.Faults.{HasCause, HasCauseOf, IsFitting, of_change, of_disk, of_opening}
+use Rattle.disk_store.specs.Standing.{is_standing_open, writes}
+use Rattle.disk_store.specs.declared.standing.DiskStoreState.{DiskStoreState}
+use Rattle.disk_store.specs.declared.standing.DiskStoreState.TheVariants.{Open, Unread, Changing}
 
 -- a disk's fault is no want of room
 pub disk_has_room : {T : Type 0} (f : DiskFault) (x : ReplicaStoreFault) → x ≡ of_disk f → IsErrOf {T = T} (Err x) store.NoRoom → ⊥
@@ -31,19 +34,20 @@ opening_has_room opening.Device x is e = absurd cc
 opening_has_room opening.NoMemory x is e = absurd cc
 
 pub disk_cause : {T U : Type 0} (before now : ℕ) (f : DiskFault) (x : ReplicaStoreFault) → x ≡ of_disk f → IsOfDisk {T = T} before now (Err f) → HasCause {T = U} before now (Err x)
-disk_cause before now disk.Device x is h = record { later = h.later; failed = λ e. h.failed refl }
-disk_cause before now disk.NoMemory x is h = record { later = h.later; failed = λ e. absurd cc }
+disk_cause before now disk.Device x is h = record { later = h.later; failed = λ e. h.failed refl; undamaged = λ e. absurd cc }
+disk_cause before now disk.NoMemory x is h = record { later = h.later; failed = λ e. absurd cc; undamaged = λ e. absurd cc }
 
 -- a change's fault that is none of these is the disk's, or want of memory or room
-pub change_cause : {T U : Type 0} (before now : ℕ) (f : ChangeFault) (x : ReplicaStoreFault) → x ≡ of_change f → (f ≡ change.NoChunk → ⊥) → (f ≡ change.Version → ⊥) → (f ≡ change.OldSerial → ⊥) → (f ≡ change.Corrupt → ⊥)
+pub change_cause : {T U : Type 0} (before now : ℕ) (f : ChangeFault) (x : ReplicaStoreFault) → x ≡ of_change f → (f ≡ change.NoChunk → ⊥) → (f ≡ change.Version → ⊥) → (f ≡ change.OldSerial → ⊥)
+    → (f ≡ change.Corrupt → ⊥)
     → MayFail {T = T} before now (Err f) → HasCause {T = U} before now (Err x)
 change_cause before now change.NoChunk x is chunk version serial intact h = absurd (chunk refl)
 change_cause before now change.Version x is chunk version serial intact h = absurd (version refl)
 change_cause before now change.OldSerial x is chunk version serial intact h = absurd (serial refl)
 change_cause before now change.Corrupt x is chunk version serial intact h = absurd (intact refl)
-change_cause before now change.NoRoom x is chunk version serial intact h = record { later = h.later; failed = λ e. absurd cc }
-change_cause before now change.Device x is chunk version serial intact h = record { later = h.later; failed = λ e. h.failed refl }
-change_cause before now change.NoMemory x is chunk version serial intact h = record { later = h.later; failed = λ e. absurd cc }
+change_cause before now change.NoRoom x is chunk version serial intact h = record { later = h.later; failed = λ e. absurd cc; undamaged = λ e. absurd cc }
+change_cause before now change.Device x is chunk version serial intact h = record { later = h.later; failed = λ e. h.failed refl; undamaged = λ e. absurd cc }
+change_cause before now change.NoMemory x is chunk version serial intact h = record { later = h.later; failed = λ e. absurd cc; undamaged = λ e. absurd cc }
 
 pub change_has_room : {T : Type 0} (f : ChangeFault) (x : ReplicaStoreFault) → x ≡ of_change f → (f ≡ change.NoRoom → ⊥) → IsErrOf {T = T} (Err x) store.NoRoom → ⊥
 change_has_room change.NoChunk x is room e = absurd cc
@@ -55,7 +59,8 @@ change_has_room change.Device x is room e = absurd cc
 change_has_room change.NoMemory x is room e = absurd cc
 
 -- a look at a replica of this version, each block of which matches
-pub look_cause : {T U : Type 0} (before now : ℕ) (d : ServerDisk) (h : ℕ) (version : Version) (row : Row) (f : ChangeFault) (x : ReplicaStoreFault) → x ≡ of_change f → (IsErrOf {T = T} (Err f) change.NoChunk ↔ row_at d h ≡ None)
+pub look_cause : {T U : Type 0} (before now : ℕ) (d : ServerDisk) (h : ℕ) (version : Version) (row : Row) (f : ChangeFault) (x : ReplicaStoreFault) → x ≡ of_change f
+    → (IsErrOf {T = T} (Err f) change.NoChunk ↔ row_at d h ≡ None)
     → (IsErrOf {T = T} (Err f) change.Version ↔ (held : Row) × (row_at d h ≡ Some held) × (held.version ≢ version)) → (IsErrOf {T = T} (Err f) change.OldSerial → ⊥) → (f ≡ change.Corrupt → ⊥) → row_at d h ≡ Some row → row.version ≡ version
     → MayFail {T = T} before now (Err f) → HasCause {T = U} before now (Err x)
 look_cause before now d h version row f x is chunk other serial intact at same may =
@@ -103,3 +108,76 @@ rot_has_room (Err f) only e =
     let other : f ≡ change.NoChunk = cc in
     let both : change.NoRoom ≡ change.NoChunk = sym is ∙ other in
     absurd cc
+
+-- the disk's, since the change can be told from its lack
+pub begun_cause : {T U S : Type 0} (Began : Type 0) (before now : ℕ) (x : StoreChange) (f : ChangeFault) (standing : S) → (f ≡ change.Corrupt → writes x ≡ false)
+    → (Began → IsFitting {T = T} x (Err f)) → MayFail {T = T} before now (Err f)
+    → HasCauseOf {T = U} Began before now (Err (of_change f, standing))
+begun_cause {T = T} {U = U} Began before now x f standing other fits may = record {
+  later = may.later;
+  failed = λ began.
+      let fit = fits began in
+      let cause = change_cause {T = T} {U = U} before now f (of_change f) refl (λ e. fit.chunk (ap (λ (y : ChangeFault). Err y) e))
+      (λ e. fit.version (ap (λ (y : ChangeFault). Err y) e))
+      (λ e. fit.serial (ap (λ (y : ChangeFault). Err y) e))
+      (λ e. let no : true ≡ false = sym (fit.intact (ap (λ (y : ChangeFault). Err y) e)) ∙ other e in absurd cc) may in
+      λ e. cause.failed (ap (λ (y : ReplicaStoreFault). Err y) e);
+  undamaged = λ e. never_damaged f e;
+}
+  where
+    never_damaged : (f : ChangeFault) → of_change f ≡ store.Damaged → ⊥
+    never_damaged change.NoChunk e = cc
+    never_damaged change.Version e = cc
+    never_damaged change.OldSerial e = cc
+    never_damaged change.Corrupt e = cc
+    never_damaged change.NoRoom e = cc
+    never_damaged change.Device e = cc
+    never_damaged change.NoMemory e = cc
+
+-- a fault that isn't the disk's
+pub other_cause : {T S : Type 0} (Began : Type 0) (before now : ℕ) (x : ReplicaStoreFault) (standing : S) → before ≤ now → (Began → x ≡ store.DiskFailed → ⊥) → (x ≡ store.Damaged → ⊥)
+    → HasCauseOf {T = T} Began before now (Err (x, standing))
+other_cause Began before now x standing later other undamaged = record { later = later; failed = λ began e. absurd (other began e); undamaged = undamaged }
+
+-- an opening's is the disk's where it is answered as one
+pub opening_cause : {T U P : Type 0} (f : OpenFault) (x : ReplicaStoreFault) → x ≡ of_opening f → (IsErrOf {T = T} (Err f) opening.Device → P) → IsErrOf {T = U} (Err x) store.DiskFailed → P
+opening_cause opening.Damaged x is h e = absurd cc
+opening_cause opening.Device x is h e = h refl
+opening_cause opening.NoMemory x is h e = absurd cc
+
+-- of a rotten byte
+pub rot_cause : {T U : Type 0} (before now : ℕ) (f : ChangeFault) (x : ReplicaStoreFault) → x ≡ of_change f → (IsRefused {T = T} (Err f) → IsErrOf {T = T} (Err f) change.NoChunk)
+    → (f ≡ change.NoChunk → ⊥) → MayFail {T = T} before now (Err f) → HasCause {T = U} before now (Err x)
+rot_cause before now f x is only there may =
+    change_cause before now f x is there (λ e. other change.Version e refl (λ same. cc)) (λ e. other change.OldSerial e refl (λ same. cc)) (λ e. other change.Corrupt e refl (λ same. cc)) may
+  where
+    other : (y : ChangeFault) → f ≡ y → is_refusal y ≡ true → (y ≡ change.NoChunk → ⊥) → ⊥
+    other y e refused differs = let none = only (ap is_refusal e ∙ refused) in let same : f ≡ change.NoChunk = cc in there same
+
+-- what a store's callers see of a cause
+pub told_cause : {T : Type 0} (is_open : Bool) (before now : ℕ) (r : Result T ReplicaStoreFault) → HasCause before now r → IsOfStore is_open before now r
+told_cause is_open before now r h = record { later = h.later; failed = λ o e. h.failed e; undamaged = h.undamaged }
+
+-- a store that isn't open needs none
+pub closed_cause : {T : Type 0} (standing : DiskStoreState) (n : ℕ) → (standing ≡ Open → ⊥) → IsOfStore {T = T} (is_standing_open standing) n n (Err store.DiskFailed)
+closed_cause Open n closed = absurd (closed refl)
+closed_cause (Unread change byte) n closed = record { later = omega arith; failed = λ o e. absurd cc; undamaged = λ e. absurd cc }
+closed_cause (Changing change) n closed = record { later = omega arith; failed = λ o e. absurd cc; undamaged = λ e. absurd cc }
+
+pub no_cause : {T : Type 0} (is_open : Bool) (before now : ℕ) (x : T) → before ≤ now → IsOfStore is_open before now (Ok x)
+no_cause is_open before now x later = record { later = later; failed = λ o e. absurd cc; undamaged = λ e. absurd cc }
+
+-- an error that was handed on
+pub passed_cause : {T U : Type 0} (is_open : Bool) (before now : ℕ) (r : Result T ReplicaStoreFault) (f : ReplicaStoreFault) → IsErrAnd r (λ e. e ≡ f) → HasCause {T = U} before now (Err f)
+    → IsOfStore is_open before now r
+passed_cause is_open before now (Ok x) f is h = absurd is
+passed_cause is_open before now (Err g) f is h = record {
+  later = h.later;
+  failed = λ o e. let same : g ≡ store.DiskFailed = cc in h.failed (ap (λ (y : ReplicaStoreFault). Err y) (sym is ∙ same));
+  undamaged = λ e. let same : g ≡ store.Damaged = cc in h.undamaged (ap (λ (y : ReplicaStoreFault). Err y) (sym is ∙ same));
+}
+
+pub opened_standing : (standing : DiskStoreState) → is_standing_open standing ≡ true → standing ≡ Open
+opened_standing Open e = refl
+opened_standing (Unread change byte) e = absurd cc
+opened_standing (Changing change) e = absurd cc

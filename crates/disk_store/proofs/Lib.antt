@@ -16,5 +16,6 @@ pub mod Settling
 pub mod Rots
 pub mod Careful
 pub mod Causes
+pub mod Fitting
 pub mod Reopened
 pub mod Quiet

@@ -4,7 +4,7 @@ use Rattle.gfs_types.specs.declared.ids.Handle.{Handle}
 use Rattle.gfs_types.specs.declared.ids.OrderNo.{OrderNo}
 use Rattle.std.specs.FinMap as map
 use Rattle.disk_redo.specs.Redo.{stands_for}
-use Rattle.replica_store.specs.Replicas.{Replica, ServerDisk, replica_becomes, replica_of, rotten_replica}
+use Rattle.replica_store.specs.Replicas.{Replica, ServerDisk, replica_becomes, replica_of, rotten_replica, row_at, row_of}
 use Rattle.server_store.specs.Stores.{disk_rotten}
 use Rattle.store_disk.specs.declared.places.Layout.{Layout}
 use Rattle.store_changes.specs.Areas.{area_of}
@@ -69,6 +69,13 @@ pub none_rots : {D : Type 0} (seen : D → List ℕ) (may_leave : D → List ℕ
 none_rots seen may_leave store d is handle place byte none =
     let l = store.layout in
     sym (ap (replica_becomes (λ r. rotten_replica r place byte) d handle) (no_replica l.chunk l.block l.slots store.index (stands_for (area_of l.chunk l.block) (seen store.disk)) d is.says handle none))
+
+lacking_becomes : (f : Replica → Replica) (d : ServerDisk) (h : ℕ) (o : Option Replica) → row_of o ≡ None → d ≡ replica_becomes f d h o
+lacking_becomes f d h None e = refl
+lacking_becomes f d h (Some r) e = absurd cc
+
+pub lacking_rots : (d : ServerDisk) (h place byte : ℕ) → row_at d h ≡ None → d ≡ disk_rotten d h place byte
+lacking_rots d h place byte e = lacking_becomes (λ r. rotten_replica r place byte) d h (replica_of d h) e
 
 pub none_kept : {D : Type 0} (seen : D → List ℕ) (may_leave : D → List ℕ → Type 0) (store : StoreState D) (order : OrderNo) (rows : Rows) (d : ServerDisk) → IsKept seen may_leave store order rows d Open → (handle place byte : ℕ) → map.get store.index.held handle ≡ None
     → IsKept seen may_leave store order rows (disk_rotten d handle place byte) Open

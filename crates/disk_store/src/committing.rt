@@ -67,9 +67,9 @@ pub fn commit<D: Disk>(
     ensures open { IfErr result (λ e. changes_of e.1 ≡ change ∷ []) }
     ensures err { (d : ServerDisk) → IsKept D.seen D.may_leave store.old known.old.order known.old.rows d standing
         → IfErr result (λ e. IsKept D.seen D.may_leave store.new known.new.order known.new.rows d e.1) }
-    // Of a change that was begun: a copy's bytes match their digests.
-    ensures cause { (d : ServerDisk) → IsKept D.seen D.may_leave store.old known.old.order known.old.rows d standing → standing ≡ Open → IsCopyable d change
-        → HasCauseOf (D.failed store.old.disk) (D.failed store.new.disk) result }
+    // A change began where the store was open; a copy's bytes match their digests.
+    ensures cause { (d : ServerDisk) → IsKept D.seen D.may_leave store.old known.old.order known.old.rows d standing
+        → HasCauseOf ((standing ≡ Open) × IsCopyable d change) (D.failed store.old.disk) (D.failed store.new.disk) result }
     ensures no_room { (d : ServerDisk) → IsKept D.seen D.may_leave store.old known.old.order known.old.rows d standing
         → IfErr result (λ e. e.0 ≡ faults.NoRoom → IsUnfit store.old.layout.chunk known.old.rows d change ⊎ (is_disk_full store.old.layout.slots d ≡ true)) }
 {

@@ -2,9 +2,11 @@
 
 ghost use Rattle.std.specs.Prelude.{◌≡◌, ◌≤◌, ◌+◌, length, replicate, false, true, IfOk, IsErrOf, OnOk};
 ghost use Rattle.disk_redo.specs.GateMoments.{OnlyReads};
-ghost use Rattle.replica_store.specs.Replicas.{ServerDisk, disk_changed, is_disk_full, is_writable_at};
+ghost use Rattle.replica_store.specs.Replicas.{ServerDisk, disk_changed, is_copyable_at, is_disk_full, is_writable_at};
 ghost use Rattle.replica_store.specs.declared.change.StoreChange.TheVariants.{Copy, Raise, Write, Zero};
-ghost use Rattle.disk_store.specs.Known.{can_be_told};
+ghost use Rattle.disk_store.specs.Faults.{IsFitting};
+ghost use Rattle.disk_store.specs.Known.{IsKnownOf, can_be_told};
+ghost use Rattle.server_store.specs.Stores.{IsCopyable};
 ghost use Rattle.server_store.specs.declared.fault.ReplicaStoreFault.TheVariants as faults;
 ghost use Rattle.store_changes.specs.Faults.{MayFail};
 ghost use Rattle.store_changes.specs.declared.fault.StoreFault.TheVariants as making_faults;
@@ -37,6 +39,7 @@ pub(crate) fn begins(
     ensures no_room { IsErrOf result faults.NoRoom → (standing.now ≡ Open) × (can_be_told chunk known.now.rows change.now ≡ false) }
     ensures closed { IsErrOf result faults.DiskFailed → standing.now ≡ Open → ⊥ }
     ensures memory { IsErrOf result faults.NoMemory → ⊥ }
+    ensures undamaged { IsErrOf result faults.Damaged → ⊥ }
 {
     let DiskStoreState::Open = standing else {
         return Err(ReplicaStoreFault::DiskFailed);
@@ -67,6 +70,8 @@ pub(crate) fn make<D: Disk>(
     ensures layout { store.new.layout ≡ store.old.layout }
     ensures no_room { (d : ServerDisk) → IsOpen D.seen D.may_leave store.old d → IsErrOf result making_faults.NoRoom → is_disk_full store.old.layout.slots d ≡ true }
     ensures cause { MayFail (D.failed store.old.disk) (D.failed store.new.disk) result }
+    // A copy's bytes match their digests.
+    ensures only { (d : ServerDisk) → IsOpen D.seen D.may_leave store.old d → IsKnownOf known.now.order known.now.rows d → IsCopyable d change.now → IsFitting change.now result }
 {
     match change {
         StoreChange::SetOrder(order) => store.set_order(alloc, *order),
@@ -120,6 +125,8 @@ fn write<D: Disk>(
     ensures layout { store.new.layout ≡ store.old.layout }
     ensures no_room { IsErrOf result making_faults.NoRoom → ⊥ }
     ensures cause { MayFail (D.failed store.old.disk) (D.failed store.new.disk) result }
+    ensures only { (d : ServerDisk) → IsOpen D.seen D.may_leave store.old d → IsKnownOf known.now.order known.now.rows d
+        → can_be_told store.old.layout.chunk known.now.rows (Write handle serial offset bytes.now) ≡ true → IsFitting (Write handle serial offset bytes.now) result }
 {
     let Some(row) = known.row(handle) else {
         return Err(MakeFault::NoChunk);
@@ -150,6 +157,8 @@ fn zero<D: Disk>(
     ensures layout { store.new.layout ≡ store.old.layout }
     ensures no_room { IsErrOf result making_faults.NoRoom → ⊥ }
     ensures cause { MayFail (D.failed store.old.disk) (D.failed store.new.disk) result }
+    ensures only { (d : ServerDisk) → IsOpen D.seen D.may_leave store.old d → IsKnownOf known.now.order known.now.rows d
+        → can_be_told store.old.layout.chunk known.now.rows (Zero handle serial offset count) ≡ true → IsFitting (Zero handle serial offset count) result }
 {
     let Some(row) = known.row(handle) else {
         return Err(MakeFault::NoChunk);
@@ -172,6 +181,8 @@ fn raise<D: Disk>(
     ensures layout { store.new.layout ≡ store.old.layout }
     ensures no_room { IsErrOf result making_faults.NoRoom → ⊥ }
     ensures cause { MayFail (D.failed store.old.disk) (D.failed store.new.disk) result }
+    ensures only { (d : ServerDisk) → IsOpen D.seen D.may_leave store.old d → IsKnownOf known.now.order known.now.rows d
+        → can_be_told store.old.layout.chunk known.now.rows (Raise handle version) ≡ true → IsFitting (Raise handle version) result }
 {
     let Some(row) = known.row(handle) else {
         return Err(MakeFault::NoChunk);
@@ -194,6 +205,8 @@ fn copy<D: Disk>(
     ensures layout { store.new.layout ≡ store.old.layout }
     ensures no_room { (d : ServerDisk) → IsOpen D.seen D.may_leave store.old d → IsErrOf result making_faults.NoRoom → is_disk_full store.old.layout.slots d ≡ true }
     ensures cause { MayFail (D.failed store.old.disk) (D.failed store.new.disk) result }
+    ensures only { (d : ServerDisk) → IsOpen D.seen D.may_leave store.old d → IsKnownOf known.now.order known.now.rows d
+        → can_be_told store.old.layout.chunk known.now.rows (Copy handle other version) ≡ true → is_copyable_at d handle.0 ≡ true → IsFitting (Copy handle other version) result }
 {
     let Some(row) = known.row(handle) else {
         return Err(MakeFault::NoChunk);

@@ -19,6 +19,7 @@ use disk::Disk;
 use gfs_types::ids::Handle;
 use server_store::fault::ReplicaStoreFault;
 use std::alloc::Global;
+use store_changes::StoreFault as ChangeFault;
 
 // Whether the block of a place would have the stored digest, were this byte there.
 fn would_match<D: Disk>(
@@ -86,7 +87,7 @@ pub fn rot<D: Disk>(
     }
 }
 
-/// The byte that is to rot, where there is one, is rotten.
+/// The byte that is to rot, where there is one and its replica is there, is rotten.
 pub(crate) fn rots<D: Disk>(
     alloc: Global,
     store: &mut Store<D>,
@@ -98,12 +99,16 @@ pub(crate) fn rots<D: Disk>(
     ensures any_moment { (d : ServerDisk) → IsOpen D.seen D.may_leave store.old d → OnErr result (Leaves D.may_leave store.new d (rotten_by d rotting)) }
     ensures layout { store.new.layout ≡ store.old.layout }
     ensures no_room { IsErrOf result faults.NoRoom → ⊥ }
+    ensures cause { HasCause (D.failed store.old.disk) (D.failed store.new.disk) result }
 {
     match rotting {
         None => Ok(()),
         Some(rot) => match store.rot(alloc, rot.handle, rot.place, rot.byte) {
             Ok(()) => Ok(()),
-            Err(fault) => Err(fault_of(fault)),
+            Err(fault) => match fault {
+                ChangeFault::NoChunk => Ok(()),
+                other => Err(fault_of(other)),
+            },
         },
     }
 }

@@ -1,3 +1,4 @@
 pub mod Sizes
+pub mod Causes
 pub mod Keeping
 pub mod Reopening

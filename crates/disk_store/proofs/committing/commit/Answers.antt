@@ -1,13 +1,16 @@
-use Rattle.std.proofs.Common.{◌≡◌, ℕ, true, false, inl, inr, sym, ap, ◌∙◌, refl, subst, Err}
+use Rattle.std.proofs.Common.{◌≡◌, ℕ, true, false, inl, inr, sym, ap, ◌∙◌, refl, subst, arith, None, Some, Err}
+use Rattle.replica_store.specs.declared.change.StoreChange.{StoreChange}
+use Rattle.server_store.specs.Stores.{IsCopyable}
 use Rattle.server_store.specs.declared.fault.ReplicaStoreFault.{ReplicaStoreFault}
+use Rattle.server_store.specs.declared.fault.ReplicaStoreFault.TheVariants.{NoMemory, NoRoom}
 use Rattle.store_changes.specs.declared.fault.StoreFault.{StoreFault as ChangeFault}
 use Rattle.disk_store.specs.declared.known.Known.{Known}
-use Rattle.disk_store.specs.Faults.{of_change}
+use Rattle.disk_store.specs.Faults.{HasCauseOf, of_change}
 use Rattle.disk_store.specs.Known.{can_be_told}
 use Rattle.disk_store.specs.Standing.{IsKept, changes_of}
 use Rattle.disk_store.specs.declared.standing.DiskStoreState.{DiskStoreState}
-use Rattle.disk_store.specs.declared.standing.DiskStoreState.TheVariants.{Changing}
-use Rattle.disk_store.proofs.Causes.{only_room, unfit_or}
+use Rattle.disk_store.specs.declared.standing.DiskStoreState.TheVariants.{Open, Unread, Changing}
+use Rattle.disk_store.proofs.Causes.{begun_cause, only_room, other_cause, unfit_or}
 use Rattle.disk_store.proofs.Commits.{failed_after, made_after, open_all_noticed, open_as, unbegun_after, unknown_after}
 use Rattle.disk_store.proofs.Keeping.{refused_is, refused_kept}
 use Rattle.disk_store.proofs.committing.commit.Goals as goal
@@ -88,3 +91,29 @@ returns-clause-err g c d kept =
     let noticed = open_all_noticed disk.seen disk.may_leave s n.order n.rows d c.args.standing kept c.in-Ok.ensures.open in
     subst (λ (k : Known). IsKept disk.seen disk.may_leave c.make.new.store k.order k.rows d (Changing c.args.change)) (sym c.in-Err-make-2.ensures.err)
     (unknown_after disk.seen disk.may_leave s n.order n.rows d c.args.standing kept c.in-Ok.ensures.open c.args.change c.make.new.store c.make.ensures.layout (subst (λ (n : ℕ). can_be_told n c.args.known.now.rows c.args.change ≡ true) c.chunk-chunk.ensures c.in-Ok.ensures.told) (c.in-Ok-make.ensures.careful d opened) (c.in-Ok-make.ensures.ok d opened noticed))
+
+pub returns-in-Err-clause-cause : goal.returns-in-Err-clause-cause
+returns-in-Err-clause-cause g c d kept =
+    other_cause _ _ _ c.in-Err.fault c.refused.result (omega arith) (λ began e. c.in-Err.ensures.closed (ap (λ (x : ReplicaStoreFault). Err x) e) began.0)
+    (λ e. c.in-Err.ensures.undamaged (ap (λ (x : ReplicaStoreFault). Err x) e))
+
+pub returns-in-Err-make-clause-cause : goal.returns-in-Err-make-clause-cause
+returns-in-Err-make-clause-cause g c d kept =
+    let n = c.args.known.now in
+    let before : ℕ = g.D.Disk.failed c.args.store.now.disk in
+    let now : ℕ = g.D.Disk.failed c.make.new.store.disk in
+    let Began : Type 0 = (c.args.standing ≡ Open) × IsCopyable d c.args.change in
+    let opened = open_as g.D.Disk.seen g.D.Disk.may_leave c.args.store.now n.order n.rows d c.args.standing kept c.in-Ok.ensures.open in
+    let call = c.in-Err-make.ensures in
+    elim (unfit_or c.in-Err-make.fault c.args.change) [
+      | inl is ↦ subst (λ (p : ReplicaStoreFault × DiskStoreState). HasCauseOf {T = StoreChange} Began before now (Err p)) (sym (c.failed.ensures.unfit is.0 is.1))
+          (other_cause {T = StoreChange} Began before now NoRoom (Unread (Some c.args.change) None) call.cause.later (λ began e. cc) (λ e. cc))
+      | inr other ↦ subst (λ (p : ReplicaStoreFault × DiskStoreState). HasCauseOf {T = StoreChange} Began before now (Err p)) (sym (c.failed.ensures.begun other))
+          (begun_cause {U = StoreChange} Began before now c.args.change c.in-Err-make.fault (Changing c.args.change) other (λ began. call.only d opened kept.known began.1) call.cause)
+    ]
+
+pub returns-in-Ok-make-2-clause-cause : goal.returns-in-Ok-make-2-clause-cause
+returns-in-Ok-make-2-clause-cause g c d kept = record { later = c.in-Ok-make.ensures.cause.later; failed = λ began. tt; undamaged = tt }
+
+pub returns-clause-cause : goal.returns-clause-cause
+returns-clause-cause g c d kept = other_cause _ _ _ NoMemory (Changing c.args.change) c.in-Ok-make.ensures.cause.later (λ began e. cc) (λ e. cc)

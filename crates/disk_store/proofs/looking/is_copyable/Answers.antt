@@ -21,8 +21,8 @@ returns-clause-cause g c d row is at same =
     let now : ℕ = g.D.Disk.failed c.image.new.self.disk in
     let may = c.image.ensures.cause in
     elim c.match-image.branch [
-      | in-Ok w ↦ subst (λ (r : Result Bool ReplicaStoreFault). HasCause before now r) (sym w.result-is) record { later = may.later; failed = λ e. absurd cc }
-      | in-Err+in-Corrupt w ↦ subst (λ (r : Result Bool ReplicaStoreFault). HasCause before now r) (sym w.result-is) record { later = may.later; failed = λ e. absurd cc }
+      | in-Ok w ↦ subst (λ (r : Result Bool ReplicaStoreFault). HasCause before now r) (sym w.result-is) record { later = may.later; failed = λ e. absurd cc; undamaged = λ e. absurd cc }
+      | in-Err+in-Corrupt w ↦ subst (λ (r : Result Bool ReplicaStoreFault). HasCause before now r) (sym w.result-is) record { later = may.later; failed = λ e. absurd cc; undamaged = λ e. absurd cc }
       | in-Err+in_default w ↦
           let known = w.in-Err.ensures in
           subst (λ (r : Result Bool ReplicaStoreFault). HasCause before now r) (sym w.result-is)

@@ -1,16 +1,21 @@
 use Rattle.std.proofs.Common.{◌≡◌, ℕ, true, false, List, length, sym, ap, ◌∙◌, subst, arith}
 use Rattle.std.specs.Prelude.{OnOk}
+use Rattle.std.specs.FinMap as map
 use Rattle.std.proofs.lemmas.Result.{on_ok_weaker}
 use Rattle.replica_store.specs.Replicas.{disk_changed}
 use Rattle.replica_store.specs.declared.change.StoreChange.{StoreChange}
 use Rattle.replica_store.specs.declared.change.StoreChange.TheVariants.{SetOrder, Put, Write, Zero, Raise, Copy, Remove}
+use Rattle.server_store.specs.Stores.{IsCopyable}
 use Rattle.chunk_store.specs.Stores.{IsOpen}
+use Rattle.store_disk.proofs.Looked.{test_some}
+use Rattle.disk_store.specs.Faults.{IsFitting}
 use Rattle.disk_store.specs.Known.{can_be_told}
 use Rattle.disk_store.specs.Noticed.{IsCareful}
 use Rattle.disk_store.specs.Standing.{writes}
 use Rattle.disk_store.proofs.Careful.{le_of, put_within, write_careful, write_unwritable, write_within, zero_careful, zero_unwritable, zero_within}
 use Rattle.disk_store.proofs.Made.{change_made, made_as}
 use Rattle.disk_store.proofs.Saying.{on_ok}
+use Rattle.disk_store.proofs.Fitting.{installed_fits, put_lacks, removed_fits, unrefused_fits}
 use Rattle.disk_store.proofs.making.make.Goals as goal
 
 pub returns-in-SetOrder-clause-ok : goal.returns-in-SetOrder-clause-ok
@@ -244,3 +249,46 @@ returns-in-Zero-clause-untouched g c d is uncareful =
     let rows = c.args.known.now.rows in
     let told = ap (can_be_told chunk rows) (sym it.is) ∙ c.requires.told in
     c.zero.ensures.untouched d is (zero_unwritable chunk rows d it.handle it.serial it.offset it.count told (λ careful. uncareful (subst (IsCareful chunk d) (sym it.is) careful)))
+
+pub returns-in-SetOrder-clause-only : goal.returns-in-SetOrder-clause-only
+returns-in-SetOrder-clause-only g c d is known copyable = unrefused_fits c.args.change.now c.set_order.result c.set_order.ensures.unrefused
+
+pub returns-in-Put-clause-only : goal.returns-in-Put-clause-only
+returns-in-Put-clause-only g c d is known copyable =
+    let it = c.in-Put in
+    let call = c.install.ensures in
+    let told = ap (can_be_told c.args.store.now.layout.chunk c.args.known.now.rows) (sym it.is) ∙ c.requires.told in
+    let lacks = put_lacks c.args.store.now.layout.chunk c.args.known.now.rows it.handle it.version it.serial it.bytes told in
+    installed_fits c.args.change.now c.install.result d it.handle.0 (sym (known.rows_are it.handle.0) ∙ lacks) (call.version d is) call.no_chunk call.intact call.no_serial
+
+pub returns-in-Write-clause-only : goal.returns-in-Write-clause-only
+returns-in-Write-clause-only g c d is known copyable =
+    let it = c.in-Write in
+    let told = ap (can_be_told c.args.store.now.layout.chunk c.args.known.now.rows) (sym it.is) ∙ c.requires.told in
+    subst (λ (x : StoreChange). IsFitting x c.write.result) (sym it.is) (c.write.ensures.only d is known told)
+
+pub returns-in-Zero-clause-only : goal.returns-in-Zero-clause-only
+returns-in-Zero-clause-only g c d is known copyable =
+    let it = c.in-Zero in
+    let told = ap (can_be_told c.args.store.now.layout.chunk c.args.known.now.rows) (sym it.is) ∙ c.requires.told in
+    subst (λ (x : StoreChange). IsFitting x c.zero.result) (sym it.is) (c.zero.ensures.only d is known told)
+
+pub returns-in-Raise-clause-only : goal.returns-in-Raise-clause-only
+returns-in-Raise-clause-only g c d is known copyable =
+    let it = c.in-Raise in
+    let told = ap (can_be_told c.args.store.now.layout.chunk c.args.known.now.rows) (sym it.is) ∙ c.requires.told in
+    subst (λ (x : StoreChange). IsFitting x c.raise.result) (sym it.is) (c.raise.ensures.only d is known told)
+
+pub returns-in-Copy-clause-only : goal.returns-in-Copy-clause-only
+returns-in-Copy-clause-only g c d is known copyable =
+    let it = c.in-Copy in
+    let told = ap (can_be_told c.args.store.now.layout.chunk c.args.known.now.rows) (sym it.is) ∙ c.requires.told in
+    subst (λ (x : StoreChange). IsFitting x c.copy.result) (sym it.is) (c.copy.ensures.only d is known told (subst (IsCopyable d) it.is copyable))
+
+pub returns-in-Remove-clause-only : goal.returns-in-Remove-clause-only
+returns-in-Remove-clause-only g c d is known copyable =
+    let it = c.in-Remove in
+    let call = c.drop_replica.ensures in
+    let told = ap (can_be_told c.args.store.now.layout.chunk c.args.known.now.rows) (sym it.is) ∙ c.requires.told in
+    let row = test_some (map.get c.args.known.now.rows it.handle.0) told in
+    removed_fits c.args.change.now c.drop_replica.result d it.handle.0 row.0 (sym (known.rows_are it.handle.0) ∙ row.1) (call.no_chunk d is) call.only

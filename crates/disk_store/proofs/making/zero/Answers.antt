@@ -1,13 +1,15 @@
-use Rattle.std.proofs.Common.{◌≡◌, ℕ, ◌+◌, true, false, List, length, sym, ap, ◌∙◌, subst}
+use Rattle.std.proofs.Common.{◌≡◌, ℕ, ◌+◌, true, false, List, length, refl, sym, ap, ◌∙◌, subst}
 use Rattle.std.specs.Prelude.{OnOk}
 use Rattle.std.proofs.lemmas.List.{length-replicate}
 use Rattle.disk_redo.proofs.Moments.{reads_nothing}
 use Rattle.replica_store.specs.Replicas.{disk_changed, is_writable_at}
 use Rattle.replica_store.specs.declared.change.StoreChange.TheVariants.{Write, Zero}
 use Rattle.chunk_store.specs.Stores.{IsOpen}
+use Rattle.disk_store.specs.Known.{can_take}
 use Rattle.disk_store.specs.Standing.{LeavesMade}
 use Rattle.disk_store.proofs.Causes.{corrupt_refused}
 use Rattle.disk_store.proofs.Made.{none_made, write_made}
+use Rattle.disk_store.proofs.Fitting.{applied_fits, memory_fits, none_takes, zero_takes}
 use Rattle.disk_store.proofs.making.zero.Goals as goal
 
 pub returns-in_default-clause-any_moment : goal.returns-in_default-clause-any_moment
@@ -56,3 +58,18 @@ pub returns-clause-untouched : goal.returns-clause-untouched
 returns-clause-untouched g c d is none =
     let size : length c.in_ok-zeros.field-0 ≡ c.args.count = ap length c.in_ok-zeros.ensures ∙ length-replicate {A = ℕ} c.args.count 0 in
     c.apply.ensures.untouched d is (subst (λ (n : ℕ). is_writable_at d c.args.handle.0 c.args.offset (c.args.offset + n) ≡ false) (sym size) none)
+
+pub returns-in_default-clause-only : goal.returns-in_default-clause-only
+returns-in_default-clause-only g c d is known told =
+    let takes = zero_takes c.args.store.now.layout.chunk c.args.known.now.rows c.args.handle c.args.serial c.args.offset c.args.count told in
+    absurd (none_takes c.args.serial.0 _ (sym c.row.ensures ∙ c.in_default.is) takes)
+
+pub returns-in_err-zeros-clause-only : goal.returns-in_err-zeros-clause-only
+returns-in_err-zeros-clause-only g c d is known told = memory_fits (Zero c.args.handle c.args.serial c.args.offset c.args.count) c.from_residual.result c.from_residual.ensures.1
+
+pub returns-clause-only : goal.returns-clause-only
+returns-clause-only g c d is known told =
+    let row = sym (known.rows_are c.args.handle.0) ∙ sym c.row.ensures ∙ c.in-Some.is in
+    let takes = zero_takes c.args.store.now.layout.chunk c.args.known.now.rows c.args.handle c.args.serial c.args.offset c.args.count told in
+    applied_fits (Zero c.args.handle c.args.serial c.args.offset c.args.count) c.apply.result d c.args.handle.0 c.in-Some.row.version c.in-Some.row row refl (c.apply.ensures.no_chunk d is)
+    c.args.serial.0 refl (ap (can_take c.args.serial.0) (sym (known.rows_are c.args.handle.0)) ∙ takes) (c.apply.ensures.version d is) (c.apply.ensures.old_serial d is)

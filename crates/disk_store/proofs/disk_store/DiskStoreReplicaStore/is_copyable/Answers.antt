@@ -1,9 +1,10 @@
-use Rattle.std.proofs.Common.{◌≡◌, sym, ap, ◌∙◌, subst, false}
+use Rattle.std.proofs.Common.{◌≡◌, refl, sym, ap, ◌∙◌, subst, arith, false}
 use Rattle.std.specs.Prelude.{IfOk}
 use Rattle.replica_store.specs.Replicas.{is_copyable_at}
 use Rattle.disk_store.specs.Standing.{DiskStoreView}
 use Rattle.disk_store.proofs.Commits.{looked_kept, open_as}
 use Rattle.disk_store.proofs.Looked.{none_copyable}
+use Rattle.disk_store.proofs.Causes.{closed_cause, no_cause, told_cause}
 use Rattle.disk_store.proofs.disk_store.DiskStoreReplicaStore.is_copyable.Goals as goal
 
 pub returns-in_default-clause-value : goal.returns-in_default-clause-value
@@ -33,3 +34,19 @@ returns-clause-value g c =
     let was = c.self.inside in
     subst (λ (s : DiskStoreView). IfOk c.is_copyable.result (λ o. o ≡ is_copyable_at s.disk c.args.handle.0)) c.self.view_is
     (c.is_copyable.ensures.value was.said (open_as g.D.Disk.seen g.D.Disk.may_leave was.store was.known.order was.known.rows was.said was.standing c.self.invariant c.in-Open.is))
+
+pub returns-clause-open : goal.returns-clause-open
+returns-clause-open g c = ap (λ (s : DiskStoreView). s.is_open) c.self.view_is
+
+pub returns-in_default-clause-cause : goal.returns-in_default-clause-cause
+returns-in_default-clause-cause g c = rw (← c.self.view_is) (no_cause _ _ _ _ (omega arith))
+
+pub returns-in_default-2-clause-cause : goal.returns-in_default-2-clause-cause
+returns-in_default-2-clause-cause g c = rw (← c.self.view_is) (closed_cause c.self.inside.standing _ c.in_default-2.not-Open)
+
+pub returns-clause-cause : goal.returns-clause-cause
+returns-clause-cause g c =
+    let was = c.self.inside in
+    let opened = open_as g.D.Disk.seen g.D.Disk.may_leave was.store was.known.order was.known.rows was.said was.standing c.self.invariant c.in-Open.is in
+    let row = sym (c.self.invariant.known.rows_are c.args.handle.0) ∙ sym c.row.ensures ∙ c.in-Some.is in
+    rw (← c.self.view_is) (told_cause _ _ _ c.is_copyable.result (c.is_copyable.ensures.cause was.said c.in-Some.row opened row refl))

@@ -3,6 +3,7 @@ use Rattle.std.specs.Prelude.{IfOk}
 use Rattle.replica_store.specs.Replicas.{is_writable_at}
 use Rattle.disk_store.specs.Standing.{DiskStoreView}
 use Rattle.disk_store.proofs.Commits.{looked_kept, open_as}
+use Rattle.disk_store.proofs.Causes.{closed_cause, told_cause}
 use Rattle.disk_store.proofs.disk_store.DiskStoreReplicaStore.is_writable.Goals as goal
 
 pub is_writable-requires : goal.is_writable-requires
@@ -26,3 +27,12 @@ returns-clause-value g c =
     let was = c.self.inside in
     subst (λ (s : DiskStoreView). IfOk c.is_writable.result (λ o. o ≡ is_writable_at s.disk c.args.handle.0 c.args.offset c.args.end)) c.self.view_is
     (c.is_writable.ensures.value was.said (open_as g.D.Disk.seen g.D.Disk.may_leave was.store was.known.order was.known.rows was.said was.standing c.self.invariant c.in-Open.is))
+
+pub returns-clause-open : goal.returns-clause-open
+returns-clause-open g c = ap (λ (s : DiskStoreView). s.is_open) c.self.view_is
+
+pub returns-in_default-clause-cause : goal.returns-in_default-clause-cause
+returns-in_default-clause-cause g c = rw (← c.self.view_is) (closed_cause c.self.inside.standing _ c.in_default.not-Open)
+
+pub returns-clause-cause : goal.returns-clause-cause
+returns-clause-cause g c = rw (← c.self.view_is) (told_cause _ _ _ c.is_writable.result c.is_writable.ensures.cause)

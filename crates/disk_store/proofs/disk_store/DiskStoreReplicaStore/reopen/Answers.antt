@@ -1,6 +1,6 @@
 use Rattle.std.proofs.Common.{inl, refl, sym, ap, ◌∙◌, subst}
 use Rattle.server_store.specs.Stores.{IsFound}
-use Rattle.disk_store.specs.Standing.{DiskStoreView, changes_of, closed, found_made, with_made}
+use Rattle.disk_store.specs.Standing.{DiskStoreView, changes_of, closed, found_made, is_standing_open, with_made}
 use Rattle.disk_store.specs.declared.standing.DiskStoreState.TheVariants.{Open}
 use Rattle.disk_store.proofs.Keeping.{as_said, closed_is, closed_kept, closed_not_open, found_said, found_under_way}
 use Rattle.disk_store.proofs.disk_store.DiskStoreReplicaStore.reopen.Goals as goal
@@ -75,3 +75,12 @@ returns-in-Some-clause-disk g c =
 
 pub returns-in-Some-clause-nothing : goal.returns-in-Some-clause-nothing
 returns-in-Some-clause-nothing g c = ap changes_of c.replace.ensures.after
+
+pub returns-in-Err-clause-cause : goal.returns-in-Err-clause-cause
+returns-in-Err-clause-cause g c = c.in-Err.ensures.cause
+
+pub returns-in-None-clause-opened : goal.returns-in-None-clause-opened
+returns-in-None-clause-opened g c = ap is_standing_open c.replace.ensures.after
+
+pub returns-in-Some-clause-opened : goal.returns-in-Some-clause-opened
+returns-in-Some-clause-opened g c = ap is_standing_open c.replace.ensures.after

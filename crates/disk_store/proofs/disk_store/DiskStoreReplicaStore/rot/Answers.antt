@@ -3,6 +3,7 @@ use Rattle.server_store.specs.Stores.{disk_rotten}
 use Rattle.disk_store.specs.Standing.{DiskStoreView}
 use Rattle.disk_store.specs.declared.standing.DiskStoreState.TheVariants.{Open}
 use Rattle.disk_store.proofs.Keeping.{as_said}
+use Rattle.disk_store.proofs.Causes.{closed_cause, no_cause, passed_cause}
 use Rattle.disk_store.proofs.disk_store.DiskStoreReplicaStore.rot.Goals as goal
 
 pub rot-requires : goal.rot-requires
@@ -30,3 +31,12 @@ returns-clause-disk g c = c.change.ensures ∙ ap (λ (s : DiskStoreView). disk_
 
 pub returns-clause-nothing : goal.returns-clause-nothing
 returns-clause-nothing g c = c.in_ok-standing.ensures.nothing
+
+pub returns-in_default-clause-cause : goal.returns-in_default-clause-cause
+returns-in_default-clause-cause g c = rw (← c.self.view_is) (closed_cause c.self.inside.standing _ c.in_default.not-Open)
+
+pub returns-in_err-standing-clause-cause : goal.returns-in_err-standing-clause-cause
+returns-in_err-standing-clause-cause g c = rw (← c.self.view_is) (passed_cause _ _ _ c.from_residual.result c.in_err-standing.field-0.0 c.from_residual.ensures.1 c.in_err-standing.ensures.cause)
+
+pub returns-clause-cause : goal.returns-clause-cause
+returns-clause-cause g c = rw (← c.self.view_is) (no_cause _ _ _ _ c.rot.ensures.cause.later)

@@ -1,4 +1,4 @@
-use Rattle.std.proofs.Common.{sym, ap, subst}
+use Rattle.std.proofs.Common.{sym, ap, subst, ◌∙◌}
 use Rattle.chunk_store.specs.Stores.{StoreState}
 use Rattle.disk_store.specs.Standing.{DiskStoreView, IsKept}
 use Rattle.disk_store.proofs.Quiet.{quiet_kept}
@@ -16,3 +16,9 @@ returns-clause-disk g c = ap (λ (s : DiskStoreView). s.disk) c.self.view_is
 
 pub returns-clause-under_way : goal.returns-clause-under_way
 returns-clause-under_way g c = ap (λ (s : DiskStoreView). s.under_way) c.self.view_is
+
+pub returns-clause-open : goal.returns-clause-open
+returns-clause-open g c = ap (λ (s : DiskStoreView). s.is_open) c.self.view_is
+
+pub returns-clause-failed : goal.returns-clause-failed
+returns-clause-failed g c = c.stop_after.ensures.failed ∙ ap (λ (s : DiskStoreView). s.failed) c.self.view_is

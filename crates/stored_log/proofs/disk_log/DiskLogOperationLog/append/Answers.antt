@@ -7,6 +7,7 @@ use Rattle.protocol.specs.LogSizes.{payload_size, used_size}
 use Rattle.operation_log.proofs.Growth.{record_push}
 use Rattle.stored_log.specs.Kept.{Takes}
 use Rattle.stored_log.proofs.Keeping.{append_failed, area_taken, still_kept}
+use Rattle.stored_log.proofs.Causes.{closed_cause, failed_cause, has_room}
 use Rattle.stored_log.proofs.disk_log.DiskLogOperationLog.append.Goals as goal
 
 pub invariant_of-self : goal.invariant_of-self
@@ -44,3 +45,6 @@ invariant_of-self-in-Err g c =
       (c.self.invariant.3.0, c.append.ensures.size ∙ c.self.invariant.3.1),
       tt,
     )
+
+pub returns-in_default-2-clause-cause : goal.returns-in_default-2-clause-cause
+returns-in_default-2-clause-cause g c = rw (← c.self.view_is) (closed_cause c.self.inside.standing _ c.in_default-2.not-Open)

@@ -4,6 +4,7 @@ use Rattle.oplog.specs.Faults.{stays_open}
 use Rattle.oplog.specs.Writing.{area_with}
 use Rattle.stored_log.specs.Kept.{Takes}
 use Rattle.stored_log.proofs.Keeping.{area_taken, checkpoint_failed, no_writing, same_taken, still_kept}
+use Rattle.stored_log.proofs.Causes.{closed_cause, failed_cause}
 use Rattle.stored_log.proofs.disk_log.DiskLogOperationLog.end_checkpoint.Goals as goal
 
 pub invariant_of-self : goal.invariant_of-self
@@ -45,3 +46,6 @@ invariant_of-self-in-Err g c =
       (c.self.invariant.3.0, c.checkpoint.ensures.size ∙ c.self.invariant.3.1),
       tt,
     )
+
+pub returns-in_default-clause-cause : goal.returns-in_default-clause-cause
+returns-in_default-clause-cause g c = rw (← c.self.view_is) (closed_cause c.self.inside.standing _ c.in_default.not-Open)

@@ -5,6 +5,7 @@ use Rattle.oplog.specs.declared.walk.Walk.{Walk}
 use Rattle.operation_log.proofs.Growth.{count_is, count_within}
 use Rattle.stored_log.specs.Kept.{all_entries, DiskLogState, IsKept, KeepsWalk}
 use Rattle.stored_log.proofs.Keeping.{area_taken, still_kept}
+use Rattle.stored_log.proofs.Causes.{closed_cause, passed_cause}
 use Rattle.stored_log.proofs.disk_log.DiskLogOperationLog.entry.Goals as goal
 
 pub overflow_add-count : goal.overflow_add-count
@@ -65,3 +66,9 @@ invariant_of-self-2 g c =
 pub returns-clause-value : goal.returns-clause-value
 returns-clause-value g c =
     subst (λ (s : DiskLogState). c.in_ok-entry.entry ≡ slice_get (s.disk.items ++ s.disk.records) c.args.place) c.self.view_is c.in_ok-entry.ensures.entry
+
+pub returns-in_default-clause-cause : goal.returns-in_default-clause-cause
+returns-in_default-clause-cause g c = rw (← c.self.view_is) (closed_cause c.self.inside.standing _ c.in_default.not-Open)
+
+pub returns-in_err-entry-clause-cause : goal.returns-in_err-entry-clause-cause
+returns-in_err-entry-clause-cause g c = rw (← c.self.view_is) (passed_cause _ _ _ c.from_residual.result c.in_err-entry.field-0.0 c.from_residual.ensures.1 c.in_err-entry.ensures.cause)

@@ -4,6 +4,7 @@ use Rattle.stored_log.specs.Kept.{all_entries, closed, DiskLogState, HasDiskSize
 use Rattle.stored_log.proofs.Keeping.{area_taken, closed_kept, closed_leaves, walk_kept}
 use Rattle.stored_log.proofs.Reopening.{found_decided, log_of, reopened_leaves}
 use Rattle.stored_log.proofs.Sizes.{end_taken}
+use Rattle.stored_log.proofs.Causes.{reopening_cause}
 use Rattle.stored_log.proofs.disk_log.DiskLogStoppableLog.reopen.Goals as goal
 
 pub invariant_of-self : goal.invariant_of-self
@@ -41,3 +42,6 @@ returns-in-Ok-clause-ok g c =
     subst (λ (s : DiskLogState). IsDecided s.disk s.under_way (log_of found.items found.records)) c.self.view_is
     (found_decided disk.may_leave was.log.disk was.log.size was.log.area.items was.log.area.records found.items found.records was.standing (rw c.self.invariant.3.1 c.self.invariant.3.0.0) c.in-Ok.ensures.among
     (closed_leaves disk.seen disk.may_leave was.log was.standing c.is_open-is_open.ensures.durable c.self.invariant.0))
+
+pub returns-in-Err-clause-cause : goal.returns-in-Err-clause-cause
+returns-in-Err-clause-cause g c e = reopening_cause c.in-Err.fault c.fault_of.result c.fault_of.ensures c.in-Err.ensures.cause e
