@@ -13,7 +13,7 @@ use Rattle.oplog.proofs.Parsing.{entries_cons, entries_nil, entry_len, open_cons
 use Rattle.protocol.specs.LogSizes.{checkpoint_size, payload_size, used_size}
 use Rattle.stored_log.specs.Kept.{HasDiskSize, Takes}
 
-pub payload_is : (r : Record) → payload_size r ≡ length (payload r)
+payload_is : (r : Record) → payload_size r ≡ length (payload r)
 payload_is (log.Epoch epoch) = payload_len (log.Epoch epoch)
 payload_is (log.Mkdir client n path) = payload_len (log.Mkdir client n path)
 payload_is (log.Rmdir client n path) = payload_len (log.Rmdir client n path)
@@ -61,7 +61,7 @@ records_taken (r ∷ rest) = omega (
   length-append (open_entries rest) [],
 )
 
-pub end_used : (area : AreaState) → end_of area ≡ used_size area.items area.records
+end_used : (area : AreaState) → end_of area ≡ used_size area.items area.records
 end_used area = omega (arith, items_taken area.items, records_taken area.records)
 
 -- what a log that is open takes

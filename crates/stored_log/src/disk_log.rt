@@ -219,14 +219,16 @@ impl<D: Disk> OperationLog for DiskLog<D> {
                 self.used = used;
                 Ok(())
             }
-            Err(LogFault::NoMemory) => {
-                drop(record);
-                Err(OperationLogFault::NoMemory)
-            }
-            Err(_) => {
-                self.standing = LogStanding::Appending(record);
-                Err(OperationLogFault::Device)
-            }
+            Err(fault) => match fault {
+                LogFault::Device => {
+                    self.standing = LogStanding::Appending(record);
+                    Err(OperationLogFault::Device)
+                }
+                other => {
+                    drop(record);
+                    Err(fault_of(other))
+                }
+            },
         }
     }
 
@@ -265,12 +267,14 @@ impl<D: Disk> OperationLog for DiskLog<D> {
                 self.used = written;
                 Ok(())
             }
-            Err(LogFault::NoMemory) => Err(OperationLogFault::NoMemory),
-            Err(LogFault::Full) => Err(OperationLogFault::Full),
-            Err(_) => {
-                self.standing = LogStanding::Checkpointing(CountedRecords::of(&writing));
-                Err(OperationLogFault::Device)
-            }
+            Err(fault) => match fault {
+                LogFault::Device => {
+                    self.standing = LogStanding::Checkpointing(CountedRecords::of(&writing));
+                    Err(OperationLogFault::Device)
+                }
+                LogFault::Full => Err(OperationLogFault::Full),
+                other => Err(fault_of(other)),
+            },
         }
     }
 

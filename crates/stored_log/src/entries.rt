@@ -17,7 +17,9 @@ use oplog::{Log, LogFault, Walk};
 use std::alloc::Global;
 
 pub(crate) fn fault_of(fault: LogFault) -> OperationLogFault
-    ensures { result ≡ fault_of fault }
+    ensures value { result ≡ fault_of fault }
+    ensures not_full { result ≡ faults.Full → ⊥ }
+    ensures not_unwritable { result ≡ faults.Unwritable → ⊥ }
 {
     match fault {
         LogFault::Full | LogFault::Damaged => OperationLogFault::Damaged,

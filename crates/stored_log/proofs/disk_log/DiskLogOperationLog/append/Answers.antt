@@ -7,7 +7,8 @@ use Rattle.protocol.specs.LogSizes.{payload_size, used_size}
 use Rattle.operation_log.proofs.Growth.{record_push}
 use Rattle.stored_log.specs.Kept.{Takes}
 use Rattle.stored_log.proofs.Keeping.{append_failed, area_taken, still_kept}
-use Rattle.stored_log.proofs.Causes.{closed_cause, failed_cause, has_room}
+use Rattle.stored_log.specs.Faults.{fault_of}
+use Rattle.stored_log.proofs.Causes.{closed_cause, device_closes, log_cause}
 use Rattle.stored_log.proofs.disk_log.DiskLogOperationLog.append.Goals as goal
 
 pub invariant_of-self : goal.invariant_of-self
@@ -24,19 +25,19 @@ invariant_of-self g c =
       tt,
     )
 
-pub invariant_of-self-in-Err-NoMemory : goal.invariant_of-self-in-Err-NoMemory
-invariant_of-self-in-Err-NoMemory g c =
+pub invariant_of-self-in_default-3 : goal.invariant_of-self-in_default-3
+invariant_of-self-in_default-3 g c =
     let was = c.self.inside in
-    let refused = c.in-Err-NoMemory.is ∙ ap Err c.in-Err-NoMemory.field-0-is in (
-      still_kept g.D.Disk.may_leave c.append.new.self was.standing c.in-Open.is (rw refused at c.append.ensures.open),
-      area_taken was.used was.log.area c.append.new.self.area c.in-Err-NoMemory.ensures.err c.self.invariant.1,
+    let opened = (rw c.in-Err.is at c.append.ensures.open) ∙ device_closes c.in-Err.fault c.in_default-3.not-Device in (
+      still_kept g.D.Disk.may_leave c.append.new.self was.standing c.in-Open.is opened,
+      area_taken was.used was.log.area c.append.new.self.area c.in-Err.ensures.err c.self.invariant.1,
       c.self.invariant.2,
       (c.self.invariant.3.0, c.append.ensures.size ∙ c.self.invariant.3.1),
       tt,
     )
 
-pub invariant_of-self-in-Err : goal.invariant_of-self-in-Err
-invariant_of-self-in-Err g c =
+pub invariant_of-self-in-Device : goal.invariant_of-self-in-Device
+invariant_of-self-in-Device g c =
     let was = c.self.inside in
     let disk = g.D.Disk in (
       append_failed disk.may_leave disk.moment disk.left_since g.met.D.Disk.counts_now was.log c.append.new.self c.in_ok-record.record c.in-Err.ensures.err c.append.ensures.any_moment,
@@ -48,3 +49,21 @@ invariant_of-self-in-Err g c =
 
 pub returns-in_default-2-clause-cause : goal.returns-in_default-2-clause-cause
 returns-in_default-2-clause-cause g c = rw (← c.self.view_is) (closed_cause c.self.inside.standing _ c.in_default-2.not-Open)
+
+pub returns-in_default-3-clause-full : goal.returns-in_default-3-clause-full
+returns-in_default-3-clause-full g c = (
+  λ e. absurd (c.fault_of.ensures.not_full cc),
+  λ no. let f : true ≡ false = c.in-Some.ensures.room ∙ no in absurd cc,
+)
+
+pub returns-in_default-3-clause-unwritable : goal.returns-in_default-3-clause-unwritable
+returns-in_default-3-clause-unwritable g c = (
+  λ e. absurd (c.fault_of.ensures.not_unwritable cc),
+  λ p. absurd (p.1 (c.is_writable.ensures.0 c.if-branch.false)),
+)
+
+pub returns-in_default-3-clause-cause : goal.returns-in_default-3-clause-cause
+returns-in_default-3-clause-cause g c = rw (← c.self.view_is) (log_cause _ _ _ c.in-Err.fault c.fault_of.result c.fault_of.ensures.value c.in-Err.ensures.cause)
+
+pub returns-in-Device-clause-cause : goal.returns-in-Device-clause-cause
+returns-in-Device-clause-cause g c = rw (← c.self.view_is) (log_cause _ _ _ c.in-Err.fault _ (ap fault_of c.in-Device.is) c.in-Err.ensures.cause)

@@ -4,7 +4,8 @@ use Rattle.oplog.specs.Faults.{stays_open}
 use Rattle.oplog.specs.Writing.{area_with}
 use Rattle.stored_log.specs.Kept.{Takes}
 use Rattle.stored_log.proofs.Keeping.{area_taken, checkpoint_failed, no_writing, same_taken, still_kept}
-use Rattle.stored_log.proofs.Causes.{closed_cause, failed_cause}
+use Rattle.stored_log.specs.Faults.{fault_of}
+use Rattle.stored_log.proofs.Causes.{closed_cause, device_closes, log_cause}
 use Rattle.stored_log.proofs.disk_log.DiskLogOperationLog.end_checkpoint.Goals as goal
 
 pub invariant_of-self : goal.invariant_of-self
@@ -22,20 +23,20 @@ invariant_of-self g c =
       tt,
     )
 
-pub invariant_of-self-in-Err-NoMemory : goal.invariant_of-self-in-Err-NoMemory
-invariant_of-self-in-Err-NoMemory g c =
+pub invariant_of-self-in_default-2 : goal.invariant_of-self-in_default-2
+invariant_of-self-in_default-2 g c =
     let was = c.self.inside in
     let fresh : c.replace-writing.new.dest.items ≡ [] = search rules in
-    let refused = c.in-Err-NoMemory.is ∙ ap Err c.in-Err-NoMemory.field-0-is in (
-      still_kept g.D.Disk.may_leave c.checkpoint.new.self was.standing c.in-Open.is (rw refused at c.checkpoint.ensures.open),
-      area_taken was.used was.log.area c.checkpoint.new.self.area c.in-Err-NoMemory.ensures.err c.self.invariant.1,
+    let opened = (rw c.in-Err.is at c.checkpoint.ensures.open) ∙ device_closes c.in-Err.fault c.in_default-2.not-Device in (
+      still_kept g.D.Disk.may_leave c.checkpoint.new.self was.standing c.in-Open.is opened,
+      area_taken was.used was.log.area c.checkpoint.new.self.area c.in-Err.ensures.err c.self.invariant.1,
       no_writing c.replace-written.new.dest c.replace-writing.new.dest.items c.replace-written.ensures.after fresh,
       (c.self.invariant.3.0, c.checkpoint.ensures.size ∙ c.self.invariant.3.1),
       tt,
     )
 
-pub invariant_of-self-in-Err : goal.invariant_of-self-in-Err
-invariant_of-self-in-Err g c =
+pub invariant_of-self-in-Device : goal.invariant_of-self-in-Device
+invariant_of-self-in-Device g c =
     let was = c.self.inside in
     let disk = g.D.Disk in
     let fresh : c.replace-writing.new.dest.items ≡ [] = search rules in
@@ -49,3 +50,9 @@ invariant_of-self-in-Err g c =
 
 pub returns-in_default-clause-cause : goal.returns-in_default-clause-cause
 returns-in_default-clause-cause g c = rw (← c.self.view_is) (closed_cause c.self.inside.standing _ c.in_default.not-Open)
+
+pub returns-in_default-2-clause-cause : goal.returns-in_default-2-clause-cause
+returns-in_default-2-clause-cause g c = rw (← c.self.view_is) (log_cause _ _ _ c.in-Err.fault c.fault_of.result c.fault_of.ensures.value c.in-Err.ensures.cause)
+
+pub returns-in-Device-clause-cause : goal.returns-in-Device-clause-cause
+returns-in-Device-clause-cause g c = rw (← c.self.view_is) (log_cause _ _ _ c.in-Err.fault _ (ap fault_of c.in-Device.is) c.in-Err.ensures.cause)

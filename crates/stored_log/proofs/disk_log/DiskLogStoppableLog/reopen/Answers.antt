@@ -44,4 +44,4 @@ returns-in-Ok-clause-ok g c =
     (closed_leaves disk.seen disk.may_leave was.log was.standing c.is_open-is_open.ensures.durable c.self.invariant.0))
 
 pub returns-in-Err-clause-cause : goal.returns-in-Err-clause-cause
-returns-in-Err-clause-cause g c e = reopening_cause c.in-Err.fault c.fault_of.result c.fault_of.ensures c.in-Err.ensures.cause e
+returns-in-Err-clause-cause g c e = reopening_cause c.in-Err.fault c.fault_of.result c.fault_of.ensures.value c.in-Err.ensures.cause e
