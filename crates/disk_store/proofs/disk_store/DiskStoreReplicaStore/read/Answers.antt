@@ -35,12 +35,6 @@ returns-clause-value g c =
     subst (λ (s : DiskStoreView). IfOk c.read.result (λ o. o ≡ read_at s.disk c.args.handle.0 c.args.offset c.args.count)) c.self.view_is
     (c.read.ensures.value was.said (open_as g.D.Disk.seen g.D.Disk.may_leave was.store was.known.order was.known.rows was.said was.standing c.self.invariant c.in-Open.is))
 
-pub returns-clause-open : goal.returns-clause-open
-returns-clause-open g c = ap (λ (s : DiskStoreView). s.is_open) c.self.view_is
-
-pub returns-in_default-clause-cause : goal.returns-in_default-clause-cause
-returns-in_default-clause-cause g c = rw (← c.self.view_is) (no_cause _ _ _ _ (omega arith))
-
 pub returns-in_default-2-clause-cause : goal.returns-in_default-2-clause-cause
 returns-in_default-2-clause-cause g c = rw (← c.self.view_is) (closed_cause c.self.inside.standing _ c.in_default-2.not-Open)
 
@@ -50,3 +44,9 @@ returns-clause-cause g c =
     let opened = open_as g.D.Disk.seen g.D.Disk.may_leave was.store was.known.order was.known.rows was.said was.standing c.self.invariant c.in-Open.is in
     let row = sym (c.self.invariant.known.rows_are c.args.handle.0) ∙ sym c.row.ensures ∙ c.in-Some.is in
     rw (← c.self.view_is) (told_cause _ _ _ c.read.result (c.read.ensures.cause was.said c.in-Some.row opened row refl))
+
+pub returns-in_default-clause-cause : goal.returns-in_default-clause-cause
+returns-in_default-clause-cause g c = rw (← c.self.view_is) (no_cause _ _ _ _ (omega arith))
+
+pub returns-clause-open : goal.returns-clause-open
+returns-clause-open g c = ap (λ (s : DiskStoreView). s.is_open) c.self.view_is
