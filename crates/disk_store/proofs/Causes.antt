@@ -149,10 +149,10 @@ opening_cause opening.NoMemory x is h e = absurd cc
 pub rot_cause : {T U : Type 0} (before now : ℕ) (f : ChangeFault) (x : ReplicaStoreFault) → x ≡ of_change f → (IsRefused {T = T} (Err f) → IsErrOf {T = T} (Err f) change.NoChunk)
     → (f ≡ change.NoChunk → ⊥) → MayFail {T = T} before now (Err f) → HasCause {T = U} before now (Err x)
 rot_cause before now f x is only there may =
-    change_cause before now f x is there (λ e. other change.Version e refl (λ same. cc)) (λ e. other change.OldSerial e refl (λ same. cc)) (λ e. other change.Corrupt e refl (λ same. cc)) may
+    change_cause before now f x is there (λ e. other change.Version e refl) (λ e. other change.OldSerial e refl) (λ e. other change.Corrupt e refl) may
   where
-    other : (y : ChangeFault) → f ≡ y → is_refusal y ≡ true → (y ≡ change.NoChunk → ⊥) → ⊥
-    other y e refused differs = let none = only (ap is_refusal e ∙ refused) in let same : f ≡ change.NoChunk = cc in there same
+    other : (y : ChangeFault) → f ≡ y → is_refusal y ≡ true → ⊥
+    other y e refused = let none = only (ap is_refusal e ∙ refused) in let same : f ≡ change.NoChunk = cc in there same
 
 -- what a store's callers see of a cause
 pub told_cause : {T : Type 0} (is_open : Bool) (before now : ℕ) (r : Result T ReplicaStoreFault) → HasCause before now r → IsOfStore is_open before now r
