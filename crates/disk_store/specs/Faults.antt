@@ -1,5 +1,5 @@
 -- Faults of the disk, of the store on it and of its opening, as the servers' store has them; and when one is answered.
-use Rattle.std.specs.Prelude.{◌≡◌, ⊥, ℕ, ◌<◌, ◌≤◌, true, Result, IfErr, IsErrOf}
+use Rattle.std.specs.Prelude.{◌≡◌, ℕ, ◌<◌, ◌≤◌, true, Result, IfErr, IsErrOf}
 use Rattle.disk.specs.declared.device.DiskFault.{DiskFault}
 use Rattle.disk.specs.declared.device.DiskFault.TheVariants as disk
 use Rattle.server_store.specs.declared.fault.ReplicaStoreFault.{ReplicaStoreFault}

@@ -1,5 +1,5 @@
 -- The texts of a log's faults, and when a fault of its disk is told.
-use Rattle.std.specs.Prelude.{◌≡◌, ⊥, ℕ, ◌<◌, ◌≤◌, Bool, true, List, codes, Result, IsErrOf}
+use Rattle.std.specs.Prelude.{◌≡◌, ℕ, ◌<◌, ◌≤◌, Bool, true, List, codes, Result, IsErrOf}
 use Rattle.operation_log.specs.declared.fault.OperationLogFault.{OperationLogFault}
 use Rattle.operation_log.specs.declared.fault.OperationLogFault.TheVariants.{Full, Unwritable, NoMemory, Device, Damaged}
 
