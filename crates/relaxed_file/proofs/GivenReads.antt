@@ -414,7 +414,10 @@ reads_give_selections config m client file fd offset count bytes rounds reached 
     let done : IsDone m client current (call.Read fd offset count) (answer.Bytes bytes rounds) = subst (λ c. IsDone m client current c (answer.Bytes bytes rounds)) a.3 a.4 in
     let h : Holds config client m = holds_then config client m reached in
     let now : CallHolds config client m (Some current) = subst (CallHolds config client m) a.1 h.call_now in
-    (done.2, in_order config m client file fd offset count current a.1 a.2 a.3 now.1 (offset / chunk_size m file) done.2 done.3, done.4, done.5)
+    let same : done.0 ≡ file = from_some (sym done.1 ∙ a.2) in
+    let pieces : ArePieces (chunk_size m file) offset count current.pieces (offset / chunk_size m file) done.2 =
+    subst (λ f. ArePieces (chunk_size m f) offset count current.pieces (offset / chunk_size m f) done.2) same done.3 in
+    (done.2, in_order config m client file fd offset count current a.1 a.2 a.3 now.1 (offset / chunk_size m file) done.2 pieces, done.4, done.5)
 
 -- what a call came to
 came_to : (config : Config) (m : Machine) (client : ℕ) (current : OpenCall) (outcome : Outcome) → IsReached config m → IsOpen m client current → Contains current.outcomes outcome

@@ -135,7 +135,7 @@ module _ (config : Config) (m n : Machine) (client : ℕ) (fd : Fd) (bytes round
       from_some (sym append_file ∙ ((grows_to a.at b.at to_call first).clients client).descriptors fd.0 read_done.0 counted read_file)
 
   -- where the record lies
-  size : ℕ
+  abbrev size : ℕ
   size = chunk_size a.answered file
 
   size_is : (k : Machine) → LeadsTo a.answered k → chunk_size k file ≡ size

@@ -243,7 +243,7 @@ module _ (config : Config) (m n : Machine) (client other file : ℕ) (fd fe : Fd
   second_there = found_at _ second.entry second.there
 
   -- the file was made, so that it keeps its size
-  size : ℕ
+  abbrev size : ℕ
   size = chunk_size m file
 
   size_is : chunk_size n file ≡ size
