@@ -185,7 +185,8 @@ module _ (config : Config) (m n : Machine) (client : ℕ) (fd : Fd) (bytes round
           let index_same : index ≡ it.index = ap (λ (p : Piece). p.index) (sym is) ∙ same in
           let look : IsLook read.0 client file index least last chosen = subst (λ g. IsLook read.0 client g index least last chosen) f_is may.2 in
           subst (λ (l : List ℕ). 0 < length l) (ap (λ (p : Piece). p.bytes) (sym is))
-          (look_gives read.0 read.2 index least last chosen (leads_on after_append start read.0 to_start (leads start read.0 [] read.1)) read.4 index_same look)
+          (subst (λ g. 0 < length (read_slice (chunk_size read.0 g) index read.2.asked.call chosen)) (sym f_is)
+          (look_gives read.0 read.2 index least last chosen (leads_on after_append start read.0 to_start (leads start read.0 [] read.1)) read.4 index_same look))
       by_kind (by_none index past is) =
           let told : WasTold start client (asked_now b.at client (call.Read fd x (length bytes))) (NoSuchChunk index) =
           contained (WasTold start client (asked_now b.at client (call.Read fd x (length bytes)))) _ (NoSuchChunk index) read.6 past in
