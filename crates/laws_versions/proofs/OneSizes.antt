@@ -247,13 +247,13 @@ module _ (config : Config) (servers clients : ℕ) where
   module _ (w : WorldState) (r : IsReached config servers clients w) (e : Event) (choice : Choice) (handle version size : ℕ) (g : IsGrantedNow w (happens w e choice) handle version size)
       (place : ℕ) (m : Message) (at : element_at (happens w e choice).world.sent place ≡ Some m) (order : OrderNo) (end_moment : Moment) (members : List ℕ)
       (is : m.body ≡ body.Grant order (handle_of handle) (version_of version) end_moment size members) where
-    v : WorldState
+    abbrev v : WorldState
     v = (happens w e choice).world
 
     reached : IsReached config servers clients v
     reached = reached_later config servers clients w ((e, choice) ∷ []) r
 
-    said : List Message
+    abbrev said : List Message
     said = (master_step w.master g.moment g.taken g.choice).out.sent
 
     word : IsTold g.taken
