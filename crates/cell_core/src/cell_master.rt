@@ -26,11 +26,20 @@ use std::alloc::{Allocator, Global};
 use step_outcome::Outcome;
 
 /// A master over a log, and what is shown of its files: while it is up, these are its files. Its names lie in `A`.
-#[derive(Drop)]
 pub struct SeatedMaster<L: OperationLog, A: Allocator> {
     master: LoggedMaster<L, A>,
     files: ShownFiles,
     ghost shown: { master.up ≡ true → shown_in files ≡ master.logged.table.files } by { →_prop (Coded-set (table.code coded_ℕ (coded_list coded_ℕ)) _ _) },
+}
+
+// Stands here, once, so that no function that lets one go, here or above, takes its fields apart.
+impl<L: OperationLog + Drop, A: Allocator> Drop for SeatedMaster<L, A> {
+    fn drop(self) {
+        let Self {
+            master: _master,
+            files: _files,
+        } = self;
+    }
 }
 
 impl<L: OperationLog + Drop, A: Allocator + Clone> SeatedMaster<L, A> {
@@ -84,7 +93,11 @@ impl<L: OperationLog + Drop, A: Allocator + Clone> SeatedMaster<L, A> {
         ensures disk { L.disk result ≡ self.master.disk }
         ensures under_way { L.under_way result ≡ self.master.under_way }
     {
-        self.master.into_log()
+        let Self {
+            master,
+            files: _files,
+        } = self;
+        master.into_log()
     }
 }
 
