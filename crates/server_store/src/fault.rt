@@ -1,7 +1,8 @@
 //! Why a store didn't do what it was asked for.
 
-ghost use Rattle.std.specs.Prelude.{Some};
+ghost use Rattle.std.specs.Prelude.{◌≡◌, Some};
 ghost use Rattle.server_store.specs.Texts.{store_fault_text};
+ghost use Rattle.server_store.specs.declared.fault.ReplicaStoreFault.TheVariants.{NoMemory as OutOfMemory};
 
 use gfs_types::no_memory::NoMemory;
 use std::alloc::AllocError;
@@ -37,12 +38,16 @@ impl fmt::Display for ReplicaStoreFault {
 impl Error for ReplicaStoreFault {}
 
 impl From<NoMemory> for ReplicaStoreFault {
+    ghost from_gives = { λ _ e. e ≡ OutOfMemory };
+
     fn from(_fault: NoMemory) -> ReplicaStoreFault {
         ReplicaStoreFault::NoMemory
     }
 }
 
 impl From<AllocError> for ReplicaStoreFault {
+    ghost from_gives = { λ _ e. e ≡ OutOfMemory };
+
     fn from(_fault: AllocError) -> ReplicaStoreFault {
         ReplicaStoreFault::NoMemory
     }
