@@ -218,8 +218,8 @@ none_counted q = ap references_of (table.get-empty nat_cmp q) ∙ sym (no_times 
 
 -- a handle that stands in files stands in one of them
 
-one_of_sum : (files : Files) (q : ℕ) (es : List (ℕ × List ℕ)) → AllOf (IsFound (table.entries files)) es → 1 ≤ sum_by (λ e. stands q e.1) es → (file : ℕ) × (1 ≤ stands q (chunks_at files file))
-one_of_sum files q [] all more = absurd (let none : sum_by (λ e. stands q e.1) [] ≡ 0 = refl in omega (arith, more, none))
+one_of_sum : (files : Files) (q : ℕ) (es : List (ℕ × List ℕ)) → AllOf (IsFound (table.entries files)) es → 1 ≤ sum_by (λ (e : ℕ × List ℕ). stands q e.1) es → (file : ℕ) × (1 ≤ stands q (chunks_at files file))
+one_of_sum files q [] all more = absurd (let none : sum_by (λ (e : ℕ × List ℕ). stands q e.1) [] ≡ 0 = refl in omega (arith, more, none))
 one_of_sum files q (e ∷ es) all more =
     elim (cases_lt 0 (stands q e.1)) [
       | inl here ↦ (e.0, subst (λ (o : Option (List ℕ)). 1 ≤ stands q (unwrap_or o [])) (sym (table.get-entries files e.0 ∙ all.0)) (omega (arith, here)))

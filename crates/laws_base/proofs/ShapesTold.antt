@@ -72,7 +72,7 @@ later_sources t next Dir es all = all
 later_sources t next (File id) es all = all_stay t next id es all
 
 one_told : (t : ChunkTable) (next : ℕ) (n : Node) → IsSource t n → AreTold t.shapes → AreTold (with_copied_node t next n).shapes
-one_told t next Dir is h = h
+one_told t next Dir is h q s at = h q s at
 one_told t next (File id) is h q s at =
     let source = is.1 in
     elim (put_cases t.shapes next (shape_of t id) q s at) [
@@ -85,7 +85,7 @@ snapshot_told t next [] sources h = h
 snapshot_told t next (e ∷ es) sources h = snapshot_told (with_copied_node t next e.1) (id_after next e.1) es (later_sources t next e.1 es sources.1) (one_told t next e.1 sources.0 h)
 
 one_same : (t u : ChunkTable) (next : ℕ) (n : Node) → IsSource t n → HasShapesOf t u → HasShapesOf (with_copied_node t next n) (with_copied_node u next n)
-one_same t u next Dir is h = h
+one_same t u next Dir is h q s has at = h q s has at
 one_same t u next (File id) is h q s has at =
     elim (put_split t.shapes next (shape_of t id) q s at) [
       | inl now ↦ put_there u.shapes next (shape_of u id) q now.0 ∙ ap (λ (x : Shape). Some x) (copied ∙ now.1)
