@@ -23,11 +23,11 @@ invariant_of-self g c =
       tt,
     )
 
-pub invariant_of-self-in_default-2 : goal.invariant_of-self-in_default-2
-invariant_of-self-in_default-2 g c =
+pub invariant_of-self-in_default-fault : goal.invariant_of-self-in_default-fault
+invariant_of-self-in_default-fault g c =
     let was = c.self.inside in
     let fresh : c.replace-writing.new.dest.items ≡ [] = search rules in
-    let opened = (rw c.in-Err.is at c.checkpoint.ensures.open) ∙ device_closes c.in-Err.fault c.in_default-2.not-Device in (
+    let opened = (rw c.in-Err.is at c.checkpoint.ensures.open) ∙ device_closes c.in-Err.fault c.in_default-fault.not-Device in (
       still_kept g.D.Disk.may_leave c.checkpoint.new.self was.standing c.in-Open.is opened,
       area_taken was.used was.log.area c.checkpoint.new.self.area c.in-Err.ensures.err c.self.invariant.1,
       no_writing c.replace-written.new.dest c.replace-writing.new.dest.items c.replace-written.ensures.after fresh,
@@ -51,8 +51,5 @@ invariant_of-self-in-Device g c =
 pub returns-in_default-clause-cause : goal.returns-in_default-clause-cause
 returns-in_default-clause-cause g c = rw (← c.self.view_is) (closed_cause c.self.inside.standing _ c.in_default.not-Open)
 
-pub returns-in_default-2-clause-cause : goal.returns-in_default-2-clause-cause
-returns-in_default-2-clause-cause g c = rw (← c.self.view_is) (log_cause _ _ _ c.in-Err.fault c.fault_of.result c.fault_of.ensures.value c.in-Err.ensures.cause)
-
 pub returns-in-Device-clause-cause : goal.returns-in-Device-clause-cause
-returns-in-Device-clause-cause g c = rw (← c.self.view_is) (log_cause _ _ _ c.in-Err.fault _ (ap fault_of c.in-Device.is) c.in-Err.ensures.cause)
+returns-in-Device-clause-cause g c = rw (← c.self.view_is) (log_cause _ _ _ c.in-Err.fault _ (sym (ap fault_of c.in-Device.is)) c.in-Err.ensures.cause)
