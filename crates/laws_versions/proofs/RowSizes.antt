@@ -1,5 +1,5 @@
 -- With which size of its chunk a Grant goes, by the rows before and after the event in which it goes.
-use Rattle.std.proofs.Common.{◌≡◌, ◌×◌, ℕ, suc, ◌≤◌, Bool, List, ◌++◌, length, Some, refl, sym, ap, subst, ◌∙◌, inl, inr, arith}
+use Rattle.std.proofs.Common.{◌≡◌, ℕ, suc, ◌≤◌, Bool, List, ◌++◌, length, Some, refl, sym, ap, subst, ◌∙◌, inl, inr, arith}
 use Rattle.std.specs.Prelude.{IsTrue}
 use Rattle.gfs_types.specs.declared.config.Config.{Config}
 use Rattle.messages.specs.declared.event.Event.{Event}
