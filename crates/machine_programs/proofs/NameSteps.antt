@@ -74,7 +74,7 @@ pub refused_as_both : (r : Option Refusal) (inside now : NameTable) (c : Call) (
 refused_as_both r inside now c of looked named to named_to is same same_to called view =
     refused_as r inside now c (of named) to named_to (λ config. is config ∙ ap (λ p. refusal_of config inside.names (of p to)) same) same_to called view
 
--- a Create whose shape may be had is refused as one that asks for none
-pub refused_as_plain : (config : Config) (names : Names) (path : Path) (shape : Option Shape) → true ≡ may_have config shape
-    → refusal_of config names (call.Create path None) ≡ refusal_of config names (call.Create path shape)
-refused_as_plain config names path shape may = ap (λ b. first_refusal ((not (is_path path), BadPath) ∷ (not b, BadSize) ∷ (is_in_trash path, Reserved) ∷ name_tests names (call.Create path shape))) may
+-- a Create whose shape may be had is refused as a Mkdir
+pub refused_as_mkdir : (config : Config) (names : Names) (path : Path) (shape : Option Shape) → true ≡ may_have config shape
+    → refusal_of config names (call.Mkdir path) ≡ refusal_of config names (call.Create path shape)
+refused_as_mkdir config names path shape may = ap (λ b. first_refusal ((not (is_path path), BadPath) ∷ (not b, BadSize) ∷ (is_in_trash path, Reserved) ∷ name_tests names (call.Create path shape))) may

@@ -1,6 +1,6 @@
 //! The refusals of name calls: the tests of each call in order (section 4.1 of the Google File System paper).
 
-ghost use Rattle.std.specs.Prelude.{◌≡◌, nat_lt, length, None, IfOk};
+ghost use Rattle.std.specs.Prelude.{◌≡◌, nat_lt, length, IfOk};
 ghost use Rattle.std.specs.List.{list_any};
 ghost use Rattle.gfs_types.specs.declared.call.Call.TheVariants as call;
 ghost use Rattle.gfs_types.specs.declared.config.Config.{Config};
@@ -68,10 +68,9 @@ impl PlainNames {
             .any(|name| is_child(directory, name.path()))
     }
 
-    /// The refusal of a new name, of a directory or of a file that is to have the settings' shape.
+    /// The refusal of a new directory. A file whose shape may be had is refused likewise.
     pub fn refusal_of_new(&self, path: &str) -> Option<Refusal>
-        ensures directory { (config : Config) → result ≡ refusal_of config self.now (call.Mkdir path.now) }
-        ensures file { (config : Config) → result ≡ refusal_of config self.now (call.Create path.now None) }
+        ensures { (config : Config) → result ≡ refusal_of config self.now (call.Mkdir path.now) }
     {
         if !accepts_path(path.as_bytes()) {
             return Some(Refusal::BadPath);

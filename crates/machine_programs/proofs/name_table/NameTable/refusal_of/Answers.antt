@@ -4,7 +4,7 @@ use Rattle.machine_programs.proofs.name_table.NameTable.refusal_of.Goals as goal
 
 pub returns-in-Mkdir : goal.returns-in-Mkdir
 returns-in-Mkdir c =
-    refused_as c.refusal_of_new.result _ c.args.self.now c.args.call.now call.Mkdir c.as_str.result.now c.in-Mkdir.path c.refusal_of_new.ensures.directory c.as_str.ensures c.in-Mkdir.is c.self.view_is
+    refused_as c.refusal_of_new.result _ c.args.self.now c.args.call.now call.Mkdir c.as_str.result.now c.in-Mkdir.path c.refusal_of_new.ensures c.as_str.ensures c.in-Mkdir.is c.self.view_is
 
 pub returns-in-Rmdir : goal.returns-in-Rmdir
 returns-in-Rmdir c =
