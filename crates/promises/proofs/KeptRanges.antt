@@ -209,7 +209,8 @@ module _ (config : Config) (trace : List Visible) (m : Machine) (run : IsRunTo c
           chosen = chosen;
           look = subst (λ r. IsLook look_since reader file index r last chosen) round_is look;
           named_is = ap (λ l. slice_get l (index - first)) done.5 ∙ place.place;
-          gave = ap (λ (p : Piece). p.bytes) is ∙ (λ j. read_slice (sized look_since to_look j) (index_is j) (call_is j) chosen);
+          gave = ap (λ (p : Piece). p.bytes) is ∙ ap (λ g. read_slice (chunk_size look_since g) i c.asked.call chosen) file_is
+              ∙ (λ j. read_slice (sized look_since to_look j) (index_is j) (call_is j) chosen);
         }
 
     looked : IsLookOf

@@ -25,7 +25,7 @@ module _ (config : Config) (trace : List Visible) (m : Machine) (run : IsRunTo c
   abbrev then_one : Machine
   then_one = then config trace m run client (call.Append fd bytes) (answer.At x) tt one
 
-  same_one : record_at.file_now config trace m run client fd bytes x one ≡ file
+  pub same_one : record_at.file_now config trace m run client fd bytes x one ≡ file
   same_one = descriptors_are_of_one_file config trace m run client fd _ file (record_at.is_of config trace m run client fd bytes x one) one_of
 
   abbrev it : AnsweredAppend config then_one client file bytes x

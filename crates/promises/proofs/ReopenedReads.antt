@@ -197,7 +197,7 @@ module _ (config : Config) (trace : List Visible) (m : Machine) (run : IsRunTo c
         late = reaches;
         chosen = chosen;
         has = has_place chosen kept.entry (selected last look.3 kept.place kept.entry (entry_there k to) kept.settled (omega (arith, reaches, most)));
-        gave = ap (λ (p : Piece). p.bytes) is ∙ (λ j. read_slice (sized k to j) (index_is j) (call_is j) chosen);
+        gave = ap (λ (p : Piece). p.bytes) is ∙ ap (λ g. read_slice (chunk_size k g) i c.asked.call chosen) file_is ∙ (λ j. read_slice (sized k to j) (index_is j) (call_is j) chosen);
       }
 
   late : (piece : Piece) → Contains (at_read.current).pieces piece → piece.index ≡ index → IsLate piece
