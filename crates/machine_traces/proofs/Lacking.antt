@@ -149,7 +149,7 @@ module _ (x : ℕ) where
     chunks_step m (CloseRound f index) a h = chunk_changed m f index _ h (λ same. at_file m f index h same)
     chunks_step m (Place client f index mutation) a h = at_some (λ (k : Machine). HoldsOfFile (k.files file)) (λ current. placed m client current f index mutation) m _ a.0 a.1
         (chunk_changed m f index _ h (λ same. all_pushed (λ e. LackedBy e.mutation) _ _ (at_file m f index h same)
-        (asked_lacks m.config.chunk index (a.0).asked.call mutation (asked_here m (record { client = client; number = (a.0).number }) f index (a.0).asked.call mutation (a.2).3)
+        (asked_lacks (chunk_size m f) index (a.0).asked.call mutation (asked_here m (record { client = client; number = (a.0).number }) f index (a.0).asked.call mutation (a.2).3)
         (let fine : IsFine (Some a.0) = subst IsFine a.1 (h.calls client) in fine ((a.2).0 ∙ ap Some same)))))
     chunks_step m (Settle f index place) a h = chunk_changed m f index _ h (λ same. settled_lacking place _ (at_file m f index h same))
     chunks_step m other a h = kept m other a h (λ is. none-some file is)

@@ -8,6 +8,7 @@ use Rattle.gfs_types.specs.declared.call.Call.TheVariants as call
 use Rattle.gfs_types.specs.declared.answer.Answer.TheVariants as answer
 use Rattle.gfs_types.specs.declared.ids.Fd.{Fd}
 use Rattle.gfs_types.specs.declared.config.Config.{Config}
+use Rattle.gfs_types.specs.declared.shape.Shape.{Shape}
 use Rattle.relaxed_file.specs.Order.{Entry}
 use Rattle.relaxed_file.specs.Machine.{Machine, new_machine, Asked, OpenCall, NoSuchChunk, Piece, chunk_count, chunk_size}
 use Rattle.relaxed_file.specs.Reads.{offer_of, IsLook, MayLook, read_slice}
@@ -15,7 +16,9 @@ use Rattle.relaxed_file.specs.Answers.{IsDone, ArePieces}
 use Rattle.relaxed_file.specs.Run.{Look, Visible, Allows, after, LeadsTo, IsReached, asked_now}
 use Rattle.relaxed_file.proofs.Tables.{contained}
 use Rattle.relaxed_file.proofs.Reached.{leads_on, leads_by}
-use Rattle.relaxed_file.proofs.Grows.{grows_to, known_when_reached, known_at_first}
+use Rattle.relaxed_file.proofs.Known.{made_by_count}
+use Rattle.relaxed_file.proofs.Grows.{grows_to, known_when_reached}
+use Rattle.relaxed_file.proofs.ShapesKept.{shapes_stay}
 use Rattle.relaxed_file.proofs.CallSteps.{IsPieceOf, by_look, by_none}
 use Rattle.relaxed_file.proofs.Moments.{leads}
 use Rattle.relaxed_file.proofs.InCall.{WasRead, WasTold, Exchange}
@@ -36,7 +39,7 @@ pub record FirstLook (m : Machine) (client file index : ℕ) (fd : Fd) (x count 
   pub rounds_are : rounds ≡ least ∷ more_rounds
 
 module _ (config : Config) (m n : Machine) (client : ℕ) (fd : Fd) (file index offset count x : ℕ) (bytes rounds : List ℕ) (later : List Visible) (reached : IsReached config m)
-    (is : x ≡ index * config.chunk + offset) (room : offset + count ≤ config.chunk) (some : 0 < count) (has : index < chunk_count m file)
+    (is : x ≡ index * chunk_size m file + offset) (room : offset + count ≤ chunk_size m file) (some : 0 < count) (has : index < chunk_count m file)
     (b : Exchange m n client (call.Read fd x count) (answer.Bytes bytes rounds) later)
     (on_file : (g : ℕ) → ((b.at).clients client).descriptors fd.0 ≡ Some g → g ≡ file) where
   abbrev asked : Asked
@@ -60,8 +63,11 @@ module _ (config : Config) (m n : Machine) (client : ℕ) (fd : Fd) (file index 
   to_answer : LeadsTo m b.answered
   to_answer = leads_on m start b.answered to_start (leads start b.answered [] (b.inside).since)
 
-  size_is : (k : Machine) → LeadsTo m k → k.config.chunk ≡ config.chunk
-  size_is k way = ap (λ (c : Config). c.chunk) (grows_to (new_machine config) k (leads_on (new_machine config) m k reached way) (known_at_first config)).config
+  abbrev size : ℕ
+  size = chunk_size m file
+
+  size_is : (k : Machine) → LeadsTo m k → chunk_size k file ≡ size
+  size_is k way = ap (λ (shape : Shape). shape.chunk) (shapes_stay config m k file reached way (made_by_count m file index (known_when_reached config m reached) has))
 
   abbrev Looked : Type 0
   Looked = FirstLook m client file index fd x count bytes rounds
@@ -87,8 +93,9 @@ module _ (config : Config) (m n : Machine) (client : ℕ) (fd : Fd) (file index 
             more_bytes = flat_map (λ p. p.bytes) rest;
             bytes_are = bytes_are ∙ ap (λ (s : List ℕ). s ++ flat_map (λ p. p.bytes) rest) (
                 ap (λ (p : Piece). p.bytes) piece_is
-                ∙ ap (λ j. read_slice (read.0).config.chunk j (read.2).asked.call chosen) i_is
-                ∙ ap (λ (a : Asked). read_slice (read.0).config.chunk index a.call chosen) read.4);
+                ∙ ap (λ g. read_slice (chunk_size read.0 g) i (read.2).asked.call chosen) f_is
+                ∙ ap (λ j. read_slice (chunk_size read.0 file) j (read.2).asked.call chosen) i_is
+                ∙ ap (λ (a : Asked). read_slice (chunk_size read.0 file) index a.call chosen) read.4);
             more_rounds = filter_map (λ p. p.round) rest;
             rounds_are = rounds_are ∙ ap (λ (p : Piece). cons_option p.round (filter_map (λ q. q.round) rest)) piece_is;
           }
@@ -101,18 +108,22 @@ module _ (config : Config) (m n : Machine) (client : ℕ) (fd : Fd) (file index 
           absurd (offered_there told.0 file i index (omega (arith, more, has))
           (subst (λ j. NoSuchChunk i ≡ offer_of told.0 file j) at_index (subst (λ g. NoSuchChunk i ≡ offer_of told.0 g told.5) f_is told.7)))
 
-  by_pieces : (pieces : List Piece) → ArePieces config.chunk x count (b.inside).call.pieces index pieces → bytes ≡ flat_map (λ p. p.bytes) pieces → rounds ≡ filter_map (λ p. p.round) pieces → Looked
-  by_pieces [] are bytes_are rounds_are = absurd (true≢false (sym (part_there config.chunk index offset count x is room some) ∙ are))
+  by_pieces : (pieces : List Piece) → ArePieces size x count (b.inside).call.pieces index pieces → bytes ≡ flat_map (λ p. p.bytes) pieces → rounds ≡ filter_map (λ p. p.round) pieces → Looked
+  by_pieces [] are bytes_are rounds_are = absurd (true≢false (sym (part_there size index offset count x is room some) ∙ are))
   by_pieces (piece ∷ rest) are bytes_are rounds_are =
       first_piece piece rest (contained (WasRead start client asked) (b.inside).call.pieces piece (b.inside).pieces are.1) are.2 bytes_are rounds_are
 
-  index_is : x / b.answered.config.chunk ≡ index
+  index_is : x / chunk_size b.answered file ≡ index
   index_is =
-      let small : offset < config.chunk = omega arith in
-      ap (λ s. x / s) (size_is b.answered to_answer) ∙ ap (λ y. y / config.chunk) is ∙ div-mul-add index config.chunk offset small
+      let small : offset < size = omega (arith, room, some) in
+      ap (λ s. x / s) (size_is b.answered to_answer) ∙ ap (λ y. y / size) is ∙ div-mul-add index size offset small
+
+  done_on : done.0 ≡ file
+  done_on = file_of_call (b.inside).call done.0 asked_is done.1
 
   pub first_look : FirstLook m client file index fd x count bytes rounds
   first_look = by_pieces done.2
-      (subst (λ i. ArePieces config.chunk x count (b.inside).call.pieces i done.2) index_is
-      (subst (λ s. ArePieces s x count (b.inside).call.pieces (x / b.answered.config.chunk) done.2) (size_is b.answered to_answer) done.3))
+      (subst (λ i. ArePieces size x count (b.inside).call.pieces i done.2) index_is
+      (subst (λ s. ArePieces s x count (b.inside).call.pieces (x / chunk_size b.answered file) done.2) (size_is b.answered to_answer)
+      (subst (λ g. ArePieces (chunk_size b.answered g) x count (b.inside).call.pieces (x / chunk_size b.answered g) done.2) done_on done.3)))
       done.4 done.5

@@ -6,6 +6,7 @@ use Rattle.gfs_types.specs.declared.call.Call.TheVariants as call
 use Rattle.gfs_types.specs.declared.answer.Answer.TheVariants as answer
 use Rattle.gfs_types.specs.declared.ids.Fd.{Fd}
 use Rattle.gfs_types.specs.declared.config.Config.{Config}
+use Rattle.gfs_types.specs.declared.shape.Shape.{Shape}
 use Rattle.gfs_types.specs.Mutations.{end_of}
 use Rattle.gfs_types.specs.Image.{image_length, image_slice}
 use Rattle.relaxed_file.specs.Names.{Node, File, node_at}
@@ -18,8 +19,9 @@ use Rattle.relaxed_file.specs.Run.{Return, Visible, Called, Answered, Allows, af
 use Rattle.relaxed_file.specs.RunLaws.{IsOwnSuccess}
 use Rattle.relaxed_file.proofs.Tables.{from_some}
 use Rattle.relaxed_file.proofs.Reached.{leads_on, leads_by}
-use Rattle.relaxed_file.proofs.Known.{Known}
-use Rattle.relaxed_file.proofs.Grows.{grows_to, known_when_reached, known_at_first}
+use Rattle.relaxed_file.proofs.Known.{Known, made_by_count}
+use Rattle.relaxed_file.proofs.Grows.{grows_to, known_when_reached}
+use Rattle.relaxed_file.proofs.ShapesKept.{shapes_stay}
 use Rattle.relaxed_file.proofs.Successes.{AnsweredAppend, answered, settled_entries_stay, found_at}
 use Rattle.relaxed_file.proofs.OwnReads.{own_rounds_are_named}
 use Rattle.relaxed_file.proofs.FilesApart.{reads_skip_nothing}
@@ -91,8 +93,23 @@ module _ (config : Config) (one two : ℕ) (fd fe : Fd) (bytes : List ℕ) (x ro
       let there : it.index < chunk_count a.answered file = it.has_chunk in
       omega (arith, more, there)
 
+  -- the file keeps the size of its chunks
+  abbrev size : ℕ
+  size = chunk_size a.answered file
+
+  size_is : (k : Machine) → LeadsTo a.answered k → chunk_size k file ≡ size
+  size_is k way =
+      ap (λ (shape : Shape). shape.chunk)
+      (shapes_stay config a.answered k file reached_answer way (made_by_count a.answered file it.index (known_when_reached config a.answered reached_answer) it.has_chunk))
+
+  lies : (k : Machine) → LeadsTo a.answered k → x ≡ it.index * chunk_size k file + it.offset
+  lies k way = subst (λ s. x ≡ it.index * s + it.offset) (sym (size_is k way)) it.is
+
+  ends : (k : Machine) → LeadsTo a.answered k → it.offset + length bytes ≤ chunk_size k file
+  ends k way = subst (λ s. it.offset + length bytes ≤ s) (sym (size_is k way)) it.room
+
   look_one : FirstLook after_append one file it.index fd x (length bytes) bytes (round ∷ [])
-  look_one = first_look config after_append n one fd file it.index it.offset (length bytes) x bytes (round ∷ []) _ reached_after it.is it.room some (has_chunk after_append to_after) b
+  look_one = first_look config after_append n one fd file it.index it.offset (length bytes) x bytes (round ∷ []) _ reached_after (lies after_append to_after) (ends after_append to_after) some (has_chunk after_append to_after) b
       (λ g. first_file b.at (leads_on m after_append b.at way_after (leads after_append b.at [] b.before)) g)
 
   own : IsOwnSuccess a.answered one file it.index it.entry
@@ -121,7 +138,7 @@ module _ (config : Config) (one two : ℕ) (fd fe : Fd) (bytes : List ℕ) (x ro
 
   look_two : FirstLook after_read two file it.index fe x (length bytes) [] (named ∷ [])
   look_two = first_look config after_read n two fe file it.index it.offset (length bytes) x [] (named ∷ []) later
-      (leads_on (new_machine config) after_append after_read reached_after to_read) it.is it.room some (has_chunk after_read way_read) c
+      (leads_on (new_machine config) after_append after_read reached_after to_read) (lies after_read way_read) (ends after_read way_read) some (has_chunk after_read way_read) c
       (λ g. second_file c.at (leads_on m after_append c.at way_after (leads_on after_append after_read c.at to_read (leads after_read c.at [] c.before))) g)
 
   to_look : LeadsTo a.answered look_two.at
@@ -136,26 +153,23 @@ module _ (config : Config) (one two : ℕ) (fd fe : Fd) (bytes : List ℕ) (x ro
       reads_skip_nothing look_two.at two file it.index look_two.least look_two.last look_two.chosen it.entry look_two.allowed
       (contains_at _ (it.there).0 it.entry stays) it.settled (omega (arith, l, le, is))
 
-  size_is : chunk_size look_two.at file ≡ config.chunk
-  size_is = ap (λ (s : Config). s.chunk) (grows_to (new_machine config) look_two.at (leads_on (new_machine config) a.answered look_two.at reached_answer to_look) (known_at_first config)).config
-
-  given : 0 < length (read_slice config.chunk it.index (call.Read fe x (length bytes)) look_two.chosen)
+  given : 0 < length (read_slice size it.index (call.Read fe x (length bytes)) look_two.chosen)
   given =
       let there : Contains look_two.chosen it.entry = chosen_has in
       let far : end_of (it.entry).mutation ≤ image_length (mutations_of look_two.chosen) = reaches_end there.0 look_two.chosen it.entry there.1 there.2 in
       let end_is : end_of (it.entry).mutation ≡ it.offset + length bytes = ap end_of it.what in
-      let enough : 0 < min (part_length config.chunk x (length bytes) it.index) (image_length (mutations_of look_two.chosen) - part_start config.chunk x it.index) =
-      part_bytes_there config.chunk it.index it.offset (length bytes) x _ it.is it.room some (omega (arith, far, end_is)) in
-      let count : length (image_slice (mutations_of look_two.chosen) (part_start config.chunk x it.index) (part_length config.chunk x (length bytes) it.index))
-      ≡ min (part_length config.chunk x (length bytes) it.index) (image_length (mutations_of look_two.chosen) - part_start config.chunk x it.index) = length_from (mutations_of look_two.chosen) _ _ in
+      let enough : 0 < min (part_length size x (length bytes) it.index) (image_length (mutations_of look_two.chosen) - part_start size x it.index) =
+      part_bytes_there size it.index it.offset (length bytes) x _ it.is it.room some (omega (arith, far, end_is)) in
+      let count : length (image_slice (mutations_of look_two.chosen) (part_start size x it.index) (part_length size x (length bytes) it.index))
+      ≡ min (part_length size x (length bytes) it.index) (image_length (mutations_of look_two.chosen) - part_start size x it.index) = length_from (mutations_of look_two.chosen) _ _ in
       omega (arith, enough, count)
 
   skipped : ⊥
   skipped =
       let empty : length (read_slice (chunk_size look_two.at file) it.index (call.Read fe x (length bytes)) look_two.chosen) ≡ 0 = empty_front _ look_two.more_bytes look_two.bytes_are in
-      let same : length (read_slice config.chunk it.index (call.Read fe x (length bytes)) look_two.chosen) ≡ 0 =
-      subst (λ s. length (read_slice s it.index (call.Read fe x (length bytes)) look_two.chosen) ≡ 0) size_is empty in
-      let some_bytes : 0 < length (read_slice config.chunk it.index (call.Read fe x (length bytes)) look_two.chosen) = given in
+      let same : length (read_slice size it.index (call.Read fe x (length bytes)) look_two.chosen) ≡ 0 =
+      subst (λ s. length (read_slice s it.index (call.Read fe x (length bytes)) look_two.chosen) ≡ 0) (size_is look_two.at to_look) empty in
+      let some_bytes : 0 < length (read_slice size it.index (call.Read fe x (length bytes)) look_two.chosen) = given in
       omega (arith, same, some_bytes)
 
 pub no_skipped_record : NoSkippedRecord
