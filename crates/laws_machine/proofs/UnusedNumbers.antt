@@ -20,8 +20,8 @@ module _ (config : Config) (m : Machine) (reached : IsReached config m) (client 
   abbrev next : CallId
   next = record { client = client; number = suc (m.clients client).call_count }
 
-  not_next : (index : ℕ) (e : Entry) → WasAskedFor m index e → is_try next e ≡ false
-  not_next index e asked = by_test (is_try next e) refl
+  not_next : (file index : ℕ) (e : Entry) → WasAskedFor m file index e → is_try next e ≡ false
+  not_next file index e asked = by_test (is_try next e) refl
     where
       by_test : (b : Bool) → is_try next e ≡ b → is_try next e ≡ false
       by_test false is = is
@@ -31,16 +31,16 @@ module _ (config : Config) (m : Machine) (reached : IsReached config m) (client 
           let none = ((known_when_reached config m reached).clients client).no_more_calls (suc (m.clients client).call_count) (omega arith) in
           none_some asked.0 (sym none ∙ made)
 
-  none_in : (index : ℕ) (order : List Entry) → AllByRecursion (WasAskedFor m index) order → count_by (is_try next) order ≡ 0
-  none_in index [] all = refl
-  none_in index (e ∷ rest) all =
-      let one : one_try next e ≡ 0 = ap (λ (b : Bool). cond b 1 0) (not_next index e all.0) in
-      let more : count_by (is_try next) rest ≡ 0 = none_in index rest all.1 in
+  none_in : (file index : ℕ) (order : List Entry) → AllByRecursion (WasAskedFor m file index) order → count_by (is_try next) order ≡ 0
+  none_in file index [] all = refl
+  none_in file index (e ∷ rest) all =
+      let one : one_try next e ≡ 0 = ap (λ (b : Bool). cond b 1 0) (not_next file index e all.0) in
+      let more : count_by (is_try next) rest ≡ 0 = none_in file index rest all.1 in
       tries_cons next e rest ∙ (let sum : one_try next e + count_by (is_try next) rest ≡ 0 = omega (arith, one, more) in sum)
 
   pub none_placed : (file count : ℕ) → tries_below (m.files file).chunks next count ≡ 0
   none_placed file zero = refl
   none_placed file (suc count) =
       let below : tries_below (m.files file).chunks next count ≡ 0 = none_placed file count in
-      let here : tries_in next (chunk_at m file count) ≡ 0 = none_in count (chunk_at m file count).order (entries_were_asked_for config m reached file count) in
+      let here : tries_in next (chunk_at m file count) ≡ 0 = none_in file count (chunk_at m file count).order (entries_were_asked_for config m reached file count) in
       omega (arith, below, here)
