@@ -1,8 +1,9 @@
 //! One replica.
 
-ghost use Rattle.std.specs.Prelude.{◌≡◌, ◌≤◌, ◌+◌, ◌-◌, ◌^◌, ◌<◌, ◌++◌, ◌&&◌, not, nat_le, Some, take, drop, min, length, replicate, IfOk, OnOk, OnErr};
+ghost use Rattle.std.specs.Prelude.{◌≡◌, ◌≤◌, ◌+◌, ◌-◌, ◌^◌, ◌<◌, ◌++◌, ◌&&◌, not, nat_le, Some, take, drop, min, length, replicate, IfOk, IsErrOf, OnOk, OnErr};
 ghost use Rattle.std.specs.Str.{bytes_eq};
 ghost use Rattle.replica_store.specs.Replicas.{with_others, bytes_on_disk, block_matches, blocks_match, is_readable, is_writable, read_bytes, read_end, rotten_replica, stored_byte, row_of, stored_replica, written_replica, raised_replica, with_bytes};
+ghost use Rattle.server_store.specs.declared.fault.ReplicaStoreFault.TheVariants as faults;
 ghost use Rattle.sha2.specs.Sha256.{sha256};
 ghost use Rattle.memory_store.specs.Growing.{grown};
 
@@ -120,7 +121,9 @@ impl MemoryReplica {
         count: u64,
     ) -> Result<bool, ReplicaStoreFault>
         requires { 1 ≤ block }
-        ensures { IfOk result (λ b. b ≡ is_readable block self.now offset count) }
+        ensures value { IfOk result (λ b. b ≡ is_readable block self.now offset count) }
+        ensures disk { IsErrOf result faults.DiskFailed → ⊥ }
+        ensures undamaged { IsErrOf result faults.Damaged → ⊥ }
     {
         let end = self.read_end(offset, count);
         if end <= offset {
@@ -144,7 +147,9 @@ impl MemoryReplica {
     ) -> Result<bool, ReplicaStoreFault>
         requires size { 1 ≤ block }
         requires some { 1 ≤ end }
-        ensures { IfOk result (λ b. b ≡ blocks_match block self.now first end) }
+        ensures value { IfOk result (λ b. b ≡ blocks_match block self.now first end) }
+        ensures disk { IsErrOf result faults.DiskFailed → ⊥ }
+        ensures undamaged { IsErrOf result faults.Damaged → ⊥ }
     {
         let others = listed(alloc, &self.changed)?;
         let mut matches = true;
@@ -167,7 +172,9 @@ impl MemoryReplica {
         end: u64,
     ) -> Result<bool, ReplicaStoreFault>
         requires { 1 ≤ block }
-        ensures { IfOk result (λ b. b ≡ is_writable block self.now offset end) }
+        ensures value { IfOk result (λ b. b ≡ is_writable block self.now offset end) }
+        ensures disk { IsErrOf result faults.DiskFailed → ⊥ }
+        ensures undamaged { IsErrOf result faults.Damaged → ⊥ }
     {
         if end <= offset || (offset % block == 0 && end % block == 0) {
             return Ok(true);
@@ -185,7 +192,9 @@ impl MemoryReplica {
         number: u64,
     ) -> Result<bool, ReplicaStoreFault>
         requires { 1 ≤ block }
-        ensures { IfOk result (λ b. b ≡ block_matches block self.now number) }
+        ensures value { IfOk result (λ b. b ≡ block_matches block self.now number) }
+        ensures disk { IsErrOf result faults.DiskFailed → ⊥ }
+        ensures undamaged { IsErrOf result faults.Damaged → ⊥ }
     {
         let others = listed(alloc, &self.changed)?;
         if !has_changed(others.as_slice(), block, number) {
@@ -212,7 +221,9 @@ impl MemoryReplica {
         last: u64,
     ) -> Result<bool, ReplicaStoreFault>
         requires { 1 ≤ block }
-        ensures { IfOk result (λ b. b ≡ (nat_le first number && nat_le number last && not (block_matches block self.now number))) }
+        ensures value { IfOk result (λ b. b ≡ (nat_le first number && nat_le number last && not (block_matches block self.now number))) }
+        ensures disk { IsErrOf result faults.DiskFailed → ⊥ }
+        ensures undamaged { IsErrOf result faults.Damaged → ⊥ }
     {
         if number < first || last < number {
             return Ok(false);
@@ -225,6 +236,8 @@ impl MemoryReplica {
     pub(crate) fn rot(&mut self, place: u64, byte: u8) -> Result<(), ReplicaStoreFault>
         ensures ok { OnOk result (self.new ≡ rotten_replica self.old place byte) }
         ensures err { OnErr result (self.new ≡ self.old) }
+        ensures disk { IsErrOf result faults.DiskFailed → ⊥ }
+        ensures undamaged { IsErrOf result faults.Damaged → ⊥ }
     {
         if place > LAST_PLACE {
             return Err(ReplicaStoreFault::NoRoom);
@@ -257,6 +270,8 @@ impl MemoryReplica {
     ) -> Result<(), ReplicaStoreFault>
         ensures ok { OnOk result (self.new ≡ written_replica self.old serial.0 offset content.now) }
         ensures err { OnErr result (self.new ≡ self.old) }
+        ensures disk { IsErrOf result faults.DiskFailed → ⊥ }
+        ensures undamaged { IsErrOf result faults.Damaged → ⊥ }
     {
         let end = offset
             .checked_add(content.len() as u64)
@@ -279,6 +294,8 @@ impl MemoryReplica {
     ) -> Result<(), ReplicaStoreFault>
         ensures ok { OnOk result (self.new ≡ written_replica self.old serial.0 offset (replicate count 0)) }
         ensures err { OnErr result (self.new ≡ self.old) }
+        ensures disk { IsErrOf result faults.DiskFailed → ⊥ }
+        ensures undamaged { IsErrOf result faults.Damaged → ⊥ }
     {
         let end = offset.checked_add(count).ok_or(ReplicaStoreFault::NoRoom)?;
         let others = listed(alloc, &self.changed)?;
@@ -306,7 +323,9 @@ fn digests_match(
     start: u64,
     count: u64,
 ) -> Result<bool, ReplicaStoreFault>
-    ensures { IfOk result (λ b. b ≡ bytes_eq (sha256 (take count (drop start (with_others others.now (grown stored.now (start + count)))))) (sha256 (take count (drop start (grown stored.now (start + count)))))) }
+    ensures value { IfOk result (λ b. b ≡ bytes_eq (sha256 (take count (drop start (with_others others.now (grown stored.now (start + count)))))) (sha256 (take count (drop start (grown stored.now (start + count)))))) }
+    ensures disk { IsErrOf result faults.DiskFailed → ⊥ }
+    ensures undamaged { IsErrOf result faults.Damaged → ⊥ }
 {
     let end = start.checked_add(count).ok_or(ReplicaStoreFault::NoRoom)?;
     let mut bytes = Vec::from_slice(alloc, stored)?;

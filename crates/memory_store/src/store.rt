@@ -1,10 +1,11 @@
 //! The store.
 
-ghost use Rattle.std.specs.Prelude.{◌≡◌, ◌≤◌, [], true, map, IfOk, OnOk, OnErr};
+ghost use Rattle.std.specs.Prelude.{◌≡◌, ◌≤◌, [], true, map, IfOk, IsErrOf, OnOk, OnErr};
 ghost use Rattle.std.specs.Option.{option_copied};
 ghost use Rattle.std.specs.FinMap.{entries};
 ghost use Rattle.replica_store.specs.Replicas.{new_server_disk, disk_changed, replica_of};
 ghost use Rattle.server_store.specs.Stores.{line_of};
+ghost use Rattle.server_store.specs.declared.fault.ReplicaStoreFault.TheVariants as faults;
 
 use crate::replica::MemoryReplica;
 use crate::table::{ReplicaTable, copy, raise, rot, write, zero};
@@ -83,6 +84,8 @@ impl MemoryStore {
         ensures ok { OnOk result (self.new.0 ≡ disk_changed self.old.0 change.now) }
         ensures err { OnErr result (self.new.0 ≡ self.old.0) }
         ensures under_way { self.new.1 ≡ self.old.1 }
+        ensures disk { IsErrOf result faults.DiskFailed → ⊥ }
+        ensures undamaged { IsErrOf result faults.Damaged → ⊥ }
     {
         let alloc = self.alloc;
         match change {

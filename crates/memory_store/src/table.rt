@@ -1,8 +1,9 @@
 //! Replicas by their handles.
 
-ghost use Rattle.std.specs.Prelude.{◌≡◌, replicate, OnOk, OnErr};
+ghost use Rattle.std.specs.Prelude.{◌≡◌, replicate, IsErrOf, OnOk, OnErr};
 ghost use Rattle.std.specs.FinMap as map;
 ghost use Rattle.replica_store.specs.Replicas.{written_replica, raised_replica, rotten_replica, bytes_on_disk, stored_replica};
+ghost use Rattle.server_store.specs.declared.fault.ReplicaStoreFault.TheVariants as faults;
 ghost use Rattle.memory_store.specs.Becoming.{becomes, copied};
 
 use crate::replica::MemoryReplica;
@@ -25,6 +26,8 @@ pub(crate) fn write(
 ) -> Result<(), ReplicaStoreFault>
     ensures ok { OnOk result (replicas.new ≡ becomes (λ r. written_replica r serial.0 offset content.now) replicas.old handle (map.get replicas.old handle)) }
     ensures err { OnErr result (replicas.new ≡ replicas.old) }
+    ensures disk { IsErrOf result faults.DiskFailed → ⊥ }
+    ensures undamaged { IsErrOf result faults.Damaged → ⊥ }
 {
     if let Some(replica) = replicas.get_mut(handle) {
         replica.write(alloc, serial, offset, content)?;
@@ -43,6 +46,8 @@ pub(crate) fn zero(
 ) -> Result<(), ReplicaStoreFault>
     ensures ok { OnOk result (replicas.new ≡ becomes (λ r. written_replica r serial.0 offset (replicate count 0)) replicas.old handle (map.get replicas.old handle)) }
     ensures err { OnErr result (replicas.new ≡ replicas.old) }
+    ensures disk { IsErrOf result faults.DiskFailed → ⊥ }
+    ensures undamaged { IsErrOf result faults.Damaged → ⊥ }
 {
     if let Some(replica) = replicas.get_mut(handle) {
         replica.zero(alloc, serial, offset, count)?;
@@ -59,6 +64,8 @@ pub(crate) fn rot(
 ) -> Result<(), ReplicaStoreFault>
     ensures ok { OnOk result (replicas.new ≡ becomes (λ r. rotten_replica r place byte) replicas.old handle (map.get replicas.old handle)) }
     ensures err { OnErr result (replicas.new ≡ replicas.old) }
+    ensures disk { IsErrOf result faults.DiskFailed → ⊥ }
+    ensures undamaged { IsErrOf result faults.Damaged → ⊥ }
 {
     if let Some(replica) = replicas.get_mut(handle) {
         replica.rot(place, byte)?;
