@@ -71,11 +71,11 @@ module _ {T : Type 0} (x : StoreChange) (r : Result T StoreFault) where
   }
 
   pub unrefused_fits : (IsRefused r → ⊥) → IsFitting x r
-  unrefused_fits no = record {
-    chunk = λ e. no (refused_by r change.NoChunk e refl);
-    version = λ e. no (refused_by r change.Version e refl);
-    serial = λ e. no (refused_by r change.OldSerial e refl);
-    intact = λ e. absurd (no (refused_by r change.Corrupt e refl));
+  unrefused_fits unrefused = record {
+    chunk = λ e. unrefused (refused_by r change.NoChunk e refl);
+    version = λ e. unrefused (refused_by r change.Version e refl);
+    serial = λ e. unrefused (refused_by r change.OldSerial e refl);
+    intact = λ e. absurd (unrefused (refused_by r change.Corrupt e refl));
   }
 
   pub removed_fits : (d : ServerDisk) (h : ℕ) (row : Row) → row_at d h ≡ Some row → (IsErrOf r change.NoChunk ↔ row_at d h ≡ None) → (IsRefused r → IsErrOf r change.NoChunk) → IsFitting x r

@@ -41,8 +41,8 @@ returns-clause-open g c = ap (λ (s : DiskStoreView). s.is_open) c.self.view_is
 pub returns-in_default-clause-cause : goal.returns-in_default-clause-cause
 returns-in_default-clause-cause g c = rw (← c.self.view_is) (no_cause _ _ _ _ (omega arith))
 
-pub returns-in_default-2-clause-cause : goal.returns-in_default-2-clause-cause
-returns-in_default-2-clause-cause g c = rw (← c.self.view_is) (closed_cause c.self.inside.standing _ c.in_default-2.not-Open)
+pub returns-in_default-standing-clause-cause : goal.returns-in_default-standing-clause-cause
+returns-in_default-standing-clause-cause g c = rw (← c.self.view_is) (closed_cause c.self.inside.standing _ c.in_default-standing.not-Open)
 
 pub returns-clause-cause : goal.returns-clause-cause
 returns-clause-cause g c =

@@ -35,8 +35,8 @@ returns-clause-value g c =
     subst (λ (s : DiskStoreView). IfOk c.read.result (λ o. o ≡ read_at s.disk c.args.handle.0 c.args.offset c.args.count)) c.self.view_is
     (c.read.ensures.value was.said (open_as g.D.Disk.seen g.D.Disk.may_leave was.store was.known.order was.known.rows was.said was.standing c.self.invariant c.in-Open.is))
 
-pub returns-in_default-2-clause-cause : goal.returns-in_default-2-clause-cause
-returns-in_default-2-clause-cause g c = rw (← c.self.view_is) (closed_cause c.self.inside.standing _ c.in_default-2.not-Open)
+pub returns-in_default-standing-clause-cause : goal.returns-in_default-standing-clause-cause
+returns-in_default-standing-clause-cause g c = rw (← c.self.view_is) (closed_cause c.self.inside.standing _ c.in_default-standing.not-Open)
 
 pub returns-clause-cause : goal.returns-clause-cause
 returns-clause-cause g c =

@@ -1,5 +1,7 @@
-use Rattle.std.proofs.Common.{inl, refl, sym, ap, ◌∙◌, subst}
+use Rattle.std.proofs.Common.{◌≡◌, inl, refl, sym, ap, ◌∙◌, subst, Err}
 use Rattle.server_store.specs.Stores.{IsFound}
+use Rattle.server_store.specs.declared.fault.ReplicaStoreFault.{ReplicaStoreFault}
+use Rattle.server_store.specs.declared.fault.ReplicaStoreFault.TheVariants.{DiskFailed}
 use Rattle.disk_store.specs.Standing.{DiskStoreView, changes_of, closed, found_made, is_standing_open, with_made}
 use Rattle.disk_store.specs.declared.standing.DiskStoreState.TheVariants.{Open}
 use Rattle.disk_store.proofs.Keeping.{as_said, closed_is, closed_kept, closed_not_open, found_said, found_under_way}
@@ -77,7 +79,7 @@ pub returns-in-Some-clause-nothing : goal.returns-in-Some-clause-nothing
 returns-in-Some-clause-nothing g c = ap changes_of c.replace.ensures.after
 
 pub returns-in-Err-clause-cause : goal.returns-in-Err-clause-cause
-returns-in-Err-clause-cause g c = c.in-Err.ensures.cause
+returns-in-Err-clause-cause g c e = let same : c.in-Err.fault ≡ DiskFailed = cc in c.in-Err.ensures.cause (ap (λ (f : ReplicaStoreFault). Err f) same)
 
 pub returns-in-None-clause-opened : goal.returns-in-None-clause-opened
 returns-in-None-clause-opened g c = ap is_standing_open c.replace.ensures.after
