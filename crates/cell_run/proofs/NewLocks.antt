@@ -1,10 +1,12 @@
 -- The locks of so many servers, and of one more.
-use Rattle.std.proofs.Common.{◌≡◌, ℕ, suc, ◌+◌, List, [], ◌∷◌, ◌++◌, refl, sym, ap, subst, ◌∙◌, arith}
+use Rattle.std.proofs.Common.{◌≡◌, ℕ, zero, suc, ◌+◌, ◌≤◌, List, [], ◌∷◌, ◌++◌, length, refl, sym, ap, subst, ◌∙◌, arith}
 use Rattle.std.specs.Prelude.{map}
+use Rattle.std.proofs.lemmas.List.{length-map, length-append}
 use Rattle.protocol.specs.Tables.{first_numbers}
 use Rattle.protocol.specs.Sending.{the_server}
 use Rattle.cell_journal.specs.Identity.{Identity}
 use Rattle.cell_seats.specs.NodeLocks.{NodeName, node_name}
+use Rattle.cell_run.specs.Cells.{names_of}
 
 -- the servers of the first so many numbers
 abbrev servers_of : Identity → ℕ → List NodeName
@@ -25,3 +27,12 @@ one_lock_more f cell before was now one is new locks =
     ∙ (ap (λ (l : List NodeName). servers_of cell before ++ l) last
     ∙ (sym (map_append (λ s. node_name cell (the_server s)) (first_numbers before) (suc before ∷ []))
     ∙ ap (servers_of cell) (sym next)))))
+
+numbers_count : (n : ℕ) → length (first_numbers n) ≡ n
+numbers_count zero = refl
+numbers_count (suc n) = omega (arith, length-append (first_numbers n) (suc n ∷ []), numbers_count n)
+
+-- room for the servers is room for all but the master
+pub locks_fit : (locks : List NodeName) (cell : Identity) (servers room : ℕ) → locks ≡ names_of cell servers → servers ≤ room → length locks ≤ suc room
+locks_fit locks cell servers room are fits =
+    omega (arith, ap length are, length-map (first_numbers servers) (λ s. node_name cell (the_server s)), numbers_count servers, fits)

@@ -66,7 +66,7 @@ impl Cell {
 }
 
 // Parks a cell whose threads have ended, in room that there is.
-#[tactic(auto, using(crate::proofs::Parking::parked_cell))]
+#[tactic(auto, using(crate::proofs::Parking::parked_cell, crate::proofs::NewLocks::locks_fit))]
 fn park_in<R: Wait + Clock>(
     rt: &R,
     cell: EndedCell,
