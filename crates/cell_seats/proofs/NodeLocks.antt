@@ -44,7 +44,7 @@ Places = List (ℕ × Option SlotState)
 abbrev Has : Type 0
 Has = Me (Option SlotState) NodeName
 
-value : Option SlotState → Places → Option SlotState
+abbrev value : Option SlotState → Places → Option SlotState
 value d [] = d
 value d ((k, x) ∷ xs) = x
 
@@ -58,4 +58,4 @@ lent name l now y has_now has guards = subst (Guards name) (sym (ap (value None)
 
 -- something else of the same name lies there now
 pub has_still : (name : NodeName) (was is : Has) (y new : Option SlotState) → was.0 ≡ name → was.1 ≡ (0, y) ∷ [] → is ≡ (was.0, (0, new) ∷ rest was.1) → Guards name new → HasNode name is
-has_still name was is y new of has now guards = (ap (λ (m : Has). m.0) now ∙ of, new, ap (λ (m : Has). m.1) now ∙ ap (λ (r : Places). (0, new) ∷ rest r) has, guards)
+has_still name was is y new of has now guards = (ap (λ (m : Has). m.0) now ∙ of, (new, ap (λ (m : Has). m.1) now ∙ ap (λ (r : Places). (0, new) ∷ rest r) has, guards))

@@ -51,7 +51,6 @@ impl<N: Stepper + Drop> Model for ParkedNode<N> {
 
 impl<N: Stepper + Drop> ParkedNode<N> {
     /// Takes the node out of a slot that has just seen the whole history. None: it is gone.
-    #[tactic(auto, using(crate::proofs::ParkedNodes::led_by, crate::proofs::ParkedNodes::counted))]
     pub fn of(slot: &mut Slot<N>, look: HistoryLook) -> Option<ParkedNode<N>>
         requires { HasLooked slot.old.node slot.old.view look }
         ensures same { slot.new ≡ slot.old }
