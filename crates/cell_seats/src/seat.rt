@@ -107,7 +107,6 @@ impl<N: Stepper + Drop> Seat<N> {
 
     /// Takes the client out, once it saw the whole history, which has so many entries, where their number is given. None: the client is gone, or
     /// its journal was closed or parked before. The client takes no steps any more.
-    #[tactic(auto, using(crate::proofs::ParkedSeats::sits_later, crate::proofs::ParkedSeats::client_of))]
     pub fn park<R: Wait>(&mut self, rt: &R, count: Option<usize>) -> Option<ParkedNode<N>>
         ensures same { self.new ≡ self.old }
         ensures client { IfSome result (λ p. IsClientOf self.old p) }
