@@ -82,21 +82,22 @@ fn a_shape_fits_within_its_bounds(rt: HostRuntime) {
     let mut config = Config::default();
     config.chunk = 128;
     config.block = 16;
-    for (chunk, goal) in [(128, 1), (128, 8)] {
+    for (chunk, goal) in [(64, 1), (64, 8), (80, 3), (112, 8), (128, 1), (128, 8)] {
         assert!(rt; fits(&config, chunk, goal), "{chunk} {goal}");
     }
-    // a file has the settings' chunk
-    for chunk in [0, 48, 63, 64, 72, 112, 127, 129, 144, 256, 4_294_967_295] {
+    // at least 64, of whole blocks, and at most the settings' chunk
+    for chunk in [0, 16, 48, 63, 65, 72, 127, 129, 144, 256, 4_294_967_295] {
         assert!(rt; !fits(&config, chunk, 1), "{chunk}");
     }
     for goal in [0, 9, 255] {
         assert!(rt; !fits(&config, 128, goal), "{goal}");
     }
-    // it is at least 64, and made of whole blocks, whatever the settings are
+    // whatever the settings are
     config.chunk = 48;
     assert!(rt; !fits(&config, 48, 1));
     config.chunk = 72;
     assert!(rt; !fits(&config, 72, 1));
+    assert!(rt; fits(&config, 64, 1));
 }
 
 // refusals
