@@ -311,7 +311,6 @@ fn start_with<
 }
 
 // Starts the master and the servers, each under its lock.
-#[tactic(auto, using(crate::proofs::NewLocks::one_lock_more))]
 fn start_nodes<
     R: Threads + Wait + Clock + Copy + Send + 'static,
     G: Gate + Clone + Send + Drop + 'static,
