@@ -9,8 +9,6 @@ pub mod Observed
 pub mod Grown
 pub mod Roles
 pub mod Keeping
-pub mod ListEnds
 pub mod Lending
 pub mod WriterSteps
 pub mod Slotting
-pub mod Looking

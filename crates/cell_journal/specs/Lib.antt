@@ -6,7 +6,6 @@ pub mod Entries
 pub mod Identity
 pub mod CountedEntries
 pub mod WholeHistories
-pub mod ListEnds
 pub mod Roles
 pub mod Rules
 pub mod Writers

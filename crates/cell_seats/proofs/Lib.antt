@@ -1,10 +1,8 @@
 pub mod WrittenControls
 pub mod Moving
+pub mod Looking
 pub mod Shown
 pub mod Sitting
 pub mod Traces
 pub mod RegisteredNodes
 pub mod Starting
-pub mod NodeLocks
-pub mod ParkedNodes
-pub mod ParkedSeats

@@ -4,5 +4,3 @@ pub mod Slots
 pub mod Seen
 pub mod Seats
 pub mod Registry
-pub mod NodeLocks
-pub mod ParkedNodes

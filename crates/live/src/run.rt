@@ -153,8 +153,7 @@ fn stop_watch(rt: &impl Threads, watch: Option<Watch>) {
 
 // What each client saw begins the cell's history.
 fn agree_all(players: &[Player], journal: &Journal)
-    requires cell { (k : ℕ) (p : Player) → slice_get players.now k ≡ Some p → p.seat.cell ≡ journal.now.cell }
-    requires over { journal.now.is_over ≡ true }
+    requires { (k : ℕ) (p : Player) → slice_get players.now k ≡ Some p → p.seat.cell ≡ journal.now.cell }
     ensures { (k : ℕ) (p : Player) → slice_get players.now k ≡ Some p → HasSeenPart (whole_of journal.now) p.seat }
 {
     for before in 0..players.len() {
@@ -164,8 +163,7 @@ fn agree_all(players: &[Player], journal: &Journal)
 
 // What a client saw begins the cell's history.
 fn agree_one(player: &Player, journal: &Journal)
-    requires cell { player.now.seat.cell ≡ journal.now.cell }
-    requires over { journal.now.is_over ≡ true }
+    requires { player.now.seat.cell ≡ journal.now.cell }
     ensures { HasSeenPart (whole_of journal.now) player.now.seat }
 {
     agree(&player.seat, journal);

@@ -8,8 +8,6 @@ mod cells;
 #[cfg(test)]
 mod gate;
 #[cfg(test)]
-mod parking;
-#[cfg(test)]
 mod producers;
 #[cfg(test)]
 mod refusals;
