@@ -9,6 +9,8 @@ pub mod Observed
 pub mod Grown
 pub mod Roles
 pub mod Keeping
+pub mod ListEnds
 pub mod Lending
 pub mod WriterSteps
 pub mod Slotting
+pub mod Looking

@@ -8,12 +8,12 @@ use Rattle.gfs_types.specs.declared.ids.Node.{Node}
 use Rattle.protocol_journal.specs.Journal.{Entry, own}
 use Rattle.protocol_journal.proofs.Nodes.{node_itself}
 use Rattle.cell_journal.specs.Clocks.{are_clocks_kept}
-use Rattle.cell_journal.specs.Identity.{Identity, Filled, filled}
+use Rattle.cell_journal.specs.Identity.{Identity, Filled, Closed, filled, closed}
 use Rattle.cell_journal.specs.declared.view.View.{View}
 use Rattle.cell_journal.specs.declared.view.Role.{Role}
 use Rattle.cell_journal.specs.declared.view.Role.TheVariants.{Nobody, Only, From}
 use Rattle.cell_journal.specs.Roles.{WritesAs, own_of}
-use Rattle.cell_journal.specs.Rules.{Writes, Took, IsSame, IsStepOf, gave}
+use Rattle.cell_journal.specs.Rules.{Writes, Took, IsSame, IsStepOf, IsJournalOf, gave}
 use Rattle.cell_journal.proofs.Grown.{own_append, journal_grows}
 use Rattle.messages.specs.declared.message.Message.{Message}
 use Rattle.gfs_types.specs.declared.refusal.Refusal.{Refusal}
@@ -21,7 +21,7 @@ use Rattle.std.specs.Prelude.{Result, Ok, Err, IfOk, OnErr}
 use Rattle.protocol_journal.specs.Journal.{sent_after}
 use Rattle.atomic_table.specs.Table.{rest}
 use Rattle.cell_journal.proofs.Lending.{lent, left}
-use Rattle.cell_journal.specs.Writers.{IsNodeWriter, IsLater, IsRead, GoesOn, IsSeen, Prepares, IsWaiting}
+use Rattle.cell_journal.specs.Writers.{IsNodeWriter, IsLater, IsRead, GoesOn, IsSeen, Prepares, IsWaiting, IsParkedAt}
 use Rattle.cell_journal.specs.WholeHistories.{history_of, all_seen}
 
 pub when_true : (A B : Type 0) (b : Bool) → b ≡ true → MatchBool b A B → A
@@ -275,3 +275,10 @@ waits_on v mid final a b = record { free = b.free; of = b.of ∙ a.of; role = b.
 
 pub writes_waiting : (v : View) (m : Mine) (n : Node) → IsWaiting v m → Writes v n → Writes m.0 n
 writes_waiting v m n w h = subst (λ (r : Role). WritesAs m.0.of.servers r n) (sym w.role) (subst (λ (c : Identity). WritesAs c.servers v.role n) (sym w.of) h)
+
+-- a journal that was taken and parked is the cell's
+pub parked_at : (cell : Identity) (count : ℕ) (y : Filled) (journal : Closed) → journal ≡ closed y.cell y.entries false → y.cell ≡ cell → IsJournalOf cell y.entries
+    → length (history_of y.cell y.entries) ≡ count → IsParkedAt cell count journal
+parked_at cell count y journal is of lawful same =
+    subst (λ (j : Closed). IsParkedAt cell count j) (sym is)
+    (record { cell_is = of; lawful = subst (λ (i : Identity). IsJournalOf i y.entries) (sym of) lawful; parked = refl; count_is = same })

@@ -1,5 +1,5 @@
 -- Which cell a journal is of.
-use Rattle.std.specs.Prelude.{ℕ, List}
+use Rattle.std.specs.Prelude.{ℕ, Bool, List}
 use Rattle.logbook.specs.Pages.{Book}
 use Rattle.gfs_types.specs.declared.config.Config.{Config}
 use Rattle.protocol_journal.specs.Journal.{Entry}
@@ -24,10 +24,11 @@ pub record Filled : Type 0 where
 abbrev pub filled : Identity → List Entry → ℕ → Filled
 filled cell entries reserved = record { cell = cell; entries = entries; reserved = reserved }
 
--- a journal to which nothing is added any more
+-- a journal to which nothing is added any more, and whether nothing is added to its cell's history either
 pub record Closed : Type 0 where
   pub cell : Identity
   pub entries : List Entry
+  pub is_over : Bool
 
-abbrev pub closed : Identity → List Entry → Closed
-closed cell entries = record { cell = cell; entries = entries }
+abbrev pub closed : Identity → List Entry → Bool → Closed
+closed cell entries is_over = record { cell = cell; entries = entries; is_over = is_over }

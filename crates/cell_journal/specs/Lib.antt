@@ -6,6 +6,7 @@ pub mod Entries
 pub mod Identity
 pub mod CountedEntries
 pub mod WholeHistories
+pub mod ListEnds
 pub mod Roles
 pub mod Rules
 pub mod Writers

@@ -1,5 +1,5 @@
 -- A writer of the journal, and what its steps leave.
-use Rattle.std.specs.Prelude.{◌≡◌, ℕ, ◌+◌, ◌≤◌, ◌++◌, List, [], ◌∷◌, length, Option, Some, None, Result, IfOk, OnErr}
+use Rattle.std.specs.Prelude.{◌≡◌, ℕ, ◌+◌, ◌≤◌, ◌++◌, false, List, [], ◌∷◌, length, Option, Some, None, Result, IfOk, OnErr}
 use mathlib.Core.List.{IsPrefix}
 use Rattle.atomic_table.specs.Table.{Me}
 use Rattle.atomic_table.specs.Seated.{TableId}
@@ -9,11 +9,12 @@ use Rattle.messages.specs.declared.message.Message.{Message}
 use Rattle.protocol.specs.World.{numbered_from_1}
 use Rattle.protocol_journal.specs.Journal.{Entry, own, sent_after}
 use Rattle.cell_journal.specs.Log.{Listed, listed}
-use Rattle.cell_journal.specs.Identity.{Filled}
+use Rattle.cell_journal.specs.Identity.{Identity, Filled, Closed}
+use Rattle.cell_journal.specs.declared.history_look.HistoryLook.{HistoryLook}
 use Rattle.cell_journal.specs.declared.view.View.{View}
 use Rattle.cell_journal.specs.declared.view.Role.TheVariants.{Only}
 use Rattle.cell_journal.specs.Rules.{IsJournalOf}
-use Rattle.cell_journal.specs.WholeHistories.{all_seen}
+use Rattle.cell_journal.specs.WholeHistories.{all_seen, whole_of}
 
 -- a writer at this table, which has one word and one slot
 abbrev pub IsAt : TableId → TableId → Type 0
@@ -62,8 +63,21 @@ pub record Prepares (v : View) (y : Filled) (n : Node) (number : Option ℕ) (fo
   pub ok : IfOk found (λ m. (now.reserved ≡ y.reserved + 1) × IsRead (sent_after [] y.entries) n number m)
   pub err : OnErr found (now.reserved ≡ y.reserved)
 
+-- the writer of a node saw the whole history, and what the node did is what the journal has of it
+pub record HasLooked (n : Node) (v : View) (l : HistoryLook) : Type 0 where
+  pub cell_is : l.cell ≡ v.of
+  pub seen : IsSeen v l.beginning l.count
+  pub own_is : v.mine ≡ own n v.seen
+
 -- the writer of one that waits until no step is under way
 pub record IsWaiting (v : View) (me : Me (Option Filled) View) : Type 0 where
   pub free : me.1 ≡ []
   pub of : me.0.of ≡ v.of
   pub role : me.0.role ≡ v.role
+
+-- this cell's journal as it was parked, lawful behind its base, with so many entries of the whole history
+pub record IsParkedAt (cell : Identity) (count : ℕ) (journal : Closed) : Type 0 where
+  pub cell_is : journal.cell ≡ cell
+  pub lawful : IsJournalOf journal.cell journal.entries
+  pub parked : journal.is_over ≡ false
+  pub count_is : length (whole_of journal) ≡ count

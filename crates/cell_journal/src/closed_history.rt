@@ -1,27 +1,29 @@
-//! The journal of a cell that was closed.
+//! The journal of a cell that was closed or parked.
 
-ghost use Rattle.std.specs.Prelude.{◌≡◌, length, slice_get};
+ghost use Rattle.std.specs.Prelude.{◌≡◌, length, slice_get, true};
 ghost use Rattle.std.specs.Option.{option_copied};
-ghost use mathlib.Core.List.{IsPrefix};
 ghost use Rattle.cell_journal.specs.Log.{listed};
 ghost use Rattle.cell_journal.specs.Clocks.{are_clocks_kept};
+ghost use Rattle.cell_journal.specs.Identity.{closed};
+ghost use Rattle.cell_journal.specs.ListEnds.{Agrees};
 ghost use Rattle.cell_journal.specs.WholeHistories.{whole_of};
 
 use crate::clocks::Clocks;
 use crate::counted_entry::CountedEntry;
 use crate::identity::CellIdentity;
 use crate::journal_entry::JournalEntry;
+use crate::list_end::ListEnd;
 use crate::lookup::entry_at;
 use crate::raised_entry::RaisedEntry;
 use crate::{Beginning, WholeList};
 use std::marker::Model;
 
-/// All entries of the journal of a cell that was closed.
+/// All entries of the journal of a cell that was closed or parked.
 pub struct ClosedHistory {
     pub(crate) cell: CellIdentity,
     pub(crate) rows: Vec<CountedEntry>,
     pub(crate) clocks: Clocks,
-    pub(crate) whole: WholeList<RaisedEntry>,
+    pub(crate) end: ListEnd,
 }
 
 // Stands here, once, so that no function that lets one go, here or above, takes its fields apart.
@@ -31,7 +33,7 @@ impl Drop for ClosedHistory {
             cell: _cell,
             rows: _rows,
             clocks: _,
-            whole: _whole,
+            end: _end,
         } = self;
     }
 }
@@ -45,9 +47,9 @@ impl Model for ClosedHistory {
 
     ghost Value = { Closed };
 
-    ghost view = { λ p. closed p.cell (entries_in p.rows.items) };
+    ghost view = { λ p. closed p.cell (entries_in p.rows.items) p.end.is_over };
 
-    ghost invariant = { λ p. (p.whole.name ≡ p.cell.name) × (p.whole.items ≡ history_of p.cell (entries_in p.rows.items)) × (p.clocks ≡ clocks_after p.cell.config (history_of p.cell (entries_in p.rows.items))) };
+    ghost invariant = { λ p. (p.end.name ≡ p.cell.name) × (p.end.items ≡ history_of p.cell (entries_in p.rows.items)) × (p.clocks ≡ clocks_after p.cell.config (history_of p.cell (entries_in p.rows.items))) };
 }
 
 impl ClosedHistory {
@@ -79,17 +81,30 @@ impl ClosedHistory {
         entry_at(&self.rows, place)
     }
 
-    fn whole(&self) -> &WholeList<RaisedEntry>
-        ensures { result.now ≡ listed self.now.cell.name (whole_of self.now) }
+    /// The same journal, of a cell that was closed with this list.
+    pub(crate) fn ended(self, whole: WholeList<RaisedEntry>) -> ClosedHistory
+        requires { whole ≡ listed self.cell.name (whole_of self) }
+        ensures { result ≡ closed self.cell self.entries true }
     {
-        &self.whole
+        let Self {
+            cell,
+            rows,
+            clocks,
+            end: _end,
+        } = self;
+        ClosedHistory {
+            cell,
+            rows,
+            clocks,
+            end: ListEnd::over(whole),
+        }
     }
 }
 
-/// Each beginning of a cell's history begins the whole history at whose end it was closed.
+/// What somebody saw of a cell's history agrees with the history up to the end of this journal.
 pub fn agree(beginning: &Beginning<RaisedEntry>, journal: &ClosedHistory)
     requires { beginning.now.name ≡ journal.now.cell.name }
-    ensures { IsPrefix beginning.now.items (whole_of journal.now) }
+    ensures { Agrees beginning.now.items (whole_of journal.now) journal.now.is_over }
 {
-    crate::agree(beginning, journal.whole());
+    journal.end.agrees(beginning);
 }

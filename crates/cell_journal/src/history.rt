@@ -1,6 +1,6 @@
 //! All entries of the journal, with room for more.
 
-ghost use Rattle.std.specs.Prelude.{◌≡◌, ◌+◌, ◌-◌, ◌<◌, ◌++◌, ◌∷◌, [], length, slice_get, vec_len, vec_capacity, OnOk, OnErr, IfOk, IfSome};
+ghost use Rattle.std.specs.Prelude.{◌≡◌, ◌+◌, ◌-◌, ◌<◌, ◌++◌, ◌∷◌, [], length, slice_get, vec_len, vec_capacity, OnOk, OnErr, IfOk, IfSome, true, false};
 ghost use Rattle.std.specs.Option.{option_copied};
 ghost use Rattle.protocol.specs.World.{numbered_from_1};
 ghost use Rattle.protocol_journal.specs.Journal.{sent_after};
@@ -15,7 +15,9 @@ use crate::closed_history::ClosedHistory;
 use crate::counted_entry::CountedEntry;
 use crate::identity::CellIdentity;
 use crate::journal_entry::JournalEntry;
+use crate::list_end::ListEnd;
 use crate::lookup::{copy_numbered, entry_at, message_in};
+use crate::parked_history::ParkedHistory;
 use crate::raised_entry::RaisedEntry;
 use crate::{Beginning, GrowingList};
 use gfs_types::config::Config;
@@ -206,7 +208,16 @@ impl History {
 
     /// The whole journal, to which nothing is added any more. Takes no memory.
     pub fn close(self) -> ClosedHistory
-        ensures { result ≡ closed self.cell self.entries }
+        ensures { result ≡ closed self.cell self.entries true }
+    {
+        self.park().close()
+    }
+
+    /// The journal as it is, to which nothing is added any more, and the list beside it, which may go on behind another journal. Takes no
+    /// memory.
+    pub fn park(self) -> ParkedHistory
+        ensures journal { result.history ≡ closed self.cell self.entries false }
+        ensures list { result.list ≡ listed self.cell.name (history_of self.cell self.entries) }
     {
         let Self {
             cell,
@@ -218,11 +229,15 @@ impl History {
             base_len: _,
             list,
         } = self;
-        ClosedHistory {
-            cell,
-            rows,
-            clocks,
-            whole: list.close(),
+        let end = ListEnd::parked(list.beginning());
+        ParkedHistory {
+            history: ClosedHistory {
+                cell,
+                rows,
+                clocks,
+                end,
+            },
+            list,
         }
     }
 }

@@ -1,10 +1,13 @@
 //! The end of a journal.
 
-ghost use Rattle.std.specs.Prelude.{◌≡◌, ◌∷◌, [], Some};
+ghost use Rattle.std.specs.Prelude.{◌≡◌, ◌∷◌, [], Some, true, false};
 ghost use Rattle.cell_journal.specs.Identity.{Filled, closed};
+ghost use Rattle.cell_journal.specs.Log.{listed};
+ghost use Rattle.cell_journal.specs.WholeHistories.{history_of};
 
 use crate::closed_history::ClosedHistory;
 use crate::history::History;
+use crate::parked_history::ParkedHistory;
 use crate::{JournalWriter, SharedHistory};
 
 fn take_out(shared: &SharedHistory, writer: &mut JournalWriter) -> Option<History>
@@ -19,10 +22,23 @@ fn take_out(shared: &SharedHistory, writer: &mut JournalWriter) -> Option<Histor
 pub fn close(shared: &SharedHistory, writer: &mut JournalWriter) -> ClosedHistory
     requires shared { writer.old.table_id ≡ shared.now.table_id }
     requires has { (y : Filled) × (writer.old.me.1 ≡ (0, Some y) ∷ []) }
-    ensures { (y : Filled) → writer.old.me.1 ≡ (0, Some y) ∷ [] → result ≡ closed y.cell y.entries }
+    ensures { (y : Filled) → writer.old.me.1 ≡ (0, Some y) ∷ [] → result ≡ closed y.cell y.entries true }
 {
     match take_out(shared, writer) {
         Some(history) => history.close(),
+        None => unreachable!(),
+    }
+}
+
+/// Parks the journal that the writer has. It never comes back to this table, so no entry follows in it.
+pub fn park(shared: &SharedHistory, writer: &mut JournalWriter) -> ParkedHistory
+    requires shared { writer.old.table_id ≡ shared.now.table_id }
+    requires has { (y : Filled) × (writer.old.me.1 ≡ (0, Some y) ∷ []) }
+    ensures journal { (y : Filled) → writer.old.me.1 ≡ (0, Some y) ∷ [] → result.history ≡ closed y.cell y.entries false }
+    ensures list { (y : Filled) → writer.old.me.1 ≡ (0, Some y) ∷ [] → result.list ≡ listed y.cell.name (history_of y.cell y.entries) }
+{
+    match take_out(shared, writer) {
+        Some(history) => history.park(),
         None => unreachable!(),
     }
 }

@@ -1,6 +1,6 @@
 //! The end of a running cell's journal.
 
-ghost use Rattle.std.specs.Prelude.{◌≡◌, ◌∷◌, [], Some, IfSome, IfNone};
+ghost use Rattle.std.specs.Prelude.{◌≡◌, ◌∷◌, [], Some, IfSome, IfNone, true};
 ghost use Rattle.gfs_types.specs.declared.ids.Node.{Node};
 ghost use Rattle.cell_journal.specs.Identity.{Filled};
 ghost use Rattle.cell_journal.specs.Rules.{Writes, IsJournalOf};
@@ -26,6 +26,7 @@ pub fn close<R: Wait + Clock>(
     requires writes { (n : Node) × Writes writer.old.me.0 n }
     ensures cell { result.cell ≡ writer.old.me.0.of }
     ensures lawful { IsJournalOf result.cell result.entries }
+    ensures over { result.is_over ≡ true }
 {
     for _ in rt.forever() {
         if let Some(history) = try_close(rt, shared, writer) {
@@ -45,7 +46,7 @@ fn try_close(
     requires shared { IsAt shared.now.table_id writer.old.table_id }
     requires none { writer.old.me.1 ≡ [] }
     requires writes { (n : Node) × Writes writer.old.me.0 n }
-    ensures some { IfSome result (λ p. (p.cell ≡ writer.old.me.0.of) × IsJournalOf p.cell p.entries) }
+    ensures some { IfSome result (λ p. (p.cell ≡ writer.old.me.0.of) × IsJournalOf p.cell p.entries × (p.is_over ≡ true)) }
     ensures none { IfNone result (writer.new.table_id ≡ writer.old.table_id) }
     ensures waits { IfNone result (IsWaiting writer.old.me.0 writer.new.me) }
 {

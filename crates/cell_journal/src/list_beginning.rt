@@ -56,6 +56,17 @@ impl<T> Model for WholeList<T> {
     ghost invariant = { λ l. IsOver (written_of l.seen.log) };
 }
 
+impl<T> WholeList<T> {
+    /// The whole list, as a beginning.
+    pub fn beginning(&self) -> Beginning<T>
+        ensures { result ≡ self.now }
+    {
+        Beginning {
+            seen: self.seen.again(),
+        }
+    }
+}
+
 /// Each beginning of a list begins the whole list.
 pub fn agree<T>(beginning: &Beginning<T>, whole: &WholeList<T>)
     requires { beginning.now.name ≡ whole.now.name }

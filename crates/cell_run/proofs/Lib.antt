@@ -3,3 +3,5 @@ pub mod Sent
 pub mod Settings
 pub mod Standing
 pub mod NewSeats
+pub mod NewLocks
+pub mod Parking

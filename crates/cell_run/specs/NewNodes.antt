@@ -26,6 +26,7 @@ IsOfMaster f = (f ≡ NoMemory) ⊎ (f ≡ Log)
 -- it registers nodes of the same cell, and saw no more of the journal
 pub record IsSame (old new : NodeRegistry) : Type 0 where
   pub shared_is : new.shared ≡ old.shared
+  pub cell_is : new.cell ≡ old.cell
   pub config_is : new.config ≡ old.config
   pub servers_are : new.servers ≡ old.servers
   pub of : new.writer.me.0.of ≡ old.writer.me.0.of

@@ -1,6 +1,6 @@
 //! A running cell.
 
-ghost use Rattle.std.specs.Prelude.{◌≡◌, ◌+◌, ◌≤◌, ◌<◌, [], None, IfOk, IfErr, OnOk, OnErr, IsTrue, vec_len, replicate};
+ghost use Rattle.std.specs.Prelude.{◌≡◌, ◌+◌, ◌≤◌, ◌<◌, ◌++◌, ◌∷◌, [], None, IfOk, IfErr, OnOk, OnErr, IsTrue, true, vec_len, replicate};
 ghost use Rattle.std.specs.Arc.{arc_value};
 ghost use Rattle.gfs_types.specs.Settings.{first_out_of_range};
 ghost use Rattle.journal_headline.specs.Journals.{AreExplained};
@@ -8,12 +8,18 @@ ghost use Rattle.cell_journal.specs.Clocks.{are_clocks_kept};
 ghost use Rattle.cell_journal.specs.Log.{listed};
 ghost use Rattle.cell_journal.specs.Rules.{IsJournalOf};
 ghost use Rattle.cell_journal.specs.WholeHistories.{whole_of};
+ghost use Rattle.gfs_types.specs.declared.ids.Node.TheVariants.{Master, Server};
 ghost use Rattle.cell_run.specs.NewNodes.{IsFitting, IsSame};
+ghost use Rattle.cell_seats.specs.NodeLocks.{node_name};
 ghost use Rattle.cell_seats.specs.Controls.{WritesControls, no_policy, policy_in};
-ghost use Rattle.cell_run.specs.Cells.{IsCellOf, IsNewCell, IsNewSeat, IsSeatFault, more, with_policy, asked_again};
+ghost use Rattle.cell_run.specs.EndedCells.{IsEnded};
+ghost use Rattle.cell_run.specs.Cells.{IsCellOf, IsNewCell, IsNewSeat, IsSeatFault, more, with_policy, asked_again, names_of};
 
+use crate::node_locks::{NodeLocks, new_lock};
 use crate::node_slots::{are_fitting, client_slot, master_slot, server_slot};
 use crate::running_client::RunningClient;
+use crate::running_master::RunningMaster;
+use crate::running_server::RunningServer;
 use crate::seat_fault::SeatFault;
 pub use crate::start_fault::StartFault;
 use crate::threads::{CLOSING, ENDED, serve, stop_all, tick, wait_for_clients};
@@ -25,10 +31,10 @@ use cell_seats::controls::{ControlWriter, new_controls};
 use cell_seats::gate::Gate;
 use cell_seats::journal::Journal;
 use cell_seats::mailboxes::{Input, MailboxItem, MailboxSenders, Mailboxes, Policy};
+use cell_seats::node_lock::NodeLock;
 use cell_seats::node_registry::NodeRegistry;
 use cell_seats::seat::Seat;
 use cell_seats::shared_state::{MOST_CLIENTS, SharedState};
-use cell_seats::slot::Slot;
 use cell_seats::stepper::Stepper;
 use crossbeam_channel::{Receiver, unbounded};
 use gfs_types::config::Config;
@@ -36,7 +42,7 @@ use gfs_types::ids::{ClientId, Node, ServerId};
 use std::alloc::Global;
 use std::marker::Model;
 use std::sync::atomic::{AtomicU64, Ordering};
-use std::sync::{Arc, Mutex, Wait};
+use std::sync::{Arc, Wait};
 use std::thread;
 use std::thread::{JoinHandle, Threads};
 use std::time::{Clock, Duration};
@@ -51,8 +57,9 @@ type Thread = JoinHandle<()>;
 
 /// A cell whose nodes run on threads. One that is dropped and not closed goes on.
 pub struct Cell {
-    alloc: Global,
-    registry: NodeRegistry,
+    pub(crate) alloc: Global,
+    pub(crate) registry: NodeRegistry,
+    locks: NodeLocks,
     /// The journal with no step in it, which is what a new client has seen.
     nothing: Beginning<RaisedEntry>,
     /// The mailboxes of the clients from the next one on, the next one's last.
@@ -71,6 +78,7 @@ impl Drop for Cell {
         let Self {
             alloc: _,
             registry: _registry,
+            locks: _locks,
             nothing: _nothing,
             inboxes: _inboxes,
             made: _,
@@ -82,16 +90,16 @@ impl Drop for Cell {
 }
 
 impl Model for Cell {
-    ghost use Rattle.std.specs.Prelude.{vec_len};
+    ghost use Rattle.std.specs.Prelude.{◌≡◌, vec_len};
     ghost use Rattle.std.specs.Arc.{arc_value};
     ghost use Rattle.cell_seats.specs.Controls.{policy_in};
-    ghost use Rattle.cell_run.specs.Cells.{CellState, cell_state, HasMade};
+    ghost use Rattle.cell_run.specs.Cells.{CellState, cell_state, HasMade, names_of};
 
     ghost Value = { CellState };
 
     ghost view = { λ c. cell_state c.registry.writer.me.0.of c.made (policy_in c.control_writer.policy.me.0) c.control_writer.restarts.me.0 };
 
-    ghost invariant = { λ c. HasMade c.registry.config c.registry.servers c.registry.registered c.made (vec_len c.inboxes) c.registry.writer.me.0.of.name c.nothing (arc_value c.registry.shared).controls c.control_writer };
+    ghost invariant = { λ c. HasMade c.registry.config c.registry.servers c.registry.registered c.made (vec_len c.inboxes) c.registry.writer.me.0.of.name c.nothing (arc_value c.registry.shared).controls c.control_writer × (c.locks ≡ names_of c.registry.writer.me.0.of c.registry.servers) };
 }
 
 impl Cell {
@@ -189,12 +197,14 @@ impl Cell {
     /// kept, the journal's calls and answers are a run of the machine.
     pub fn close<R: Threads + Wait + Clock>(self, rt: &R) -> Journal
         ensures cell { result.cell ≡ self.of }
+        ensures over { result.is_over ≡ true }
         ensures lawful { IsJournalOf result.cell result.entries }
         ensures explained { IsTrue (are_clocks_kept result.cell (whole_of result)) → AreExplained result.cell.config (whole_of result) }
     {
         let Self {
             alloc: _,
             registry,
+            locks: _locks,
             nothing: _nothing,
             inboxes: _inboxes,
             made: _,
@@ -205,6 +215,40 @@ impl Cell {
         end_all(rt, &registry.shared, registry.servers, ticker, nodes);
         registry.close(rt)
     }
+
+    /// Its parts, once its threads have ended. The journal is not closed.
+    pub(crate) fn ended<R: Threads + Wait + Clock>(self, rt: &R) -> EndedCell
+        ensures cell { (result.registry.writer.me.0.of ≡ self.of) × (result.made ≡ self.made) }
+        ensures ended { IsEnded result }
+    {
+        let Self {
+            alloc,
+            registry,
+            locks,
+            nothing: _nothing,
+            inboxes: _inboxes,
+            made,
+            control_writer: _control_writer,
+            ticker,
+            nodes,
+        } = self;
+        end_all(rt, &registry.shared, registry.servers, ticker, nodes);
+        EndedCell {
+            alloc,
+            registry,
+            locks,
+            made,
+        }
+    }
+}
+
+/// A cell whose threads have ended, and whose journal is not closed.
+#[derive(Drop)]
+pub struct EndedCell {
+    pub alloc: Global,
+    pub registry: NodeRegistry,
+    pub locks: NodeLocks,
+    pub made: u64,
 }
 
 /// What a cell has before its first node runs.
@@ -244,12 +288,13 @@ fn start_with<
         clients,
     } = boxes;
     match start_nodes(rt, alloc, &mut registry, &mut nodes, master, servers, gate) {
-        Ok(()) => {
+        Ok(locks) => {
             let mut inboxes = clients;
             inboxes.reverse();
             Ok(Cell {
                 alloc,
                 registry,
+                locks,
                 nothing,
                 inboxes,
                 made: 0,
@@ -265,7 +310,7 @@ fn start_with<
     }
 }
 
-// Starts the master and the servers.
+// Starts the master and the servers, each under its lock.
 fn start_nodes<
     R: Threads + Wait + Clock + Copy + Send + 'static,
     G: Gate + Clone + Send + Drop + 'static,
@@ -277,18 +322,15 @@ fn start_nodes<
     master: Receiver<MailboxItem>,
     servers: Vec<Receiver<MailboxItem>>,
     gate: G,
-) -> Result<(), StartFault>
+) -> Result<NodeLocks, StartFault>
     requires fits { IsFitting registry.old.config }
     requires first { registry.old.registered ≡ 0 }
     ensures same { IsSame registry.old registry.new }
     ensures ok { OnOk result (registry.new.registered ≡ registry.old.servers + 1) }
+    ensures locks { IfOk result (λ l. l ≡ names_of registry.new.cell registry.new.servers) }
 {
-    let slot = master_slot(alloc, registry)?;
-    let theirs = Arc::try_clone(&registry.shared)?;
-    keep(
-        nodes,
-        runs(rt, theirs, Node::Master, slot, master, gate.clone()?)?,
-    )?;
+    let master = start_master(rt, alloc, registry, nodes, master, gate.clone()?)?;
+    let mut locks = Vec::new(alloc);
     let mut inboxes = servers;
     inboxes.reverse();
     for before in 0..registry.servers {
@@ -296,14 +338,76 @@ fn start_nodes<
             return Err(StartFault::Count);
         };
         let id = ServerId(before + 1);
-        let slot = server_slot(alloc, registry, id)?;
-        let theirs = Arc::try_clone(&registry.shared)?;
-        keep(
-            nodes,
-            runs(rt, theirs, Node::Server(id), slot, inbox, gate.clone()?)?,
-        )?;
+        let lock = start_server(rt, alloc, registry, nodes, id, inbox, gate.clone()?)?;
+        keep(&mut locks, lock)?;
     }
-    Ok(())
+    Ok(NodeLocks {
+        master,
+        servers: locks,
+    })
+}
+
+fn start_master<R: Threads + Wait + Clock + Copy + Send + 'static, G: Gate + Send + Drop + 'static>(
+    rt: R,
+    alloc: Global,
+    registry: &mut NodeRegistry,
+    nodes: &mut Vec<Thread>,
+    inbox: Receiver<MailboxItem>,
+    gate: G,
+) -> Result<Arc<NodeLock<RunningMaster>>, StartFault>
+    requires fits { IsFitting registry.old.config }
+    requires first { registry.old.registered ≡ 0 }
+    ensures same { IsSame registry.old registry.new }
+    ensures ok { OnOk result (registry.new.registered ≡ 1) }
+    ensures lock { IfOk result (λ l. arc_value l ≡ node_name registry.new.cell Master) }
+{
+    let slot = master_slot(alloc, registry)?;
+    let lock: Arc<NodeLock<RunningMaster>> = new_lock(alloc, &registry.cell, Node::Master)?;
+    lock.put(&rt, slot);
+    let shared = Arc::try_clone(&registry.shared)?;
+    start_node(rt, shared, nodes, &lock, Node::Master, inbox, gate)?;
+    Ok(lock)
+}
+
+fn start_server<R: Threads + Wait + Clock + Copy + Send + 'static, G: Gate + Send + Drop + 'static>(
+    rt: R,
+    alloc: Global,
+    registry: &mut NodeRegistry,
+    nodes: &mut Vec<Thread>,
+    id: ServerId,
+    inbox: Receiver<MailboxItem>,
+    gate: G,
+) -> Result<Arc<NodeLock<RunningServer>>, StartFault>
+    requires fits { IsFitting registry.old.config }
+    requires next { (registry.old.registered ≡ id.0) × (0 < id.0) × (id.0 ≤ registry.old.servers) }
+    ensures same { IsSame registry.old registry.new }
+    ensures ok { OnOk result (registry.new.registered ≡ id.0 + 1) }
+    ensures lock { IfOk result (λ l. arc_value l ≡ node_name registry.new.cell (Server id)) }
+{
+    let slot = server_slot(alloc, registry, id)?;
+    let lock: Arc<NodeLock<RunningServer>> = new_lock(alloc, &registry.cell, Node::Server(id))?;
+    lock.put(&rt, slot);
+    let shared = Arc::try_clone(&registry.shared)?;
+    start_node(rt, shared, nodes, &lock, Node::Server(id), inbox, gate)?;
+    Ok(lock)
+}
+
+// Starts the thread of a node.
+fn start_node<
+    R: Threads + Wait + Clock + Copy + Send + 'static,
+    N: Stepper + Send + Drop + 'static,
+    G: Gate + Send + Drop + 'static,
+>(
+    rt: R,
+    shared: Arc<SharedState>,
+    nodes: &mut Vec<Thread>,
+    lock: &Arc<NodeLock<N>>,
+    node: Node,
+    inbox: Receiver<MailboxItem>,
+    gate: G,
+) -> Result<(), StartFault> {
+    let lock = Arc::try_clone(lock)?;
+    keep(nodes, runs(rt, shared, node, lock, inbox, gate)?)
 }
 
 // No step is begun any more. The ticker says so until the nodes have ended and no client waits.
@@ -343,6 +447,7 @@ fn new_registry(
         return Err(StartFault::NoMemory);
     };
     let nothing = history.beginning();
+    let cell = history.cell();
     let (table, writer) = open(alloc, history)?;
     let (senders, boxes) = MailboxSenders::new(alloc, servers, MOST_CLIENTS)?;
     let (controls, control_writer) = new_controls(alloc)?;
@@ -360,6 +465,7 @@ fn new_registry(
         Ok(shared) => Ok(Parts {
             registry: NodeRegistry {
                 shared,
+                cell,
                 config,
                 servers,
                 registered: 0,
@@ -373,9 +479,11 @@ fn new_registry(
     }
 }
 
-fn keep(nodes: &mut Vec<Thread>, node: Thread) -> Result<(), StartFault> {
-    match nodes.push(node) {
-        Ok(_) => Ok(()),
+fn keep<T: Drop>(all: &mut Vec<T>, one: T) -> Result<(), StartFault>
+    ensures { OnOk result (all.new.items ≡ all.old.items ++ one ∷ []) }
+{
+    match all.push(one) {
+        Ok(()) => Ok(()),
         Err(_) => Err(StartFault::NoMemory),
     }
 }
@@ -388,12 +496,11 @@ fn runs<
     rt: R,
     shared: Arc<SharedState>,
     node: Node,
-    slot: Slot<N>,
+    lock: Arc<NodeLock<N>>,
     inbox: Receiver<MailboxItem>,
     gate: G,
 ) -> Result<Thread, StartFault> {
-    let slot = Mutex::new(slot);
-    let job = move || serve(&rt, &shared, node, &slot, &inbox, &gate);
+    let job = move || serve(&rt, &shared, node, &lock, &inbox, &gate);
     match thread::spawn(&rt, job) {
         Ok(thread) => Ok(thread),
         Err(_) => Err(StartFault::Thread),

@@ -3,13 +3,13 @@
 use cell_seats::gate::Gate;
 use cell_seats::mailbox_wait::next_input;
 use cell_seats::mailboxes::{Input, MailboxItem};
+use cell_seats::node_lock::NodeLock;
 use cell_seats::shared_state::{MOST_CLIENTS, SharedState};
-use cell_seats::slot::Slot;
 use cell_seats::stepper::Stepper;
 use crossbeam_channel::Receiver;
 use gfs_types::ids::{ClientId, Node, ServerId};
+use std::sync::Wait;
 use std::sync::atomic::Ordering;
-use std::sync::{Mutex, Wait};
 use std::thread;
 use std::time::{Clock, Duration};
 
@@ -27,7 +27,7 @@ pub fn serve<R: Wait + Clock, N: Stepper + Drop, G: Gate>(
     rt: &R,
     shared: &SharedState,
     node: Node,
-    slot: &Mutex<Slot<N>>,
+    lock: &NodeLock<N>,
     inbox: &Receiver<MailboxItem>,
     gate: &G,
 ) {
@@ -36,12 +36,10 @@ pub fn serve<R: Wait + Clock, N: Stepper + Drop, G: Gate>(
         let Some(input) = next_input(rt, inbox) else {
             break;
         };
-        if shared.controls.restarts(node) != restarts
-            && slot.lock(rt).act(rt, Input::Restart, gate)
-        {
+        if shared.controls.restarts(node) != restarts && lock.act(rt, Input::Restart, gate) {
             restarts = restarts.wrapping_add(1);
         }
-        slot.lock(rt).act(rt, input, gate);
+        lock.act(rt, input, gate);
     }
 }
 

@@ -1,8 +1,10 @@
 pub mod WrittenControls
 pub mod Moving
-pub mod Looking
 pub mod Shown
 pub mod Sitting
 pub mod Traces
 pub mod RegisteredNodes
 pub mod Starting
+pub mod NodeLocks
+pub mod ParkedNodes
+pub mod ParkedSeats

@@ -25,7 +25,7 @@ use Rattle.cell_seats.specs.Seats.{SeatState, seat_state, is_some, is_the_cells,
 pub explains : (cell : Identity) (entries : List Entry) → first_out_of_range cell.config ≡ None → IsHistoryOf cell entries → IsTrue (are_clocks_kept cell entries) → AreExplained cell.config entries
 explains cell entries in_range lawful clocks = journals_are_explained cell.config cell.servers cell.clients entries lawful.0 lawful.1 in_range clocks
 
-range_later : (v w : View) → IsFurther v w → first_out_of_range v.of.config ≡ None → first_out_of_range w.of.config ≡ None
+pub range_later : (v w : View) → IsFurther v w → first_out_of_range v.of.config ≡ None → first_out_of_range w.of.config ≡ None
 range_later v w further in_range = subst (λ (c : Identity). first_out_of_range c.config ≡ None) (sym further.of) in_range
 
 items_of : (n : Node) (w : View) (now : Listed Entry) (after : ℕ) → HasSeen n w now after → now.items ≡ all_seen w
@@ -36,7 +36,7 @@ own_all : (m : Node) (w : View) (now : Listed Entry) (after : ℕ) → HasSeen m
 own_all m w now after has = ap (own m) (items_of m w now after has) ∙ (own_whole m w.of.base w.seen ∙ ap (λ (l : List Entry). steps_of w.of m l) (sym has.own_is))
 
 -- what began the history begins it later on
-grown : (v w : View) (was : Listed Entry) → IsFurther v w → IsPrefix was.items (all_seen v) → IsPrefix was.items (all_seen w)
+pub grown : (v w : View) (was : Listed Entry) → IsFurther v w → IsPrefix was.items (all_seen v) → IsPrefix was.items (all_seen w)
 grown v w was further begins =
     let longer : IsPrefix (all_seen v) (all_seen w) = subst (λ (c : Identity). IsPrefix (all_seen v) (history_of c w.seen)) (sym further.of) (whole_prefix v.of.base v.seen w.seen further.grows) in
     prefix_trans was.items (all_seen v) (all_seen w) begins longer

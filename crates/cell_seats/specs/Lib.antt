@@ -4,3 +4,5 @@ pub mod Slots
 pub mod Seen
 pub mod Seats
 pub mod Registry
+pub mod NodeLocks
+pub mod ParkedNodes

@@ -1,8 +1,9 @@
-//! The journal of a cell that was closed.
+//! The journal of a cell that was closed or parked.
 
 ghost use Rattle.std.specs.Prelude.{◌≡◌, ◌≤◌, None, length, slice_get, IsTrue};
 ghost use Rattle.std.specs.Option.{option_copied};
 ghost use mathlib.Core.List.{IsPrefix};
+ghost use Rattle.cell_journal.specs.ListEnds.{Agrees};
 ghost use Rattle.gfs_types.specs.Settings.{first_out_of_range};
 ghost use Rattle.journal_headline.specs.Journals.{AreExplained};
 ghost use Rattle.cell_journal.specs.Clocks.{are_clocks_kept};
@@ -16,7 +17,7 @@ use cell_journal::closed_history::ClosedHistory;
 use cell_journal::journal_entry::JournalEntry;
 use std::marker::Model;
 
-/// All steps in the journal of a cell that was closed, in one order.
+/// All steps in the journal of a cell that was closed or parked, in one order.
 #[derive(Drop)]
 pub struct Journal {
     history: ClosedHistory,
@@ -36,7 +37,7 @@ impl Model for Journal {
 }
 
 impl Journal {
-    pub(crate) fn new(history: ClosedHistory) -> Journal
+    pub fn new(history: ClosedHistory) -> Journal
         requires lawful { IsJournalOf history.cell history.entries }
         requires range { first_out_of_range history.cell.config ≡ None }
         ensures journal { result ≡ history }
@@ -71,10 +72,11 @@ impl Journal {
     }
 }
 
-/// What a client has seen begins the whole history of its cell.
+/// What a client has seen agrees with its cell's whole history up to the end of a journal of it: it begins it where the cell was closed, and else
+/// the shorter of both begins the longer.
 pub fn agree<N: Stepper + Drop>(seat: &Seat<N>, journal: &Journal)
     requires { seat.now.cell.name ≡ journal.now.cell.name }
-    ensures { IsPrefix seat.now.seen (whole_of journal.now) }
+    ensures { Agrees seat.now.seen (whole_of journal.now) journal.now.is_over }
 {
     closed_history::agree(seat.view(), &journal.history);
 }

@@ -8,14 +8,16 @@ ghost use Rattle.cell_journal.specs.Clocks.{are_clocks_kept};
 ghost use Rattle.cell_journal.specs.Entries.{entry, cause_of};
 ghost use Rattle.cell_journal.specs.Rules.{IsStepOf};
 ghost use Rattle.cell_journal.specs.WholeHistories.{all_seen};
-ghost use Rattle.cell_journal.specs.Writers.{IsAt, IsNodeWriter, IsLater, IsRead, GoesOn, IsSeen};
+ghost use Rattle.cell_journal.specs.Writers.{IsAt, IsNodeWriter, IsLater, IsRead, GoesOn, IsSeen, HasLooked};
 
 use crate::gate::Kind;
 use crate::journal_look::look;
 use crate::mailboxes::Input;
 use crate::shared_state::SharedState;
 use cell_journal::journal_entry::{JournalEntry, StepCause};
-use cell_journal::{ExtendedHistory, JournalWriter, begin, end, give_up};
+use cell_journal::{
+    ExtendedHistory, HistoryLook, JournalWriter, begin, end, give_up, look as look_at_history,
+};
 use gfs_types::ids::{Moment, Node};
 use gfs_types::refusal::Refusal;
 use messages::event::StepOut;
@@ -85,6 +87,15 @@ impl NodeJournal {
             Input::Tick => Some(Kind::Tick),
             Input::Restart => Some(Kind::Restart),
         }
+    }
+
+    /// Looks at the whole history, which stays as it is. None: the journal was closed.
+    pub fn look(&mut self, rt: &impl Wait) -> Option<HistoryLook>
+        ensures node { self.new.node ≡ self.old.node }
+        ensures later { IsLater self.old.writer.me.0 self.new.writer.me.0 }
+        ensures some { IfSome result (λ l. HasLooked self.new.node self.new.writer.me.0 l) }
+    {
+        look_at_history(rt, &self.shared.table.shared, &mut self.writer, self.node)
     }
 
     /// Makes room for a step, which is taken on the message of a number, if there is one.

@@ -1,6 +1,6 @@
 //! The nodes of a running cell are registered, each with its own writer of the journal: the master, then the servers, then the clients.
 
-ghost use Rattle.std.specs.Prelude.{◌≡◌, ◌<◌, ◌+◌, ◌^◌, None, IfOk, OnErr, OnOk, IsTrue};
+ghost use Rattle.std.specs.Prelude.{◌≡◌, ◌<◌, ◌+◌, ◌^◌, true, None, IfOk, OnErr, OnOk, IsTrue};
 ghost use Rattle.std.specs.Arc.{arc_value};
 ghost use Rattle.gfs_types.specs.Settings.{first_out_of_range};
 ghost use Rattle.journal_headline.specs.Journals.{AreExplained};
@@ -8,14 +8,17 @@ ghost use Rattle.cell_journal.specs.Clocks.{are_clocks_kept};
 ghost use Rattle.cell_journal.specs.Roles.{node_at};
 ghost use Rattle.cell_journal.specs.Rules.{IsJournalOf};
 ghost use Rattle.cell_journal.specs.WholeHistories.{whole_of};
-ghost use Rattle.cell_journal.specs.Writers.{IsAt};
+ghost use Rattle.cell_journal.specs.Log.{listed};
+ghost use Rattle.cell_journal.specs.Writers.{IsAt, IsParkedAt};
 ghost use Rattle.cell_seats.specs.Registry.{Registers, IsRegistered};
 
 use crate::journal::Journal;
 use crate::node_journal::NodeJournal;
 use crate::shared_state::SharedState;
+use cell_journal::identity::CellIdentity;
 use cell_journal::journal_steps::next;
-use cell_journal::{JournalWriter, close};
+use cell_journal::parked_history::ParkedHistory;
+use cell_journal::{JournalWriter, close, park};
 use gfs_types::config::Config;
 use gfs_types::ids::Node;
 use gfs_types::no_memory::NoMemory;
@@ -25,6 +28,7 @@ use std::time::Clock;
 /// What the nodes of a cell share, and the writer from which those of the nodes are made, so many of them so far.
 pub struct NodeRegistry {
     pub shared: Arc<SharedState>,
+    pub cell: CellIdentity,
     pub config: Config,
     pub servers: u16,
     pub registered: u64,
@@ -32,6 +36,7 @@ pub struct NodeRegistry {
     pub ghost here: { IsAt (arc_value shared).table.shared.table_id writer.table_id },
     pub ghost in_range: { first_out_of_range config ≡ None },
     pub ghost registers: { Registers config servers registered writer.me },
+    pub ghost cell_is: { cell ≡ writer.me.0.of },
 }
 
 // Stands here, once, so that no crate above proves the drops of all that the nodes share.
@@ -39,6 +44,7 @@ impl Drop for NodeRegistry {
     fn drop(self) {
         let Self {
             shared: _shared,
+            cell: _cell,
             config: _,
             servers: _,
             registered: _,
@@ -52,7 +58,7 @@ impl NodeRegistry {
     pub fn next(&mut self, node: Node) -> Result<NodeJournal, NoMemory>
         requires node { node_at self.old.servers self.old.registered ≡ node }
         requires few { self.old.registered < 2 ^ 62 }
-        ensures same { (self.new.shared ≡ self.old.shared) × (self.new.config ≡ self.old.config) × (self.new.servers ≡ self.old.servers) × (self.new.writer.me.0.of ≡ self.old.writer.me.0.of) × (self.new.writer.me.0.seen ≡ self.old.writer.me.0.seen) }
+        ensures same { (self.new.shared ≡ self.old.shared) × (self.new.cell ≡ self.old.cell) × (self.new.config ≡ self.old.config) × (self.new.servers ≡ self.old.servers) × (self.new.writer.me.0.of ≡ self.old.writer.me.0.of) × (self.new.writer.me.0.seen ≡ self.old.writer.me.0.seen) }
         ensures ok { OnOk result (self.new.registered ≡ self.old.registered + 1) }
         ensures journal { IfOk result (λ d. IsRegistered self.old.config self.old.servers node self.old.writer.me.0 d.node d.writer.me.0) }
         ensures err { OnErr result (self.new.registered ≡ self.old.registered) }
@@ -67,16 +73,34 @@ impl NodeRegistry {
     /// whole history are a run of the machine.
     pub fn close<R: Wait + Clock>(self, rt: &R) -> Journal
         ensures cell { result.cell ≡ self.writer.me.0.of }
+        ensures over { result.is_over ≡ true }
         ensures lawful { IsJournalOf result.cell result.entries }
         ensures explained { IsTrue (are_clocks_kept result.cell (whole_of result)) → AreExplained result.cell.config (whole_of result) }
     {
         let Self {
             shared,
+            cell: _cell,
             config: _,
             servers: _,
             registered: _,
             mut writer,
         } = self;
         Journal::new(close(rt, &shared.table.shared, &mut writer))
+    }
+    /// Parks the journal, once no step is under way and the cell's whole history has so many entries. Nothing is added to this journal any more.
+    pub fn park<R: Wait + Clock>(self, rt: &R, count: usize) -> ParkedHistory
+        ensures parked { IsParkedAt self.writer.me.0.of count result.history }
+        ensures list { result.list ≡ listed result.history.cell.name (whole_of result.history) }
+        ensures range { first_out_of_range result.history.cell.config ≡ None }
+    {
+        let Self {
+            shared,
+            cell: _cell,
+            config: _,
+            servers: _,
+            registered: _,
+            mut writer,
+        } = self;
+        park(rt, &shared.table.shared, &mut writer, count)
     }
 }

@@ -1,6 +1,6 @@
 //! A client, which runs inside its calls.
 
-ghost use Rattle.std.specs.Prelude.{◌≡◌, ℕ, IfOk, IfErr, None, false, length, IsTrue};
+ghost use Rattle.std.specs.Prelude.{◌≡◌, ℕ, IfOk, IfErr, IfSome, None, false, length, IsTrue};
 ghost use Rattle.gfs_types.specs.declared.ids.Node.TheVariants.{Client};
 ghost use Rattle.protocol_journal.specs.Journal.{observer_of};
 ghost use Rattle.journal_headline.specs.Journals.{AreExplained};
@@ -8,10 +8,12 @@ ghost use Rattle.cell_journal.specs.Log.{listed};
 ghost use Rattle.cell_journal.specs.Clocks.{are_clocks_kept};
 ghost use Rattle.cell_journal.specs.WholeHistories.{IsHistoryOf};
 ghost use Rattle.cell_seats.specs.Seats.{IsAnswered, IsLost, seat_state, shown, IsSeat, is_the_cells};
+ghost use Rattle.cell_seats.specs.ParkedNodes.{IsClientOf};
 ghost use Rattle.cell_seats.specs.Seen.{of_client};
 
 use crate::client_call::{AnsweredCall, ask};
 use crate::mailboxes::MailboxItem;
+use crate::parked_node::{ParkedNode, look_until};
 use crate::shared_state::SharedState;
 use crate::slot::Slot;
 use crate::stepper::Stepper;
@@ -101,6 +103,17 @@ impl<N: Stepper + Drop> Seat<N> {
         ensures { result.now ≡ listed self.now.cell.name self.now.seen }
     {
         &self.view
+    }
+
+    /// Takes the client out, once it saw the whole history, which has so many entries, where their number is given. None: the client is gone, or
+    /// its journal was closed or parked before. The client takes no steps any more.
+    pub fn park<R: Wait>(&mut self, rt: &R, count: Option<usize>) -> Option<ParkedNode<N>>
+        ensures same { self.new ≡ self.old }
+        ensures client { IfSome result (λ p. IsClientOf self.old p) }
+        ensures count { IfSome result (λ p. IfSome count (λ k. length p.history.items ≡ k)) }
+    {
+        let look = look_until(rt, &mut self.slot, count)?;
+        ParkedNode::of(&mut self.slot, look)
     }
 
     /// Makes a call, and waits for its answer. After a refusal of the cell itself every later call is refused so too.

@@ -5,7 +5,7 @@ ghost use Rattle.gfs_types.specs.declared.refusal.Refusal.TheVariants.{JournalFu
 ghost use Rattle.protocol.specs.Tables.{moment_limit};
 ghost use Rattle.protocol_journal.specs.Journal.{NodeState, sent_after, IsForNode, may_take, Calls as CallTaken};
 ghost use Rattle.cell_journal.specs.Entries.{cause_of};
-ghost use Rattle.cell_journal.specs.Writers.{IsLater};
+ghost use Rattle.cell_journal.specs.Writers.{IsLater, HasLooked};
 ghost use Rattle.cell_seats.specs.Slots.{slot_state, IsLedTo, IsTakenOn, IsCopyOf, number_in, told_where, StepTaken, ActsOn, Acts};
 
 use crate::gate::Gate;
@@ -13,12 +13,12 @@ use crate::mailboxes::Input;
 use crate::node_journal::NodeJournal;
 use crate::shared_state::SharedState;
 use crate::stepper::{NodeStep, Stepper};
-use cell_journal::Beginning;
 use cell_journal::journal_entry::StepCause;
 use cell_journal::raised_entry::RaisedEntry;
+use cell_journal::{Beginning, HistoryLook};
 use gfs_types::answer::Answer;
 use gfs_types::call::Call;
-use gfs_types::ids::Moment;
+use gfs_types::ids::{Moment, Node};
 use gfs_types::refusal::Refusal;
 use messages::event::NodeInput;
 use messages::message::Message;
@@ -83,6 +83,30 @@ impl<N: Stepper + Drop> Slot<N> {
         ensures { IfSome result (λ n. IsLedTo self.now.view self.now.node (N.stands n.now)) }
     {
         self.node.as_ref()
+    }
+
+    /// Looks at its cell's whole history, which stays as it is. None: the journal was closed.
+    pub fn look<R: Wait>(&mut self, rt: &R) -> Option<HistoryLook>
+        ensures node { self.new.node ≡ self.old.node }
+        ensures later { IsLater self.old.view self.new.view }
+        ensures some { IfSome result (λ l. HasLooked self.new.node self.new.view l) }
+    {
+        self.journal.look(rt)
+    }
+
+    /// Which node it is.
+    pub fn name(&self) -> Node
+        ensures { result ≡ self.now.node }
+    {
+        self.journal.node
+    }
+
+    /// Takes the node out for good, if it is there. All its steps led to the state in which it is.
+    pub fn take_node(&mut self) -> Option<N>
+        ensures same { self.new ≡ self.old }
+        ensures node { IfSome result (λ n. IsLedTo self.old.view self.old.node (N.stands n)) }
+    {
+        self.node.take()
     }
 
     /// What it shares with the other nodes of its cell.

@@ -153,7 +153,8 @@ fn stop_watch(rt: &impl Threads, watch: Option<Watch>) {
 
 // What each client saw begins the cell's history.
 fn agree_all(players: &[Player], journal: &Journal)
-    requires { (k : ℕ) (p : Player) → slice_get players.now k ≡ Some p → p.seat.cell ≡ journal.now.cell }
+    requires cell { (k : ℕ) (p : Player) → slice_get players.now k ≡ Some p → p.seat.cell ≡ journal.now.cell }
+    requires over { journal.now.is_over ≡ true }
     ensures { (k : ℕ) (p : Player) → slice_get players.now k ≡ Some p → HasSeenPart (whole_of journal.now) p.seat }
 {
     for before in 0..players.len() {
@@ -163,7 +164,8 @@ fn agree_all(players: &[Player], journal: &Journal)
 
 // What a client saw begins the cell's history.
 fn agree_one(player: &Player, journal: &Journal)
-    requires { player.now.seat.cell ≡ journal.now.cell }
+    requires cell { player.now.seat.cell ≡ journal.now.cell }
+    requires over { journal.now.is_over ≡ true }
     ensures { HasSeenPart (whole_of journal.now) player.now.seat }
 {
     agree(&player.seat, journal);

@@ -1,9 +1,10 @@
 //! Small cells, and waiting for what comes to pass in them.
 
 use gfs_types::config::Config;
+use std::sync::Wait;
 use std::sync::atomic::{AtomicU64, Ordering};
-use std::thread;
 use std::time::{Clock, Duration};
+use std::{io, thread};
 
 /// For how many milliseconds something may be waited for.
 const MOST_TURNS: u64 = 10_000;
@@ -36,5 +37,31 @@ pub fn wait_for<R: Clock>(rt: &R, counter: &AtomicU64, count: u64) {
             return;
         }
         thread::sleep(rt, Duration::from_millis(1));
+    }
+}
+
+/// A clock that is ahead by an hour, or can't be read.
+#[derive(Clone, Copy)]
+pub struct OddClock<R> {
+    pub rt: R,
+    pub is_broken: bool,
+}
+
+impl<R: Wait> Wait for OddClock<R> {}
+
+impl<R: Clock> Clock for OddClock<R> {
+    fn monotonic(&self) -> io::Result<Duration> {
+        if self.is_broken {
+            return Err(io::Error::from(io::ErrorKind::Unsupported));
+        }
+        Ok(
+            self.rt
+                .monotonic()?
+                .saturating_add(Duration::from_secs(3_600)),
+        )
+    }
+
+    fn since_1970(&self) -> io::Result<Duration> {
+        self.rt.since_1970()
     }
 }

@@ -1,6 +1,6 @@
 //! What a running cell itself refuses.
 
-use crate::cells::small;
+use crate::cells::{OddClock, small};
 use cell_run::cell::{Cell, ClientSeat};
 use cell_seats::gate::OpenGate;
 use cell_seats::mailboxes::Policy;
@@ -10,35 +10,9 @@ use gfs_types::refusal::Refusal;
 use std::alloc::Global;
 use std::sync::Wait;
 use std::test::*;
+use std::thread;
 use std::thread::{JoinHandle, Threads};
 use std::time::{Clock, Duration};
-use std::{io, thread};
-
-/// A clock that is ahead by an hour, or can't be read.
-#[derive(Clone, Copy)]
-struct OddClock<R> {
-    rt: R,
-    is_broken: bool,
-}
-
-impl<R: Wait> Wait for OddClock<R> {}
-
-impl<R: Clock> Clock for OddClock<R> {
-    fn monotonic(&self) -> io::Result<Duration> {
-        if self.is_broken {
-            return Err(io::Error::from(io::ErrorKind::Unsupported));
-        }
-        Ok(
-            self.rt
-                .monotonic()?
-                .saturating_add(Duration::from_secs(3_600)),
-        )
-    }
-
-    fn since_1970(&self) -> io::Result<Duration> {
-        self.rt.since_1970()
-    }
-}
 
 fn mkdir<R: Wait + Clock>(
     rt: &R,

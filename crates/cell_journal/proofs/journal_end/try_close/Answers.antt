@@ -29,7 +29,7 @@ returns-then-is_quiet_at g c =
     let t = when_true _ _ c.acquire.result c.if-not-acquire.false c.acquire.ensures.took in
     let is = c.close.ensures t.0 (ap (λ m. m.1) (c.shut.ensures.same.2 ∙ c.is_quiet_at.ensures.same.2) ∙ t.1) in
     record {
-      some = (ap (λ x. x.cell) is ∙ t.2.cell, subst (λ x. IsJournalOf x.cell x.entries) (sym is) (subst (λ i. IsJournalOf i t.0.entries) (sym t.2.cell) t.2.lawful));
+      some = (ap (λ x. x.cell) is ∙ t.2.cell, subst (λ x. IsJournalOf x.cell x.entries) (sym is) (subst (λ i. IsJournalOf i t.0.entries) (sym t.2.cell) t.2.lawful), ap (λ x. x.is_over) is);
       none = tt;
       waits = tt;
     }

@@ -2,7 +2,7 @@ use Rattle.std.proofs.Common.{[], refl, sym, ap, subst, ◌∙◌, arith}
 use Rattle.cell_journal.specs.Rules.{Writes, IsSame, gave}
 use Rattle.cell_journal.specs.Writers.{IsNodeWriter, IsLater}
 use Rattle.cell_journal.proofs.WriterSteps.{when_true, when_false, only_writes, same, still_writes, later_self}
-use Rattle.cell_seats.proofs.Looking.{looked_writer, looked_later}
+use Rattle.cell_journal.proofs.Looking.{looked_writer, looked_later}
 use Rattle.cell_seats.proofs.journal_look.look.Goals as goal
 
 pub acquire-requires-clause-writes : goal.acquire-requires-clause-writes

@@ -5,8 +5,8 @@ use Rattle.live.specs.declared.play.Player.{Player}
 use Rattle.live.proofs.Players.{told_so}
 use Rattle.live.proofs.run.play_on_new.Goals as goal
 
-pub agree_all-requires : goal.agree_all-requires
-agree_all-requires g c = λ k p at.
+pub agree_all-requires-clause-cell : goal.agree_all-requires-clause-cell
+agree_all-requires-clause-cell g c = λ k p at.
     let here = ap (λ (l : List Player). slice_get l k) (sym c.as_slice.ensures.value) ∙ at in
     (c.in-Ok.ensures.players k p here).cell_is ∙ sym (c.close-journal.ensures.cell ∙ c.in-Ok.ensures.cell)
 

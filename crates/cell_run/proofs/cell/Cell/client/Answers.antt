@@ -7,5 +7,5 @@ use Rattle.cell_run.proofs.cell.Cell.client.Goals as goal
 pub new-requires : goal.new-requires
 new-requires c =
     let registry = c.self.inside.registry in
-    new_seat _ registry.writer.me.0 c.in-Ok.slot.view c.in-Ok.slot.node c.again.result c.in-Ok.ensures.slot (c.again.ensures ∙ c.self.invariant.nothing_is)
+    new_seat _ registry.writer.me.0 c.in-Ok.slot.view c.in-Ok.slot.node c.again.result c.in-Ok.ensures.slot (c.again.ensures ∙ c.self.invariant.0.nothing_is)
     (subst (λ (x : Config). first_out_of_range x ≡ None) (sym registry.registers.config_is) registry.in_range)

@@ -1,0 +1,38 @@
+-- The locks of so many servers, and of one more.
+use Rattle.std.proofs.Common.{◌≡◌, ℕ, zero, suc, ◌+◌, ◌≤◌, List, [], ◌∷◌, ◌++◌, length, refl, sym, ap, subst, ◌∙◌, arith}
+use Rattle.std.specs.Prelude.{map}
+use Rattle.std.proofs.lemmas.List.{length-map, length-append}
+use Rattle.protocol.specs.Tables.{first_numbers}
+use Rattle.protocol.specs.Sending.{the_server}
+use Rattle.cell_journal.specs.Identity.{Identity}
+use Rattle.cell_seats.specs.NodeLocks.{NodeName, node_name}
+use Rattle.cell_run.specs.Cells.{names_of}
+
+-- the servers of the first so many numbers
+abbrev servers_of : Identity → ℕ → List NodeName
+servers_of cell servers = map (λ s. node_name cell (the_server s)) (first_numbers servers)
+
+map_append : {X Y : Type 0} (f : X → Y) (xs ys : List X) → map f (xs ++ ys) ≡ map f xs ++ map f ys
+map_append f [] ys = refl
+map_append f (x ∷ xs) ys = ap (λ l. f x ∷ l) (map_append f xs ys)
+
+pub one_lock_more : {X : Type 0} (f : X → NodeName) (cell : Identity) (before : ℕ) (was now : List X) (one : X) → now ≡ was ++ one ∷ [] → f one ≡ node_name cell (the_server (before + 1))
+    → map f was ≡ servers_of cell before → map f now ≡ servers_of cell (before + 1)
+one_lock_more f cell before was now one is new locks =
+    let next : before + 1 ≡ suc before = omega arith in
+    let last : map f (one ∷ []) ≡ map (λ s. node_name cell (the_server s)) (suc before ∷ []) = ap (λ (n : NodeName). n ∷ []) (new ∙ ap (λ (s : ℕ). node_name cell (the_server s)) next) in
+    ap (map f) is
+    ∙ (map_append f was (one ∷ [])
+    ∙ (ap (λ (l : List NodeName). l ++ map f (one ∷ [])) locks
+    ∙ (ap (λ (l : List NodeName). servers_of cell before ++ l) last
+    ∙ (sym (map_append (λ s. node_name cell (the_server s)) (first_numbers before) (suc before ∷ []))
+    ∙ ap (servers_of cell) (sym next)))))
+
+numbers_count : (n : ℕ) → length (first_numbers n) ≡ n
+numbers_count zero = refl
+numbers_count (suc n) = omega (arith, length-append (first_numbers n) (suc n ∷ []), numbers_count n)
+
+-- room for the servers is room for all but the master
+pub locks_fit : (locks : List NodeName) (cell : Identity) (servers room : ℕ) → locks ≡ names_of cell servers → servers ≤ room → length locks ≤ suc room
+locks_fit locks cell servers room are fits =
+    omega (arith, ap length are, length-map (first_numbers servers) (λ s. node_name cell (the_server s)), numbers_count servers, fits)

@@ -1,0 +1,13 @@
+//! Why a cell was not parked.
+
+use crate::cell::{Cell, ClientSeat};
+use cell_seats::journal::Journal;
+
+/// Why a cell was not parked, with all that was handed in.
+#[derive(Drop)]
+pub enum ParkFault {
+    /// Clocks were not kept. The cell was closed.
+    Clock(Journal, Vec<ClientSeat>),
+    /// Memory was refused. The cell runs on.
+    NoMemory(Cell, Vec<ClientSeat>),
+}
