@@ -14,7 +14,7 @@ use Rattle.laws_rebase.proofs.CutJournals.{own_whole, whole_journals_grow}
 use Rattle.cell_journal.specs.Identity.{Identity}
 use Rattle.cell_journal.specs.declared.view.View.{View}
 use Rattle.cell_journal.specs.Rules.{IsJournalOf, IsStepOf}
-use Rattle.cell_journal.specs.WholeHistories.{history_of, steps_of, all_steps, IsHistoryOf}
+use Rattle.cell_journal.specs.WholeHistories.{history_of, steps_of, all_steps, is_retired, LeaveRetired, IsHistoryOf}
 
 pub own_append : (n : Node) (xs ys : List Entry) → own n (xs ++ ys) ≡ own n xs ++ own n ys
 own_append n [] ys = refl
@@ -93,6 +93,17 @@ journal_grows cell log v e of here mine lawful step =
           (step.moment, reads) step.may step.gives,
     )
 
+-- a step more leaves those alone of which nothing more is written
+pub leaves_more : (cell : Identity) (log : List Entry) (v : View) (e : Entry) → v.of ≡ cell → LeaveRetired cell log → IsStepOf v e → LeaveRetired cell (log ++ e ∷ [])
+leaves_more cell log v e of leaves step n gone =
+    own_append n log (e ∷ []) ∙ (ap (λ (l : List Entry). l ++ own n (e ∷ [])) (leaves n gone) ∙ own_other n e (λ same. goes_on same))
+  where
+    goes_on : e.node ≡ n → ⊥
+    goes_on same =
+        let so : is_retired cell e.node ≡ true = subst (λ (m : Node). is_retired cell m ≡ true) (sym same) gone in
+        let not_so : is_retired cell e.node ≡ false = subst (λ (c : Identity). is_retired c e.node ≡ false) of step.goes_on in
+        absurd (let both : true ≡ false = sym so ∙ not_so in cc)
+
 first_leads : (o : Option NodeState) → LeadsTo o [] o
 first_leads None = (refl, refl)
 first_leads (Some s) = (s, refl, refl)
@@ -100,6 +111,10 @@ first_leads (Some s) = (s, refl, refl)
 -- the history of a cell in which nothing was done
 pub none_lawful : (cell : Identity) → IsHistoryOf cell []
 none_lawful cell = (node_in (new_world cell.config cell.servers cell.clients), record { follow = tt; nodes = λ n. first_leads (node_in (new_world cell.config cell.servers cell.clients) n) })
+
+-- the journal behind a lawful history
+pub behind_lawful : (cell : Identity) → IsHistoryOf cell cell.base → IsJournalOf cell []
+behind_lawful cell it = subst (IsHistoryOf cell) (sym (append-nil cell.base)) it
 
 -- the journal of a new cell
 pub begins_lawful : (cell : Identity) → cell.base ≡ [] → IsJournalOf cell []

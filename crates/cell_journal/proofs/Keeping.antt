@@ -16,8 +16,9 @@ use Rattle.protocol_journal.specs.Journal.{Entry, own}
 use Rattle.cell_journal.specs.Identity.{Identity, Filled}
 use Rattle.cell_journal.specs.declared.view.View.{View}
 use Rattle.cell_journal.specs.Roles.{WritesAs, own_of}
+use Rattle.cell_journal.specs.WholeHistories.{LeaveRetired}
 use Rattle.cell_journal.specs.Rules.{IsJournalOf, Writes, Fits, AllFit, Apart, NoHolder, rooms_in, AtHome, Keeps, first_view, Took, HasTaken, Takes, gave, Gives, Marks, IsSame, LeavesRoom, Adds, next_writer, after_next}
-use Rattle.cell_journal.proofs.Grown.{own_append, own_other, journal_grows}
+use Rattle.cell_journal.proofs.Grown.{own_append, own_other, journal_grows, leaves_more}
 use Rattle.cell_journal.proofs.Roles.{later_writes, next_writes, never_both, own_same, own_only}
 
 set_first : (ws : List ℕ) (n : ℕ) → 0 < length ws → slice_index (slice_set ws 0 n) 0 ≡ n
@@ -91,6 +92,7 @@ marked : (cell : Identity) (s : State (Option Filled) View) (id : ℕ) (v : View
 marked cell s id v n k at some_word = record {
   log = k.log;
   lawful = k.lawful;
+  leaves = k.leaves;
   fit = rw (set_again s.views id v at) k.fit;
   apart = rw (set_again s.views id v at) k.apart;
   word = subst (λ (m : ℕ). 0 < m) (sym (set_still s.words n)) k.word;
@@ -122,6 +124,7 @@ takes_step cell slots id v new st n some_word may s k homes at range = by_found 
           record {
             log = k.log;
             lawful = k.lawful;
+            leaves = k.leaves;
             fit = all_set s.views id v w at cell k.log (λ j b m e. k.fit j b e) fits;
             apart = record { roles = roles_set s.views id v w at (λ m h. h) k.apart; holders = holders_set s.views id v w at (λ j b m e h. y.3 j b e h) };
             word = subst (λ (m : ℕ). 0 < m) (sym (set_still s.words word)) k.word;
@@ -137,6 +140,7 @@ takes_step cell slots id v new st n some_word may s k homes at range = by_found 
               is = refl;
               grows = subst (λ l. IsPrefix v.seen l) (sym y.2) old.seen;
               lawful = subst (λ l. IsJournalOf v.of l) (sym y.2) (subst (λ c. IsJournalOf c k.log) (sym (old.of n may)) k.lawful);
+              leaves = subst (λ l. LeaveRetired v.of l) (sym y.2) (subst (λ c. LeaveRetired c k.log) (sym (old.of n may)) k.leaves);
               mine = λ m h. ap (own m) y.2 ∙ old.mine m h;
               cell = y.4 ∙ sym (old.of n may);
               room =
@@ -162,16 +166,18 @@ held y (x ∷ xs) = filled_or y x.1
 -- the journal comes back with some entries more
 gives_more : (cell : Identity) (slots id : ℕ) (v : View) (y : Filled) (more : List Entry) (st : Step (Option Filled)) (n : Node) → slots ≡ 1 → v.holds ≡ true → Writes v n → y.cell ≡ v.of → y.entries ≡ v.seen ++ more → LeavesRoom v y
     → ((log : List Entry) → log ≡ v.seen → v.of ≡ cell → ((m : Node) → Writes v m → own m log ≡ v.mine) → IsJournalOf cell log → IsJournalOf cell (log ++ more))
+    → ((log : List Entry) → v.of ≡ cell → LeaveRetired cell log → LeaveRetired cell (log ++ more))
     → ((m : Node) → (Writes v m → ⊥) → own m more ≡ [])
     → ((log : List Entry) (m : Node) → Writes v m → own m log ≡ v.mine → own m (log ++ more) ≡ own_of v.role v.mine (log ++ more))
     → Allows (Keeps cell) slots id (v, (0, Some y) ∷ []) 0 (λ _. 0) (λ _. Gives st (v, (0, Some y) ∷ []) 0)
-gives_more cell slots id v y more st n one has may tagged longer_is leaves lawful_more apart_more own_more s k homes at range = (
+gives_more cell slots id v y more st n one has may tagged longer_is room lawful_more leaves_on apart_more own_more s k homes at range = (
   w,
   gives,
   tt,
   record {
     log = y.entries;
     lawful = subst (IsJournalOf cell) (sym is) (lawful_more k.log (old.here has) (old.of n may) old.mine k.lawful);
+    leaves = subst (LeaveRetired cell) (sym is) (leaves_on k.log (old.of n may) k.leaves);
     fit = all_set s.views id v w at cell y.entries others (record { of = old.of; seen = prefix_self y.entries; mine = mine; here = λ h. absurd cc });
     apart = record { roles = roles_set s.views id v w at (λ m h. h) k.apart; holders = holders_set s.views id v w at alone };
     word = subst (λ (m : ℕ). 0 < m) (sym (set_still s.words 0)) k.word;
@@ -188,7 +194,7 @@ gives_more cell slots id v y more st n one has may tagged longer_is leaves lawfu
     enough =
         let all_room = rooms_set s.views id v w at in
         let found = k.room id v at has in
-        omega (arith, all_room, found, leaves)
+        omega (arith, all_room, found, room)
 
     given : (z : Filled) → ◌≡◌ {A = List (ℕ × Option Filled)} ((0, Some y) ∷ []) ((0, Some z) ∷ []) → y ≡ z
     given z q = ap (held y) q
@@ -221,7 +227,8 @@ gives_more cell slots id v y more st n one has may tagged longer_is leaves lawfu
 pub gives_same : (cell : Identity) (slots id : ℕ) (v : View) (y : Filled) (st : Step (Option Filled)) (n : Node) → slots ≡ 1 → Writes v n → IsSame v y
     → Allows (Keeps cell) slots id (v, (0, Some y) ∷ []) 0 (λ _. 0) (λ _. Gives st (v, (0, Some y) ∷ []) 0)
 gives_same cell slots id v y st n one may same =
-    gives_more cell slots id v y [] st n one same.0 may same.1 (same.2 ∙ sym (append-nil v.seen)) same.3 (λ log h o m l. subst (IsJournalOf cell) (sym (append-nil log)) l) (λ m h. refl)
+    gives_more cell slots id v y [] st n one same.0 may same.1 (same.2 ∙ sym (append-nil v.seen)) same.3 (λ log h o m l. subst (IsJournalOf cell) (sym (append-nil log)) l)
+    (λ log o l. subst (LeaveRetired cell) (sym (append-nil log)) l) (λ m h. refl)
     (λ log m h o. own_same v.of.servers v.role v.mine m log h o)
 
 pub gives_step : (cell : Identity) (slots id : ℕ) (v : View) (y : Filled) (e : Entry) (st : Step (Option Filled)) → slots ≡ 1 → Adds v e y
@@ -230,6 +237,7 @@ gives_step cell slots id v y e st one adds =
     let may : (m : Node) → e.node ≡ m → Writes v m = λ m h. subst (λ r. WritesAs v.of.servers r m) (sym adds.step.role) h in
     gives_more cell slots id v y (e ∷ []) st e.node one adds.holds (may e.node refl) adds.cell adds.is adds.room
     (λ log here of mine lawful. journal_grows cell log v e of here (mine e.node (may e.node refl)) lawful adds.step)
+    (λ log of leaves. leaves_more cell log v e of leaves adds.step)
     (λ m not_it. own_other m e (λ h. not_it (may m h)))
     (λ log m h o. own_only v.of.servers v.role v.mine e.node m (log ++ e ∷ []) adds.step.role h)
 
@@ -238,6 +246,7 @@ unchanged : (cell : Identity) (s : State (Option Filled) View) (id : ℕ) (v : V
 unchanged cell s id v n k at is = record {
   log = k.log;
   lawful = k.lawful;
+  leaves = k.leaves;
   fit = rw (set_again s.views id v at) k.fit;
   apart = rw (set_again s.views id v at) k.apart;
   word = subst (λ (m : ℕ). 0 < m) (sym (set_still s.words n)) k.word;
@@ -266,6 +275,7 @@ pub splits_step : (cell : Identity) (id : ℕ) (v : View) → Splits (Keeps cell
 splits_step cell id v s k at = record {
   log = k.log;
   lawful = k.lawful;
+  leaves = k.leaves;
   fit = λ j b e. ⊎_elim (λ h. all_set s.views id v left at cell k.log (λ i a m g. k.fit i a g) left_fits j b h) (λ t. subst (Fits cell k.log) t.1 right_fits) (at_new set_views right b j e);
   apart = record { roles = roles; holders = holders };
   word = k.word;
@@ -335,6 +345,7 @@ pub begins : (cell : Identity) (y : Filled) → y.cell ≡ cell → y.entries �
 begins cell y is none lawful = record {
   log = [];
   lawful = lawful;
+  leaves = λ n h. refl;
   fit = λ j b e. subst (Fits cell []) (only j b e) (record { of = λ m h. refl; seen = ([], refl); mine = λ m h. refl; here = λ h. refl });
   apart = record { roles = λ i j a b m ei ej wa wb. zero_at i a ei ∙ sym (zero_at j b ej); holders = λ i j a b ei ej ha hb. zero_at i a ei ∙ sym (zero_at j b ej) };
   word = omega arith;

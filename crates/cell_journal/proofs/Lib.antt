@@ -14,3 +14,5 @@ pub mod Lending
 pub mod WriterSteps
 pub mod Slotting
 pub mod Looking
+pub mod Unwritten
+pub mod Beginnings

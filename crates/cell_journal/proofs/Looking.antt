@@ -10,7 +10,7 @@ use Rattle.cell_journal.specs.declared.view.View.{View}
 use Rattle.cell_journal.specs.declared.view.Role.{Role}
 use Rattle.cell_journal.specs.declared.view.Role.TheVariants.{Only}
 use Rattle.cell_journal.specs.Rules.{Took, gave}
-use Rattle.cell_journal.specs.WholeHistories.{history_of}
+use Rattle.cell_journal.specs.WholeHistories.{history_of, LeaveRetired}
 use Rattle.cell_journal.specs.Writers.{IsNodeWriter, IsLater, HasLooked}
 use Rattle.cell_journal.proofs.WriterSteps.{later}
 
@@ -34,4 +34,5 @@ module _ (n : Node) (old mid final : Mine) (y : Filled) (t : Took old.0 mid.0 y)
         cell_is = of ∙ cell;
         seen = (begins ∙ ap (λ (c : Identity). listed c.name (history_of c y.entries)) cell, counts ∙ ap (λ (c : Identity). length (history_of c y.entries)) cell);
         own_is = ap (λ (r : Role). own_of r mid.0.mine y.entries) role;
+        leaves = subst (λ (c : Identity). LeaveRetired c y.entries) (sym (ap (λ (x : View). x.of) t.is)) t.leaves;
       })

@@ -2,11 +2,14 @@
 use Rattle.std.proofs.Common.{◌≡◌, ◌≤◌, ◌<◌, ℕ, zero, suc, ◌+◌, ◌-◌, ◌/◌, List, [], ◌∷◌, ◌++◌, length, take, get_or, Option, Some, None, refl, sym, subst, ap, ◌∙◌, arith, append_assoc}
 use Rattle.std.specs.Prelude.{slice_get}
 use Rattle.std.specs.Option.{option_map}
-use Rattle.std.proofs.lemmas.List.{append-nil, length-append, take_all}
+use Rattle.std.proofs.lemmas.List.{append-nil, length-append, length-map, take_all}
 use Rattle.messages.specs.declared.message.Message.{Message}
 use Rattle.protocol.specs.Tables.{element_at}
 use Rattle.protocol.specs.World.{numbered_from_1, stamped}
 use Rattle.protocol_journal.specs.Journal.{Entry, with_messages, sent_after}
+use Rattle.laws_rebase.specs.Rebased.{raised, all_raised}
+use Rattle.laws_rebase.specs.Whole.{whole}
+use Rattle.laws_rebase.proofs.CutJournals.{sent_whole}
 use Rattle.cell_journal.specs.declared.counted_entry.CountedEntry.{CountedEntry}
 use Rattle.cell_journal.specs.CountedEntries.{entries_in, sent_in, AreCounted, IsIn}
 
@@ -127,6 +130,14 @@ numbered_stamped xs (suc k) = stamped_at 1 xs k ∙ ap (λ j. option_map (λ (m 
 
 pub sent_count : (rows : List CountedEntry) → length (sent_after [] (entries_in rows)) ≡ length (sent_in rows)
 sent_count rows = ap length (sent_all [] rows) ∙ stamped_length 1 (sent_in rows)
+
+-- messages of the base, and those of the journal
+pub sent_of_all : (base es : List Entry) → length (sent_after [] (whole base es)) ≡ length (sent_after [] base) + length (sent_after [] es)
+sent_of_all base es =
+    let earlier = sent_after [] base in
+    ap length (sent_whole base es)
+    ∙ (length-append earlier (all_raised (length earlier) (sent_after [] es))
+    ∙ ap (λ (n : ℕ). length earlier + n) (length-map (sent_after [] es) (raised (length earlier))))
 
 -- the message of a number, as it was sent
 pub numbered : (rows : List CountedEntry) (number : ℕ) → numbered_from_1 (sent_after [] (entries_in rows)) number ≡ option_map (λ (m : Message). record m { number = number }) (numbered_from_1 (sent_in rows) number)

@@ -1,8 +1,9 @@
 -- The clocks of a list of steps are those that are observed of it.
-use Rattle.std.proofs.Common.{◌≡◌, ℕ, ◌+◌, ◌≤◌, Bool, true, false, List, [], ◌∷◌, ◌++◌, Option, Some, None, refl, ap, ◌∙◌, arith}
+use Rattle.std.proofs.Common.{◌≡◌, ℕ, ◌+◌, ◌≤◌, Bool, true, false, List, [], ◌∷◌, ◌++◌, Option, Some, None, refl, sym, ap, ◌∙◌, arith}
 use Rattle.std.specs.Prelude.{◌&&◌, nat_le, max}
 use Rattle.std.proofs.lemmas.Bool.Decides.{nat_tests}
 use Rattle.std.specs.FinMap as table
+use mathlib.Core.List.{IsPrefix}
 use Rattle.gfs_types.specs.declared.answer.Answer.{Answer}
 use Rattle.gfs_types.specs.declared.config.Config.{Config}
 use Rattle.gfs_types.specs.declared.ids.Node.{Node}
@@ -61,3 +62,18 @@ observed_more skew o (x ∷ es) e = observed_more skew (entry_observed skew o x)
 -- one step more
 pub clocks_more : (config : Config) (es : List Entry) (e : Entry) → clocks_after config (es ++ e ∷ []) ≡ moved config.skew_ms (clocks_after config es) e.moment
 clocks_more config es e = ap clocks_of (observed_more config.skew_ms (new_observer table.empty) es e) ∙ step_moves config.skew_ms (observer_of config es) e
+
+observed_append : (skew : ℕ) (o : Observer) (xs ys : List Entry) → observed_after skew o (xs ++ ys) ≡ observed_after skew (observed_after skew o xs) ys
+observed_append skew o [] ys = refl
+observed_append skew o (x ∷ xs) ys = observed_append skew (entry_observed skew o x) xs ys
+
+stays_broken : (skew : ℕ) (o : Observer) (es : List Entry) → o.are_clocks_kept ≡ false → (observed_after skew o es).are_clocks_kept ≡ false
+stays_broken skew o [] h = h
+stays_broken skew o (e ∷ es) h =
+    stays_broken skew (entry_observed skew o e) es (ap (λ (c : Clocks). c.kept) (step_moves skew o e) ∙ ap (λ (b : Bool). b && nat_le o.greatest (e.moment + skew)) h)
+
+-- clocks that were not kept are not kept later on
+pub still_broken : (config : Config) (xs ys : List Entry) → IsPrefix xs ys → (observer_of config xs).are_clocks_kept ≡ false → (observer_of config ys).are_clocks_kept ≡ false
+still_broken config xs ys p h =
+    ap (λ (es : List Entry). (observer_of config es).are_clocks_kept) (sym p.1)
+    ∙ (ap (λ (o : Observer). o.are_clocks_kept) (observed_append config.skew_ms (new_observer table.empty) xs p.0) ∙ stays_broken config.skew_ms (observer_of config xs) p.0 h)

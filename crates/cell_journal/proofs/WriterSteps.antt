@@ -14,15 +14,15 @@ use Rattle.cell_journal.specs.declared.view.Role.{Role}
 use Rattle.cell_journal.specs.declared.view.Role.TheVariants.{Nobody, Only, From}
 use Rattle.cell_journal.specs.Roles.{WritesAs, own_of}
 use Rattle.cell_journal.specs.Rules.{Writes, Took, IsSame, IsStepOf, IsJournalOf, gave}
-use Rattle.cell_journal.proofs.Grown.{own_append, journal_grows}
+use Rattle.cell_journal.proofs.Grown.{own_append, journal_grows, leaves_more}
 use Rattle.messages.specs.declared.message.Message.{Message}
 use Rattle.gfs_types.specs.declared.refusal.Refusal.{Refusal}
 use Rattle.std.specs.Prelude.{Result, Ok, Err, IfOk, OnErr}
 use Rattle.protocol_journal.specs.Journal.{sent_after}
 use Rattle.atomic_table.specs.Table.{rest}
 use Rattle.cell_journal.proofs.Lending.{lent, left}
-use Rattle.cell_journal.specs.Writers.{IsNodeWriter, IsLater, IsRead, GoesOn, IsSeen, Prepares, IsWaiting, IsParkedAt}
-use Rattle.cell_journal.specs.WholeHistories.{history_of, all_seen}
+use Rattle.cell_journal.specs.Writers.{IsNodeWriter, IsLater, IsRead, GoesOn, IsSeen, Prepares, IsWaiting, IsParkedAt, HasOwn}
+use Rattle.cell_journal.specs.WholeHistories.{history_of, all_seen, LeaveRetired}
 
 pub when_true : (A B : Type 0) (b : Bool) → b ≡ true → MatchBool b A B → A
 when_true A B true is h = h
@@ -66,6 +66,7 @@ step_later v m y e t s =
     subst (λ (x : View). IsStepOf x e) (sym t.is)
     (record {
       role = s.role;
+      goes_on = s.goes_on;
       state = s.state;
       choice = s.choice;
       leads = s.leads;
@@ -93,13 +94,14 @@ goes_on v m y e count t s =
       before = y.entries;
       last = refl;
       lawful = journal_grows v.of y.entries v_seen e refl refl mine t.lawful (step_later v v_seen y e record_taken s);
+      leaves = leaves_more v.of y.entries v_seen e refl t.leaves (step_later v v_seen y e record_taken s);
     })
   where
     v_seen : View
     v_seen = record v { holds = true; seen = y.entries; found = y.reserved }
 
     record_taken : Took v v_seen y
-    record_taken = record { is = refl; grows = t.grows; lawful = t.lawful; mine = t.mine; cell = t.cell; room = t.room }
+    record_taken = record { is = refl; grows = t.grows; lawful = t.lawful; leaves = t.leaves; mine = t.mine; cell = t.cell; room = t.room }
 
     mine : own e.node y.entries ≡ v.mine
     mine = t.mine e.node (only_writes v e.node s.role)
@@ -265,20 +267,25 @@ module _ (n : Node) (old mid final : Mine) (y : Filled) (t : Took old.0 mid.0 y)
   gave_later = subst (λ (m : Mine). IsLater old.0 m.0) (sym is) (later old.0 mid.0 y y t refl)
 
   pub gave_waits : IsWaiting old.0 final
-  gave_waits = record { free = ap (λ (m : Mine). m.1) is; of = gave_later.of; role = gave_later.role }
+  gave_waits = record { free = ap (λ (m : Mine). m.1) is; of = gave_later.of; role = gave_later.role; mine = gave_later.mine }
 
 pub waits_still : (old final : Mine) → old.1 ≡ [] → final ≡ old → IsWaiting old.0 final
-waits_still old final free is = record { free = ap (λ (m : Mine). m.1) is ∙ free; of = ap (λ (m : Mine). m.0.of) is; role = ap (λ (m : Mine). m.0.role) is }
+waits_still old final free is =
+    record { free = ap (λ (m : Mine). m.1) is ∙ free; of = ap (λ (m : Mine). m.0.of) is; role = ap (λ (m : Mine). m.0.role) is; mine = ap (λ (m : Mine). m.0.mine) is }
 
 pub waits_on : (v : View) (mid : Mine) (final : Mine) → IsWaiting v mid → IsWaiting mid.0 final → IsWaiting v final
-waits_on v mid final a b = record { free = b.free; of = b.of ∙ a.of; role = b.role ∙ a.role }
+waits_on v mid final a b = record { free = b.free; of = b.of ∙ a.of; role = b.role ∙ a.role; mine = b.mine ∙ a.mine }
 
 pub writes_waiting : (v : View) (m : Mine) (n : Node) → IsWaiting v m → Writes v n → Writes m.0 n
 writes_waiting v m n w h = subst (λ (r : Role). WritesAs m.0.of.servers r n) (sym w.role) (subst (λ (c : Identity). WritesAs c.servers v.role n) (sym w.of) h)
 
 -- a journal that was taken and parked is the cell's
-pub parked_at : (cell : Identity) (count : ℕ) (y : Filled) (journal : Closed) → journal ≡ closed y.cell y.entries false → y.cell ≡ cell → IsJournalOf cell y.entries
+pub parked_at : (cell : Identity) (count : ℕ) (y : Filled) (journal : Closed) → journal ≡ closed y.cell y.entries false → y.cell ≡ cell → IsJournalOf cell y.entries → LeaveRetired cell y.entries
     → length (history_of y.cell y.entries) ≡ count → IsParkedAt cell count journal
-parked_at cell count y journal is of lawful same =
+parked_at cell count y journal is of lawful leaves same =
     subst (λ (j : Closed). IsParkedAt cell count j) (sym is)
-    (record { cell_is = of; lawful = subst (λ (i : Identity). IsJournalOf i y.entries) (sym of) lawful; parked = refl; count_is = same })
+    (record { cell_is = of; lawful = subst (λ (i : Identity). IsJournalOf i y.entries) (sym of) lawful; leaves = subst (λ (i : Identity). LeaveRetired i y.entries) (sym of) leaves; parked = refl; count_is = same })
+
+-- and it has just what the writer that waited for it wrote
+pub has_own : (v : View) (m : Mine) (journal : Closed) → IsWaiting v m → HasOwn m.0 journal → HasOwn v journal
+has_own v m journal w own_is n writes = own_is n (writes_waiting v m n w writes) ∙ w.mine

@@ -4,16 +4,17 @@ use Rattle.logbook.specs.Pages.{Book}
 use Rattle.gfs_types.specs.declared.config.Config.{Config}
 use Rattle.protocol_journal.specs.Journal.{Entry}
 
--- the name of the journal's list, the settings, how many servers and clients there may be, and all entries of the cell before those of the journal
+-- the name of the journal's list, the settings, how many servers and clients there may be, all entries of the cell before those of the journal, and of which clients, from the first one on, nothing more is written
 pub record Identity : Type 0 where
   pub name : Book
   pub config : Config
   pub servers : ℕ
   pub clients : ℕ
   pub base : List Entry
+  pub retired : List Bool
 
-abbrev pub identity : Book → Config → ℕ → ℕ → List Entry → Identity
-identity name config servers clients base = record { name = name; config = config; servers = servers; clients = clients; base = base }
+abbrev pub identity : Book → Config → ℕ → ℕ → List Entry → List Bool → Identity
+identity name config servers clients base retired = record { name = name; config = config; servers = servers; clients = clients; base = base; retired = retired }
 
 -- a journal: of which cell, its entries, and for how many more there is room
 pub record Filled : Type 0 where

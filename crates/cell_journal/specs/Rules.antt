@@ -15,7 +15,7 @@ use Rattle.cell_journal.specs.declared.view.View.{View}
 use Rattle.cell_journal.specs.declared.view.Role.{Role}
 use Rattle.cell_journal.specs.declared.view.Role.TheVariants.{Nobody, Only, From}
 use Rattle.cell_journal.specs.Roles.{WritesAs, next_role, later_roles, own_of}
-use Rattle.cell_journal.specs.WholeHistories.{history_of, all_steps, IsHistoryOf}
+use Rattle.cell_journal.specs.WholeHistories.{history_of, all_steps, is_retired, LeaveRetired, IsHistoryOf}
 
 -- a journal of this cell: its entries make a lawful history
 abbrev pub IsJournalOf : Identity → List Entry → Type 0
@@ -54,6 +54,7 @@ AtHome cell log s = slice_index s.words 0 ≡ 0 → (y : Filled) × (get_elem? s
 pub record Keeps (cell : Identity) (s : State (Option Filled) View) : Type 0 where
   pub log : List Entry
   pub lawful : IsJournalOf cell log
+  pub leaves : LeaveRetired cell log
   pub fit : AllFit cell log s.views
   pub apart : Apart s.views
   pub word : 0 < length s.words
@@ -69,6 +70,7 @@ pub record Took (v w : View) (y : Filled) : Type 0 where
   pub is : w ≡ record v { holds = true; seen = y.entries; found = y.reserved }
   pub grows : IsPrefix v.seen y.entries
   pub lawful : IsJournalOf v.of y.entries
+  pub leaves : LeaveRetired v.of y.entries
   pub mine : (n : Node) → Writes v n → own n y.entries ≡ v.mine
   pub cell : y.cell ≡ v.of
   pub room : v.rooms ≤ y.reserved
@@ -95,6 +97,7 @@ Marks s v found w = w ≡ v
 -- The next step of a writer's own node: for some choice it is the step from the state that all steps of the node led to. What it takes was sent in a beginning of the journal.
 pub record IsStepOf (v : View) (e : Entry) : Type 0 where
   pub role : v.role ≡ Only e.node
+  pub goes_on : is_retired v.of e.node ≡ false
   pub state : NodeState
   pub choice : Choice
   pub leads : LeadsTo (node_in (new_world v.of.config v.of.servers v.of.clients) e.node) (all_steps v e.node) (Some state)

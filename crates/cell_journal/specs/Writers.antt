@@ -12,9 +12,9 @@ use Rattle.cell_journal.specs.Log.{Listed, listed}
 use Rattle.cell_journal.specs.Identity.{Identity, Filled, Closed}
 use Rattle.cell_journal.specs.declared.history_look.HistoryLook.{HistoryLook}
 use Rattle.cell_journal.specs.declared.view.View.{View}
-use Rattle.cell_journal.specs.declared.view.Role.TheVariants.{Only}
-use Rattle.cell_journal.specs.Rules.{IsJournalOf}
-use Rattle.cell_journal.specs.WholeHistories.{all_seen, whole_of}
+use Rattle.cell_journal.specs.declared.view.Role.TheVariants.{Only, From}
+use Rattle.cell_journal.specs.Rules.{IsJournalOf, Writes}
+use Rattle.cell_journal.specs.WholeHistories.{all_seen, whole_of, LeaveRetired}
 
 -- a writer at this table, which has one word and one slot
 abbrev pub IsAt : TableId → TableId → Type 0
@@ -48,6 +48,7 @@ pub record GoesOn (v w : View) (e : Entry) : Type 0 where
   pub before : List Entry
   pub last : w.seen ≡ before ++ e ∷ []
   pub lawful : IsJournalOf w.of w.seen
+  pub leaves : LeaveRetired w.of w.seen
 
 -- the whole history as a writer saw it last, under the cell's name, and its length
 abbrev pub IsSeen : View → Listed Entry → ℕ → Type 0
@@ -68,16 +69,29 @@ pub record HasLooked (n : Node) (v : View) (l : HistoryLook) : Type 0 where
   pub cell_is : l.cell ≡ v.of
   pub seen : IsSeen v l.beginning l.count
   pub own_is : v.mine ≡ own n v.seen
+  pub leaves : LeaveRetired v.of v.seen
 
 -- the writer of one that waits until no step is under way
 pub record IsWaiting (v : View) (me : Me (Option Filled) View) : Type 0 where
   pub free : me.1 ≡ []
   pub of : me.0.of ≡ v.of
   pub role : me.0.role ≡ v.role
+  pub mine : me.0.mine ≡ v.mine
 
--- this cell's journal as it was parked, lawful behind its base, with so many entries of the whole history
+-- a writer that writes for every node, and wrote nothing
+pub record WritesAll (me : Me (Option Filled) View) : Type 0 where
+  pub role : me.0.role ≡ From 0
+  pub mine : me.0.mine ≡ []
+  pub free : me.1 ≡ []
+
+-- of the nodes for which this writer writes a journal has just what it wrote
+abbrev pub HasOwn : View → Closed → Type 0
+HasOwn v journal = (n : Node) → Writes v n → own n journal.entries ≡ v.mine
+
+-- this cell's journal as it was parked, lawful behind its base, with so many entries of the whole history, and none of a client of which nothing more is written
 pub record IsParkedAt (cell : Identity) (count : ℕ) (journal : Closed) : Type 0 where
   pub cell_is : journal.cell ≡ cell
   pub lawful : IsJournalOf journal.cell journal.entries
+  pub leaves : LeaveRetired journal.cell journal.entries
   pub parked : journal.is_over ≡ false
   pub count_is : length (whole_of journal) ≡ count

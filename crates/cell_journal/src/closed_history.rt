@@ -22,6 +22,8 @@ use std::marker::Model;
 pub struct ClosedHistory {
     pub(crate) cell: CellIdentity,
     pub(crate) rows: Vec<CountedEntry>,
+    /// How many entries the cell had before this journal.
+    pub(crate) base_len: usize,
     pub(crate) clocks: Clocks,
     pub(crate) end: ListEnd,
 }
@@ -32,6 +34,7 @@ impl Drop for ClosedHistory {
         let Self {
             cell: _cell,
             rows: _rows,
+            base_len: _,
             clocks: _,
             end: _end,
         } = self;
@@ -39,7 +42,7 @@ impl Drop for ClosedHistory {
 }
 
 impl Model for ClosedHistory {
-    ghost use Rattle.std.specs.Prelude.{◌≡◌};
+    ghost use Rattle.std.specs.Prelude.{◌≡◌, ◌<◌, ◌≤◌, ◌^◌, length, vec_len};
     ghost use Rattle.cell_journal.specs.Clocks.{clocks_after};
     ghost use Rattle.cell_journal.specs.Identity.{Closed, closed};
     ghost use Rattle.cell_journal.specs.CountedEntries.{entries_in};
@@ -49,7 +52,7 @@ impl Model for ClosedHistory {
 
     ghost view = { λ p. closed p.cell (entries_in p.rows.items) p.end.is_over };
 
-    ghost invariant = { λ p. (p.end.name ≡ p.cell.name) × (p.end.items ≡ history_of p.cell (entries_in p.rows.items)) × (p.clocks ≡ clocks_after p.cell.config (history_of p.cell (entries_in p.rows.items))) };
+    ghost invariant = { λ p. (p.end.name ≡ p.cell.name) × (p.end.items ≡ history_of p.cell (entries_in p.rows.items)) × (p.clocks ≡ clocks_after p.cell.config (history_of p.cell (entries_in p.rows.items))) × (p.base_len ≡ length p.cell.base) × (p.base_len < 2 ^ 63) × (vec_len p.rows ≤ 2 ^ 33) };
 }
 
 impl ClosedHistory {
@@ -65,6 +68,13 @@ impl ClosedHistory {
         ensures { result ≡ length self.now.entries }
     {
         self.rows.len()
+    }
+
+    /// How many entries the cell's whole history has up to the end of this journal.
+    pub fn whole_len(&self) -> usize
+        ensures { result ≡ length (whole_of self.now) }
+    {
+        self.base_len + self.rows.len()
     }
 
     /// Whether clocks were kept: no moment of a step is behind that of an earlier one by more than the clock bound.
@@ -89,12 +99,14 @@ impl ClosedHistory {
         let Self {
             cell,
             rows,
+            base_len,
             clocks,
             end: _end,
         } = self;
         ClosedHistory {
             cell,
             rows,
+            base_len,
             clocks,
             end: ListEnd::over(whole),
         }

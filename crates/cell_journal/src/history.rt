@@ -1,14 +1,14 @@
 //! All entries of the journal, with room for more.
 
-ghost use Rattle.std.specs.Prelude.{◌≡◌, ◌+◌, ◌-◌, ◌<◌, ◌++◌, ◌∷◌, [], length, slice_get, vec_len, vec_capacity, OnOk, OnErr, IfOk, IfSome, true, false};
+ghost use Rattle.std.specs.Prelude.{◌≡◌, ◌+◌, ◌-◌, ◌<◌, ◌++◌, ◌∷◌, [], length, slice_get, vec_len, vec_capacity, OnOk, OnErr, IfOk, IfErr, IfSome, replicate, true, false};
 ghost use Rattle.std.specs.Option.{option_copied};
 ghost use Rattle.protocol.specs.World.{numbered_from_1};
 ghost use Rattle.protocol_journal.specs.Journal.{sent_after};
-ghost use Rattle.cell_journal.specs.Clocks.{moved, are_clocks_kept};
+ghost use Rattle.cell_journal.specs.Clocks.{moved, clocks_after, are_clocks_kept};
 ghost use Rattle.cell_journal.specs.Log.{listed};
 ghost use Rattle.cell_journal.specs.Identity.{identity, filled, closed};
 ghost use Rattle.cell_journal.specs.Rules.{IsJournalOf};
-ghost use Rattle.cell_journal.specs.WholeHistories.{history_of};
+ghost use Rattle.cell_journal.specs.WholeHistories.{history_of, whole_of};
 
 use crate::clocks::Clocks;
 use crate::closed_history::ClosedHistory;
@@ -37,6 +37,8 @@ pub struct History {
     /// How many messages the cell sent, and how many entries it had, before this journal.
     earlier: u128,
     base_len: usize,
+    /// How many entries the journal may have beside those that the settings allow: its restarts.
+    uncounted: u64,
     list: GrowingList<RaisedEntry>,
 }
 
@@ -51,6 +53,7 @@ impl Drop for History {
             clocks: _,
             earlier: _,
             base_len: _,
+            uncounted: _,
             list: _list,
         } = self;
     }
@@ -69,17 +72,17 @@ impl Model for History {
 
     ghost view = { λ p. filled p.cell (entries_in p.rows.items) p.reserved };
 
-    ghost invariant = { λ p. (p.list.name ≡ p.cell.name) × (p.list.items ≡ history_of p.cell (entries_in p.rows.items)) × (p.count ≡ length (sent_in p.rows.items)) × AreCounted 0 p.rows.items × (p.reserved ≤ vec_capacity p.rows - vec_len p.rows) × (p.count ≤ 2 ^ 64 * vec_len p.rows) × (p.clocks ≡ clocks_after p.cell.config (history_of p.cell (entries_in p.rows.items))) × (p.earlier ≡ length (sent_after [] p.cell.base)) × (p.base_len ≡ length p.cell.base) × (p.base_len < 2 ^ 63) × (vec_len p.rows + p.reserved ≤ 2 ^ 32) × IsJournalOf p.cell [] };
+    ghost invariant = { λ p. (p.list.name ≡ p.cell.name) × (p.list.items ≡ history_of p.cell (entries_in p.rows.items)) × (p.count ≡ length (sent_in p.rows.items)) × AreCounted 0 p.rows.items × (p.reserved ≤ vec_capacity p.rows - vec_len p.rows) × (p.count ≤ 2 ^ 64 * vec_len p.rows) × (p.clocks ≡ clocks_after p.cell.config (history_of p.cell (entries_in p.rows.items))) × (p.earlier ≡ length (sent_after [] p.cell.base)) × (p.base_len ≡ length p.cell.base) × (p.base_len < 2 ^ 63) × (vec_len p.rows + p.reserved ≤ 2 ^ 33) × IsJournalOf p.cell [] × (p.earlier ≤ 2 ^ 126) × (p.uncounted ≤ 2 ^ 31) };
 }
 
 impl History {
     /// The journal of a new cell, which has no base. Takes no memory.
     #[tactic(auto, using(crate::proofs::CountedEntries::history_none, crate::proofs::Grown::begins_lawful))]
     pub fn new(alloc: Global, config: Config, servers: u64, clients: u64) -> Option<History>
-        ensures { IfSome result (λ p. p ≡ filled (identity p.cell.name config servers clients []) [] 0) }
+        ensures { IfSome result (λ p. p ≡ filled (identity p.cell.name config servers clients [] (replicate 64 false)) [] 0) }
     {
         let list = GrowingList::new()?;
-        let cell = CellIdentity::new(list.beginning(), config, servers, clients);
+        let cell = CellIdentity::new(list.beginning(), config, servers, clients, [false; 64]);
         Some(History {
             cell,
             rows: Vec::new(alloc),
@@ -91,6 +94,7 @@ impl History {
             },
             earlier: 0,
             base_len: 0,
+            uncounted: 0,
             list,
         })
     }
@@ -162,7 +166,7 @@ impl History {
         ensures ok { OnOk result (self.new ≡ filled self.old.cell self.old.entries (self.old.reserved + 1)) }
         ensures err { OnErr result (self.new ≡ self.old) }
     {
-        let most = u64::from(self.cell.config().journal);
+        let most = u64::from(self.cell.config().journal) + self.uncounted;
         let taken = self.rows.len() as u64;
         if taken >= most || self.reserved >= most - taken {
             return Err(NoMemory);
@@ -218,7 +222,11 @@ impl History {
     pub fn park(self) -> ParkedHistory
         ensures journal { result.history ≡ closed self.cell self.entries false }
         ensures list { result.list ≡ listed self.cell.name (history_of self.cell self.entries) }
+        ensures sent { result.sent ≡ length (sent_after [] (history_of self.cell self.entries)) }
+        ensures greatest { result.greatest ≡ (clocks_after self.cell.config (history_of self.cell self.entries)).greatest }
     {
+        let sent = self.earlier + self.count;
+        let greatest = self.clocks.greatest;
         let Self {
             cell,
             rows,
@@ -226,7 +234,8 @@ impl History {
             reserved: _,
             clocks,
             earlier: _,
-            base_len: _,
+            base_len,
+            uncounted: _,
             list,
         } = self;
         let end = ListEnd::parked(list.beginning());
@@ -234,12 +243,95 @@ impl History {
             history: ClosedHistory {
                 cell,
                 rows,
+                base_len,
                 clocks,
                 end,
             },
             list,
+            sent,
+            greatest,
         }
     }
+
+    /// A journal behind what a parked one had, with these clients of which nothing more is written. It may have so many entries beside those that
+    /// the settings allow, and so many take no memory. Where there is no memory, or there would be more entries than can be counted, the list
+    /// comes back.
+    pub fn behind(
+        alloc: Global,
+        parked: &ClosedHistory,
+        list: GrowingList<RaisedEntry>,
+        sent: u128,
+        retired: [bool; 64],
+        room: u64,
+    ) -> Result<History, GrowingList<RaisedEntry>>
+        requires list { list ≡ listed parked.now.cell.name (whole_of parked.now) }
+        requires lawful { IsJournalOf parked.now.cell parked.now.entries }
+        requires sent { sent ≡ length (sent_after [] (whole_of parked.now)) }
+        ensures ok { IfOk result (λ p. p ≡ filled (identity parked.now.cell.name parked.now.cell.config parked.now.cell.servers parked.now.cell.clients (whole_of parked.now) retired) [] 0) }
+        ensures err { IfErr result (λ l. l ≡ list) }
+    {
+        let base_len = parked.whole_len();
+        let mut rows = Vec::new(alloc);
+        let is_too_long = base_len >= MOST_BEFORE || sent > MOST_SENT || room > MOST_ROOM;
+        if is_too_long || rows.reserve(room as usize).is_err() {
+            return Err(list);
+        }
+        let cell = behind_cell(&parked.cell, &list, retired);
+        Ok(History {
+            cell,
+            rows,
+            count: 0,
+            reserved: 0,
+            clocks: parked.clocks,
+            earlier: sent,
+            base_len,
+            uncounted: room,
+            list,
+        })
+    }
+
+    /// The list beside a journal to which nothing was added.
+    pub fn into_list(self) -> GrowingList<RaisedEntry>
+        ensures { result ≡ listed self.cell.name (history_of self.cell self.entries) }
+    {
+        let Self {
+            cell: _cell,
+            rows: _rows,
+            count: _,
+            reserved: _,
+            clocks: _,
+            earlier: _,
+            base_len: _,
+            uncounted: _,
+            list,
+        } = self;
+        list
+    }
+}
+
+/// Below how many entries of a whole history, and behind how many messages, a journal may begin, and for how many entries there is room beside
+/// those that the settings allow.
+const MOST_BEFORE: usize = 1 << 63;
+
+const MOST_SENT: u128 = 1 << 126;
+
+const MOST_ROOM: u64 = 1 << 31;
+
+// The same cell, behind all that this list has.
+fn behind_cell(
+    cell: &CellIdentity,
+    list: &GrowingList<RaisedEntry>,
+    retired: [bool; 64],
+) -> CellIdentity
+    ensures { result ≡ identity list.now.name cell.now.config cell.now.servers cell.now.clients list.now.items retired }
+{
+    CellIdentity::new(
+        list.beginning(),
+        cell.config(),
+        cell.servers(),
+        cell.clients(),
+        retired,
+    )
 }
 
 // The clocks with this entry more.

@@ -1,6 +1,7 @@
 //! The end of a journal.
 
-ghost use Rattle.std.specs.Prelude.{◌≡◌, ◌∷◌, [], Some, true, false};
+ghost use Rattle.std.specs.Prelude.{◌≡◌, ◌∷◌, [], length, Some, true, false};
+ghost use Rattle.protocol_journal.specs.Journal.{sent_after};
 ghost use Rattle.cell_journal.specs.Identity.{Filled, closed};
 ghost use Rattle.cell_journal.specs.Log.{listed};
 ghost use Rattle.cell_journal.specs.WholeHistories.{history_of};
@@ -10,7 +11,8 @@ use crate::history::History;
 use crate::parked_history::ParkedHistory;
 use crate::{JournalWriter, SharedHistory};
 
-fn take_out(shared: &SharedHistory, writer: &mut JournalWriter) -> Option<History>
+/// Takes out the journal that the writer has.
+pub(crate) fn take_out(shared: &SharedHistory, writer: &mut JournalWriter) -> Option<History>
     requires shared { writer.old.table_id ≡ shared.now.table_id }
     requires has { (y : Filled) × (writer.old.me.1 ≡ (0, Some y) ∷ []) }
     ensures { (y : Filled) → writer.old.me.1 ≡ (0, Some y) ∷ [] → result ≡ Some y }
@@ -36,6 +38,7 @@ pub fn park(shared: &SharedHistory, writer: &mut JournalWriter) -> ParkedHistory
     requires has { (y : Filled) × (writer.old.me.1 ≡ (0, Some y) ∷ []) }
     ensures journal { (y : Filled) → writer.old.me.1 ≡ (0, Some y) ∷ [] → result.history ≡ closed y.cell y.entries false }
     ensures list { (y : Filled) → writer.old.me.1 ≡ (0, Some y) ∷ [] → result.list ≡ listed y.cell.name (history_of y.cell y.entries) }
+    ensures sent { (y : Filled) → writer.old.me.1 ≡ (0, Some y) ∷ [] → result.sent ≡ length (sent_after [] (history_of y.cell y.entries)) }
 {
     match take_out(shared, writer) {
         Some(history) => history.park(),

@@ -2,6 +2,7 @@
 
 ghost use Rattle.std.specs.Prelude.{◌≡◌};
 ghost use Rattle.cell_journal.specs.Identity.{identity};
+ghost use Rattle.cell_journal.specs.Log.{listed};
 
 use crate::Beginning;
 use crate::raised_entry::RaisedEntry;
@@ -16,6 +17,8 @@ pub struct CellIdentity {
     config: Config,
     servers: u64,
     clients: u64,
+    /// Of which clients, from the first one on, nothing more is written.
+    retired: [bool; 64],
 }
 
 impl Model for CellIdentity {
@@ -23,7 +26,7 @@ impl Model for CellIdentity {
 
     ghost Value = { Identity };
 
-    ghost view = { λ i. identity i.base.name i.config i.servers i.clients i.base.items };
+    ghost view = { λ i. identity i.base.name i.config i.servers i.clients i.base.items i.retired };
 }
 
 impl CellIdentity {
@@ -32,14 +35,16 @@ impl CellIdentity {
         config: Config,
         servers: u64,
         clients: u64,
+        retired: [bool; 64],
     ) -> CellIdentity
-        ensures { result ≡ identity base.name config servers clients base.items }
+        ensures { result ≡ identity base.name config servers clients base.items retired }
     {
         CellIdentity {
             base,
             config,
             servers,
             clients,
+            retired,
         }
     }
 
@@ -52,6 +57,7 @@ impl CellIdentity {
             config: self.config,
             servers: self.servers,
             clients: self.clients,
+            retired: self.retired,
         }
     }
 
@@ -65,6 +71,20 @@ impl CellIdentity {
         ensures { result ≡ self.now.servers }
     {
         self.servers
+    }
+
+    /// All entries of the cell before those of the journal.
+    pub fn base(&self) -> &Beginning<RaisedEntry>
+        ensures { result.now ≡ listed self.now.name self.now.base }
+    {
+        &self.base
+    }
+
+    /// Of which clients, from the first one on, nothing more is written.
+    pub fn retired(&self) -> [bool; 64]
+        ensures { result ≡ self.now.retired }
+    {
+        self.retired
     }
 
     pub fn clients(&self) -> u64

@@ -2,11 +2,12 @@
 
 ghost use Rattle.std.specs.Prelude.{◌≡◌, ◌∷◌, [], Some, IfSome, IfNone, length, true};
 ghost use Rattle.gfs_types.specs.declared.ids.Node.{Node};
+ghost use Rattle.protocol_journal.specs.Journal.{sent_after};
 ghost use Rattle.cell_journal.specs.Identity.{Filled};
 ghost use Rattle.cell_journal.specs.Log.{listed};
 ghost use Rattle.cell_journal.specs.Rules.{Writes};
 ghost use Rattle.cell_journal.specs.WholeHistories.{history_of, whole_of};
-ghost use Rattle.cell_journal.specs.Writers.{IsAt, IsWaiting, IsParkedAt};
+ghost use Rattle.cell_journal.specs.Writers.{IsAt, IsWaiting, IsParkedAt, HasOwn};
 
 use crate::history::History;
 use crate::history_end::park as park_history;
@@ -18,6 +19,7 @@ use std::thread;
 use std::time::{Clock, Duration};
 
 /// Parks the journal, once no step is under way and the cell's whole history has so many entries. Nothing is added to this journal any more.
+#[tactic(auto, using(crate::proofs::WriterSteps::has_own))]
 pub fn park<R: Wait + Clock>(
     rt: &R,
     shared: &SharedHistory,
@@ -29,6 +31,8 @@ pub fn park<R: Wait + Clock>(
     requires writes { (n : Node) × Writes writer.old.me.0 n }
     ensures parked { IsParkedAt writer.old.me.0.of count result.history }
     ensures list { result.list ≡ listed result.history.cell.name (whole_of result.history) }
+    ensures own { HasOwn writer.old.me.0 result.history }
+    ensures sent { result.sent ≡ length (sent_after [] (whole_of result.history)) }
 {
     for _ in rt.forever() {
         if let Some(history) = try_park(rt, shared, writer, count) {
@@ -51,6 +55,8 @@ fn try_park(
     requires writes { (n : Node) × Writes writer.old.me.0 n }
     ensures some { IfSome result (λ p. IsParkedAt writer.old.me.0.of count p.history) }
     ensures list { IfSome result (λ p. p.list ≡ listed p.history.cell.name (whole_of p.history)) }
+    ensures own { IfSome result (λ p. HasOwn writer.old.me.0 p.history) }
+    ensures sent { IfSome result (λ p. p.sent ≡ length (sent_after [] (whole_of p.history))) }
     ensures none { IfNone result (writer.new.table_id ≡ writer.old.table_id) }
     ensures waits { IfNone result (IsWaiting writer.old.me.0 writer.new.me) }
 {

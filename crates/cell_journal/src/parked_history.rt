@@ -9,10 +9,13 @@ use crate::GrowingList;
 use crate::closed_history::ClosedHistory;
 use crate::raised_entry::RaisedEntry;
 
-/// A journal to which nothing is added any more, and the list of its cell's whole history, which may go on behind it.
+/// A journal to which nothing is added any more, the list of its cell's whole history, which may go on behind it, how many messages were sent in
+/// that history, and its greatest moment.
 pub struct ParkedHistory {
     pub history: ClosedHistory,
     pub list: GrowingList<RaisedEntry>,
+    pub sent: u128,
+    pub greatest: u64,
 }
 
 // Stands here, once, so that no function that lets one go, here or above, takes its fields apart.
@@ -21,6 +24,8 @@ impl Drop for ParkedHistory {
         let Self {
             history: _history,
             list: _list,
+            sent: _,
+            greatest: _,
         } = self;
     }
 }
@@ -35,11 +40,16 @@ impl ParkedHistory {
         history.ended(list.close())
     }
 
-    /// Its parts.
+    /// Its journal and its list.
     pub fn into_parts(self) -> (ClosedHistory, GrowingList<RaisedEntry>)
         ensures { result ≡ (self.history, self.list) }
     {
-        let Self { history, list } = self;
+        let Self {
+            history,
+            list,
+            sent: _,
+            greatest: _,
+        } = self;
         (history, list)
     }
 }

@@ -42,6 +42,8 @@ invariant_of-self c =
       i.9,
       omega (arith, i.10, longer, c.requires, ap (λ (f : Filled). f.reserved) c.self.view_is),
       i.11,
+      i.12,
+      i.13,
     )
 
 pub returns : goal.returns
