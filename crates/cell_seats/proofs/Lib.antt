@@ -8,3 +8,6 @@ pub mod Starting
 pub mod NodeLocks
 pub mod ParkedNodes
 pub mod ParkedSeats
+pub mod Flags
+pub mod GoingOver
+pub mod EarlierJournals

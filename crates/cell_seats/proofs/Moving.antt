@@ -19,7 +19,7 @@ use Rattle.cell_journal.proofs.Begins.{prefix_self, prefix_trans}
 use Rattle.cell_journal.specs.Clocks.{are_clocks_kept}
 use Rattle.cell_journal.specs.Identity.{Filled, Identity}
 use Rattle.cell_journal.specs.Entries.{entry}
-use Rattle.cell_journal.specs.WholeHistories.{all_seen, steps_of, all_steps}
+use Rattle.cell_journal.specs.WholeHistories.{all_seen, steps_of, all_steps, is_retired}
 use Rattle.cell_journal.specs.declared.view.View.{View}
 use Rattle.cell_journal.specs.Rules.{IsStepOf}
 use Rattle.cell_journal.specs.Writers.{IsNodeWriter, IsLater, IsRead, GoesOn, IsSeen}
@@ -84,10 +84,11 @@ module _ (v w : View) (n : Node) where
           (leads_more start led.state (all_steps v n) (raised_entry k e) steps.choice led.leads (subst (λ (b : Bool). IsTrue b) (sym (may_same k led.state cause)) may)
           (ap (λ (t : Taken NodeState). t.out) same ∙ steps.gives))
 
-pub step_of : (v : View) (c : List (ℕ × Option Filled)) (n : Node) (Stands After : NodeState → Type 0) (moment : ℕ) (cause : StepCause) (out : StepOut) → IsNodeWriter n (v, c) → (led : IsLedTo v n Stands) → IsTrue (may_take led.state cause)
-    → StepsSo led.state moment cause out After → moment ≤ moment_limit → IsForNode (sent_after [] v.seen) n cause → IsStepOf v (entry n moment cause out)
-step_of v c n Stands After moment cause out writer led may steps within reads = record {
+pub step_of : (v : View) (c : List (ℕ × Option Filled)) (n : Node) (Stands After : NodeState → Type 0) (moment : ℕ) (cause : StepCause) (out : StepOut) → IsNodeWriter n (v, c) → is_retired v.of n ≡ false → (led : IsLedTo v n Stands)
+    → IsTrue (may_take led.state cause) → StepsSo led.state moment cause out After → moment ≤ moment_limit → IsForNode (sent_after [] v.seen) n cause → IsStepOf v (entry n moment cause out)
+step_of v c n Stands After moment cause out writer goes_on led may steps within reads = record {
   role = writer.role;
+  goes_on = goes_on;
   state = led.state;
   choice = steps.choice;
   leads = led.leads;

@@ -1,6 +1,6 @@
 -- What is seen of a client's steps.
 use Rattle.std.proofs.Common.{◌≡◌, ℕ, Bool, true, false, List, [], ◌∷◌, ◌++◌, Option, Some, None, refl, sym, ap, subst, ◌∙◌, inl, inr, append_assoc}
-use Rattle.std.specs.Prelude.{length, map, Result, Ok, Err, IfOk, IfErr, IsErrAnd}
+use Rattle.std.specs.Prelude.{length, map, Result, Ok, Err, IfOk, IfErr}
 use Rattle.std.proofs.lemmas.List.{append-nil}
 use Rattle.gfs_types.specs.declared.answer.Answer.{Answer}
 use Rattle.gfs_types.specs.declared.call.Call.{Call}
@@ -21,7 +21,7 @@ use Rattle.cell_seats.specs.declared.mailboxes.Input.{Input}
 use Rattle.cell_seats.specs.declared.mailboxes.Input.TheVariants.{Deliver, Tick, Restart}
 use Rattle.cell_seats.specs.Slots.{IsInputOf, told_where, StepTaken, ActsOn}
 use Rattle.cell_seats.specs.declared.client_call.AnsweredCall.{AnsweredCall}
-use Rattle.cell_seats.specs.Seen.{Visible, Asked, Answered, asked_in, answered_in, visible_of, IsFurther, HasSeen, IsAnsweredCall, ShowsAnswer, ShowsNoMore, StaysUnanswered}
+use Rattle.cell_seats.specs.Seen.{Visible, Asked, Answered, asked_in, answered_in, visible_of, IsFurther, HasSeen, IsAnsweredCall, ShowsAnswer, TookNone, StaysUnanswered, answered_only}
 
 visible_append : (xs ys : List Entry) → visible_of (xs ++ ys) ≡ visible_of xs ++ visible_of ys
 visible_append [] ys = refl
@@ -70,6 +70,10 @@ not_told : (kept : Bool) (answer : Option Answer) (refusal : Refusal) → told_w
 not_told true answer refusal h = absurd (let both : ◌≡◌ {A = Result (Option Answer) Refusal} (Ok answer) (Err refusal) = h in cc)
 not_told false answer refusal h = sym (let both : ◌≡◌ {A = Result (Option Answer) Refusal} (Err ClockBroken) (Err refusal) = h in cc)
 
+not_kept : (kept : Bool) (answer : Option Answer) (refusal : Refusal) → told_where kept answer ≡ Err refusal → kept ≡ false
+not_kept true answer refusal h = absurd (let both : ◌≡◌ {A = Result (Option Answer) Refusal} (Ok answer) (Err refusal) = h in cc)
+not_kept false answer refusal h = refl
+
 module _ (n : Node) (v w : View) (cause : StepCause) (answer : Result (Option Answer) Refusal) (beginning : Listed Entry) (count : ℕ) (t : StepTaken n v w cause answer beginning count) where
   pub further_taken : IsFurther v w
   further_taken = record { of = t.goes.of; grows = t.goes.grows }
@@ -83,6 +87,7 @@ module _ (n : Node) (v w : View) (cause : StepCause) (answer : Result (Option An
     lawful = t.goes.lawful;
     clocks = (kept_and_told (Some h.answer) is).0;
     own_is = t.goes.own_is ∙ ap (λ (m : Node). own m w.seen) t.node_is;
+    leaves = t.goes.leaves;
   }
 
   answer_of : (o : Option Answer) → answer ≡ Ok o → t.entry.out.answer ≡ o
@@ -145,38 +150,56 @@ answer_to_input (Err e) n m v w i answer beginning count is acts heard = tt
 
 -- a step that ended with a refusal
 
-pub shows_no_more : (v w : View) (refusal : Refusal) → IsLater v w → ShowsNoMore (visible_of v.mine) (visible_of w.mine) refusal
-shows_no_more v w refusal later = inl (ap visible_of later.mine)
+pub took_none : (v w : View) (refusal : Refusal) → IsLater v w → TookNone v w refusal
+took_none v w refusal later = inl later.mine
 
 -- and so whatever the refusal is
-pub refused_before : (r : Result (Option AnsweredCall) Refusal) (v w : View) → IsLater v w → IfErr r (ShowsNoMore (visible_of v.mine) (visible_of w.mine))
+pub refused_before : (r : Result (Option AnsweredCall) Refusal) (v w : View) → IsLater v w → IfErr r (TookNone v w)
 refused_before (Ok h) v w later = tt
-refused_before (Err refusal) v w later = shows_no_more v w refusal later
-
--- what holds of a refusal holds of the result that hands it on
-pub handed_on : {X : Type 0} (r : Result X Refusal) (P : Refusal → Type 0) (refusal : Refusal) → IsErrAnd r (λ e. e ≡ refusal) → P refusal → IfErr r P
-handed_on (Ok x) P refusal is p = absurd is
-handed_on (Err e) P refusal is p = subst P (sym is) p
+refused_before (Err refusal) v w later = took_none v w refusal later
 
 refused_step : (r : Result (Option AnsweredCall) Refusal) (n : Node) (v w : View) (cause : StepCause) (answer : Result (Option Answer) Refusal) (beginning : Listed Entry) (count : ℕ)
-    → StepTaken n v w cause answer beginning count → IfErr r (λ refusal. answer ≡ Err refusal) → IfErr r (ShowsNoMore (visible_of v.mine) (visible_of w.mine))
+    → StepTaken n v w cause answer beginning count → IfErr r (λ refusal. answer ≡ Err refusal) → IfErr r (TookNone v w)
 refused_step (Ok h) n v w cause answer beginning count t is = tt
-refused_step (Err refusal) n v w cause answer beginning count t is = inr (not_told (are_clocks_kept w.of (all_seen w)) t.entry.out.answer refusal (sym t.answer_is ∙ is))
+refused_step (Err refusal) n v w cause answer beginning count t is =
+    let so = sym t.answer_is ∙ is in
+    inr (not_told (are_clocks_kept w.of (all_seen w)) t.entry.out.answer refusal so, not_kept (are_clocks_kept w.of (all_seen w)) t.entry.out.answer refusal so)
 
 pub refused_call : (r : Result (Option AnsweredCall) Refusal) (n : Node) (v w : View) (call : Call) (answer : Result (Option Answer) Refusal) (beginning : Listed Entry) (count : ℕ)
-    → StepTaken n v w (Calls call) answer beginning count → IfErr r (λ refusal. answer ≡ Err refusal) → IfErr r (ShowsNoMore (visible_of v.mine) (visible_of w.mine))
+    → StepTaken n v w (Calls call) answer beginning count → IfErr r (λ refusal. answer ≡ Err refusal) → IfErr r (TookNone v w)
 refused_call r n v w call answer beginning count t is = refused_step r n v w (Calls call) answer beginning count t is
 
 pub refused_input : (r : Result (Option AnsweredCall) Refusal) (n : Node) (v w : View) (i : Input) (answer : Result (Option Answer) Refusal) (beginning : Listed Entry) (count : ℕ)
-    → ActsOn n v w i answer beginning count → IfErr r (λ refusal. answer ≡ Err refusal) → IfErr r (ShowsNoMore (visible_of v.mine) (visible_of w.mine))
+    → ActsOn n v w i answer beginning count → IfErr r (λ refusal. answer ≡ Err refusal) → IfErr r (TookNone v w)
 refused_input r n v w i answer beginning count acts is = refused_step r n v w acts.cause answer beginning count acts.taken is
 
 -- before the call was made
-pub unanswered_first : (before after : List Visible) (call : Call) (refusal : Refusal) → ShowsNoMore before after refusal → StaysUnanswered before after call refusal
-unanswered_first before after call refusal (inl same) = inl same
-unanswered_first before after call refusal (inr clock) = inr (inr clock)
+pub unanswered_first : (v w : View) (call : Call) (refusal : Refusal) → TookNone v w refusal → StaysUnanswered v call w (record { refusal = refusal; stands = false })
+unanswered_first v w call refusal (inl same) = inl same
+unanswered_first v w call refusal (inr clock) = inr clock
 
 -- and after
-pub unanswered_then : (before was after : List Visible) (call : Call) (refusal : Refusal) → was ≡ before ++ Asked call ∷ [] → ShowsNoMore was after refusal → StaysUnanswered before after call refusal
-unanswered_then before was after call refusal asked (inl same) = inr (inl (same ∙ asked))
-unanswered_then before was after call refusal asked (inr clock) = inr (inr clock)
+pub unanswered_then : (v was w : View) (call : Call) (refusal : Refusal) → visible_of was.mine ≡ visible_of v.mine ++ Asked call ∷ [] → TookNone was w refusal
+    → StaysUnanswered v call w (record { refusal = refusal; stands = true })
+unanswered_then v was w call refusal asked (inl same) = inl (ap visible_of same ∙ asked)
+unanswered_then v was w call refusal asked (inr clock) = inr clock
+
+-- calls with their answers, and one more
+pub answered_more : (before : List Visible) (call : Call) (reply : Answer) → answered_only before ≡ before → answered_only (before ++ Asked call ∷ Answered reply ∷ []) ≡ before ++ Asked call ∷ Answered reply ∷ []
+answered_more [] call reply h = refl
+answered_more (Asked c ∷ []) call reply h = absurd (let both : ◌≡◌ {A = List Visible} [] (Asked c ∷ []) = h in cc)
+answered_more (Asked c ∷ Asked d ∷ rest) call reply h = absurd (let both : ◌≡◌ {A = List Visible} [] (Asked c ∷ Asked d ∷ rest) = h in cc)
+answered_more (Asked c ∷ Answered r ∷ rest) call reply h =
+    let tail : answered_only rest ≡ rest = (let both : ◌≡◌ {A = List Visible} (Asked c ∷ Answered r ∷ answered_only rest) (Asked c ∷ Answered r ∷ rest) = h in cc) in
+    ap (λ (l : List Visible). Asked c ∷ Answered r ∷ l) (answered_more rest call reply tail)
+answered_more (Answered r ∷ rest) call reply h = absurd (let both : ◌≡◌ {A = List Visible} [] (Answered r ∷ rest) = h in cc)
+
+-- a call more that waits leaves those with their answers
+pub answered_left : (before : List Visible) (call : Call) → answered_only before ≡ before → answered_only (before ++ Asked call ∷ []) ≡ before
+answered_left [] call h = refl
+answered_left (Asked c ∷ []) call h = absurd (let both : ◌≡◌ {A = List Visible} [] (Asked c ∷ []) = h in cc)
+answered_left (Asked c ∷ Asked d ∷ rest) call h = absurd (let both : ◌≡◌ {A = List Visible} [] (Asked c ∷ Asked d ∷ rest) = h in cc)
+answered_left (Asked c ∷ Answered r ∷ rest) call h =
+    let tail : answered_only rest ≡ rest = (let both : ◌≡◌ {A = List Visible} (Asked c ∷ Answered r ∷ answered_only rest) (Asked c ∷ Answered r ∷ rest) = h in cc) in
+    ap (λ (l : List Visible). Asked c ∷ Answered r ∷ l) (answered_left rest call tail)
+answered_left (Answered r ∷ rest) call h = absurd (let both : ◌≡◌ {A = List Visible} [] (Answered r ∷ rest) = h in cc)

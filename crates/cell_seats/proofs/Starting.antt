@@ -70,9 +70,9 @@ no_steps node v n w node_is of mine unused =
     ∙ (ap (λ (c : Identity). own n c.base ++ []) of ∙ (ap (λ (m : Node). own m v.of.base ++ []) node_is ∙ ap (λ (es : List Entry). es ++ []) unused))
 
 -- a node that took no step yet is in the state in which its cell began
-pub led_new : (config : Config) (servers : ℕ) (node n : Node) (v w : View) (Stands : NodeState → Type 0) (state : NodeState) → IsRegistered config servers node v n w
+pub led_new : (config : Config) (servers : ℕ) (node n : Node) (v w : View) (Stands : NodeState → Type 0) (state : NodeState) → IsRegistered config servers node v n w → own node v.of.base ≡ []
     → node_in (new_world config servers 64) node ≡ Some state → Stands state → IsLedTo w n Stands
-led_new config servers node n v w Stands state registered begins stands = record {
+led_new config servers node n v w Stands state registered unused begins stands = record {
   state = state;
   leads = subst (λ (es : List Entry). LeadsTo (node_in (new_world w.of.config w.of.servers w.of.clients) n) es (Some state)) (sym none)
       (subst (λ (o : Option NodeState). LeadsTo o [] (Some state)) (sym (world ∙ begins)) (state, refl, refl));
@@ -80,7 +80,7 @@ led_new config servers node n v w Stands state registered begins stands = record
 }
   where
     none : all_steps w n ≡ []
-    none = no_steps node v n w registered.node_is registered.of registered.mine registered.unused
+    none = no_steps node v n w registered.node_is registered.of registered.mine unused
 
     world : node_in (new_world w.of.config w.of.servers w.of.clients) n ≡ node_in (new_world config servers 64) node
     world = ap (λ (c : Config). node_in (new_world c w.of.servers w.of.clients) n) registered.config_is

@@ -12,7 +12,7 @@ use Rattle.gfs_types.specs.declared.ids.Node.TheVariants as node
 use Rattle.relaxed_file.specs.Run as run
 use Rattle.protocol.specs.Observer.{Observer, new_observer, observed_moment, observed_call, observed_answer}
 use Rattle.protocol_journal.specs.Journal.{StepCause, Calls, Takes, Restarts, Entry, is_node, own, asked, answered, entry_observed, observed_after, observer_of}
-use Rattle.cell_seats.specs.Seats.{SeatState, shown}
+use Rattle.cell_seats.specs.Seats.{SeatState}
 use Rattle.cell_seats.specs.Seen.{Visible, Asked, Answered, asked_in, answered_in, visible_of, of_client}
 
 -- one more at the front
@@ -114,5 +114,5 @@ pub shown_to_all : (client : ℕ) (config : Config) (es : List Entry) → of_cli
 shown_to_all client config es = entries_show client config.skew_ms (new_observer table.empty) es
 
 -- a client's view shows its calls and answers as an observer of all saw them
-pub told_of : (s : SeatState) (client : ℕ) → s.node ≡ node.Client (record { 0 = client }) → of_client client (observer_of s.cell.config s.seen).trace ≡ shown s
+pub told_of : (s : SeatState) (client : ℕ) → s.node ≡ node.Client (record { 0 = client }) → of_client client (observer_of s.cell.config s.seen).trace ≡ visible_of (own s.node s.seen)
 told_of s client is = shown_to_all client s.cell.config s.seen ∙ ap (λ (n : Node). visible_of (own n s.seen)) (sym is)

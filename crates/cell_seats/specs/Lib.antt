@@ -3,6 +3,8 @@ pub mod Networks
 pub mod Slots
 pub mod Seen
 pub mod Seats
+pub mod Journals
 pub mod Registry
+pub mod Registries
 pub mod NodeLocks
 pub mod ParkedNodes

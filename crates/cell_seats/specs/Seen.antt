@@ -1,9 +1,10 @@
 -- What is seen of a client's steps.
-use Rattle.std.specs.Prelude.{◌≡◌, ◌⊎◌, ℕ, ◌==◌, if◌then◌else◌, List, [], ◌∷◌, ◌++◌, Option, Some, None, Result, Ok, IsTrue}
+use Rattle.std.specs.Prelude.{◌≡◌, ◌⊎◌, ℕ, suc, Bool, true, false, ◌==◌, if◌then◌else◌, List, [], ◌∷◌, ◌++◌, Option, Some, None, Result, Ok, IsTrue}
 use mathlib.Core.List.{IsPrefix}
 use Rattle.gfs_types.specs.declared.answer.Answer.{Answer}
 use Rattle.gfs_types.specs.declared.call.Call.{Call}
 use Rattle.gfs_types.specs.declared.ids.Node.{Node}
+use Rattle.gfs_types.specs.declared.ids.Node.TheVariants.{Client}
 use Rattle.gfs_types.specs.declared.refusal.Refusal.{Refusal}
 use Rattle.gfs_types.specs.declared.refusal.Refusal.TheVariants.{ClockBroken}
 use Rattle.relaxed_file.specs.Run as run
@@ -12,9 +13,10 @@ use Rattle.cell_journal.specs.Log.{Listed}
 use Rattle.cell_journal.specs.Clocks.{are_clocks_kept}
 use Rattle.cell_journal.specs.declared.view.View.{View}
 use Rattle.cell_journal.specs.Rules.{IsJournalOf}
-use Rattle.cell_journal.specs.WholeHistories.{all_seen}
+use Rattle.cell_journal.specs.WholeHistories.{all_seen, LeaveRetired}
 use Rattle.cell_journal.specs.Writers.{IsSeen}
 use Rattle.cell_seats.specs.declared.client_call.AnsweredCall.{AnsweredCall}
+use Rattle.cell_seats.specs.declared.client_call.CallFault.{CallFault}
 
 -- what is seen of a client from outside: its calls and their answers
 pub data Visible : Type 0 where
@@ -51,6 +53,7 @@ pub record HasSeen (n : Node) (w : View) (beginning : Listed Entry) (count : ℕ
   pub lawful : IsJournalOf w.of w.seen
   pub clocks : IsTrue (are_clocks_kept w.of (all_seen w))
   pub own_is : w.mine ≡ own n w.seen
+  pub leaves : LeaveRetired w.of w.seen
 
 -- a step's answer, if it has one, is given with the journal as it was seen then
 abbrev pub IsAnsweredCall : Result (Option Answer) Refusal → Listed Entry → ℕ → Option AnsweredCall → Type 0
@@ -62,10 +65,29 @@ abbrev pub ShowsAnswer : Node → List Visible → View → Option AnsweredCall 
 ShowsAnswer n before w None = visible_of w.mine ≡ before
 ShowsAnswer n before w (Some h) = (visible_of w.mine ≡ before ++ Answered h.answer ∷ []) × HasSeen n w h.beginning h.count
 
--- a step that ended with a refusal of the cell itself shows no more of its client; or clocks were not kept
-abbrev pub ShowsNoMore : (before after : List Visible) (refusal : Refusal) → Type 0
-ShowsNoMore before after refusal = (after ≡ before) ⊎ (refusal ≡ ClockBroken)
+-- it is said that clocks were not kept, and they were not
+abbrev pub AreBroken : View → Refusal → Type 0
+AreBroken w refusal = (refusal ≡ ClockBroken) × (are_clocks_kept w.of (all_seen w) ≡ false)
+
+-- a step that ended with a refusal of the cell itself was not taken; or clocks were not kept
+abbrev pub TookNone : (v w : View) (refusal : Refusal) → Type 0
+TookNone v w refusal = (w.mine ≡ v.mine) ⊎ AreBroken w refusal
+
+-- a call waits that was made, or none was
+abbrev pub Waits : (before after : List Entry) (call : Call) (stands : Bool) → Type 0
+Waits before after call true = visible_of after ≡ visible_of before ++ Asked call ∷ []
+Waits before after call false = after ≡ before
 
 -- The journal has no answer to a call that the cell itself refused: it was not made, or was and waits; or clocks were not kept.
-abbrev pub StaysUnanswered : (before after : List Visible) (call : Call) (refusal : Refusal) → Type 0
-StaysUnanswered before after call refusal = (after ≡ before) ⊎ ((after ≡ before ++ Asked call ∷ []) ⊎ (refusal ≡ ClockBroken))
+abbrev pub StaysUnanswered : (v : View) (call : Call) (w : View) (fault : CallFault) → Type 0
+StaysUnanswered v call w fault = Waits v.mine w.mine call fault.stands ⊎ AreBroken w fault.refusal
+
+-- calls with their answers, from the first one on; a call that was not answered ends them
+abbrev pub answered_only : List Visible → List Visible
+answered_only (Asked call ∷ Answered reply ∷ rest) = Asked call ∷ Answered reply ∷ answered_only rest
+answered_only other = []
+
+-- the clients of these flags, the first of which is that of the number after this one
+abbrev pub clients_in : ℕ → List Bool → List Node
+clients_in k [] = []
+clients_in k (flag ∷ rest) = if flag then Client (record { 0 = suc k }) ∷ clients_in (suc k) rest else clients_in (suc k) rest

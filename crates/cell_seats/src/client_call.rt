@@ -1,7 +1,7 @@
 //! A call of a client, until it is answered.
 
 ghost use Rattle.std.specs.Prelude.{◌≡◌, ◌++◌, ◌∷◌, [], Err, IfOk, IfErr};
-ghost use Rattle.cell_seats.specs.Seen.{visible_of, IsFurther, HasSeen, ShowsAnswer, ShowsNoMore, StaysUnanswered, IsAnsweredCall, Asked as CallAsked, Answered as CallAnswered};
+ghost use Rattle.cell_seats.specs.Seen.{visible_of, IsFurther, HasSeen, ShowsAnswer, TookNone, StaysUnanswered, IsAnsweredCall, Asked as CallAsked, Answered as CallAnswered};
 
 use crate::gate::OpenGate;
 use crate::mailbox_wait::{FIRST_WAIT, input_within};
@@ -25,27 +25,48 @@ pub struct AnsweredCall {
     pub count: usize,
 }
 
+/// Why a call was refused by the cell itself, and whether it stands in the journal.
+#[derive(Clone, Copy)]
+pub struct CallFault {
+    pub refusal: Refusal,
+    pub stands: bool,
+}
+
 /// Makes the call, and waits for its answer. A call that the cell itself refuses is not answered in the journal, but where clocks were not kept.
-#[tactic(auto, using(crate::proofs::Shown::asked_answered, crate::proofs::Shown::answered_later, crate::proofs::Shown::further_trans))]
+#[tactic(auto, using(crate::proofs::Shown::asked_answered, crate::proofs::Shown::answered_later, crate::proofs::Shown::further_trans, crate::proofs::Shown::unanswered_first, crate::proofs::Shown::unanswered_then))]
 pub fn ask<R: Wait + Clock, N: Stepper + Drop>(
     rt: &R,
     slot: &mut Slot<N>,
     inbox: &Receiver<MailboxItem>,
     call: Call,
-) -> Result<AnsweredCall, Refusal>
+) -> Result<AnsweredCall, CallFault>
     ensures node { slot.new.node ≡ slot.old.node }
     ensures further { IsFurther slot.old.view slot.new.view }
     ensures shows { IfOk result (λ h. visible_of slot.new.view.mine ≡ visible_of slot.old.view.mine ++ CallAsked call ∷ CallAnswered h.answer ∷ []) }
     ensures seen { IfOk result (λ h. HasSeen slot.new.node slot.new.view h.beginning h.count) }
-    ensures err { IfErr result (StaysUnanswered (visible_of slot.old.view.mine) (visible_of slot.new.view.mine) call) }
+    ensures err { IfErr result (StaysUnanswered slot.old.view call slot.new.view) }
 {
-    if let Some(answered) = begin(rt, slot, call)? {
-        return Ok(answered);
+    match begin(rt, slot, call) {
+        Ok(Some(answered)) => return Ok(answered),
+        Ok(None) => {}
+        Err(refusal) => {
+            return Err(CallFault {
+                refusal,
+                stands: false,
+            });
+        }
     }
     let mut wait = FIRST_WAIT;
     for _ in rt.forever() {
-        if let Some(answered) = next_step(rt, slot, inbox, &mut wait)? {
-            return Ok(answered);
+        match next_step(rt, slot, inbox, &mut wait) {
+            Ok(Some(answered)) => return Ok(answered),
+            Ok(None) => {}
+            Err(refusal) => {
+                return Err(CallFault {
+                    refusal,
+                    stands: true,
+                });
+            }
         }
     }
     unreachable!()
@@ -60,7 +81,7 @@ fn begin<R: Wait + Clock, N: Stepper + Drop>(
     ensures node { slot.new.node ≡ slot.old.node }
     ensures further { IsFurther slot.old.view slot.new.view }
     ensures ok { IfOk result (λ h. ShowsAnswer slot.new.node (visible_of slot.old.view.mine ++ CallAsked call ∷ []) slot.new.view h) }
-    ensures err { IfErr result (ShowsNoMore (visible_of slot.old.view.mine) (visible_of slot.new.view.mine)) }
+    ensures err { IfErr result (TookNone slot.old.view slot.new.view) }
 {
     answered_call(slot.call(rt, call)?)
 }
@@ -75,7 +96,7 @@ fn next_step<R: Wait + Clock, N: Stepper + Drop>(
     ensures node { slot.new.node ≡ slot.old.node }
     ensures further { IsFurther slot.old.view slot.new.view }
     ensures ok { IfOk result (λ h. ShowsAnswer slot.new.node (visible_of slot.old.view.mine) slot.new.view h) }
-    ensures err { IfErr result (ShowsNoMore (visible_of slot.old.view.mine) (visible_of slot.new.view.mine)) }
+    ensures err { IfErr result (TookNone slot.old.view slot.new.view) }
 {
     let Some(input) = input_within(rt, inbox, wait) else {
         return Err(Refusal::Closed);

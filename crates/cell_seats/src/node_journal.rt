@@ -1,13 +1,13 @@
 //! A node's own writer of the journal.
 
-ghost use Rattle.std.specs.Prelude.{◌≡◌, ◌+◌, ◌<◌, ◌≤◌, [], IfOk, IfSome, IfNone, OnErr};
+ghost use Rattle.std.specs.Prelude.{◌≡◌, false, ◌+◌, ◌<◌, ◌≤◌, [], IfOk, IfSome, IfNone, OnErr};
 ghost use Rattle.std.specs.Arc.{arc_value};
 ghost use Rattle.protocol.specs.Tables.{moment_limit};
 ghost use Rattle.protocol_journal.specs.Journal.{sent_after};
 ghost use Rattle.cell_journal.specs.Clocks.{are_clocks_kept};
 ghost use Rattle.cell_journal.specs.Entries.{entry, cause_of};
 ghost use Rattle.cell_journal.specs.Rules.{IsStepOf};
-ghost use Rattle.cell_journal.specs.WholeHistories.{all_seen};
+ghost use Rattle.cell_journal.specs.WholeHistories.{all_seen, is_retired};
 ghost use Rattle.cell_journal.specs.Writers.{IsAt, IsNodeWriter, IsLater, IsRead, GoesOn, IsSeen, HasLooked};
 
 use crate::gate::Kind;
@@ -35,6 +35,7 @@ pub struct NodeJournal {
     pub writer: JournalWriter,
     pub ghost here: { IsAt (arc_value shared).table.shared.table_id writer.table_id },
     pub ghost own: { IsNodeWriter node writer.me },
+    pub ghost goes_on: { is_retired writer.me.0.of node ≡ false },
 }
 
 // Stands here, once, so that no crate above proves the drops of all that the nodes share.
@@ -52,6 +53,7 @@ impl NodeJournal {
     pub fn new(shared: Arc<SharedState>, node: Node, writer: JournalWriter) -> NodeJournal
         requires here { IsAt (arc_value shared).table.shared.table_id writer.table_id }
         requires own { IsNodeWriter node writer.me }
+        requires goes_on { is_retired writer.me.0.of node ≡ false }
         ensures { (result.node ≡ node) × (result.writer.me ≡ writer.me) }
     {
         NodeJournal {

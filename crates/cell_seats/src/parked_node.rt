@@ -2,14 +2,17 @@
 
 ghost use Rattle.std.specs.Prelude.{◌≡◌, true, IfSome, length};
 ghost use Rattle.cell_journal.specs.Writers.{IsLater, HasLooked};
-ghost use Rattle.cell_seats.specs.ParkedNodes.{parked_node};
+ghost use Rattle.cell_seats.specs.ParkedNodes.{parked_node, IsBehind};
+ghost use Rattle.cell_seats.specs.Slots.{slot_state};
 
+use crate::node_journal::NodeJournal;
 use crate::slot::Slot;
 use crate::stepper::Stepper;
 use cell_journal::identity::CellIdentity;
 use cell_journal::raised_entry::RaisedEntry;
 use cell_journal::{Beginning, HistoryLook, meet};
 use gfs_types::ids::Node;
+use std::alloc::Global;
 use std::marker::Model;
 use std::sync::Wait;
 use std::thread;
@@ -70,6 +73,38 @@ impl<N: Stepper + Drop> ParkedNode<N> {
             count,
             stepper,
         })
+    }
+
+    /// The node with a place in a journal that stands behind its history.
+    pub fn into_slot(self, alloc: Global, journal: NodeJournal) -> Slot<N>
+        requires node { journal.node ≡ self.node }
+        requires behind { IsBehind journal.writer.me.0 self }
+        ensures { result ≡ slot_state journal.node journal.writer.me.0 }
+    {
+        let Self {
+            cell: _cell,
+            node: _,
+            history: _history,
+            count: _,
+            stepper,
+        } = self;
+        Slot::new(alloc, journal, stepper)
+    }
+
+    /// Which node it is.
+    pub fn name(&self) -> Node
+        ensures { result ≡ self.now.node }
+    {
+        self.node
+    }
+
+    /// Whether its cell has the settings of this one, and so many servers and clients.
+    pub fn is_of(&self, cell: &CellIdentity) -> bool
+        ensures { result ≡ true → (self.now.cell.config ≡ cell.now.config) × (self.now.cell.servers ≡ cell.now.servers) × (self.now.cell.clients ≡ cell.now.clients) }
+    {
+        self.cell.config() == cell.config()
+            && self.cell.servers() == cell.servers()
+            && self.cell.clients() == cell.clients()
     }
 
     /// How many entries the history has.

@@ -1,17 +1,17 @@
 //! A client, which runs inside its calls.
 
-ghost use Rattle.std.specs.Prelude.{◌≡◌, ℕ, IfOk, IfErr, IfSome, None, false, length, IsTrue};
+ghost use Rattle.std.specs.Prelude.{◌≡◌, ℕ, IfOk, IfErr, IfSome, [], None, false, length, IsTrue};
 ghost use Rattle.gfs_types.specs.declared.ids.Node.TheVariants.{Client};
-ghost use Rattle.protocol_journal.specs.Journal.{observer_of};
+ghost use Rattle.protocol_journal.specs.Journal.{observer_of, own};
 ghost use Rattle.journal_headline.specs.Journals.{AreExplained};
 ghost use Rattle.cell_journal.specs.Log.{listed};
 ghost use Rattle.cell_journal.specs.Clocks.{are_clocks_kept};
 ghost use Rattle.cell_journal.specs.WholeHistories.{IsHistoryOf};
-ghost use Rattle.cell_seats.specs.Seats.{IsAnswered, IsLost, seat_state, shown, IsSeat, is_the_cells};
-ghost use Rattle.cell_seats.specs.ParkedNodes.{IsClientOf};
-ghost use Rattle.cell_seats.specs.Seen.{of_client};
+ghost use Rattle.cell_seats.specs.Seats.{IsAnswered, IsLost, seat_state, IsSeat, is_the_cells};
+ghost use Rattle.cell_seats.specs.ParkedNodes.{IsClientOf, SitsOn};
+ghost use Rattle.cell_seats.specs.Seen.{of_client, visible_of, clients_in};
 
-use crate::client_call::{AnsweredCall, ask};
+use crate::client_call::{AnsweredCall, CallFault, ask};
 use crate::mailboxes::MailboxItem;
 use crate::parked_node::{ParkedNode, look_until};
 use crate::shared_state::SharedState;
@@ -22,6 +22,7 @@ use cell_journal::raised_entry::RaisedEntry;
 use crossbeam_channel::Receiver;
 use gfs_types::answer::Answer;
 use gfs_types::call::Call;
+use gfs_types::ids::Node;
 use gfs_types::refusal::Refusal;
 use std::marker::Model;
 use std::sync::Wait;
@@ -36,8 +37,12 @@ pub struct Seat<N: Stepper + Drop> {
     count: usize,
     /// The bit of this client among those that are in a call.
     bit: u64,
+    /// Which clients it was before, from the first one on.
+    earlier: [bool; 64],
     /// Why no call of this client is taken any more.
     lost: Option<Refusal>,
+    /// Whether a call of it stands in the journal that was not answered.
+    waits: bool,
 }
 
 // Stands here, once, so that no crate above proves the drops of all that a client owns.
@@ -49,23 +54,27 @@ impl<N: Stepper + Drop> Drop for Seat<N> {
             view: _view,
             count: _,
             bit: _,
+            earlier: _,
             lost: _,
+            waits: _,
         } = self;
     }
 }
 
 impl<N: Stepper + Drop> Model for Seat<N> {
     ghost use Rattle.cell_seats.specs.Seats.{SeatState, seat_state, is_some, IsSeat};
+    ghost use Rattle.cell_seats.specs.Seen.{clients_in};
 
     ghost Value = { SeatState };
 
-    ghost view = { λ s. seat_state s.slot.node s.slot.view.of s.view.items (is_some s.lost) };
+    ghost view = { λ s. seat_state s.slot.node (clients_in 0 s.earlier) s.slot.view.of s.view.items (is_some s.lost) s.waits };
 
-    ghost invariant = { λ s. IsSeat s.slot.node s.slot.view s.view s.count s.lost };
+    ghost invariant = { λ s. IsSeat s.slot.node (clients_in 0 s.earlier) s.slot.view s.view s.count s.lost s.waits };
 }
 
 impl<N: Stepper + Drop> Seat<N> {
     /// A client that made no call yet, and saw the journal so.
+    #[tactic(auto, using(crate::proofs::Flags::no_clients))]
     pub fn new(
         slot: Slot<N>,
         inbox: Receiver<MailboxItem>,
@@ -73,8 +82,8 @@ impl<N: Stepper + Drop> Seat<N> {
         count: usize,
         bit: u64,
     ) -> Seat<N>
-        requires { IsSeat slot.node slot.view view count None }
-        ensures { result ≡ seat_state slot.node slot.view.of view.items false }
+        requires { IsSeat slot.node [] slot.view view count None false }
+        ensures { result ≡ seat_state slot.node [] slot.view.of view.items false false }
     {
         Seat {
             slot,
@@ -82,7 +91,9 @@ impl<N: Stepper + Drop> Seat<N> {
             view,
             count,
             bit,
+            earlier: [false; 64],
             lost: None,
+            waits: false,
         }
     }
 
@@ -93,7 +104,7 @@ impl<N: Stepper + Drop> Seat<N> {
         ensures lawful { IsHistoryOf self.now.cell self.now.seen }
         ensures clocks { IsTrue (are_clocks_kept self.now.cell self.now.seen) }
         ensures explained { AreExplained self.now.cell.config self.now.seen }
-        ensures own { (client : ℕ) → self.now.node ≡ Client (record { 0 = client }) → of_client client (observer_of self.now.cell.config self.now.seen).trace ≡ shown self.now }
+        ensures own { (client : ℕ) → self.now.node ≡ Client (record { 0 = client }) → of_client client (observer_of self.now.cell.config self.now.seen).trace ≡ visible_of (own self.now.node self.now.seen) }
     {
         self.count as u64
     }
@@ -114,6 +125,60 @@ impl<N: Stepper + Drop> Seat<N> {
     {
         let look = look_until(rt, &mut self.slot, count)?;
         ParkedNode::of(&mut self.slot, look)
+    }
+
+    /// The seat of a cell that goes on: its client makes its calls from now on as this node, and was these before.
+    pub fn sit(
+        self,
+        slot: Slot<N>,
+        inbox: Receiver<MailboxItem>,
+        bit: u64,
+        earlier: [bool; 64],
+    ) -> Seat<N>
+        requires { SitsOn self slot.node (clients_in 0 earlier) slot.view }
+        ensures { result ≡ seat_state slot.node (clients_in 0 earlier) slot.view.of self.seen false false }
+    {
+        let Self {
+            slot: _slot,
+            inbox: _inbox,
+            view,
+            count,
+            bit: _,
+            earlier: _,
+            lost: _,
+            waits: _,
+        } = self;
+        Seat {
+            slot,
+            inbox,
+            view,
+            count,
+            bit,
+            earlier,
+            lost: None,
+            waits: false,
+        }
+    }
+
+    /// Which clients it was before, from the first one on.
+    pub fn earlier(&self) -> [bool; 64]
+        ensures { clients_in 0 result ≡ self.now.earlier }
+    {
+        self.earlier
+    }
+
+    /// Whether a call of it stands in the journal that was not answered.
+    pub fn waits(&self) -> bool
+        ensures { result ≡ self.now.waits }
+    {
+        self.waits
+    }
+
+    /// Which client it is.
+    pub fn name(&self) -> Node
+        ensures { result ≡ self.now.node }
+    {
+        self.slot.name()
     }
 
     /// Makes a call, and waits for its answer. After a refusal of the cell itself every later call is refused so too.
@@ -142,9 +207,10 @@ impl<N: Stepper + Drop> Seat<N> {
                 self.lost = None;
                 Ok(answer)
             }
-            Err(refusal) => {
+            Err(CallFault { refusal, stands }) => {
                 let own = of_the_cell(refusal);
                 self.lost = Some(own);
+                self.waits = stands;
                 Err(own)
             }
         }

@@ -13,6 +13,14 @@ use std::time::{Clock, Duration};
 /// How many clients a cell may have.
 pub const MOST_CLIENTS: u64 = 64;
 
+/// What `SharedState::closing` says once no step is begun any more, once no node and no client needs to be told so, and while the threads of a
+/// parked cell that goes on wait for its nodes.
+pub const CLOSING: u64 = 1;
+
+pub const ENDED: u64 = 2;
+
+pub const STARTING: u64 = 3;
+
 /// How far a running cell was at some moment: how many calls were answered, how many steps were taken, and for how many more there was room in
 /// its journal.
 #[derive(Clone, Copy, Debug, PartialEq, Eq)]
@@ -30,7 +38,7 @@ pub struct SharedState {
     pub began: Duration,
     /// Which clients are in a call, by their bits.
     pub calling: AtomicU64,
-    /// 1 once the cell closes.
+    /// How far the cell is from its beginning or its end.
     pub closing: AtomicU64,
     /// How many calls were answered, and how many steps stand in the journal.
     pub answered: AtomicU64,
@@ -80,6 +88,7 @@ impl SharedState {
     }
 
     pub fn is_closing(&self) -> bool {
-        self.closing.load(Ordering::SeqCst) != 0
+        let word = self.closing.load(Ordering::SeqCst);
+        word == CLOSING || word == ENDED
     }
 }

@@ -9,7 +9,7 @@ pub end-requires-clause-step : goal.end-requires-clause-step
 end-requires-clause-step g c =
     let d = c.args.journal.now in
     let led = c.requires.led in
-    step_of d.writer.me.0 d.writer.me.1 d.node (g.N.Stepper.stands c.args.node) (g.N.Stepper.stands c.step-given.new.self) c.args.now.0 (cause_of c.args.cause) c.step-given.result.out d.own led
+    step_of d.writer.me.0 d.writer.me.1 d.node (g.N.Stepper.stands c.args.node) (g.N.Stepper.stands c.step-given.new.self) c.args.now.0 (cause_of c.args.cause) c.step-given.result.out d.own d.goes_on led
     (c.requires.may led.state led.stands) (c.step-given.ensures.steps led.state led.stands) c.requires.moment c.requires.reads
 
 pub returns-in-Some-clause-led : goal.returns-in-Some-clause-led
