@@ -5,3 +5,7 @@ pub mod Standing
 pub mod NewSeats
 pub mod NewLocks
 pub mod Parking
+pub mod Anew
+pub mod Fresh
+pub mod Going
+pub mod Placing

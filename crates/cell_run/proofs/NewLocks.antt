@@ -1,11 +1,14 @@
 -- The locks of so many servers, and of one more.
-use Rattle.std.proofs.Common.{◌≡◌, ℕ, zero, suc, ◌+◌, ◌≤◌, List, [], ◌∷◌, ◌++◌, length, refl, sym, ap, subst, ◌∙◌, arith}
-use Rattle.std.specs.Prelude.{map}
+use Rattle.std.proofs.Common.{◌≡◌, ℕ, zero, suc, ◌+◌, ◌<◌, ◌≤◌, List, [], ◌∷◌, ◌++◌, length, get_or, Some, refl, sym, ap, subst, ◌∙◌, arith}
+use Rattle.std.specs.Prelude.{map, slice_get}
+use Rattle.std.specs.Option.{option_map}
 use Rattle.std.proofs.lemmas.List.{length-map, length-append}
-use Rattle.protocol.specs.Tables.{first_numbers}
+use Rattle.std.proofs.lemmas.Option.{slice_get-map, slice_get_read}
+use Rattle.protocol.specs.Tables.{first_numbers, element_at}
 use Rattle.protocol.specs.Sending.{the_server}
 use Rattle.cell_journal.specs.Identity.{Identity}
 use Rattle.cell_seats.specs.NodeLocks.{NodeName, node_name}
+use Rattle.cell_seats.proofs.Starting.{numbered_is}
 use Rattle.cell_run.specs.Cells.{names_of}
 
 -- the servers of the first so many numbers
@@ -28,7 +31,14 @@ one_lock_more f cell before was now one is new locks =
     ∙ (sym (map_append (λ s. node_name cell (the_server s)) (first_numbers before) (suc before ∷ []))
     ∙ ap (servers_of cell) (sym next)))))
 
-numbers_count : (n : ℕ) → length (first_numbers n) ≡ n
+-- the lock at a place
+
+same_place : {X : Type 0} (xs : List X) (i : ℕ) → element_at xs i ≡ slice_get xs i
+same_place [] i = refl
+same_place (x ∷ xs) zero = refl
+same_place (x ∷ xs) (suc i) = same_place xs i
+
+pub numbers_count : (n : ℕ) → length (first_numbers n) ≡ n
 numbers_count zero = refl
 numbers_count (suc n) = omega (arith, length-append (first_numbers n) (suc n ∷ []), numbers_count n)
 
@@ -36,3 +46,20 @@ numbers_count (suc n) = omega (arith, length-append (first_numbers n) (suc n ∷
 pub locks_fit : (locks : List NodeName) (cell : Identity) (servers room : ℕ) → locks ≡ names_of cell servers → servers ≤ room → length locks ≤ suc room
 locks_fit locks cell servers room are fits =
     omega (arith, ap length are, length-map (first_numbers servers) (λ s. node_name cell (the_server s)), numbers_count servers, fits)
+
+pub locks_count : {X : Type 0} (f : X → NodeName) (cell : Identity) (servers : ℕ) (xs : List X) → map f xs ≡ servers_of cell servers → length xs ≡ servers
+locks_count f cell servers xs all =
+    sym (length-map xs f) ∙ (ap length all ∙ (length-map (first_numbers servers) (λ s. node_name cell (the_server s)) ∙ numbers_count servers))
+
+pub lock_at : {X : Type 0} (f : X → NodeName) (cell : Identity) (servers i : ℕ) (xs : List X) (x : X) → map f xs ≡ servers_of cell servers → i < length xs → x ≡ get_or xs i x
+    → f x ≡ node_name cell (the_server (i + 1))
+lock_at f cell servers i xs x all within at =
+    let next : suc i ≡ i + 1 = omega arith in
+    let few : i < servers = omega (arith, within, locks_count f cell servers xs all) in
+    let some : 0 < suc i = omega arith in
+    let here : slice_get (map f xs) i ≡ Some (f x) = slice_get-map f xs i ∙ ap (option_map f) (slice_get_read xs (length xs) i x refl within at) in
+    let there : slice_get (servers_of cell servers) i ≡ Some (node_name cell (the_server (suc i))) =
+    sym (same_place (servers_of cell servers) i) ∙ numbered_is (λ s. node_name cell (the_server s)) servers (suc i) some (omega (arith, few)) in
+    let both : Some (f x) ≡ Some (node_name cell (the_server (suc i))) = sym here ∙ (ap (λ (l : List NodeName). slice_get l i) all ∙ there) in
+    let same : f x ≡ node_name cell (the_server (suc i)) = (let e = both in cc) in
+    same ∙ ap (λ (n : ℕ). node_name cell (the_server n)) next

@@ -8,17 +8,19 @@ use Rattle.protocol_journal.specs.Journal.{Entry, own}
 use Rattle.cell_journal.specs.Log.{Listed, listed}
 use mathlib.Core.List.{IsPrefix}
 use Rattle.std.specs.Prelude.{IsTrue}
+use Rattle.std.proofs.lemmas.List.Elements.{All-nil}
 use Rattle.cell_journal.specs.Clocks.{are_clocks_kept}
 use Rattle.cell_journal.specs.Identity.{Identity}
 use Rattle.cell_journal.specs.WholeHistories.{all_seen, all_steps, IsHistoryOf}
 use Rattle.cell_journal.specs.declared.view.View.{View}
 use Rattle.cell_journal.proofs.Grown.{none_lawful}
 use Rattle.cell_run.specs.NewNodes.{IsNewClient}
-use Rattle.cell_seats.specs.Seats.{IsSeat}
+use Rattle.cell_seats.specs.Seats.{IsGone, IsSeat}
+use Rattle.cell_seats.specs.Seen.{visible_of, answered_only}
 use Rattle.cell_seats.proofs.Starting.{no_steps}
 
 -- it has seen nothing of the journal
-pub new_seat : (id : ClientId) (v w : View) (n : Node) (nothing : Listed Entry) → IsNewClient id v n w → nothing ≡ listed v.of.name [] → first_out_of_range v.of.config ≡ None → IsSeat n w nothing 0 None
+pub new_seat : (id : ClientId) (v w : View) (n : Node) (nothing : Listed Entry) → IsNewClient id v n w → nothing ≡ listed v.of.name [] → first_out_of_range v.of.config ≡ None → IsSeat n [] w nothing 0 None false
 new_seat id v w n nothing new is in_range = record {
   name = ap (λ (l : Listed Entry). l.name) is ∙ ap (λ c. c.name) (sym new.of);
   count_is = sym (ap length items);
@@ -28,6 +30,9 @@ new_seat id v w n nothing new is in_range = record {
   in_range = subst (λ (i : Identity). first_out_of_range i.config ≡ None) (sym new.of) in_range;
   own_is = λ _. ap (own n) items ∙ sym none;
   refused = tt;
+  told = ap (λ (es : List Entry). answered_only (visible_of (own n es))) items ∙ sym (ap (λ (es : List Entry). visible_of (own n es)) items);
+  stands = tt;
+  gone = All-nil (IsGone w nothing.items);
 }
   where
     items : nothing.items ≡ []

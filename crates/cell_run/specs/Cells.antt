@@ -1,15 +1,15 @@
 -- A running cell.
 use Rattle.std.specs.Prelude.{◌≡◌, ◌≤◌, ◌<◌, ◌+◌, ℕ, List, [], ◌∷◌, map, None, false, replicate}
-use Rattle.logbook.specs.Pages.{Book}
 use Rattle.gfs_types.specs.Settings.{first_out_of_range}
 use Rattle.gfs_types.specs.declared.config.Config.{Config}
 use Rattle.gfs_types.specs.declared.ids.Node.{Node}
 use Rattle.gfs_types.specs.declared.ids.Node.TheVariants.{Master, Client}
 use Rattle.protocol.specs.Tables.{first_numbers}
 use Rattle.protocol.specs.Sending.{the_server}
-use Rattle.protocol_journal.specs.Journal.{Entry}
+use Rattle.protocol_journal.specs.Journal.{Entry, own}
 use Rattle.cell_journal.specs.Log.{Listed, listed}
 use Rattle.cell_journal.specs.Identity.{Identity}
+use Rattle.cell_journal.specs.WholeHistories.{is_retired}
 use Rattle.cell_seats.specs.declared.controls.Controls.{Controls}
 use Rattle.cell_seats.specs.declared.controls.ControlWriter.{ControlWriter}
 use Rattle.cell_seats.specs.declared.mailboxes.Policy.{Policy}
@@ -57,7 +57,7 @@ asked_again c node = record c { restarts = restarted c.restarts node }
 
 -- the cell's next client, which has seen nothing yet
 abbrev pub IsNewSeat : CellState → SeatState → Type 0
-IsNewSeat c s = s ≡ seat_state (Client (record { 0 = c.made + 1 })) c.of [] false
+IsNewSeat c s = s ≡ seat_state (Client (record { 0 = c.made + 1 })) [] c.of [] false false
 
 -- why there is no client more: all were made, or memory was refused before that; a cell that is there isn't closed
 abbrev pub IsSeatFault : CellState → SeatFault → Type 0
@@ -65,10 +65,15 @@ IsSeatFault c Many = 64 ≤ c.made
 IsSeatFault c Closed = ⊥
 IsSeatFault c NoMemory = c.made < 64
 
--- the master, the servers and so many clients are registered, the other clients have their mailboxes; what it asks is asked of its own nodes
-pub record HasMade (config : Config) (servers registered made boxes : ℕ) (name : Book) (nothing : Listed Entry) (controls : Controls) (control_writer : ControlWriter) : Type 0 where
+-- nothing was written of this node, and something may be
+abbrev pub IsFresh : Identity → Node → Type 0
+IsFresh cell n = (own n cell.base ≡ []) × (is_retired cell n ≡ false)
+
+-- the master, the servers and so many clients are registered, the other clients have their mailboxes and did nothing before; what it asks is asked of its own nodes
+pub record HasMade (config : Config) (servers registered made boxes : ℕ) (of : Identity) (nothing : Listed Entry) (controls : Controls) (control_writer : ControlWriter) : Type 0 where
   pub least : 64 ≤ config.chunk
   pub next : registered ≡ servers + 1 + made
   pub waiting : boxes + made ≡ 64
-  pub nothing_is : nothing ≡ listed name []
+  pub nothing_is : nothing ≡ listed of.name []
+  pub fresh : (n : ℕ) → made < n → IsFresh of (Client (record { 0 = n }))
   pub asks : WritesControls controls control_writer

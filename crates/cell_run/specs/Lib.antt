@@ -4,4 +4,6 @@ pub mod StartFaults
 pub mod Cells
 pub mod SeatFaults
 pub mod Parked
+pub mod ParkedSeats
+pub mod Resumed
 pub mod EndedCells

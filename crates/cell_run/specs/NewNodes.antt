@@ -9,7 +9,6 @@ use Rattle.cell_run.specs.declared.start_fault.StartFault.{StartFault}
 use Rattle.cell_run.specs.declared.start_fault.StartFault.TheVariants.{NoMemory, Log}
 use Rattle.protocol_journal.specs.Journal.{own}
 use Rattle.cell_journal.specs.declared.view.View.{View}
-use Rattle.cell_seats.specs.declared.node_registry.NodeRegistry.{NodeRegistry}
 
 -- the settings lie in the bounds that nodes ask for
 pub record IsFitting (config : Config) : Type 0 where
@@ -22,15 +21,6 @@ pub record IsFitting (config : Config) : Type 0 where
 -- why a new cell has no master
 abbrev pub IsOfMaster : StartFault → Type 0
 IsOfMaster f = (f ≡ NoMemory) ⊎ (f ≡ Log)
-
--- it registers nodes of the same cell, and saw no more of the journal
-pub record IsSame (old new : NodeRegistry) : Type 0 where
-  pub shared_is : new.shared ≡ old.shared
-  pub cell_is : new.cell ≡ old.cell
-  pub config_is : new.config ≡ old.config
-  pub servers_are : new.servers ≡ old.servers
-  pub of : new.writer.me.0.of ≡ old.writer.me.0.of
-  pub seen : new.writer.me.0.seen ≡ old.writer.me.0.seen
 
 -- the writer of a node that took no step yet, in the cell of a registry's writer
 pub record IsNewNode (node : Node) (v : View) (n : Node) (w : View) : Type 0 where

@@ -1,6 +1,6 @@
 //! A running cell.
 
-ghost use Rattle.std.specs.Prelude.{◌≡◌, ◌+◌, ◌≤◌, ◌<◌, ◌++◌, ◌∷◌, [], None, IfOk, IfErr, OnOk, OnErr, IsTrue, true, vec_len, replicate};
+ghost use Rattle.std.specs.Prelude.{◌≡◌, ◌+◌, ◌≤◌, ◌<◌, ◌++◌, ◌∷◌, [], None, IfOk, IfErr, OnOk, OnErr, IsTrue, true, false, vec_len, replicate};
 ghost use Rattle.std.specs.Arc.{arc_value};
 ghost use Rattle.gfs_types.specs.Settings.{first_out_of_range};
 ghost use Rattle.journal_headline.specs.Journals.{AreExplained};
@@ -9,8 +9,9 @@ ghost use Rattle.cell_journal.specs.Log.{listed};
 ghost use Rattle.cell_journal.specs.Rules.{IsJournalOf};
 ghost use Rattle.cell_journal.specs.WholeHistories.{whole_of};
 ghost use Rattle.gfs_types.specs.declared.ids.Node.TheVariants.{Master, Server};
-ghost use Rattle.cell_run.specs.NewNodes.{IsFitting, IsSame};
+ghost use Rattle.cell_run.specs.NewNodes.{IsFitting};
 ghost use Rattle.cell_seats.specs.NodeLocks.{node_name};
+ghost use Rattle.cell_seats.specs.Registries.{IsSameRegistry};
 ghost use Rattle.cell_seats.specs.Controls.{WritesControls, no_policy, policy_in};
 ghost use Rattle.cell_run.specs.EndedCells.{IsEnded};
 ghost use Rattle.cell_run.specs.Cells.{IsCellOf, IsNewCell, IsNewSeat, IsSeatFault, more, with_policy, asked_again, names_of};
@@ -22,7 +23,7 @@ use crate::running_master::RunningMaster;
 use crate::running_server::RunningServer;
 use crate::seat_fault::SeatFault;
 pub use crate::start_fault::StartFault;
-use crate::threads::{CLOSING, ENDED, serve, stop_all, tick, wait_for_clients};
+use crate::threads::{serve, stop_all, tick, wait_for_clients};
 use crate::watch::{Watch, Watcher, tell_on};
 use cell_journal::history::History;
 use cell_journal::raised_entry::RaisedEntry;
@@ -34,9 +35,9 @@ use cell_seats::mailboxes::{Input, MailboxItem, MailboxSenders, Mailboxes, Polic
 use cell_seats::node_lock::NodeLock;
 use cell_seats::node_registry::NodeRegistry;
 use cell_seats::seat::Seat;
-use cell_seats::shared_state::{MOST_CLIENTS, SharedState};
+use cell_seats::shared_state::{CLOSING, ENDED, MOST_CLIENTS, SharedState};
 use cell_seats::stepper::Stepper;
-use crossbeam_channel::{Receiver, unbounded};
+use crossbeam_channel::{Receiver, Sender, unbounded};
 use gfs_types::config::Config;
 use gfs_types::ids::{ClientId, Node, ServerId};
 use std::alloc::Global;
@@ -53,23 +54,40 @@ pub type ClientSeat = Seat<RunningClient>;
 /// How many servers a cell may have.
 pub const MOST_SERVERS: u16 = 64;
 
-type Thread = JoinHandle<()>;
+pub(crate) type Thread = JoinHandle<()>;
+
+/// The thread that tells the nodes that time passes, until its sending end is gone.
+#[derive(Drop)]
+pub(crate) struct Ticker {
+    stop: Sender<()>,
+    thread: Thread,
+}
+
+impl Ticker {
+    fn end(self, rt: &impl Threads) {
+        let Self { stop, thread } = self;
+        drop(stop);
+        thread.join(rt);
+    }
+}
 
 /// A cell whose nodes run on threads. One that is dropped and not closed goes on.
 pub struct Cell {
     pub(crate) alloc: Global,
     pub(crate) registry: NodeRegistry,
-    locks: NodeLocks,
+    pub(crate) locks: NodeLocks,
+    /// The journal up to which it was parked last, if it was.
+    pub(crate) base: Vec<Journal>,
     /// The journal with no step in it, which is what a new client has seen.
-    nothing: Beginning<RaisedEntry>,
+    pub(crate) nothing: Beginning<RaisedEntry>,
     /// The mailboxes of the clients from the next one on, the next one's last.
-    inboxes: Vec<Receiver<MailboxItem>>,
+    pub(crate) inboxes: Vec<Receiver<MailboxItem>>,
     /// How many clients were made.
-    made: u64,
+    pub(crate) made: u64,
     /// What asks something of the network and the nodes.
-    control_writer: ControlWriter,
-    ticker: Thread,
-    nodes: Vec<Thread>,
+    pub(crate) control_writer: ControlWriter,
+    pub(crate) ticker: Ticker,
+    pub(crate) nodes: Vec<Thread>,
 }
 
 // Stands here, once, so that no crate above proves the drops of all that a cell owns.
@@ -79,6 +97,7 @@ impl Drop for Cell {
             alloc: _,
             registry: _registry,
             locks: _locks,
+            base: _base,
             nothing: _nothing,
             inboxes: _inboxes,
             made: _,
@@ -90,16 +109,17 @@ impl Drop for Cell {
 }
 
 impl Model for Cell {
-    ghost use Rattle.std.specs.Prelude.{◌≡◌, vec_len};
+    ghost use Rattle.std.specs.Prelude.{◌≡◌, ◌≤◌, vec_len};
     ghost use Rattle.std.specs.Arc.{arc_value};
     ghost use Rattle.cell_seats.specs.Controls.{policy_in};
+    ghost use Rattle.cell_seats.specs.Journals.{joined, AreBehind};
     ghost use Rattle.cell_run.specs.Cells.{CellState, cell_state, HasMade, names_of};
 
     ghost Value = { CellState };
 
     ghost view = { λ c. cell_state c.registry.writer.me.0.of c.made (policy_in c.control_writer.policy.me.0) c.control_writer.restarts.me.0 };
 
-    ghost invariant = { λ c. HasMade c.registry.config c.registry.servers c.registry.registered c.made (vec_len c.inboxes) c.registry.writer.me.0.of.name c.nothing (arc_value c.registry.shared).controls c.control_writer × (c.locks ≡ names_of c.registry.writer.me.0.of c.registry.servers) };
+    ghost invariant = { λ c. HasMade c.registry.config c.registry.servers c.registry.registered c.made (vec_len c.inboxes) c.registry.writer.me.0.of c.nothing (arc_value c.registry.shared).controls c.control_writer × (c.locks ≡ names_of c.registry.writer.me.0.of c.registry.servers) × (vec_len c.base ≤ 1) × AreBehind c.registry.writer.me.0.of (joined c.base.items) };
 }
 
 impl Cell {
@@ -124,7 +144,7 @@ impl Cell {
             return Err(StartFault::Clock);
         };
         let made = new_registry(alloc, config, servers, began)?;
-        let ticker = ticks(rt, &made.registry.shared, servers)?;
+        let ticker = ticks(rt, alloc, &made.registry.shared, servers)?;
         start_with(rt, alloc, made, ticker, gate)
     }
 
@@ -182,29 +202,36 @@ impl Cell {
     pub fn watch<
         R: Threads + Wait + Clock + Copy + Send + 'static,
         W: Watcher + Send + Drop + 'static,
-    >(&self, rt: R, watcher: W) -> Option<Watch> {
+    >(&self, rt: R, watcher: W) -> Option<Watch<W>> {
         let theirs = Arc::try_clone(&self.registry.shared).ok()?;
         let journal = self.registry.config.journal;
         let (stop, stopped) = unbounded(self.alloc).ok()?;
-        let job = move || tell_on(&rt, &theirs, journal, &stopped, &watcher);
+        let job = move || tell_on(&rt, &theirs, journal, &stopped, watcher);
         match thread::spawn(&rt, job) {
             Ok(thread) => Some(Watch { stop, thread }),
             Err(_) => None,
         }
     }
 
+    /// For how many steps more there was room in the journal, at some moment of the call.
+    pub fn room(&self) -> u64 {
+        let journal = self.registry.config.journal;
+        self.registry.shared.progress(journal).room
+    }
+
     /// Ends the cell: no step is begun any more, each call that waits is refused, and the threads end. No step follows. Where clocks were
     /// kept, the journal's calls and answers are a run of the machine.
     pub fn close<R: Threads + Wait + Clock>(self, rt: &R) -> Journal
-        ensures cell { result.cell ≡ self.of }
-        ensures over { result.is_over ≡ true }
-        ensures lawful { IsJournalOf result.cell result.entries }
-        ensures explained { IsTrue (are_clocks_kept result.cell (whole_of result)) → AreExplained result.cell.config (whole_of result) }
+        ensures cell { result.now.cell ≡ self.of }
+        ensures over { result.now.is_over ≡ true }
+        ensures lawful { IsJournalOf result.now.cell result.now.entries }
+        ensures explained { IsTrue (are_clocks_kept result.now.cell (whole_of result.now)) → AreExplained result.now.cell.config (whole_of result.now) }
     {
         let Self {
             alloc: _,
             registry,
             locks: _locks,
+            base,
             nothing: _nothing,
             inboxes: _inboxes,
             made: _,
@@ -213,7 +240,7 @@ impl Cell {
             nodes,
         } = self;
         end_all(rt, &registry.shared, registry.servers, ticker, nodes);
-        registry.close(rt)
+        registry.close(rt, base)
     }
 
     /// Its parts, once its threads have ended. The journal is not closed.
@@ -225,7 +252,8 @@ impl Cell {
             alloc,
             registry,
             locks,
-            nothing: _nothing,
+            base,
+            nothing,
             inboxes: _inboxes,
             made,
             control_writer: _control_writer,
@@ -237,6 +265,8 @@ impl Cell {
             alloc,
             registry,
             locks,
+            base,
+            nothing,
             made,
         }
     }
@@ -248,6 +278,8 @@ pub struct EndedCell {
     pub alloc: Global,
     pub registry: NodeRegistry,
     pub locks: NodeLocks,
+    pub base: Vec<Journal>,
+    pub nothing: Beginning<RaisedEntry>,
     pub made: u64,
 }
 
@@ -261,13 +293,15 @@ struct Parts {
 }
 
 // A cell whose ticker runs.
+#[tactic(auto, using(crate::proofs::Fresh::all_fresh))]
 fn start_with<
     R: Threads + Wait + Clock + Copy + Send + 'static,
     G: Gate + Clone + Send + Drop + 'static,
->(rt: R, alloc: Global, parts: Parts, ticker: Thread, gate: G) -> Result<Cell, StartFault>
+>(rt: R, alloc: Global, parts: Parts, ticker: Ticker, gate: G) -> Result<Cell, StartFault>
     requires fits { IsFitting parts.registry.config }
     requires first { parts.registry.registered ≡ 0 }
     requires base { parts.registry.writer.me.0.of.base ≡ [] }
+    requires retired { parts.registry.writer.me.0.of.retired ≡ replicate 64 false }
     requires nothing { parts.nothing ≡ listed parts.registry.writer.me.0.of.name [] }
     requires boxes { vec_len parts.boxes.clients ≡ 64 }
     requires asks { WritesControls (arc_value parts.registry.shared).controls parts.control_writer }
@@ -295,6 +329,7 @@ fn start_with<
                 alloc,
                 registry,
                 locks,
+                base: Vec::new(alloc),
                 nothing,
                 inboxes,
                 made: 0,
@@ -325,7 +360,8 @@ fn start_nodes<
 ) -> Result<NodeLocks, StartFault>
     requires fits { IsFitting registry.old.config }
     requires first { registry.old.registered ≡ 0 }
-    ensures same { IsSame registry.old registry.new }
+    requires base { registry.old.writer.me.0.of.base ≡ [] }
+    ensures same { IsSameRegistry registry.old registry.new }
     ensures ok { OnOk result (registry.new.registered ≡ registry.old.servers + 1) }
     ensures locks { IfOk result (λ l. l ≡ names_of registry.new.cell registry.new.servers) }
 {
@@ -357,7 +393,8 @@ fn start_master<R: Threads + Wait + Clock + Copy + Send + 'static, G: Gate + Sen
 ) -> Result<Arc<NodeLock<RunningMaster>>, StartFault>
     requires fits { IsFitting registry.old.config }
     requires first { registry.old.registered ≡ 0 }
-    ensures same { IsSame registry.old registry.new }
+    requires base { registry.old.writer.me.0.of.base ≡ [] }
+    ensures same { IsSameRegistry registry.old registry.new }
     ensures ok { OnOk result (registry.new.registered ≡ 1) }
     ensures lock { IfOk result (λ l. arc_value l ≡ node_name registry.new.cell Master) }
 {
@@ -380,7 +417,8 @@ fn start_server<R: Threads + Wait + Clock + Copy + Send + 'static, G: Gate + Sen
 ) -> Result<Arc<NodeLock<RunningServer>>, StartFault>
     requires fits { IsFitting registry.old.config }
     requires next { (registry.old.registered ≡ id.0) × (0 < id.0) × (id.0 ≤ registry.old.servers) }
-    ensures same { IsSame registry.old registry.new }
+    requires base { registry.old.writer.me.0.of.base ≡ [] }
+    ensures same { IsSameRegistry registry.old registry.new }
     ensures ok { OnOk result (registry.new.registered ≡ id.0 + 1) }
     ensures lock { IfOk result (λ l. arc_value l ≡ node_name registry.new.cell (Server id)) }
 {
@@ -393,7 +431,7 @@ fn start_server<R: Threads + Wait + Clock + Copy + Send + 'static, G: Gate + Sen
 }
 
 // Starts the thread of a node.
-fn start_node<
+pub(crate) fn start_node<
     R: Threads + Wait + Clock + Copy + Send + 'static,
     N: Stepper + Send + Drop + 'static,
     G: Gate + Send + Drop + 'static,
@@ -411,11 +449,11 @@ fn start_node<
 }
 
 // No step is begun any more. The ticker says so until the nodes have ended and no client waits.
-fn end_all<R: Threads + Wait + Clock>(
+pub(crate) fn end_all<R: Threads + Wait + Clock>(
     rt: &R,
     shared: &SharedState,
     servers: u16,
-    ticker: Thread,
+    ticker: Ticker,
     nodes: Vec<Thread>,
 ) {
     shared.closing.store(CLOSING, Ordering::SeqCst);
@@ -425,7 +463,7 @@ fn end_all<R: Threads + Wait + Clock>(
     }
     wait_for_clients(rt, shared);
     shared.closing.store(ENDED, Ordering::SeqCst);
-    ticker.join(rt);
+    ticker.end(rt);
 }
 
 fn new_registry(
@@ -437,6 +475,7 @@ fn new_registry(
     requires { first_out_of_range config ≡ None }
     ensures registry { IfOk result (λ p. (p.registry.config ≡ config) × (p.registry.servers ≡ servers) × (p.registry.registered ≡ 0)) }
     ensures base { IfOk result (λ p. p.registry.writer.me.0.of.base ≡ []) }
+    ensures retired { IfOk result (λ p. p.registry.writer.me.0.of.retired ≡ replicate 64 false) }
     ensures nothing { IfOk result (λ p. p.nothing ≡ listed p.registry.writer.me.0.of.name []) }
     ensures boxes { IfOk result (λ p. vec_len p.boxes.clients ≡ 64) }
     ensures asks { IfOk result (λ p. WritesControls (arc_value p.registry.shared).controls p.control_writer) }
@@ -479,7 +518,7 @@ fn new_registry(
     }
 }
 
-fn keep<T: Drop>(all: &mut Vec<T>, one: T) -> Result<(), StartFault>
+pub(crate) fn keep<T: Drop>(all: &mut Vec<T>, one: T) -> Result<(), StartFault>
     ensures { OnOk result (all.new.items ≡ all.old.items ++ one ∷ []) }
 {
     match all.push(one) {
@@ -507,15 +546,17 @@ fn runs<
     }
 }
 
-fn ticks<R: Threads + Wait + Clock + Copy + Send + 'static>(
+pub(crate) fn ticks<R: Threads + Wait + Clock + Copy + Send + 'static>(
     rt: R,
+    alloc: Global,
     shared: &Arc<SharedState>,
     servers: u16,
-) -> Result<Thread, StartFault> {
+) -> Result<Ticker, StartFault> {
     let theirs = Arc::try_clone(shared)?;
-    let job = move || tick(&rt, &theirs, servers);
+    let (stop, stopped) = unbounded(alloc)?;
+    let job = move || tick(&rt, &theirs, servers, &stopped);
     match thread::spawn(&rt, job) {
-        Ok(thread) => Ok(thread),
+        Ok(thread) => Ok(Ticker { stop, thread }),
         Err(_) => Err(StartFault::Thread),
     }
 }

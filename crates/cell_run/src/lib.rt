@@ -2,7 +2,9 @@
 //! through one journal.
 #![tactic(auto)]
 
+mod behind;
 pub mod cell;
+pub mod client_places;
 pub mod client_stepper;
 pub mod laws;
 pub mod master_stepper;
@@ -12,10 +14,13 @@ mod park;
 pub mod park_fault;
 pub mod parked;
 pub mod parked_seat;
+mod resume;
+pub mod resume_room;
 pub mod running_client;
 pub mod running_master;
 pub mod running_server;
 pub mod seat_fault;
+mod seating;
 pub mod server_stepper;
 pub mod start_fault;
 mod step_message;

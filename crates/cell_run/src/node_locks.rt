@@ -1,19 +1,27 @@
 //! The locks of a running cell's nodes, which its threads share with it.
 
-ghost use Rattle.std.specs.Prelude.{◌≡◌, ◌≤◌, suc, [], map, length, All, vec_capacity, IfOk, IfSome};
+ghost use Rattle.std.specs.Prelude.{◌≡◌, ◌≤◌, ◌<◌, ◌+◌, ◌^◌, ◌∷◌, suc, false, [], map, length, All, vec_capacity, IfOk, IfSome};
 ghost use Rattle.std.specs.Arc.{arc_value};
 ghost use Rattle.cell_seats.specs.NodeLocks.{node_name, IsNamed};
-ghost use Rattle.cell_seats.specs.ParkedNodes.{name_of, HasSeenAll};
+ghost use Rattle.cell_journal.specs.Roles.{node_at};
+ghost use Rattle.cell_journal.specs.WholeHistories.{is_retired};
+ghost use Rattle.cell_seats.specs.ParkedNodes.{name_of, HasSeenAll, HasSeenBase};
+ghost use Rattle.cell_seats.specs.Registries.{IsSameRegistry};
+ghost use Rattle.protocol.specs.Tables.{first_numbers};
+ghost use Rattle.protocol.specs.Sending.{the_server};
+ghost use Rattle.cell_run.specs.Cells.{names_of};
 
 use crate::running_master::RunningMaster;
 use crate::running_server::RunningServer;
+use crate::seating::hold;
 use crate::start_fault::StartFault;
 use cell_journal::identity::CellIdentity;
 use cell_seats::node_lock::{NodeIdentity, NodeLock};
+use cell_seats::node_registry::NodeRegistry;
 use cell_seats::parked_node::{ParkedNode, park};
 use cell_seats::slot::Slot;
 use cell_seats::stepper::Stepper;
-use gfs_types::ids::Node;
+use gfs_types::ids::{Node, ServerId};
 use std::alloc::Global;
 use std::marker::Model;
 use std::sync::{Arc, Wait};
@@ -68,6 +76,84 @@ impl NodeLocks {
     }
 }
 
+impl NodeLocks {
+    /// Each parked node gets its place in the journal of the cell that goes on, and lies in its lock.
+    #[tactic(auto, using(crate::proofs::Going::first_seen, crate::proofs::Going::others_seen, cell_seats::proofs::Starting::master_at))]
+    pub fn put_all<R: Wait + Clock>(
+        &self,
+        rt: &R,
+        alloc: Global,
+        registry: &mut NodeRegistry,
+        nodes: ParkedNodes,
+    )
+        requires first { registry.old.registered ≡ 0 }
+        requires locks { self.now ≡ names_of registry.old.cell registry.old.servers }
+        requires count { length nodes ≡ registry.old.servers + 1 }
+        requires nodes { All (HasSeenBase registry.old.cell) nodes }
+        ensures same { IsSameRegistry registry.old registry.new }
+        ensures registered { registry.new.registered ≡ registry.old.servers + 1 }
+    {
+        let (master, servers) = nodes.into_parts();
+        put_node(rt, alloc, registry, &self.master, master, Node::Master);
+        put_servers(rt, alloc, registry, self.servers.as_slice(), servers);
+    }
+}
+
+// The servers get their places, in the order of their numbers, and lie in their locks.
+#[tactic(auto, using(crate::proofs::NewLocks::lock_at, crate::proofs::NewLocks::locks_count, cell_seats::proofs::Starting::server_at))]
+fn put_servers<R: Wait + Clock>(
+    rt: &R,
+    alloc: Global,
+    registry: &mut NodeRegistry,
+    locks: &[Arc<NodeLock<RunningServer>>],
+    servers: Vec<ParkedNode<RunningServer>>,
+)
+    requires first { registry.old.registered ≡ 1 }
+    requires locks { map arc_value locks.now ≡ map (λ s. node_name registry.old.cell (the_server s)) (first_numbers registry.old.servers) }
+    requires count { length servers.items ≡ registry.old.servers }
+    requires servers { All (HasSeenBase registry.old.cell) servers.items }
+    ensures same { IsSameRegistry registry.old registry.new }
+    ensures registered { registry.new.registered ≡ registry.old.servers + 1 }
+{
+    let mut before: u16 = 0;
+    for server in servers {
+        let lock = &locks[usize::from(before)];
+        let node = Node::Server(ServerId(before + 1));
+        put_node(rt, alloc, registry, lock, server, node);
+        before += 1;
+    }
+}
+
+// A node gets its place and lies in its lock.
+#[tactic(auto, using(cell_seats::proofs::GoingOver::behind_all, cell_seats::proofs::GoingOver::behind_at))]
+fn put_node<R: Wait + Clock, N: Stepper + Drop>(
+    rt: &R,
+    alloc: Global,
+    registry: &mut NodeRegistry,
+    lock: &Arc<NodeLock<N>>,
+    parked: ParkedNode<N>,
+    node: Node,
+)
+    requires next { node_at registry.old.servers registry.old.registered ≡ node }
+    requires few { registry.old.registered < 2 ^ 62 }
+    requires goes_on { is_retired registry.old.cell node ≡ false }
+    requires name { arc_value lock.now ≡ node_name registry.old.cell node }
+    requires seen { HasSeenBase registry.old.cell parked }
+    ensures same { IsSameRegistry registry.old registry.new }
+    ensures registered { registry.new.registered ≡ registry.old.registered + 1 }
+{
+    parked.meets(registry.cell.base());
+    hold(rt, parked.name() == node);
+    for _ in rt.forever() {
+        if let Ok(journal) = registry.next(node) {
+            lock.put(rt, parked.into_slot(alloc, journal));
+            return;
+        }
+        thread::sleep(rt, Duration::from_millis(1));
+    }
+    unreachable!()
+}
+
 /// The master and the servers, out of their locks. Each has seen so many entries of its cell's history.
 pub struct ParkedNodes {
     pub master: ParkedNode<RunningMaster>,
@@ -98,6 +184,18 @@ impl Model for ParkedNodes {
 }
 
 impl ParkedNodes {
+    /// The master and the servers.
+    fn into_parts(self) -> (ParkedNode<RunningMaster>, Vec<ParkedNode<RunningServer>>)
+        ensures { self ≡ result.0 ∷ result.1.items }
+    {
+        let Self {
+            master,
+            servers,
+            count: _,
+        } = self;
+        (master, servers)
+    }
+
     /// How many entries of the history each has seen.
     pub fn count(&self) -> usize
         ensures { All (λ p. HasSeenAll p.cell result p) self.now }

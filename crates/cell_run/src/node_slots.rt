@@ -1,12 +1,15 @@
 //! The nodes of a running cell, each with its journal.
 
-ghost use Rattle.std.specs.Prelude.{◌≡◌, ◌≤◌, ◌<◌, ◌+◌, None, IfOk, IfErr, OnOk, OnErr, IsTrue, is_none};
+ghost use Rattle.std.specs.Prelude.{◌≡◌, ◌≤◌, ◌<◌, ◌+◌, [], None, false, IfOk, IfErr, OnOk, OnErr, IsTrue, is_none};
 ghost use Rattle.gfs_types.specs.declared.ids.Node.TheVariants as node;
 ghost use Rattle.gfs_types.specs.Settings.{first_out_of_range};
 ghost use Rattle.protocol.specs.MasterStep.{new_master};
+ghost use Rattle.protocol_journal.specs.Journal.{own};
+ghost use Rattle.cell_journal.specs.WholeHistories.{is_retired};
 ghost use Rattle.cell_run.specs.declared.start_fault.StartFault.TheVariants.{NoMemory as OutOfMemory};
 ghost use Rattle.cell_seats.specs.Registry.{IsRegistered};
-ghost use Rattle.cell_run.specs.NewNodes.{IsFitting, IsSame, IsNewNode, IsNewClient, IsOfMaster};
+ghost use Rattle.cell_seats.specs.Registries.{IsSameRegistry};
+ghost use Rattle.cell_run.specs.NewNodes.{IsFitting, IsNewNode, IsNewClient, IsOfMaster};
 
 use crate::running_client::RunningClient;
 use crate::running_master::RunningMaster;
@@ -58,7 +61,8 @@ fn new_master(alloc: Global, config: Config, servers: u16) -> Result<RunningMast
 pub fn master_slot(alloc: Global, registry: &mut NodeRegistry) -> Result<MasterSlot, StartFault>
     requires fits { IsFitting registry.old.config }
     requires first { registry.old.registered ≡ 0 }
-    ensures same { IsSame registry.old registry.new }
+    requires unused { own node.Master registry.old.writer.me.0.of.base ≡ [] }
+    ensures same { IsSameRegistry registry.old registry.new }
     ensures ok { OnOk result (registry.new.registered ≡ 1) }
     ensures err { OnErr result (registry.new.registered ≡ 0) }
     ensures fault { IfErr result IsOfMaster }
@@ -77,7 +81,8 @@ pub fn server_slot(
 ) -> Result<ServerSlot, StartFault>
     requires fits { IsFitting registry.old.config }
     requires next { (registry.old.registered ≡ id.0) × (0 < id.0) × (id.0 ≤ registry.old.servers) }
-    ensures same { IsSame registry.old registry.new }
+    requires unused { own (node.Server id) registry.old.writer.me.0.of.base ≡ [] }
+    ensures same { IsSameRegistry registry.old registry.new }
     ensures ok { OnOk result (registry.new.registered ≡ id.0 + 1) }
     ensures err { OnErr result (registry.new.registered ≡ id.0) }
     ensures fault { IfErr result (λ f. f ≡ OutOfMemory) }
@@ -88,9 +93,13 @@ pub fn server_slot(
     Ok(Slot::new(alloc, journal, server))
 }
 
-fn client_journal(registry: &mut NodeRegistry, id: ClientId) -> Result<NodeJournal, NoMemory>
+pub(crate) fn client_journal(
+    registry: &mut NodeRegistry,
+    id: ClientId,
+) -> Result<NodeJournal, NoMemory>
     requires next { (registry.old.registered ≡ registry.old.servers + id.0) × (0 < id.0) × (id.0 ≤ 64) }
-    ensures same { IsSame registry.old registry.new }
+    requires goes_on { is_retired registry.old.cell (node.Client id) ≡ false }
+    ensures same { IsSameRegistry registry.old registry.new }
     ensures ok { OnOk result (registry.new.registered ≡ registry.old.registered + 1) }
     ensures err { OnErr result (registry.new.registered ≡ registry.old.registered) }
     ensures journal { IfOk result (λ d. IsRegistered registry.old.config registry.old.servers (node.Client id) registry.old.writer.me.0 d.node d.writer.me.0) }
@@ -107,7 +116,9 @@ pub fn client_slot(
 ) -> Result<ClientSlot, StartFault>
     requires least { 64 ≤ registry.old.config.chunk }
     requires next { (registry.old.registered ≡ registry.old.servers + id.0) × (0 < id.0) × (id.0 ≤ 64) }
-    ensures same { IsSame registry.old registry.new }
+    requires goes_on { is_retired registry.old.cell (node.Client id) ≡ false }
+    requires unused { own (node.Client id) registry.old.writer.me.0.of.base ≡ [] }
+    ensures same { IsSameRegistry registry.old registry.new }
     ensures ok { OnOk result (registry.new.registered ≡ registry.old.registered + 1) }
     ensures err { OnErr result (registry.new.registered ≡ registry.old.registered) }
     ensures fault { IfErr result (λ f. f ≡ OutOfMemory) }

@@ -1,12 +1,12 @@
 //! Parks a running cell: its threads end, and its nodes come back.
 
-ghost use Rattle.std.specs.Prelude.{◌≡◌, ◌≤◌, [], IfOk, IfErr, All, length, vec_capacity};
+ghost use Rattle.std.specs.Prelude.{◌≡◌, ◌≤◌, [], IfOk, IfErr, IfSome, All, map, length, vec_capacity};
 ghost use Rattle.cell_run.specs.EndedCells.{IsEnded};
 ghost use Rattle.cell_run.specs.Parked.{IsParked, IsNotParked, IsClosedSo};
 
 use crate::cell::{Cell, ClientSeat, EndedCell};
 use crate::park_fault::ParkFault;
-use crate::parked::Parked;
+use crate::parked::{Parked, ParkedParts};
 use crate::parked_seat::ParkedSeat;
 use crate::running_server::RunningServer;
 use cell_seats::journal::Journal;
@@ -66,7 +66,7 @@ impl Cell {
 }
 
 // Parks a cell whose threads have ended, in room that there is.
-#[tactic(auto, using(crate::proofs::Parking::parked_cell, crate::proofs::NewLocks::locks_fit))]
+#[tactic(auto, using(crate::proofs::Parking::parked_parts, crate::proofs::NewLocks::locks_fit))]
 fn park_in<R: Wait + Clock>(
     rt: &R,
     cell: EndedCell,
@@ -79,12 +79,14 @@ fn park_in<R: Wait + Clock>(
     requires servers { cell.registry.servers ≤ vec_capacity room.servers }
     requires seats { (length seats.items ≤ vec_capacity room.seats) × (length seats.items ≤ vec_capacity room.back) }
     ensures parked { IfOk result (IsParked cell.registry.writer.me.0.of cell.made seats.items) }
-    ensures closed { IfErr result (λ f. IsClosedSo cell.registry.writer.me.0.of seats.items f.0 f.1.items) }
+    ensures closed { IfErr result (λ f. IsClosedSo cell.registry.writer.me.0.of seats.items f.0.now f.1.items) }
 {
     let EndedCell {
         alloc,
         registry,
         locks,
+        base,
+        nothing,
         made,
     } = cell;
     let ParkRoom {
@@ -100,21 +102,26 @@ fn park_in<R: Wait + Clock>(
     let parked = park_seats(rt, seats, count, parked);
     let history = registry.park(rt, count);
     if !history.history.are_clocks_kept() {
-        let journal = Journal::new(history.close());
+        let journal = Journal::new(history.close(), base);
         return Err((journal, seats_of(parked, back)));
     }
+    let sent = history.sent;
+    let greatest = history.greatest;
     let (history, list) = history.into_parts();
-    Ok(Parked {
+    let parts = ParkedParts {
         alloc,
         config,
         servers: count_of_servers,
         began,
         made,
-        journal: Journal::new(history),
-        list,
+        journal: Journal::new(history, base),
+        sent,
+        greatest,
+        nothing,
         nodes,
         seats: parked,
-    })
+    };
+    Ok(Parked { parts, list })
 }
 
 // Parks each seat, in their order.
@@ -126,7 +133,8 @@ fn park_seats<R: Wait>(
 ) -> Vec<ParkedSeat>
     requires none { room.items ≡ [] }
     requires room { length seats.items ≤ vec_capacity room }
-    ensures { result.items ≡ seats.items }
+    ensures seats { map (λ p. p.seat) result.items ≡ seats.items }
+    ensures saw { All (λ p. IfSome p.saw (λ k. k ≡ count)) result.items }
 {
     let mut parked = room;
     for seat in seats {
@@ -139,7 +147,7 @@ fn park_seats<R: Wait>(
 fn seats_of(parked: Vec<ParkedSeat>, room: Vec<ClientSeat>) -> Vec<ClientSeat>
     requires none { room.items ≡ [] }
     requires room { length parked.items ≤ vec_capacity room }
-    ensures { result.items ≡ parked.items }
+    ensures { result.items ≡ map (λ p. p.seat) parked.items }
 {
     let mut seats = room;
     for seat in parked {

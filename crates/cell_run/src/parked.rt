@@ -1,32 +1,42 @@
 //! A cell that is parked.
 
-ghost use Rattle.std.specs.Prelude.{◌≡◌};
+ghost use Rattle.std.specs.Prelude.{◌≡◌, ◌≤◌, ◌<◌, ℕ, [], false, length, get_or, All, IsSome, IsTrue};
+ghost use Rattle.gfs_types.specs.declared.ids.Node.TheVariants.{Client};
+ghost use Rattle.protocol_journal.specs.Journal.{own};
+ghost use Rattle.cell_journal.specs.Clocks.{are_clocks_kept};
+ghost use Rattle.cell_journal.specs.Log.{listed};
+ghost use Rattle.cell_journal.specs.WholeHistories.{whole_of};
+ghost use Rattle.cell_run.specs.Parked.{AreNodesOf, IsSeatOf};
+ghost use Rattle.cell_run.specs.ParkedSeats.{count_anew};
 
 use crate::node_locks::ParkedNodes;
 use crate::parked_seat::ParkedSeat;
-use cell_journal::GrowingList;
 use cell_journal::raised_entry::RaisedEntry;
+use cell_journal::{Beginning, GrowingList};
 use cell_seats::journal::Journal;
 use gfs_types::config::Config;
 use std::alloc::Global;
 use std::marker::Model;
 use std::time::Duration;
 
-/// A cell whose threads have ended: its journal, the list of its history, its nodes, and the seats that were handed in.
-pub struct Parked {
+/// A cell whose threads have ended, without the list of its history: its journal, its nodes, and the seats that were handed in.
+pub struct ParkedParts {
     pub(crate) alloc: Global,
     pub(crate) config: Config,
     pub(crate) servers: u16,
     pub(crate) began: Duration,
     pub(crate) made: u64,
     pub(crate) journal: Journal,
-    pub(crate) list: GrowingList<RaisedEntry>,
+    /// How many messages the cell sent, its greatest moment, and the beginning of its list that has nothing.
+    pub(crate) sent: u128,
+    pub(crate) greatest: u64,
+    pub(crate) nothing: Beginning<RaisedEntry>,
     pub(crate) nodes: ParkedNodes,
     pub(crate) seats: Vec<ParkedSeat>,
 }
 
 // Stands here, once, so that no crate above proves the drops of all that a cell owns.
-impl Drop for Parked {
+impl Drop for ParkedParts {
     fn drop(self) {
         let Self {
             alloc: _,
@@ -35,28 +45,164 @@ impl Drop for Parked {
             began: _,
             made: _,
             journal: _journal,
-            list: _list,
+            sent: _,
+            greatest: _,
+            nothing: _nothing,
             nodes: _nodes,
             seats: _seats,
         } = self;
     }
 }
 
-impl Model for Parked {
-    ghost use Rattle.cell_run.specs.Parked.{ParkedState, parked_state, IsParkedCell};
+impl Model for ParkedParts {
+    ghost use Rattle.cell_run.specs.Parked.{ParkedState, parked_state, ArePartsOf};
 
     ghost Value = { ParkedState };
 
-    ghost view = { λ p. parked_state p.journal p.made p.seats.items };
+    ghost view = { λ p. parked_state p.journal.now p.made p.seats.items };
 
-    ghost invariant = { λ p. IsParkedCell p.journal p.list p.nodes p.seats.items p.servers p.made };
+    ghost invariant = { λ p. ArePartsOf p.journal.now p.config p.nothing p.sent p.nodes p.seats.items p.servers p.made };
+}
+
+impl ParkedParts {
+    /// How many seats go on as clients of new numbers.
+    #[tactic(auto, using(crate::proofs::Anew::count_append))]
+    pub(crate) fn count_anew(&self) -> u64
+        ensures { result ≡ count_anew self.now.seats }
+    {
+        let mut count: u64 = 0;
+        for seat in self.seats.as_slice() {
+            if seat.goes_anew() {
+                count += 1;
+            }
+        }
+        count
+    }
+
+    fn have_clients(&self) -> bool
+        ensures { result ≡ true → All (λ s. IsSome s.saw) self.now.seats }
+    {
+        for before in 0..self.seats.len() {
+            if !self.seats[before].has_client() {
+                return false;
+            }
+        }
+        true
+    }
+
+    /// Of which clients nothing more is written once the cell goes on: of all that were made but those whose seats go on as they are.
+    #[tactic(auto, using(crate::proofs::Anew::others_stay, crate::proofs::Fresh::no_flag))]
+    pub(crate) fn retired_then(&self) -> [bool; 64]
+        ensures { (k : ℕ) → self.now.made ≤ k → get_or result k false ≡ false }
+    {
+        let mut retired = [false; 64];
+        for before in 0..self.made {
+            retired[before as usize] = true;
+        }
+        for seat in self.seats.as_slice() {
+            let number = seat.number();
+            if !seat.goes_anew() && number > 0 && number <= self.made {
+                retired[number as usize - 1] = false;
+            }
+        }
+        retired
+    }
+}
+
+/// What is left of a parked cell's parts once its nodes and its seats were taken.
+#[derive(Drop)]
+pub struct KeptParts {
+    pub(crate) alloc: Global,
+    pub(crate) made: u64,
+    pub(crate) journal: Journal,
+    pub(crate) nothing: Beginning<RaisedEntry>,
+}
+
+impl ParkedParts {
+    /// Its nodes and its seats, and what is left.
+    pub(crate) fn taken_apart(self) -> (KeptParts, ParkedNodes, Vec<ParkedSeat>)
+        ensures kept { (result.0.journal.now ≡ self.journal) × (result.0.made ≡ self.made) }
+        ensures nothing { result.0.nothing ≡ listed self.journal.cell.name [] }
+        ensures least { 64 ≤ self.journal.cell.config.chunk }
+        ensures clocks { IsTrue (are_clocks_kept self.journal.cell (whole_of self.journal)) }
+        ensures fresh { (n : ℕ) → self.made < n → own (Client (record { 0 = n })) (whole_of self.journal) ≡ [] }
+        ensures nodes { AreNodesOf self.journal.cell self.journal.cell.servers (length (whole_of self.journal)) result.1 }
+        ensures seats { result.2.items ≡ self.seats }
+        ensures seen { All (IsSeatOf self.journal.cell (length (whole_of self.journal))) result.2.items }
+    {
+        let Self {
+            alloc,
+            config: _,
+            servers: _,
+            began: _,
+            made,
+            journal,
+            sent: _,
+            greatest: _,
+            nothing,
+            nodes,
+            seats,
+        } = self;
+        let kept = KeptParts {
+            alloc,
+            made,
+            journal,
+            nothing,
+        };
+        (kept, nodes, seats)
+    }
+}
+
+/// A parked cell, which may go on.
+pub struct Parked {
+    pub(crate) parts: ParkedParts,
+    pub(crate) list: GrowingList<RaisedEntry>,
+}
+
+// Stands here, once, so that no crate above proves the drops of all that a cell owns.
+impl Drop for Parked {
+    fn drop(self) {
+        let Self {
+            parts: _parts,
+            list: _list,
+        } = self;
+    }
+}
+
+impl Model for Parked {
+    ghost use Rattle.std.specs.Prelude.{◌≡◌};
+    ghost use Rattle.cell_journal.specs.Log.{listed};
+    ghost use Rattle.cell_journal.specs.WholeHistories.{whole_of};
+    ghost use Rattle.cell_run.specs.Parked.{ParkedState};
+
+    ghost Value = { ParkedState };
+
+    ghost view = { λ p. p.parts };
+
+    ghost invariant = { λ p. p.list ≡ listed p.parts.journal.cell.name (whole_of p.parts.journal) };
 }
 
 impl Parked {
     /// The journal up to which its cell is parked.
     pub fn journal(&self) -> &Journal
-        ensures { result.now ≡ self.now.journal }
+        ensures { result.now.now ≡ self.now.journal }
     {
-        &self.journal
+        &self.parts.journal
+    }
+
+    /// Its parts, and the list of its history.
+    pub(crate) fn into_parts(self) -> (ParkedParts, GrowingList<RaisedEntry>)
+        ensures parts { result.0 ≡ self }
+        ensures list { result.1 ≡ listed self.journal.cell.name (whole_of self.journal) }
+    {
+        let Self { parts, list } = self;
+        (parts, list)
+    }
+
+    /// Whether the client of each seat came out of it: none was left behind by an earlier parking.
+    pub fn has_all_clients(&self) -> bool
+        ensures { result ≡ true → All (λ s. IsSome s.saw) self.now.seats }
+    {
+        self.parts.have_clients()
     }
 }

@@ -1,10 +1,14 @@
 //! A seat that was handed in when its cell was parked.
 
-ghost use Rattle.std.specs.Prelude.{◌≡◌};
+ghost use Rattle.std.specs.Prelude.{◌≡◌, true, IfSome, IsSome, length};
+ghost use Rattle.std.specs.Option.{option_map};
+ghost use Rattle.cell_seats.specs.ParkedNodes.{IsClientOf};
+ghost use Rattle.cell_run.specs.ParkedSeats.{goes_anew};
 
 use crate::cell::ClientSeat;
 use crate::running_client::RunningClient;
 use cell_seats::parked_node::ParkedNode;
+use gfs_types::ids::Node;
 use std::marker::Model;
 use std::sync::Wait;
 
@@ -25,13 +29,14 @@ impl Drop for ParkedSeat {
 }
 
 impl Model for ParkedSeat {
-    ghost use Rattle.std.specs.Prelude.{IfSome};
+    ghost use Rattle.std.specs.Prelude.{IfSome, length};
+    ghost use Rattle.std.specs.Option.{option_map};
     ghost use Rattle.cell_seats.specs.ParkedNodes.{IsClientOf};
-    ghost use Rattle.cell_seats.specs.Seats.{SeatState};
+    ghost use Rattle.cell_run.specs.ParkedSeats.{ParkedSeatState, parked_seat};
 
-    ghost Value = { SeatState };
+    ghost Value = { ParkedSeatState };
 
-    ghost view = { λ p. p.seat };
+    ghost view = { λ p. parked_seat p.seat (option_map (λ c. length c.history.items) p.client) };
 
     ghost invariant = { λ p. IfSome p.client (IsClientOf p.seat) };
 }
@@ -39,7 +44,8 @@ impl Model for ParkedSeat {
 impl ParkedSeat {
     /// Parks a seat, whose client, if it is there, saw a history of so many entries.
     pub(crate) fn of<R: Wait>(rt: &R, seat: ClientSeat, count: usize) -> ParkedSeat
-        ensures { result ≡ seat }
+        ensures seat { result.seat ≡ seat }
+        ensures saw { IfSome result.saw (λ k. k ≡ count) }
     {
         let mut seat = seat;
         let client = seat.park(rt, Some(count));
@@ -48,12 +54,47 @@ impl ParkedSeat {
 
     /// The seat itself.
     pub(crate) fn into_seat(self) -> ClientSeat
-        ensures { result ≡ self }
+        ensures { result ≡ self.seat }
     {
         let Self {
             seat,
             client: _client,
         } = self;
         seat
+    }
+
+    /// Its parts.
+    pub(crate) fn into_parts(self) -> (ClientSeat, Option<ParkedNode<RunningClient>>)
+        ensures seat { result.0 ≡ self.seat }
+        ensures saw { self.saw ≡ option_map (λ c. length c.history.items) result.1 }
+        ensures client { IfSome result.1 (IsClientOf result.0) }
+    {
+        let Self { seat, client } = self;
+        (seat, client)
+    }
+
+    /// Whether its client came out of it.
+    pub(crate) fn has_client(&self) -> bool
+        ensures { result ≡ true → IsSome self.now.saw }
+    {
+        self.client.is_some()
+    }
+
+    /// Whether it goes on as a client of a new number: a call of it waits, or its client is gone.
+    pub(crate) fn goes_anew(&self) -> bool
+        ensures { result ≡ goes_anew self.now }
+    {
+        match &self.client {
+            Some(_) => self.seat.waits(),
+            None => true,
+        }
+    }
+
+    /// The number of its client.
+    pub(crate) fn number(&self) -> u64 {
+        match self.seat.name() {
+            Node::Client(id) => id.0,
+            _ => 0,
+        }
     }
 }

@@ -4,22 +4,17 @@ use cell_seats::gate::Gate;
 use cell_seats::mailbox_wait::next_input;
 use cell_seats::mailboxes::{Input, MailboxItem};
 use cell_seats::node_lock::NodeLock;
-use cell_seats::shared_state::{MOST_CLIENTS, SharedState};
+use cell_seats::shared_state::{CLOSING, MOST_CLIENTS, STARTING, SharedState};
 use cell_seats::stepper::Stepper;
-use crossbeam_channel::Receiver;
+use crossbeam_channel::{Receiver, RecvTimeoutError};
 use gfs_types::ids::{ClientId, Node, ServerId};
 use std::sync::Wait;
 use std::sync::atomic::Ordering;
 use std::thread;
 use std::time::{Clock, Duration};
 
-/// How long the ticker sleeps.
+/// How long the ticker waits before it ticks.
 const TICK_MS: u64 = 100;
-
-/// What `SharedState::closing` says once no step is begun any more, and once no node and no client needs to be told so.
-pub const CLOSING: u64 = 1;
-
-pub const ENDED: u64 = 2;
 
 /// Takes each item of a node's mailbox, until it is told to stop. Before an item the node begins again once, where it was asked to do so more
 /// often than it did.
@@ -31,6 +26,7 @@ pub fn serve<R: Wait + Clock, N: Stepper + Drop, G: Gate>(
     inbox: &Receiver<MailboxItem>,
     gate: &G,
 ) {
+    wait_to_begin(rt, shared);
     let mut restarts: u64 = 0;
     for _ in rt.forever() {
         let Some(input) = next_input(rt, inbox) else {
@@ -43,14 +39,27 @@ pub fn serve<R: Wait + Clock, N: Stepper + Drop, G: Gate>(
     }
 }
 
-/// Puts ticks into the mailboxes, and while the cell closes the word to stop, of which one may be lost.
-pub fn tick<R: Wait + Clock>(rt: &R, shared: &SharedState, servers: u16) {
+// Waits until each node of a parked cell that goes on stands in its lock.
+fn wait_to_begin<R: Wait + Clock>(rt: &R, shared: &SharedState) {
     for _ in rt.forever() {
-        thread::sleep(rt, Duration::from_millis(TICK_MS));
+        if shared.closing.load(Ordering::SeqCst) != STARTING {
+            break;
+        }
+        thread::sleep(rt, Duration::from_millis(1));
+    }
+}
+
+/// Puts ticks into the mailboxes, and while the cell closes the word to stop, of which one may be lost, until the sending end is gone.
+pub fn tick<R: Wait + Clock>(rt: &R, shared: &SharedState, servers: u16, stopped: &Receiver<()>) {
+    for _ in rt.forever() {
+        match stopped.recv_timeout(rt, Duration::from_millis(TICK_MS)) {
+            Err(RecvTimeoutError::Timeout) => {}
+            _ => break,
+        }
         match shared.closing.load(Ordering::SeqCst) {
             0 => tick_all(rt, shared, servers),
             CLOSING => stop_all(rt, shared, servers),
-            _ => break,
+            _ => {}
         }
     }
 }

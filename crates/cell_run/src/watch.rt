@@ -14,34 +14,35 @@ pub trait Watcher {
     fn tell(&self, progress: Progress);
 }
 
-/// A thread that tells how far a cell is, until it is stopped.
+/// A thread that tells a watcher how far a cell is, until it is stopped.
 #[derive(Drop)]
-pub struct Watch {
+pub struct Watch<W: Send + Drop + 'static> {
     pub(crate) stop: Sender<()>,
-    pub(crate) thread: JoinHandle<()>,
+    pub(crate) thread: JoinHandle<W>,
 }
 
-impl Watch {
-    /// Tells no more.
-    pub fn stop(self, rt: &impl Threads) {
+impl<W: Send + Drop + 'static> Watch<W> {
+    /// Tells no more, and gives the watcher back.
+    pub fn stop(self, rt: &impl Threads) -> W {
         let Self { stop, thread } = self;
         drop(stop);
-        thread.join(rt);
+        thread.join(rt)
     }
 }
 
-/// Tells a watcher once a second, until the sending end is gone.
+/// Tells a watcher once a second, until the sending end is gone, and gives it back.
 pub(crate) fn tell_on<R: Wait + Clock, W: Watcher>(
     rt: &R,
     shared: &Arc<SharedState>,
     journal: u32,
     stopped: &Receiver<()>,
-    watcher: &W,
-) {
+    watcher: W,
+) -> W {
     for _ in rt.forever() {
         match stopped.recv_timeout(rt, Duration::from_secs(SECONDS)) {
             Err(RecvTimeoutError::Timeout) => watcher.tell(shared.progress(journal)),
             _ => break,
         }
     }
+    watcher
 }

@@ -6,7 +6,7 @@ use Rattle.protocol.specs.Tables.{first_numbers}
 use Rattle.protocol.specs.Sending.{the_server}
 use Rattle.cell_journal.specs.Identity.{Identity}
 use Rattle.cell_seats.specs.NodeLocks.{NodeName, node_name}
-use Rattle.cell_run.specs.NewNodes.{IsSame}
+use Rattle.cell_seats.specs.Registries.{IsSameRegistry}
 use Rattle.cell_run.proofs.NewLocks.{one_lock_more}
 use Rattle.cell_run.proofs.cell.start_nodes.Goals as goal
 
@@ -15,7 +15,7 @@ loop-before-preserved g c =
     let before = c.loop-before.before in
     let was = c.loop-before.invariant.same in
     let is = c.start_server.ensures.same in
-    let same : IsSame c.args.registry.now c.start_server.new.registry = record {
+    let same : IsSameRegistry c.args.registry.now c.start_server.new.registry = record {
       shared_is = is.shared_is ∙ was.shared_is;
       cell_is = is.cell_is ∙ was.cell_is;
       config_is = is.config_is ∙ was.config_is;

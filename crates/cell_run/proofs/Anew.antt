@@ -1,0 +1,74 @@
+-- How many seats go on as clients of new numbers, and which clients go on.
+use Rattle.std.proofs.Common.{◌≡◌, ℕ, zero, suc, ◌+◌, ◌≤◌, Bool, true, false, List, [], ◌∷◌, ◌++◌, length, refl, sym, ap, ◌∙◌, arith, slice_set}
+use Rattle.std.specs.Prelude.{Option, Some, None, IfSome, get_or}
+use Rattle.std.specs.Option.{option_map}
+use Rattle.cell_journal.specs.Identity.{Identity}
+use Rattle.cell_seats.specs.ParkedNodes.{ParkedNodeState}
+use Rattle.cell_seats.specs.Seats.{SeatState, StaysOver, MovesOver, GoesOver}
+use Rattle.cell_seats.proofs.GoingOver.{goes_stay, goes_move}
+use Rattle.cell_run.specs.Parked.{AllGoOver}
+use Rattle.cell_run.specs.ParkedSeats.{ParkedSeatState, is_anew, goes_anew, one_where, count_anew}
+
+pub count_append : (xs ys : List ParkedSeatState) → count_anew (xs ++ ys) ≡ count_anew xs + count_anew ys
+count_append [] ys = refl
+count_append (x ∷ xs) ys = omega (arith, count_append xs ys)
+
+one_at_most : (b : Bool) → one_where b ≤ 1
+one_at_most true = omega arith
+one_at_most false = omega arith
+
+pub count_few : (xs : List ParkedSeatState) → count_anew xs ≤ length xs
+count_few [] = omega arith
+count_few (x ∷ xs) = omega (arith, one_at_most (goes_anew x), count_few xs)
+
+-- a flag that is set leaves the others
+pub others_stay : (flags : List Bool) (i k : ℕ) (flag : Bool) → suc i ≤ k → get_or (slice_set flags i flag) k false ≡ get_or flags k false
+others_stay [] i k flag past = refl
+others_stay (f ∷ rest) zero zero flag past = absurd (omega (arith, past))
+others_stay (f ∷ rest) zero (suc k) flag past = refl
+others_stay (f ∷ rest) (suc i) zero flag past = absurd (omega (arith, past))
+others_stay (f ∷ rest) (suc i) (suc k) flag past = others_stay rest i k flag (omega (arith, past))
+
+-- one seat more goes over
+pub one_over : (cell : Identity) (olds : List ParkedSeatState) (news : List SeatState) (old : ParkedSeatState) (new : SeatState) → AllGoOver cell olds news → GoesOver cell old.saw old.seat new
+    → AllGoOver cell (olds ++ old ∷ []) (news ++ new ∷ [])
+one_over cell [] [] old new all over = (over, tt)
+one_over cell [] (n ∷ news) old new all over = absurd all
+one_over cell (o ∷ olds) [] old new all over = absurd all
+one_over cell (o ∷ olds) (n ∷ news) old new all over = (all.0, one_over cell olds news old new all.1 over)
+
+-- how much a seat's client saw
+
+abbrev saw_of : Option ParkedNodeState → Option ℕ
+saw_of client = option_map (λ c. length c.history.items) client
+
+some_saw : (p : ParkedSeatState) (o : Option ParkedNodeState) (c : ParkedNodeState) → p.saw ≡ saw_of o → o ≡ Some c → p.saw ≡ Some (length c.history.items)
+some_saw p o c saw is = saw ∙ ap saw_of is
+
+pub saw_count : (p : ParkedSeatState) (o : Option ParkedNodeState) (c : ParkedNodeState) (k : ℕ) → p.saw ≡ saw_of o → o ≡ Some c → IfSome p.saw (λ j. j ≡ k) → length c.history.items ≡ k
+saw_count p o c k saw is count = subst (λ (x : Option ℕ). IfSome x (λ j. j ≡ k)) (some_saw p o c saw is) count
+
+waits_as : (p : ParkedSeatState) (o : Option ParkedNodeState) (c : ParkedNodeState) (b : Bool) → p.saw ≡ saw_of o → o ≡ Some c → goes_anew p ≡ b → p.seat.waits ≡ b
+waits_as p o c b saw is anew = sym (ap (λ (x : Option ℕ). is_anew x p.seat.waits) (some_saw p o c saw is)) ∙ anew
+
+pub waits_not : (p : ParkedSeatState) (s : SeatState) (o : Option ParkedNodeState) (c : ParkedNodeState) → s ≡ p.seat → p.saw ≡ saw_of o → o ≡ Some c → goes_anew p ≡ false → s.waits ≡ false
+waits_not p s o c same saw is anew = ap (λ (x : SeatState). x.waits) same ∙ waits_as p o c false saw is anew
+
+-- seats that go over
+
+over_so : (cell : Identity) (p : ParkedSeatState) (s new : SeatState) (saw : Option ℕ) → s ≡ p.seat → p.saw ≡ saw → GoesOver cell saw s new → GoesOver cell p.saw p.seat new
+over_so cell p s new saw same is over = subst (λ (o : Option ℕ). GoesOver cell o p.seat new) (sym is) (subst (λ (x : SeatState). GoesOver cell saw x new) same over)
+
+pub stays_over : (p : ParkedSeatState) (s new : SeatState) (o : Option ParkedNodeState) (c : ParkedNodeState) (cell : Identity) → s ≡ p.seat → p.saw ≡ saw_of o → o ≡ Some c → goes_anew p ≡ false → cell.name ≡ s.cell.name
+    → StaysOver cell s new → GoesOver cell p.saw p.seat new
+stays_over p s new o c cell same saw is anew named over =
+    over_so cell p s new (Some (length c.history.items)) same (some_saw p o c saw is) (goes_stay (length c.history.items) cell s new (waits_not p s o c same saw is anew) named over)
+
+pub moves_over : (p : ParkedSeatState) (s new : SeatState) (o : Option ParkedNodeState) (c : ParkedNodeState) (cell : Identity) → s ≡ p.seat → p.saw ≡ saw_of o → o ≡ Some c → goes_anew p ≡ true → cell.name ≡ s.cell.name
+    → MovesOver cell s new → GoesOver cell p.saw p.seat new
+moves_over p s new o c cell same saw is anew named over =
+    over_so cell p s new (Some (length c.history.items)) same (some_saw p o c saw is)
+    (goes_move (length c.history.items) cell s new (ap (λ (x : SeatState). x.waits) same ∙ waits_as p o c true saw is anew) named over)
+
+pub starts_over : (p : ParkedSeatState) (s new : SeatState) (o : Option ParkedNodeState) (cell : Identity) → s ≡ p.seat → p.saw ≡ saw_of o → o ≡ None → GoesOver cell None s new → GoesOver cell p.saw p.seat new
+starts_over p s new o cell same saw is over = over_so cell p s new None same (saw ∙ ap saw_of is) over

@@ -1,0 +1,7 @@
+use Rattle.std.proofs.Common.{◌≡◌, ◌≤◌, take}
+use Rattle.cell_run.specs.ParkedSeats.{count_anew}
+use Rattle.cell_run.proofs.parked.ParkedParts.count_anew.Given as goal
+
+-- those that were looked at are counted
+abbrev pub invariant-loop-seat : goal.invariant-loop-seat
+invariant-loop-seat g l = record { count : l.count ≡ count_anew (take l.seat-index l.seat-items); few : l.count ≤ l.seat-index }

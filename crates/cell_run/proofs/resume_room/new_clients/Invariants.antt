@@ -1,0 +1,7 @@
+use Rattle.std.proofs.Common.{◌≡◌, length}
+use Rattle.cell_run.specs.Resumed.{AreNewClients}
+use Rattle.cell_run.proofs.resume_room.new_clients.Given as goal
+
+-- so many clients of new numbers are there
+abbrev pub invariant-loop-before : goal.invariant-loop-before
+invariant-loop-before g l = record { clients : AreNewClients l.fn.parts.journal.cell.config l.fn.parts.made l.clients.items; count : length l.clients.items ≡ l.before }

@@ -1,0 +1,14 @@
+use Rattle.std.proofs.Common.{◌≡◌, ◌+◌, ◌≤◌, ◌++◌, List, length}
+use Rattle.std.specs.Prelude.{vec_len, vec_capacity}
+use Rattle.std.specs.Vec.Iter.{into_iter_items}
+use Rattle.cell_run.specs.Parked.{AllGoOver}
+use Rattle.cell_run.specs.ParkedSeats.{ParkedSeatState}
+use Rattle.cell_run.proofs.seating.seat_all.Given as goal
+
+-- those before went over, and there is room for the others
+abbrev pub invariant-loop-seat : goal.invariant-loop-seat
+invariant-loop-seat g l = record {
+  cell : l.seating.cell ≡ l.fn.seating.cell;
+  over : (done : List ParkedSeatState) × (done ++ into_iter_items l.seat-iterator ≡ l.fn.parked.items) × AllGoOver l.fn.seating.cell done l.seats.items;
+  room : vec_len l.seats + length (into_iter_items l.seat-iterator) ≤ vec_capacity l.seats;
+}

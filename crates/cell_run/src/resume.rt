@@ -1,0 +1,70 @@
+//! A parked cell goes on: its nodes begin again, behind all that it did. All that may fail comes before any node is touched.
+
+ghost use Rattle.std.specs.Prelude.{◌≡◌, ◌≤◌, ◌+◌, IfOk, IfErr, OnOk};
+ghost use Rattle.cell_run.specs.Parked.{IsResumed};
+ghost use Rattle.cell_run.specs.ParkedSeats.{count_anew};
+
+use crate::behind::begin;
+use crate::cell::{Cell, ClientSeat};
+use crate::parked::{Parked, ParkedParts};
+use crate::start_fault::StartFault;
+use cell_seats::gate::Gate;
+use cell_seats::shared_state::MOST_CLIENTS;
+use std::sync::Wait;
+use std::thread::Threads;
+use std::time::Clock;
+
+impl Parked {
+    /// Starts the cell's nodes again, each of which begins with what its log or store holds, and gives the seats that were handed in. A seat
+    /// keeps its number and its descriptors; one with a call that was not answered goes on as a client of a new number, without descriptors. A
+    /// fault leaves the parked cell as it was. There is no policy of the network.
+    ///
+    /// - `Clock`: there is no clock, or it went back by more than the clock bound.
+    /// - `Count`: too few numbers of clients are left.
+    /// - `NoMemory`, `Thread`: no memory or no thread was to be had.
+    pub fn resume<
+        R: Threads + Wait + Clock + Copy + Send + 'static,
+        G: Gate + Clone + Send + Drop + 'static,
+    >(self, rt: R, gate: G) -> Result<(Cell, Vec<ClientSeat>), (Parked, StartFault)>
+        ensures resumed { IfOk result (λ r. IsResumed self r.0 r.1.items) }
+        ensures fault { IfErr result (λ f. f.0 ≡ self) }
+    {
+        if let Err(fault) = self.parts.may_resume(&rt) {
+            return Err((self, fault));
+        }
+        let begun = match begin(&rt, self) {
+            Ok(begun) => begun,
+            Err(refused) => return Err(refused),
+        };
+        let mut begun = begun;
+        match begun.start_threads(rt, gate) {
+            Ok(ticker) => Ok(begun.go_on(&rt, ticker)),
+            Err(fault) => Err((begun.give_back(&rt), fault)),
+        }
+    }
+}
+
+impl ParkedParts {
+    // Whether the clock went on, and there are numbers for all clients that need a new one.
+    fn may_resume<R: Clock>(&self, rt: &R) -> Result<(), StartFault>
+        ensures { OnOk result (self.now.made + count_anew self.now.seats ≤ 64) }
+    {
+        let Some(now) = self.moment(rt) else {
+            return Err(StartFault::Clock);
+        };
+        if now.saturating_add(u64::from(self.config.skew_ms)) < self.greatest {
+            return Err(StartFault::Clock);
+        }
+        let anew = self.count_anew();
+        if anew > MOST_CLIENTS || self.made + anew > MOST_CLIENTS {
+            return Err(StartFault::Count);
+        }
+        Ok(())
+    }
+
+    // How many milliseconds the cell has run, if there is a clock.
+    fn moment<R: Clock>(&self, rt: &R) -> Option<u64> {
+        let since = rt.monotonic().ok()?.checked_sub(self.began)?;
+        u64::try_from(since.as_millis()).ok()
+    }
+}
