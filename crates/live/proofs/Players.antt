@@ -1,10 +1,11 @@
 -- All clients of a script, from their first calls to their last.
 use Rattle.std.proofs.Common.{◌≡◌, ℕ, zero, suc, ◌+◌, ◌-◌, ◌<◌, ◌≤◌, Bool, true, false, List, [], ◌∷◌, ◌++◌, length, get_or, take, drop, map, Some, None, refl, sym, ap, subst, ◌∙◌, append_assoc, length-append, arith}
-use Rattle.std.specs.Prelude.{slice_get, slice_range, replicate, nat_lt, nat_le, IsTrue, ◌==◌, if◌then◌else◌, Result, Ok, Err, is_err, OnOk}
+use Rattle.std.specs.Prelude.{Option, All, IsSome, slice_get, slice_range, replicate, nat_lt, nat_le, IsTrue, ◌==◌, if◌then◌else◌, Result, Ok, Err, is_err, OnOk}
 use Rattle.std.proofs.lemmas.Bool.Decides.{nat_tests}
 use Rattle.std.proofs.Math.Seq.{take-suc, take-nil}
 use Rattle.std.proofs.lemmas.Option.{slice_get-get_or, slice_get_within, get_or_from_slice_get}
-use Rattle.std.proofs.lemmas.List.{append-nil}
+use Rattle.std.proofs.lemmas.List.{append-nil, length-map}
+use Rattle.std.proofs.lemmas.List.Elements.{All-head, All-tail, All-map}
 use mathlib.Core.List.{IsPrefix}
 use Rattle.gfs_types.specs.declared.answer.Answer.{Answer}
 use Rattle.gfs_types.specs.declared.answer.Answer.TheVariants as answer
@@ -18,7 +19,7 @@ use Rattle.script.specs.declared.cell_lines.ClientCall.{ClientCall}
 use Rattle.gfs_types.specs.declared.ids.Node.{Node}
 use Rattle.script.specs.declared.live_lines.LiveLine.{LiveLine}
 use Rattle.script.specs.declared.live_lines.LiveLine.TheVariants as lines
-use Rattle.script.specs.LiveLines.{is_barrier}
+use Rattle.script.specs.LiveLines.{is_barrier, is_reopen}
 use Rattle.script.specs.declared.options.Options.{Options}
 use Rattle.protocol_journal.specs.Journal.{Entry, own}
 use Rattle.journal_headline.specs.Journals.{AreExplained}
@@ -29,12 +30,16 @@ use Rattle.cell_journal.specs.Identity.{Identity}
 use Rattle.cell_journal.specs.WholeHistories.{IsHistoryOf}
 use Rattle.cell_seats.specs.Seen.{visible_of}
 use Rattle.cell_seats.proofs.Sitting.{explains}
-use Rattle.cell_seats.specs.Seats.{SeatState, shown, IsAnswered, IsLost}
+use Rattle.cell_seats.specs.Seats.{SeatState, shown, IsAnswered, IsLost, GoesOver}
+use Rattle.cell_seats.proofs.GoingOver.{shown_same}
+use Rattle.cell_run.specs.Parked.{AllGoOver}
+use Rattle.cell_run.specs.ParkedSeats.{ParkedSeatState}
 use Rattle.cell_run.specs.Cells.{IsCellOf}
 use Rattle.live.specs.declared.play.Player.{Player}
+use Rattle.live.specs.declared.reopen.Unseated.{Unseated}
 use Rattle.live.specs.Live.{HasSeenPart, AreAnswersOf}
-use Rattle.live.specs.Playing.{calls_on, calls_of, AreAnswered, HasPlayed, IsSamePlayer, HasMade, PlaysOn, Plays, IsNewPlayer, IsPlayed, Each, AllPlay}
-use Rattle.live.proofs.Playing.{nothing_played, answered_one_more, refused_more, replicate_one_more, calls_append}
+use Rattle.live.specs.Playing.{calls_on, calls_of, reopens_in, first_number, AreAnswered, HasPlayed, IsSamePlayer, HasMade, PlaysOn, Plays, IsNewPlayer, HasCalled, IsPlayed, Reopens, AllReopen, IsReopened, rest_of, player_of, seated, Each, AllPlay}
+use Rattle.live.proofs.Playing.{nothing_played, answered_one_more, refused_more, reopened, played_more, played_whole, replicate_one_more, calls_append}
 
 -- places of a list
 
@@ -121,6 +126,7 @@ take_past (x ∷ xs) (suc k) h = ap (λ l. x ∷ l) (take_past xs k (let e : len
 no_call : (n : ℕ) (line : LiveLine) → is_barrier line ≡ true → calls_on n line ≡ []
 no_call n lines.Nothing h = absurd (let both : false ≡ true = h in cc)
 no_call n lines.Barrier h = refl
+no_call n lines.Reopen h = refl
 no_call n (lines.Calls times asked) h = absurd (let both : false ≡ true = h in cc)
 
 -- a barrier is no call
@@ -140,28 +146,27 @@ up_to_barrier n xs first next within barrier =
 -- going on
 
 pub same_player : (p : Player) → IsSamePlayer p p
-same_player p = record { id = refl; node = refl; cell = refl }
+same_player p = record { id = refl; node = refl; earlier = refl; cell = refl }
 
 pub still_same : (p q r : Player) → IsSamePlayer p q → IsSamePlayer q r → IsSamePlayer p r
-still_same p q r a b = record { id = b.id ∙ a.id; node = b.node ∙ a.node; cell = b.cell ∙ a.cell }
+still_same p q r a b = record { id = b.id ∙ a.id; node = b.node ∙ a.node; earlier = b.earlier ∙ a.earlier; cell = b.cell ∙ a.cell }
 
 pub plays_none : (p : Player) → PlaysOn p p []
-plays_none p before h = subst (HasMade p) (sym (append-nil before)) h
+plays_none p reopens before h = subst (HasMade p reopens) (sym (append-nil before)) h
 
 pub plays_then : (p q r : Player) (first later : List Call) → PlaysOn p q first → PlaysOn q r later → PlaysOn p r (first ++ later)
-plays_then p q r first later a b before h = subst (HasMade r) (append_assoc before first later) (b (before ++ first) (a before h))
+plays_then p q r first later a b reopens before h = subst (HasMade r reopens) (append_assoc before first later) (b reopens (before ++ first) (a reopens before h))
 
 -- one call more
 pub made_answered : (p q : Player) (call : Call) (reply : Answer) → IsAnswered p.seat q.seat call reply → q.answers.items ≡ p.answers.items ++ reply ∷ [] → PlaysOn p q (call ∷ [])
-made_answered p q call reply is replies before h =
-    subst (λ (l : List Answer). HasPlayed (shown q.seat) q.seat.is_lost (before ++ call ∷ []) l) (sym replies)
-    (answered_one_more (shown p.seat) p.seat.is_lost before p.answers.items call reply (shown q.seat) q.seat.is_lost is.was_open is.shows h)
+made_answered p q call reply is replies reopens before h =
+    subst (λ (l : List Answer). HasPlayed (shown q.seat) q.seat.is_lost reopens (before ++ call ∷ []) l) (sym replies)
+    (answered_one_more (shown p.seat) p.seat.is_lost reopens before p.answers.items call reply (shown q.seat) q.seat.is_lost is.was_open is.shows h)
 
 pub made_refused : (p q : Player) (call : Call) (refusal : Refusal) → IsLost p.seat q.seat refusal → q.answers.items ≡ p.answers.items ++ answer.Refused refusal ∷ [] → PlaysOn p q (call ∷ [])
-made_refused p q call refusal is replies before h =
-    subst (λ (l : List Answer). HasPlayed (shown q.seat) q.seat.is_lost (before ++ call ∷ []) l) (sym replies)
-    (refused_more (shown p.seat) p.seat.is_lost before p.answers.items call refusal (shown q.seat) q.seat.is_lost is.lost
-    (ap (λ (n : Node). visible_of (own n q.seat.seen)) is.node ∙ ap (λ (l : List Entry). visible_of (own p.seat.node l)) is.seen) is.refused h)
+made_refused p q call refusal is replies reopens before h =
+    subst (λ (l : List Answer). HasPlayed (shown q.seat) q.seat.is_lost reopens (before ++ call ∷ []) l) (sym replies)
+    (refused_more (shown p.seat) p.seat.is_lost reopens before p.answers.items call refusal (shown q.seat) q.seat.is_lost is.lost (shown_same p.seat q.seat is.node is.earlier is.seen) is.refused h)
 
 pub made_again : (p q r : Player) (n : ℕ) (call : Call) → PlaysOn p q (replicate n call) → PlaysOn q r (call ∷ []) → PlaysOn p r (replicate (n + 1) call)
 made_again p q r n call a b = subst (PlaysOn p r) (sym (replicate_one_more n call)) (plays_then p q r (replicate n call) (call ∷ []) a b)
@@ -170,6 +175,7 @@ made_again p q r n call a b = subst (PlaysOn p r) (sym (replicate_one_more n cal
 none_on : (n : ℕ) (line : LiveLine) → ((times : ℕ) (asked : ClientCall) → line ≡ lines.Calls times asked → ⊥) → calls_on n line ≡ []
 none_on n lines.Nothing h = refl
 none_on n lines.Barrier h = refl
+none_on n lines.Reopen h = refl
 none_on n (lines.Calls times asked) h = absurd (h times asked refl)
 
 pub plays_no_call : (p : Player) (line : LiveLine) → ((times : ℕ) (asked : ClientCall) → line ≡ lines.Calls times asked → ⊥) → PlaysOn p p (calls_on p.id.0 line)
@@ -222,30 +228,6 @@ plays_next p q r xs k line within at a b = plays_lines p q r (take k xs) (line �
 pub plays_all : (p q : Player) (xs : List LiveLine) (k : ℕ) → length xs ≤ k → Plays (take k xs) p q → Plays xs p q
 plays_all p q xs k past h = subst (λ l. Plays l p q) (take_past xs k past) h
 
-pub all_none : (olds : List Player) → AllPlay [] olds olds
-all_none olds = (
-  refl,
-  λ k p q at_p at_q.
-      let same : p ≡ q = (let both : Some p ≡ Some q = sym at_p ∙ at_q in cc) in
-      subst (Plays [] p) same (nothing_to_play p),
-)
-
-pub all_then : (olds mids news : List Player) (xs ys zs : List LiveLine) → ((n : ℕ) → calls_of n (xs ++ ys) ≡ calls_of n zs) → AllPlay xs olds mids → AllPlay ys mids news → AllPlay zs olds news
-all_then olds mids news xs ys zs same a b = (
-  b.0 ∙ a.0,
-  λ k p r at_p at_r.
-      let mid = was_there mids news k r b.0 at_r in
-      plays_lines p mid.0 r xs ys zs same (a.1 k p mid.0 at_p mid.1) (b.1 k mid.0 r mid.1 at_r),
-)
-
-pub all_part : (olds mids news : List Player) (xs : List LiveLine) (first next : ℕ) → first ≤ next → ((line : LiveLine) → slice_get xs next ≡ Some line → is_barrier line ≡ true)
-    → AllPlay (take first xs) olds mids → AllPlay (slice_range xs first next) mids news → AllPlay (take (next + 1) xs) olds news
-all_part olds mids news xs first next within barrier a b =
-    all_then olds mids news (take first xs) (slice_range xs first next) (take (next + 1) xs) (λ n. up_to_barrier n xs first next within barrier) a b
-
-pub all_lines : (olds news : List Player) (xs : List LiveLine) (k : ℕ) → length xs ≤ k → AllPlay (take k xs) olds news → AllPlay xs olds news
-all_lines olds news xs k past all = subst (λ l. AllPlay l olds news) (take_past xs k past) all
-
 -- each thread's calls
 pub all_by_threads : (olds news : List Player) (xs : List LiveLine) → length news ≡ length olds → ((k : ℕ) (d : Player) → k < length olds → Plays xs (get_or olds k d) (get_or news k d)) → AllPlay xs olds news
 all_by_threads olds news xs same each = (
@@ -261,22 +243,204 @@ by_thread xs p q before after was is h = subst (λ (x : Player). Plays xs x q) w
 
 -- from the first call to the last
 
-new_made : (cell : Identity) (client : ℕ) (p : Player) → IsNewPlayer cell client p → HasMade p []
+new_made : (cell : Identity) (client : ℕ) (p : Player) → IsNewPlayer cell client p → HasMade p 0 []
 new_made cell client p new =
-    subst (λ (replies : List Answer). HasPlayed (shown p.seat) p.seat.is_lost [] replies) (sym new.answers)
-    (subst (λ (s : SeatState). HasPlayed (shown s) s.is_lost [] []) (sym new.seat) nothing_played)
+    subst (λ (replies : List Answer). HasPlayed (shown p.seat) p.seat.is_lost 0 [] replies) (sym new.answers)
+    (subst (λ (s : SeatState). HasPlayed (shown s) s.is_lost 0 [] []) (sym new.seat) nothing_played)
 
-pub have_played : (cell : Identity) (xs : List LiveLine) (olds news : List Player) → Each (IsNewPlayer cell) olds → AllPlay xs olds news → ((k : ℕ) (p : Player) → slice_get news k ≡ Some p → p.lacked_memory ≡ false)
-    → Each (IsPlayed cell xs) news
-have_played cell xs olds news new all none k q at =
-    let old = was_there olds news k q all.0 at in
-    let is = new k old.0 old.1 in
-    let plays = all.1 k old.0 q old.1 at in
+new_called : (cell : Identity) (client : ℕ) (p : Player) → IsNewPlayer cell client p → HasCalled cell 0 [] client p
+new_called cell client p new = record {
+  id = new.id;
+  first = ap (λ (s : SeatState). first_number s.earlier s.node) new.seat;
+  few = subst (λ (s : SeatState). length s.earlier ≤ 0) (sym new.seat) (omega arith);
+  cell_is = ap (λ (s : SeatState). s.cell) new.seat;
+  made = λ none. new_made cell client p new;
+}
+
+pub all_new : (cell : Identity) (players : List Player) → Each (IsNewPlayer cell) players → Each (IsPlayed cell []) players
+all_new cell players new k p at = new_called cell (suc k) p (new k p at)
+
+-- more calls
+called_on : (cell : Identity) (reopens : ℕ) (calls : List Call) (client : ℕ) (p q : Player) (ys : List LiveLine) → HasCalled cell reopens calls client p → Plays ys p q
+    → HasCalled cell reopens (calls ++ calls_of client ys) client q
+called_on cell reopens calls client p q ys h plays = record {
+  id = ap (λ (c : ClientId). c.0) plays.same.id ∙ h.id;
+  first = ap (λ (ms : List Node). first_number ms q.seat.node) plays.same.earlier ∙ (ap (first_number p.seat.earlier) plays.same.node ∙ h.first);
+  few = subst (λ (ms : List Node). length ms ≤ reopens) (sym plays.same.earlier) h.few;
+  cell_is = plays.same.cell ∙ h.cell_is;
+  made = λ none. subst (λ (i : ℕ). HasMade q reopens (calls ++ calls_of i ys)) h.id (plays.played none reopens calls (h.made (plays.lacked none)));
+}
+
+called_more : (cell : Identity) (reopens more : ℕ) (calls all : List Call) (client : ℕ) (p : Player) → reopens ≤ more → calls ≡ all → HasCalled cell reopens calls client p → HasCalled cell more all client p
+called_more cell reopens more calls all client p few same h = record {
+  id = h.id;
+  first = h.first;
+  few = omega (arith, h.few, few);
+  cell_is = h.cell_is;
+  made = λ none. subst (HasMade p more) same (played_more (shown p.seat) p.seat.is_lost reopens more calls p.answers.items few (h.made none));
+}
+
+-- the first number stays, and there is one number more at most
+numbers_stay : (cell : Identity) (saw : ℕ) (old new : SeatState) → GoesOver cell (Some saw) old new → (first_number new.earlier new.node ≡ first_number old.earlier old.node) × (length new.earlier ≤ length old.earlier + 1)
+numbers_stay cell saw old new over = by_waits old.waits refl
+  where
+    moved : (ms : List Node) (n m : Node) → first_number (ms ++ n ∷ []) m ≡ first_number ms n
+    moved [] n m = refl
+    moved (x ∷ xs) n m = refl
+
+    by_waits : (b : Bool) → old.waits ≡ b → (first_number new.earlier new.node ≡ first_number old.earlier old.node) × (length new.earlier ≤ length old.earlier + 1)
+    by_waits false calm =
+        let stays = over.stays calm in
+        (ap (λ (ms : List Node). first_number ms new.node) stays.1 ∙ ap (first_number old.earlier) stays.0, omega (arith, ap length stays.1))
+    by_waits true waits =
+        let more = over.moves waits in
+        (ap (λ (ms : List Node). first_number ms new.node) more ∙ moved old.earlier old.node new.node, omega (arith, ap length more, length-append old.earlier (old.node ∷ [])))
+
+-- the cell was parked and goes on
+called_again : (old cell : Identity) (reopens : ℕ) (calls : List Call) (client : ℕ) (p q : Player) → HasCalled old reopens calls client p → Reopens cell p q → HasCalled cell (reopens + 1) calls client q
+called_again old cell reopens calls client p q h goes =
+    let numbers = numbers_stay cell goes.saw p.seat q.seat goes.over in
     record {
-      node = plays.same.node ∙ ap (λ (s : SeatState). s.node) is.seat;
-      cell_is = plays.same.cell ∙ ap (λ (s : SeatState). s.cell) is.seat;
-      made = subst (λ (i : ℕ). HasMade q (calls_of i xs)) is.id (plays.played (none k q at) [] (new_made cell (suc k) old.0 is));
+      id = ap (λ (c : ClientId). c.0) goes.id ∙ h.id;
+      first = numbers.0 ∙ h.first;
+      few = omega (arith, numbers.1, h.few);
+      cell_is = goes.over.cell_is;
+      made = λ none.
+          subst (λ (replies : List Answer). HasPlayed (shown q.seat) q.seat.is_lost (reopens + 1) calls replies) (sym goes.answers)
+          (reopened (shown p.seat) p.seat.is_lost reopens calls p.answers.items (shown q.seat) q.seat.is_lost goes.over.shows (h.made (sym goes.lacked ∙ none)));
     }
+
+-- at how many lines
+
+reopens_front : (xs : List LiveLine) (i j : ℕ) → i ≤ j → reopens_in (take i xs) ≤ reopens_in (take j xs)
+reopens_front [] i j few = omega (arith, ap reopens_in (take-nil {A = LiveLine} i), ap reopens_in (take-nil {A = LiveLine} j))
+reopens_front (x ∷ xs) zero j few = omega arith
+reopens_front (x ∷ xs) (suc i) zero few = absurd (omega (arith, few))
+reopens_front (x ∷ xs) (suc i) (suc j) few = omega (arith, reopens_front xs i j (let e : i ≤ j = omega (arith, few) in e))
+
+reopens_at : (xs : List LiveLine) (i j : ℕ) (line : LiveLine) → i ≤ j → slice_get xs j ≡ Some line → is_reopen line ≡ true → reopens_in (take i xs) + 1 ≤ reopens_in (take (suc j) xs)
+reopens_at [] i j line few at is = absurd (let none : None ≡ Some line = at in cc)
+reopens_at (x ∷ xs) zero zero line few at is =
+    let same : x ≡ line = (let both : Some x ≡ Some line = at in (let e : x ≡ line = cc both in e)) in
+    let one : (if is_reopen x then 1 else 0) ≡ 1 = ap (λ (b : Bool). if b then 1 else 0) (ap is_reopen same ∙ is) in
+    omega (arith, one)
+reopens_at (x ∷ xs) zero (suc j) line few at is = omega (arith, reopens_at xs zero j line (omega arith) at is)
+reopens_at (x ∷ xs) (suc i) zero line few at is = absurd (omega (arith, few))
+reopens_at (x ∷ xs) (suc i) (suc j) line few at is = omega (arith, reopens_at xs i j line (let e : i ≤ j = omega (arith, few) in e) at is)
+
+-- the calls up to a barrier
+part_called : (n : ℕ) (xs : List LiveLine) (first next : ℕ) → first ≤ next → ((line : LiveLine) → slice_get xs next ≡ Some line → is_barrier line ≡ true)
+    → calls_of n (take first xs) ++ calls_of n (slice_range xs first next) ≡ calls_of n (take (next + 1) xs)
+part_called n xs first next within barrier = sym (calls_append n (take first xs) (slice_range xs first next)) ∙ up_to_barrier n xs first next within barrier
+
+module _ (cell : Identity) (xs : List LiveLine) (first next : ℕ) (within : first ≤ next) (barrier : (line : LiveLine) → slice_get xs next ≡ Some line → is_barrier line ≡ true) (olds mids : List Player)
+    (before : Each (IsPlayed cell (take first xs)) olds) (plays : AllPlay (slice_range xs first next) olds mids) where
+  -- each made its calls up to the barrier
+  mid_called : (k : ℕ) (q : Player) → slice_get mids k ≡ Some q → HasCalled cell (reopens_in (take first xs)) (calls_of (suc k) (take (next + 1) xs)) (suc k) q
+  mid_called k q at =
+      let old = was_there olds mids k q plays.0 at in
+      subst (λ (calls : List Call). HasCalled cell (reopens_in (take first xs)) calls (suc k) q) (part_called (suc k) xs first next within barrier)
+      (called_on cell (reopens_in (take first xs)) (calls_of (suc k) (take first xs)) (suc k) old.0 q (slice_range xs first next) (before k old.0 old.1) (plays.1 k old.0 q old.1 at))
+
+  pub mid_cells : (k : ℕ) (q : Player) → slice_get mids k ≡ Some q → q.seat.cell ≡ cell
+  mid_cells k q at = (mid_called k q at).cell_is
+
+  pub passed : Each (IsPlayed cell (take (next + 1) xs)) mids
+  passed k q at =
+      called_more cell (reopens_in (take first xs)) (reopens_in (take (next + 1) xs)) (calls_of (suc k) (take (next + 1) xs)) (calls_of (suc k) (take (next + 1) xs)) (suc k) q
+      (reopens_front xs first (next + 1) (omega (arith, within))) refl (mid_called k q at)
+
+  pub passed_reopen : (new : Identity) (news : List Player) (line : LiveLine) → slice_get xs next ≡ Some line → is_reopen line ≡ true → AllReopen new mids news → Each (IsPlayed new (take (next + 1) xs)) news
+  passed_reopen new news line at_line is goes k r at =
+      let mid = reopens_each new mids news k r goes at in
+      let after : next + 1 ≡ suc next = omega arith in
+      let more : reopens_in (take first xs) + 1 ≤ reopens_in (take (next + 1) xs) =
+      subst (λ (m : ℕ). reopens_in (take first xs) + 1 ≤ reopens_in (take m xs)) (sym after) (reopens_at xs first next line within at_line is) in
+      called_more new (reopens_in (take first xs) + 1) (reopens_in (take (next + 1) xs)) (calls_of (suc k) (take (next + 1) xs)) (calls_of (suc k) (take (next + 1) xs)) (suc k) r more refl
+      (called_again cell new (reopens_in (take first xs)) (calls_of (suc k) (take (next + 1) xs)) (suc k) mid.0 r (mid_called k mid.0 mid.1) mid.2)
+    where
+      reopens_each : (c : Identity) (ps qs : List Player) (i : ℕ) (q : Player) → AllReopen c ps qs → slice_get qs i ≡ Some q → (p : Player) × (slice_get ps i ≡ Some p) × Reopens c p q
+      reopens_each c [] [] i q all at_q = absurd (let none : None ≡ Some q = at_q in cc)
+      reopens_each c [] (y ∷ ys) i q all at_q = absurd all
+      reopens_each c (x ∷ xs') [] i q all at_q = absurd all
+      reopens_each c (x ∷ xs') (y ∷ ys) zero q all at_q =
+          let same : y ≡ q = (let both : Some y ≡ Some q = at_q in (let e : y ≡ q = cc both in e)) in
+          (x, refl, subst (Reopens c x) same all.0)
+      reopens_each c (x ∷ xs') (y ∷ ys) (suc i) q all at_q = reopens_each c xs' ys i q all.1 at_q
+
+pub all_named : (cell : Identity) (players : List Player) → ((k : ℕ) (p : Player) → slice_get players k ≡ Some p → p.seat.cell ≡ cell)
+    → All (λ (s : SeatState). s.cell.name ≡ cell.name) (map (λ (p : Player). p.seat) players)
+all_named cell players same =
+    All-map (λ (s : SeatState). s.cell.name ≡ cell.name) (λ (p : Player). p.seat) players
+    (λ k d below. ap (λ (c : Identity). c.name) (same k (get_or players k d) (slice_get-get_or players k d below)))
+
+pub played_cells : (cell : Identity) (xs : List LiveLine) (players : List Player) → Each (IsPlayed cell xs) players → (k : ℕ) (p : Player) → slice_get players k ≡ Some p → p.seat.cell ≡ cell
+played_cells cell xs players all k p at = (all k p at).cell_is
+
+pub reopen_count : (cell : Identity) (olds news : List Player) → AllReopen cell olds news → length news ≡ length olds
+reopen_count cell [] [] all = refl
+reopen_count cell [] (y ∷ ys) all = absurd all
+reopen_count cell (x ∷ xs) [] all = absurd all
+reopen_count cell (x ∷ xs) (y ∷ ys) all = ap (λ (k : ℕ). suc k) (reopen_count cell xs ys all.1)
+
+pub same_reopened : (one two three : Identity) → IsReopened one two → IsReopened two three → IsReopened one three
+same_reopened one two three a b = record { config_is = b.config_is ∙ a.config_is; servers_are = b.servers_are ∙ a.servers_are; clients_are = b.clients_are ∙ a.clients_are }
+
+pub still_one : (cell : Identity) → IsReopened cell cell
+still_one cell = record { config_is = refl; servers_are = refl; clients_are = refl }
+
+-- a barrier was passed, and the cell may have been parked at it
+pub barrier_passed : (cell new : Identity) (xs : List LiveLine) (first next : ℕ) (olds mids news : List Player) (b : Bool) → first ≤ next → ((line : LiveLine) → slice_get xs next ≡ Some line → is_barrier line ≡ true)
+    → Each (IsPlayed cell (take first xs)) olds → AllPlay (slice_range xs first next) olds mids → (b ≡ true → (line : LiveLine) × (slice_get xs next ≡ Some line) × (is_reopen line ≡ true))
+    → (b ≡ false → (new ≡ cell) × (news ≡ mids)) → (b ≡ true → IsReopened cell new × AllReopen new mids news)
+    → IsReopened cell new × (length news ≡ length olds) × Each (IsPlayed new (take (next + 1) xs)) news
+barrier_passed cell new xs first next olds mids news false within barrier before plays at stays goes =
+    let same = stays refl in (
+      subst (IsReopened cell) (sym same.0) (still_one cell),
+      ap length same.1 ∙ plays.0,
+      subst (λ (i : Identity). Each (IsPlayed i (take (next + 1) xs)) news) (sym same.0)
+          (subst (λ (l : List Player). Each (IsPlayed cell (take (next + 1) xs)) l) (sym same.1) (passed cell xs first next within barrier olds mids before plays)),
+    )
+barrier_passed cell new xs first next olds mids news true within barrier before plays at stays goes =
+    let over = goes refl in
+    let line = at refl in (
+      over.0,
+      reopen_count new mids news over.1 ∙ plays.0,
+      passed_reopen cell xs first next within barrier olds mids before plays new news line.0 line.1 line.2 over.1,
+    )
+
+pub all_lines : (cell : Identity) (players : List Player) (xs : List LiveLine) (k : ℕ) → length xs ≤ k → Each (IsPlayed cell (take k xs)) players → Each (IsPlayed cell xs) players
+all_lines cell players xs k past all = subst (λ (l : List LiveLine). Each (IsPlayed cell l) players) (take_past xs k past) all
+
+-- seats that went over, each with its client
+count_over : (cell : Identity) (parked : List ParkedSeatState) (news : List SeatState) → AllGoOver cell parked news → length news ≡ length parked
+count_over cell [] [] over = refl
+count_over cell [] (n ∷ ns) over = absurd over
+count_over cell (s ∷ ss) [] over = absurd over
+count_over cell (s ∷ ss) (n ∷ ns) over = ap (λ (k : ℕ). suc k) (count_over cell ss ns over.1)
+
+-- there is a seat for each
+pub over_count : (cell : Identity) (parked : List ParkedSeatState) (news : List SeatState) (olds : List Player) (rests : List Unseated) → AllGoOver cell parked news → map (λ s. s.seat) parked ≡ map (λ p. p.seat) olds
+    → rests ≡ map rest_of olds → length news ≡ length rests
+over_count cell parked news olds rests over same are =
+    omega (arith, count_over cell parked news over, length-map parked (λ (s : ParkedSeatState). s.seat), length-map olds (λ (p : Player). p.seat), ap length same, ap length are, length-map olds rest_of)
+
+pub all_reopen : (cell : Identity) (olds : List Player) (parked : List ParkedSeatState) (news : List SeatState) → map (λ s. s.seat) parked ≡ map (λ p. p.seat) olds → All (λ s. IsSome s.saw) parked → AllGoOver cell parked news
+    → AllReopen cell olds (seated (map rest_of olds) news)
+all_reopen cell [] [] [] same saw over = tt
+all_reopen cell [] [] (n ∷ ns) same saw over = absurd over
+all_reopen cell [] (s ∷ ss) news same saw over = absurd (let both : s.seat ∷ map (λ x. x.seat) ss ≡ [] = same in cc)
+all_reopen cell (p ∷ ps) [] news same saw over = absurd (let both : [] ≡ p.seat ∷ map (λ x. x.seat) ps = same in cc)
+all_reopen cell (p ∷ ps) (s ∷ ss) [] same saw over = absurd over
+all_reopen cell (p ∷ ps) (s ∷ ss) (n ∷ ns) same saw over =
+    let both : s.seat ∷ map (λ x. x.seat) ss ≡ p.seat ∷ map (λ x. x.seat) ps = same in
+    let head : s.seat ≡ p.seat = cc both in
+    let tail : map (λ x. x.seat) ss ≡ map (λ x. x.seat) ps = cc both in
+    (one s.saw (All-head (λ x. IsSome x.saw) s ss saw) (subst (λ (x : SeatState). GoesOver cell s.saw x n) head over.0), all_reopen cell ps ss ns tail (All-tail (λ x. IsSome x.saw) s ss saw) over.1)
+  where
+    one : (o : Option ℕ) → IsSome o → GoesOver cell o p.seat n → Reopens cell p (player_of (rest_of p) n)
+    one None some over = absurd some
+    one (Some k) some over = record { id = refl; answers = refl; lacked = refl; saw = k; over = over }
 
 -- of beginnings of a journal the longest
 
@@ -348,8 +512,9 @@ longest_of cell (p ∷ ps) entries in_range all =
 
 -- what the journal has of them
 told_by_longest : (options : Options) (cell : Identity) (entries longest : List Entry) (xs : List LiveLine) (players : List Player) → IsCellOf options.config options.servers cell → length players ≡ options.clients
-    → Each (IsPlayed cell xs) players → IsLongest cell players entries longest → AreAnswersOf options xs (map (λ p. p.answers.items) players)
-told_by_longest options cell entries longest xs players cell_is count all is = record {
+    → Each (IsPlayed cell xs) players → ((k : ℕ) (p : Player) → slice_get players k ≡ Some p → p.lacked_memory ≡ false) → IsLongest cell players entries longest
+    → AreAnswersOf options xs (map (λ p. p.answers.items) players)
+told_by_longest options cell entries longest xs players cell_is count all lacked is = record {
   cell = cell;
   cell_is = cell_is;
   entries = longest;
@@ -363,8 +528,12 @@ told_by_longest options cell entries longest xs players cell_is count all is = r
       record {
         seen = found.0.seat.seen;
         begins = is.all k found.0 found.1;
-        answered = subst (λ (n : Node). AreAnswered (visible_of (own n found.0.seat.seen)) (calls_of (suc k) xs) replies) played.node
-            (subst (AreAnswered (shown found.0.seat) (calls_of (suc k) xs)) found.2 played.made.answered);
+        earlier = found.0.seat.earlier;
+        now = found.0.seat.node;
+        first = played.first;
+        few = played.few;
+        answered = subst (AreAnswered (shown found.0.seat) (reopens_in xs) (calls_of (suc k) xs)) found.2
+            (played_whole (shown found.0.seat) found.0.seat.is_lost (reopens_in xs) (calls_of (suc k) xs) found.0.answers.items (played.made (lacked k found.0 found.1)));
       };
 }
   where
@@ -373,8 +542,18 @@ told_by_longest options cell entries longest xs players cell_is count all is = r
     mapped_length (p ∷ ps) = ap (λ (k : ℕ). suc k) (mapped_length ps)
 
 pub told_so : (options : Options) (cell : Identity) (entries : List Entry) (xs : List LiveLine) (players : List Player) → IsCellOf options.config options.servers cell → length players ≡ options.clients
-    → Each (IsPlayed cell xs) players → ((k : ℕ) (p : Player) → slice_get players k ≡ Some p → HasSeenPart entries p.seat) → AreAnswersOf options xs (map (λ p. p.answers.items) players)
-told_so options cell entries xs players cell_is count all parts =
+    → Each (IsPlayed cell xs) players → ((k : ℕ) (p : Player) → slice_get players k ≡ Some p → p.lacked_memory ≡ false) → ((k : ℕ) (p : Player) → slice_get players k ≡ Some p → HasSeenPart entries p.seat)
+    → AreAnswersOf options xs (map (λ p. p.answers.items) players)
+told_so options cell entries xs players cell_is count all lacked parts =
     let in_range : first_out_of_range cell.config ≡ None = subst (λ (x : Config). first_out_of_range x ≡ None) (sym cell_is.config_is) cell_is.in_range in
     let found = longest_of cell players entries in_range (λ k q at. ((all k q at).cell_is, parts k q at)) in
-    told_by_longest options cell entries found.0 xs players cell_is count all found.1
+    told_by_longest options cell entries found.0 xs players cell_is count all lacked found.1
+
+-- a cell that goes on is as its first one
+pub still_of : (config : Config) (servers : ℕ) (old new : Identity) → IsReopened old new → IsCellOf config servers old → IsCellOf config servers new
+still_of config servers old new same is = record {
+  in_range = is.in_range;
+  config_is = same.config_is ∙ is.config_is;
+  servers_are = same.servers_are ∙ is.servers_are;
+  clients_are = same.clients_are ∙ is.clients_are;
+}

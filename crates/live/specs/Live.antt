@@ -1,10 +1,11 @@
 -- What running a script on a running cell comes to.
-use Rattle.std.specs.Prelude.{◌≡◌, ⊤, ℕ, suc, List, [], ◌∷◌, ◌++◌, length, slice_get, Option, Some, IfSome, IsTrue}
+use Rattle.std.specs.Prelude.{◌≡◌, ◌≤◌, ⊤, ℕ, suc, List, [], ◌∷◌, ◌++◌, length, slice_get, Option, Some, IfSome, IsTrue}
 use Rattle.std.specs.List.{flat_map}
 use Rattle.std.specs.Io.KnownBytes.{Appends, Keeps}
 use mathlib.Core.List.{IsPrefix}
 use Rattle.gfs_types.specs.declared.answer.Answer.{Answer}
 use Rattle.gfs_types.specs.declared.call.Call.{Call}
+use Rattle.gfs_types.specs.declared.ids.Node.{Node}
 use Rattle.gfs_types.specs.declared.ids.Node.TheVariants.{Client}
 use Rattle.protocol_journal.specs.Journal.{Entry, own}
 use Rattle.journal_headline.specs.Journals.{AreExplained}
@@ -12,7 +13,7 @@ use Rattle.cell_journal.specs.Clocks.{are_clocks_kept}
 use Rattle.cell_journal.specs.Identity.{Identity}
 use Rattle.cell_journal.specs.WholeHistories.{IsHistoryOf}
 use Rattle.cell_seats.specs.Seats.{SeatState}
-use Rattle.cell_seats.specs.Seen.{visible_of}
+use Rattle.cell_seats.specs.Seen.{Visible, visible_of, answered_only}
 use Rattle.cell_run.specs.Cells.{IsCellOf}
 use Rattle.script.specs.declared.options.Options.{Options}
 use Rattle.script.specs.Answers.{answer_line}
@@ -20,7 +21,7 @@ use Rattle.script.specs.declared.script_fault.ScriptFault.{ScriptFault}
 use Rattle.script.specs.declared.script_fault.ScriptFault.TheVariants as fault
 use Rattle.script.specs.declared.live_lines.LiveLine.{LiveLine}
 use Rattle.script.specs.Scripts.{AreLines, IsBadAt}
-use Rattle.live.specs.Playing.{calls_of, AreAnswered}
+use Rattle.live.specs.Playing.{calls_of, reopens_in, first_number, AreAnswered}
 
 -- each line is in the language, and names no client but the first so many
 abbrev pub IsScript : ℕ → List ℕ → Type 0
@@ -45,11 +46,19 @@ pub record HasSeenPart (entries : List Entry) (s : SeatState) : Type 0 where
   pub clocks : IsTrue (are_clocks_kept s.cell s.seen)
   pub explained : AreExplained s.cell.config s.seen
 
--- A client of this number made these calls and was answered so, by a beginning of this history.
-pub record HasAnswers (entries : List Entry) (client : ℕ) (calls : List Call) (replies : List Answer) : Type 0 where
+-- what these entries have of a client: its answered calls under each number that it had before, and all under the one that it has
+abbrev pub shown_under : List Node → Node → List Entry → List Visible
+shown_under earlier now seen = flat_map (λ n. answered_only (visible_of (own n seen))) earlier ++ visible_of (own now seen)
+
+-- A client, of this number at first, made these calls and was answered so, by a beginning of this history. It had one number more at most than its cell was parked.
+pub record HasAnswers (entries : List Entry) (client reopens : ℕ) (calls : List Call) (replies : List Answer) : Type 0 where
   pub seen : List Entry
   pub begins : IsPrefix seen entries
-  pub answered : AreAnswered (visible_of (own (Client (record { 0 = client })) seen)) calls replies
+  pub earlier : List Node
+  pub now : Node
+  pub first : first_number earlier now ≡ Client (record { 0 = client })
+  pub few : length earlier ≤ reopens
+  pub answered : AreAnswered (shown_under earlier now seen) reopens calls replies
 
 -- These clients' calls of the lines were answered so by one cell, whose lawful history shows it. Clocks were kept in it, and all its calls and answers, in its order, are one run of the machine.
 pub record AreAnswersOf (options : Options) (lines : List LiveLine) (answers : List (List Answer)) : Type 0 where
@@ -60,7 +69,7 @@ pub record AreAnswersOf (options : Options) (lines : List LiveLine) (answers : L
   pub clocks : IsTrue (are_clocks_kept cell entries)
   pub explained : AreExplained cell.config entries
   pub clients : length answers ≡ options.clients
-  pub each : (k : ℕ) (replies : List Answer) → slice_get answers k ≡ Some replies → HasAnswers entries (suc k) (calls_of (suc k) lines) replies
+  pub each : (k : ℕ) (replies : List Answer) → slice_get answers k ≡ Some replies → HasAnswers entries (suc k) (reopens_in lines) (calls_of (suc k) lines) replies
 
 -- The answers to all calls of the script were printed, by client.
 pub record Prints (options : Options) (script before after : Option (List ℕ)) : Type 0 where

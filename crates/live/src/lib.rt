@@ -3,4 +3,5 @@
 
 mod play;
 mod printing;
+mod reopen;
 pub mod run;

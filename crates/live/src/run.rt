@@ -5,11 +5,12 @@ ghost use Rattle.cell_journal.specs.WholeHistories.{whole_of};
 ghost use Rattle.cell_run.specs.Cells.{IsNewCell};
 ghost use Rattle.live.specs.Live.{IsScript, HasSeenPart, AreAnswersOf, Prints, Stops};
 ghost use Rattle.live.specs.Faults.{IsOfRun};
-ghost use Rattle.live.specs.Playing.{IsNewPlayer, IsPlayed, Plays, AllPlay, Each};
-ghost use Rattle.script.specs.LiveLines.{is_barrier};
+ghost use Rattle.live.specs.Playing.{IsNewPlayer, IsPlayed, IsReopened, Plays, AllPlay, AllReopen, Each};
+ghost use Rattle.script.specs.LiveLines.{is_barrier, is_reopen};
 
 use crate::play::Player;
 use crate::printing::print_all;
+use crate::reopen::reopen;
 use cell_run::cell::{Cell, StartFault};
 use cell_run::watch::{Watch, Watcher};
 use cell_seats::gate::OpenGate;
@@ -85,6 +86,7 @@ pub fn run_live_watched<
 }
 
 // The clients of a new cell once all lines were played and the cell was closed.
+#[tactic(auto, using(crate::proofs::Players::told_so, crate::proofs::Players::still_of, crate::proofs::Players::played_cells))]
 fn play_on_new<
     T: Threads + Wait + Clock + Copy + Send + Sync + 'static,
     P: Watcher + Send + Drop + 'static,
@@ -101,61 +103,39 @@ fn play_on_new<
     if options.clients == 0 || options.clients > MOST_CLIENTS {
         return Err(ScriptFault::Start);
     }
-    let mut cell = start(rt, alloc, options)?;
-    let Ok(players) = play_watched(rt, alloc, &mut cell, options.clients, lines, watcher) else {
-        cell.close(&rt);
-        return Err(ScriptFault::NoMemory);
-    };
+    let cell = start(rt, alloc, options)?;
+    let (cell, players) = play_in(rt, alloc, cell, options.clients, lines, watcher)?;
     let journal = cell.close(&rt);
     agree_all(players.as_slice(), &journal);
     Ok(players)
-}
-
-// The clients once all lines were played, if none was refused memory. The watcher, if there is one, is told meanwhile how far the cell is.
-fn play_watched<
-    T: Threads + Wait + Clock + Copy + Send + Sync + 'static,
-    P: Watcher + Send + Drop + 'static,
->(
-    rt: T,
-    alloc: Global,
-    cell: &mut Cell,
-    clients: u64,
-    lines: &[LiveLine],
-    watcher: Option<P>,
-) -> Result<Vec<Player>, NoMemory>
-    requires { cell.old.made ≡ 0 }
-    ensures cell { cell.new.of ≡ cell.old.of }
-    ensures count { IfOk result (λ players. length players.items ≡ clients) }
-    ensures players { IfOk result (λ players. Each (IsPlayed cell.old.of lines.now) players.items) }
-{
-    let watch = start_watch(rt, cell, watcher);
-    let played = play_in(&rt, alloc, cell, clients, lines);
-    stop_watch(&rt, watch);
-    played
 }
 
 // The thread that tells the watcher, if there is one.
 fn start_watch<
     T: Threads + Wait + Clock + Copy + Send + 'static,
     P: Watcher + Send + Drop + 'static,
->(rt: T, cell: &Cell, watcher: Option<P>) -> Option<Watch> {
+>(rt: T, cell: &Cell, watcher: Option<P>) -> Option<Watch<P>> {
     match watcher {
         Some(watcher) => cell.watch(rt, watcher),
         None => None,
     }
 }
 
-fn stop_watch(rt: &impl Threads, watch: Option<Watch>) {
-    if let Some(watch) = watch {
-        watch.stop(rt);
+fn stop_watch<P: Watcher + Send + Drop + 'static>(
+    rt: &impl Threads,
+    watch: Option<Watch<P>>,
+) -> Option<P> {
+    match watch {
+        Some(watch) => Some(watch.stop(rt)),
+        None => None,
     }
 }
 
 // What each client saw begins the cell's history.
 fn agree_all(players: &[Player], journal: &Journal)
-    requires cell { (k : ℕ) (p : Player) → slice_get players.now k ≡ Some p → p.seat.cell ≡ journal.now.cell }
-    requires over { journal.now.is_over ≡ true }
-    ensures { (k : ℕ) (p : Player) → slice_get players.now k ≡ Some p → HasSeenPart (whole_of journal.now) p.seat }
+    requires cell { (k : ℕ) (p : Player) → slice_get players.now k ≡ Some p → p.seat.cell ≡ journal.now.now.cell }
+    requires over { journal.now.now.is_over ≡ true }
+    ensures { (k : ℕ) (p : Player) → slice_get players.now k ≡ Some p → HasSeenPart (whole_of journal.now.now) p.seat }
 {
     for before in 0..players.len() {
         agree_one(&players[before], journal);
@@ -164,33 +144,44 @@ fn agree_all(players: &[Player], journal: &Journal)
 
 // What a client saw begins the cell's history.
 fn agree_one(player: &Player, journal: &Journal)
-    requires cell { player.now.seat.cell ≡ journal.now.cell }
-    requires over { journal.now.is_over ≡ true }
-    ensures { HasSeenPart (whole_of journal.now) player.now.seat }
+    requires cell { player.now.seat.cell ≡ journal.now.now.cell }
+    requires over { journal.now.now.is_over ≡ true }
+    ensures { HasSeenPart (whole_of journal.now.now) player.now.seat }
 {
     agree(&player.seat, journal);
     player.seat.seen();
 }
 
-// The clients once all lines were played, if none was refused memory.
-fn play_in<T: Threads + Wait + Clock + Sync>(
-    rt: &T,
+// The cell and its clients once all lines were played, if none was refused memory. A fault closes the cell.
+fn play_in<
+    T: Threads + Wait + Clock + Copy + Send + Sync + 'static,
+    P: Watcher + Send + Drop + 'static,
+>(
+    rt: T,
     alloc: Global,
-    cell: &mut Cell,
+    cell: Cell,
     clients: u64,
     lines: &[LiveLine],
-) -> Result<Vec<Player>, NoMemory>
-    requires { cell.old.made ≡ 0 }
-    ensures cell { cell.new.of ≡ cell.old.of }
-    ensures count { IfOk result (λ players. length players.items ≡ clients) }
-    ensures players { IfOk result (λ players. Each (IsPlayed cell.old.of lines.now) players.items) }
+    watcher: Option<P>,
+) -> Result<(Cell, Vec<Player>), ScriptFault>
+    requires { cell.made ≡ 0 }
+    ensures cell { IfOk result (λ r. IsReopened cell.of r.0.of) }
+    ensures count { IfOk result (λ r. length r.1.items ≡ clients) }
+    ensures players { IfOk result (λ r. Each (IsPlayed r.0.of lines.now) r.1.items) }
+    ensures lacked { IfOk result (λ r. (k : ℕ) (p : Player) → slice_get r.1.items k ≡ Some p → p.lacked_memory ≡ false) }
+    ensures fault { IfErr result IsOfRun }
 {
-    let mut players = new_players(alloc, cell, clients)?;
-    play_all(rt, alloc, lines, players.as_mut_slice());
+    let mut cell = cell;
+    let Ok(players) = new_players(alloc, &mut cell, clients) else {
+        cell.close(&rt);
+        return Err(ScriptFault::NoMemory);
+    };
+    let (cell, players) = play_all(rt, alloc, lines, cell, players, watcher)?;
     if lack_memory(players.as_slice()) {
-        return Err(NoMemory);
+        cell.close(&rt);
+        return Err(ScriptFault::NoMemory);
     }
-    Ok(players)
+    Ok((cell, players))
 }
 
 // Whether one of them made not all its calls.
@@ -256,21 +247,89 @@ fn new_player(alloc: Global, cell: &mut Cell, number: u64) -> Result<Player, NoM
     })
 }
 
-// All clients make their calls up to the next barrier, and are answered; then those up to the one after it.
-fn play_all<T: Threads + Wait + Clock + Sync>(
-    rt: &T,
+/// A cell, its clients, and what tells a watcher how far it is.
+#[derive(Drop)]
+struct Running<P: Watcher + Send + Drop + 'static> {
+    cell: Cell,
+    players: Vec<Player>,
+    watch: Option<Watch<P>>,
+}
+
+// All clients make their calls up to the next barrier, and are answered; then those up to the one after it. The watcher, if there is one, is told
+// meanwhile how far the cell is.
+#[tactic(auto, using(crate::proofs::Players::all_new, crate::proofs::Players::still_one, crate::proofs::Players::same_reopened, crate::proofs::Players::mid_cells, crate::proofs::Players::barrier_passed, crate::proofs::Players::all_lines))]
+fn play_all<
+    T: Threads + Wait + Clock + Copy + Send + Sync + 'static,
+    P: Watcher + Send + Drop + 'static,
+>(
+    rt: T,
     alloc: Global,
     lines: &[LiveLine],
-    players: &mut [Player],
-)
-    ensures { AllPlay lines.now players.old players.new }
+    cell: Cell,
+    players: Vec<Player>,
+    watcher: Option<P>,
+) -> Result<(Cell, Vec<Player>), ScriptFault>
+    requires { Each (IsNewPlayer cell.of) players.items }
+    ensures cell { IfOk result (λ r. IsReopened cell.of r.0.of) }
+    ensures count { IfOk result (λ r. length r.1.items ≡ length players.items) }
+    ensures players { IfOk result (λ r. Each (IsPlayed r.0.of lines.now) r.1.items) }
+    ensures fault { IfErr result IsOfRun }
 {
+    let watch = start_watch(rt, &cell, watcher);
+    let mut running = Running {
+        cell,
+        players,
+        watch,
+    };
     let mut first = 0;
     while first < lines.len() {
         let next = next_barrier(lines, first);
-        play_part(rt, alloc, &lines[first..next], players);
+        play_part(&rt, alloc, &lines[first..next], &mut running.players);
+        running = pass(rt, alloc, running, is_reopen_at(lines, next))?;
         first = next + 1;
     }
+    let Running {
+        cell,
+        players,
+        watch,
+    } = running;
+    let _watcher = stop_watch(&rt, watch);
+    Ok((cell, players))
+}
+
+// Whether the cell is parked at this line.
+fn is_reopen_at(lines: &[LiveLine], place: usize) -> bool
+    ensures { result ≡ true → (line : LiveLine) × (slice_get lines.now place ≡ Some line) × (is_reopen line ≡ true) }
+{
+    place < lines.len() && lines[place].is_reopen()
+}
+
+// Passes a barrier, at which the cell may be parked and go on. Meanwhile no watcher is told.
+fn pass<
+    T: Threads + Wait + Clock + Copy + Send + Sync + 'static,
+    P: Watcher + Send + Drop + 'static,
+>(rt: T, alloc: Global, running: Running<P>, is_reopen: bool) -> Result<Running<P>, ScriptFault>
+    requires { (k : ℕ) (p : Player) → slice_get running.players.items k ≡ Some p → p.seat.cell ≡ running.cell.of }
+    ensures stays { is_reopen ≡ false → IfOk result (λ r. (r.cell ≡ running.cell) × (r.players ≡ running.players)) }
+    ensures goes { is_reopen ≡ true → IfOk result (λ r. IsReopened running.cell.of r.cell.of × AllReopen r.cell.of running.players.items r.players.items) }
+    ensures fault { IfErr result IsOfRun }
+{
+    if !is_reopen {
+        return Ok(running);
+    }
+    let Running {
+        cell,
+        players,
+        watch,
+    } = running;
+    let watcher = stop_watch(&rt, watch);
+    let (cell, players) = reopen(rt, alloc, cell, players)?;
+    let watch = start_watch(rt, &cell, watcher);
+    Ok(Running {
+        cell,
+        players,
+        watch,
+    })
 }
 
 // The place of the first barrier from this place on, or of the end.
@@ -288,6 +347,17 @@ fn next_barrier(lines: &[LiveLine], first: usize) -> usize
 
 // All clients make their calls of these lines, each on a thread of its own, and are answered.
 fn play_part<T: Threads + Wait + Clock + Sync>(
+    rt: &T,
+    alloc: Global,
+    lines: &[LiveLine],
+    players: &mut Vec<Player>,
+)
+    ensures { AllPlay lines.now players.old.items players.new.items }
+{
+    play_on_threads(rt, alloc, lines, players.as_mut_slice());
+}
+
+fn play_on_threads<T: Threads + Wait + Clock + Sync>(
     rt: &T,
     alloc: Global,
     lines: &[LiveLine],

@@ -9,7 +9,7 @@ use lib.ListN.{length-append}
 use Rattle.script.specs.declared.fault.LineFault.{LineFault}
 use Rattle.script.specs.declared.fault.LineFault.TheVariants as lines
 use Rattle.script.specs.declared.live_lines.LiveLine.{LiveLine}
-use Rattle.script.specs.declared.live_lines.LiveLine.TheVariants.{Nothing, Barrier}
+use Rattle.script.specs.declared.live_lines.LiveLine.TheVariants.{Nothing, Barrier, Reopen}
 use Rattle.script.specs.declared.script_fault.ScriptFault.{ScriptFault}
 use Rattle.script.specs.declared.script_fault.ScriptFault.TheVariants as fault
 use Rattle.script.specs.ScriptFaults.{line_fault, IsOfRead}
@@ -33,7 +33,11 @@ none_read clients known lines none = record { texts = []; good = sym (ap (map (�
 too_long : (clients : ℕ) (text : List ℕ) → longest_line < length text → asked_on clients text ≡ None
 too_long clients text long =
     let over : nat_lt 8192 (length text) ≡ true = grind (arith, nat_tests) in
-    ap (λ (b : Bool). option_and_then (if_for clients) (if b then None else if bytes_eq text (codes "barrier") then Some Barrier else repeated_or_plain text (repeat_in text))) over
+    ap
+    (λ (b : Bool).
+    option_and_then (if_for clients)
+    (if b then None else if bytes_eq text (codes "barrier") then Some Barrier else if bytes_eq text (codes "reopen") then Some Reopen else repeated_or_plain text (repeat_in text)))
+    over
 
 not_none : {X : Type 0} (o : Option X) (x : X) → o ≡ Some x → o ≡ None → ⊥
 not_none o x is none = let both : Some x ≡ None = sym is ∙ none in cc

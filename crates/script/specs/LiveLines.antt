@@ -7,7 +7,7 @@ use Rattle.script.specs.declared.cell_lines.CellLine.TheVariants as lines
 use Rattle.script.specs.CellLines.{line_of}
 use Rattle.script.specs.Numbers.{number_of}
 use Rattle.script.specs.declared.live_lines.LiveLine.{LiveLine}
-use Rattle.script.specs.declared.live_lines.LiveLine.TheVariants.{Nothing, Barrier, Calls}
+use Rattle.script.specs.declared.live_lines.LiveLine.TheVariants.{Nothing, Barrier, Reopen, Calls}
 
 -- a call, so many times in a row
 abbrev pub calls_of : ℕ → CellLine → Option LiveLine
@@ -40,6 +40,7 @@ abbrev pub live_line_of : List ℕ → Option LiveLine
 live_line_of text =
     if nat_lt 8192 (length text) then None
     else if bytes_eq text (codes "barrier") then Some Barrier
+    else if bytes_eq text (codes "reopen") then Some Reopen
     else repeated_or_plain text (repeat_in text)
 
 -- it names no client but the first so many
@@ -47,6 +48,13 @@ abbrev pub is_for : ℕ → LiveLine → Bool
 is_for clients (Calls times asked) = nat_le asked.client.0 clients
 is_for clients other = true
 
+-- what follows begins only when all before was answered
 abbrev pub is_barrier : LiveLine → Bool
 is_barrier Barrier = true
+is_barrier Reopen = true
 is_barrier other = false
+
+-- and before that the cell is parked and goes on
+abbrev pub is_reopen : LiveLine → Bool
+is_reopen Reopen = true
+is_reopen other = false

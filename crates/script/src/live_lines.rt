@@ -4,7 +4,7 @@ ghost use Rattle.std.specs.Prelude.{◌≡◌, ◌==◌, ◌<◌, length, IfSome
 ghost use Rattle.std.specs.List.{position};
 ghost use Rattle.std.specs.Str.{byte};
 ghost use Rattle.script.specs.Words.{Reads};
-ghost use Rattle.script.specs.LiveLines.{calls_in, plain_line, repeat_in, live_line_of, is_for, is_barrier};
+ghost use Rattle.script.specs.LiveLines.{calls_in, plain_line, repeat_in, live_line_of, is_for, is_barrier, is_reopen};
 
 use crate::cell_lines::{CellLine, ClientCall, parse as parse_line};
 use crate::fault::LineFault;
@@ -19,6 +19,8 @@ pub enum LiveLine {
     Nothing,
     /// What follows begins only when all before was answered.
     Barrier,
+    /// The same, and before that the cell is parked and goes on.
+    Reopen,
     /// A client makes a call so many times in a row.
     Calls { times: u64, asked: ClientCall },
 }
@@ -35,6 +37,9 @@ pub fn parse(alloc: Global, text: &[u8]) -> Result<LiveLine, LineFault>
     }
     if text == b"barrier".as_slice() {
         return Ok(LiveLine::Barrier);
+    }
+    if text == b"reopen".as_slice() {
+        return Ok(LiveLine::Reopen);
     }
     match repeat(text) {
         Some((times, asked)) => calls(alloc, times, asked),
@@ -86,16 +91,27 @@ impl LiveLine {
     {
         match self {
             LiveLine::Calls { asked, .. } => asked.client.0 <= clients,
-            LiveLine::Nothing | LiveLine::Barrier => true,
+            LiveLine::Nothing | LiveLine::Barrier | LiveLine::Reopen => true,
         }
     }
 
+    /// Whether what follows begins only when all before was answered.
     pub fn is_barrier(&self) -> bool
         ensures { result ≡ is_barrier self.now }
     {
         match self {
-            LiveLine::Barrier => true,
+            LiveLine::Barrier | LiveLine::Reopen => true,
             LiveLine::Nothing | LiveLine::Calls { .. } => false,
+        }
+    }
+
+    /// Whether the cell is parked here and goes on.
+    pub fn is_reopen(&self) -> bool
+        ensures { result ≡ is_reopen self.now }
+    {
+        match self {
+            LiveLine::Reopen => true,
+            LiveLine::Nothing | LiveLine::Barrier | LiveLine::Calls { .. } => false,
         }
     }
 }
