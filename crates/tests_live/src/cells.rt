@@ -3,6 +3,7 @@
 use gfs_types::config::Config;
 use std::sync::Wait;
 use std::sync::atomic::{AtomicU64, Ordering};
+use std::thread::Threads;
 use std::time::{Clock, Duration};
 use std::{io, thread};
 
@@ -48,6 +49,8 @@ pub struct OddClock<R> {
 }
 
 impl<R: Wait> Wait for OddClock<R> {}
+
+impl<R: Threads> Threads for OddClock<R> {}
 
 impl<R: Clock> Clock for OddClock<R> {
     fn monotonic(&self) -> io::Result<Duration> {

@@ -10,11 +10,15 @@ mod gate;
 #[cfg(test)]
 mod parking;
 #[cfg(test)]
+mod parks;
+#[cfg(test)]
 mod producers;
 #[cfg(test)]
 mod refusals;
 #[cfg(test)]
 mod restarts;
+#[cfg(test)]
+mod resuming;
 #[cfg(test)]
 mod scripts;
 #[cfg(test)]
