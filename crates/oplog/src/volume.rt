@@ -38,14 +38,14 @@ pub struct LogVolume<D: Disk> {
     pub end: usize,
 }
 
-// An entry and the closed gate after it.
+// An entry and the closed gate after it, for which memory is taken once.
 fn record_bytes(alloc: Global, logged: &Record) -> Result<Vec<u8>, NoMemory>
     requires writable { IsWritable logged.now }
     requires short { IsIndex (length (payload logged.now)) }
     ensures bytes { IfOk result (λ v. v.items ≡ entry logged.now ++ 0 ∷ []) }
     ensures stands { OnOk result (IsEntry logged.now) }
 {
-    let mut bytes = Vec::new(alloc);
+    let mut bytes = Vec::with_capacity(alloc, encoded_len(logged) + 5)?;
     put_entry(&mut bytes, logged)?;
     bytes.push(0)?;
     Ok(bytes)
