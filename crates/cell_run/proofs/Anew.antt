@@ -1,5 +1,5 @@
 -- How many seats go on as clients of new numbers, and which clients go on.
-use Rattle.std.proofs.Common.{◌≡◌, ℕ, zero, suc, ◌+◌, ◌≤◌, Bool, true, false, List, [], ◌∷◌, ◌++◌, length, refl, sym, ap, ◌∙◌, arith, slice_set}
+use Rattle.std.proofs.Common.{◌≡◌, ℕ, zero, suc, ◌+◌, ◌≤◌, Bool, true, false, List, [], ◌∷◌, ◌++◌, length, refl, sym, ap, subst, ◌∙◌, arith, slice_set}
 use Rattle.std.specs.Prelude.{Option, Some, None, IfSome, get_or}
 use Rattle.std.specs.Option.{option_map}
 use Rattle.cell_journal.specs.Identity.{Identity}

@@ -243,10 +243,11 @@ impl Cell {
         registry.close(rt, base)
     }
 
-    /// Its parts, once its threads have ended. The journal is not closed.
-    pub(crate) fn ended<R: Threads + Wait + Clock>(self, rt: &R) -> EndedCell
-        ensures cell { (result.registry.writer.me.0.of ≡ self.of) × (result.made ≡ self.made) }
-        ensures ended { IsEnded result }
+    /// The locks of its nodes, and what else it has, once its threads have ended. The journal is not closed.
+    pub(crate) fn ended<R: Threads + Wait + Clock>(self, rt: &R) -> (NodeLocks, EndedCell)
+        ensures cell { (result.1.registry.writer.me.0.of ≡ self.of) × (result.1.made ≡ self.made) }
+        ensures locks { result.0 ≡ names_of result.1.registry.writer.me.0.of result.1.registry.servers }
+        ensures ended { IsEnded result.1 }
     {
         let Self {
             alloc,
@@ -261,23 +262,22 @@ impl Cell {
             nodes,
         } = self;
         end_all(rt, &registry.shared, registry.servers, ticker, nodes);
-        EndedCell {
+        let cell = EndedCell {
             alloc,
             registry,
-            locks,
             base,
             nothing,
             made,
-        }
+        };
+        (locks, cell)
     }
 }
 
-/// A cell whose threads have ended, and whose journal is not closed.
+/// A cell whose threads have ended, without the locks of its nodes. Its journal is not closed.
 #[derive(Drop)]
 pub struct EndedCell {
     pub alloc: Global,
     pub registry: NodeRegistry,
-    pub locks: NodeLocks,
     pub base: Vec<Journal>,
     pub nothing: Beginning<RaisedEntry>,
     pub made: u64,
