@@ -1,5 +1,5 @@
 -- A journal behind an earlier one, and the entries with which its nodes began again.
-use Rattle.std.proofs.Common.{◌≡◌, ℕ, zero, suc, ◌+◌, ◌-◌, ◌≤◌, List, [], ◌∷◌, ◌++◌, length, take, drop, map, Some, None, refl, sym, ap, subst, ◌∙◌, arith}
+use Rattle.std.proofs.Common.{◌≡◌, ℕ, zero, suc, ◌+◌, ◌-◌, ◌≤◌, List, [], ◌∷◌, ◌++◌, length, take, drop, map, Some, None, refl, sym, ap, subst, ◌∙◌, append_assoc, length-append, arith}
 use Rattle.std.specs.Prelude.{Option, All, IfSome, IfNone, slice_get}
 use Rattle.std.specs.Option.{option_map}
 use Rattle.std.proofs.lemmas.List.{append-nil, map-append, length-drop}
@@ -12,7 +12,7 @@ use Rattle.protocol.specs.Sending.{the_server}
 use Rattle.protocol_journal.specs.Journal.{StepCause, Entry, Restarts}
 use Rattle.cell_journal.specs.Identity.{Identity, Closed}
 use Rattle.cell_journal.specs.WholeHistories.{whole_of, AreRestarts}
-use Rattle.cell_seats.specs.Journals.{JournalState, journal_state, all_in, joined, steps_in, AreBehind}
+use Rattle.cell_seats.specs.Journals.{JournalState, journal_state, all_in, joined, steps_in, AreBehind, HasRestart}
 
 -- the journal that stands right before
 pub first_base : (cell : Identity) (items : List JournalState) (first : Option JournalState) → first ≡ slice_get items 0 → length items ≤ 1 → AreBehind cell (joined items)
@@ -28,6 +28,22 @@ pub no_base : (cell : Identity) (items : List JournalState) (first : Option Jour
 no_base cell items (Some b) is behind = tt
 no_base cell [] None is behind = behind
 no_base cell (j ∷ rest) None is behind = absurd (let none : None ≡ Some j = is in cc)
+
+-- the last one is taken away
+
+joined_append : (xs ys : List JournalState) → joined (xs ++ ys) ≡ joined xs ++ joined ys
+joined_append [] ys = refl
+joined_append (x ∷ xs) ys = ap (λ (l : List Closed). all_in x ++ l) (joined_append xs ys) ∙ sym (append_assoc (all_in x) (joined xs) (joined ys))
+
+popped_length : (xs : List JournalState) (x : JournalState) → length (joined (xs ++ x ∷ [])) ≡ length (joined xs) + (length x.earlier + 1)
+popped_length xs x =
+    omega (arith, ap length (joined_append xs (x ∷ [])), length-append (joined xs) (all_in x ++ []), ap length (append-nil (all_in x)))
+
+pub others_left : (before after : List JournalState) (x : JournalState) (most : ℕ) → before ≡ after ++ x ∷ [] → length (joined before) ≤ most → length (joined after) ≤ most
+others_left before after x most is few = omega (arith, ap (λ (l : List JournalState). length (joined l)) is, popped_length after x, few)
+
+pub earlier_left : (before after : List JournalState) (x : JournalState) (most : ℕ) → before ≡ after ++ x ∷ [] → length (joined before) ≤ most → length x.earlier + 1 ≤ most
+earlier_left before after x most is few = omega (arith, ap (λ (l : List JournalState). length (joined l)) is, popped_length after x, few)
 
 -- by reference
 pub some_mapped : {A B : Type 0} (f : A → B) (o : Option A) (P : B → Type 0) → IfSome (option_map f o) P → IfSome o (λ x. P (f x))
@@ -61,9 +77,6 @@ take_more {X} (y ∷ ys) zero x at = (let both : Some y ≡ Some x = at in ap (�
 take_more {X} (y ∷ ys) (suc k) x at = ap (λ (l : List X). y ∷ l) (take_more ys k x at)
 
 -- nodes that began again
-
-abbrev HasRestart : List Entry → ℕ → Node → Type 0
-HasRestart entries place n = (e : Entry) × (slice_get entries place ≡ Some e) × (e.node ≡ n) × (e.cause ≡ Restarts)
 
 one_restart : (e : Entry) → e.cause ≡ Restarts → All (λ x. x.cause ≡ Restarts) (e ∷ [])
 one_restart e is = All-cons (λ (x : Entry). x.cause ≡ Restarts) e [] is (All-nil (λ (x : Entry). x.cause ≡ Restarts))

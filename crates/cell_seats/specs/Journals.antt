@@ -1,8 +1,9 @@
 -- Journals of cells that were closed or parked, each behind an earlier one.
-use Rattle.std.specs.Prelude.{◌≡◌, ℕ, suc, ◌+◌, ◌≤◌, ◌⊎◌, List, [], ◌∷◌, ◌++◌, length, take, drop}
+use Rattle.std.specs.Prelude.{◌≡◌, ℕ, suc, ◌+◌, ◌≤◌, ◌⊎◌, List, [], ◌∷◌, ◌++◌, length, take, drop, slice_get, Some}
 use Rattle.std.proofs.Common.{arith, length-append}
 use denote.Param.Weighed.{most}
-use Rattle.protocol_journal.specs.Journal.{Entry}
+use Rattle.gfs_types.specs.declared.ids.Node.{Node}
+use Rattle.protocol_journal.specs.Journal.{Entry, Restarts}
 use Rattle.cell_journal.specs.Identity.{Identity, Closed}
 use Rattle.cell_journal.specs.WholeHistories.{whole_of, AreRestarts}
 
@@ -35,6 +36,10 @@ AreBehind cell (j ∷ rest) = (cell.base ≡ whole_of j) × (cell.name ≡ j.cel
 -- the first entries of a journal, if any, are those with which its nodes began again
 abbrev pub AreSkipped : Closed → ℕ → Type 0
 AreSkipped j skip = (skip ≡ 0) ⊎ AreRestarts j.cell.servers (take skip j.entries)
+
+-- the entry at a place is the restart of this node
+abbrev pub HasRestart : List Entry → ℕ → Node → Type 0
+HasRestart entries place n = (e : Entry) × (slice_get entries place ≡ Some e) × (e.node ≡ n) × (e.cause ≡ Restarts)
 
 pub most_le : (kids : List JournalState) → most (λ k. length k.earlier + 1) kids ≤ length (joined kids)
 most_le [] = omega arith

@@ -8,10 +8,10 @@ ghost use Rattle.gfs_types.specs.Settings.{first_out_of_range};
 ghost use Rattle.journal_headline.specs.Journals.{AreExplained};
 ghost use Rattle.cell_journal.specs.Clocks.{are_clocks_kept};
 ghost use Rattle.cell_journal.specs.Rules.{IsJournalOf};
-ghost use Rattle.protocol_journal.specs.Journal.{Entry, Restarts};
+ghost use Rattle.protocol_journal.specs.Journal.{Restarts};
 ghost use Rattle.cell_journal.specs.Entries.{cause_of};
 ghost use Rattle.cell_journal.specs.WholeHistories.{whole_of, AreRestarts};
-ghost use Rattle.cell_seats.specs.Journals.{joined, all_in, steps_in, AreBehind, AreSkipped};
+ghost use Rattle.cell_seats.specs.Journals.{joined, all_in, steps_in, AreBehind, AreSkipped, HasRestart};
 
 use crate::seat::Seat;
 use crate::stepper::Stepper;
@@ -77,11 +77,7 @@ impl Journal {
         ensures lawful { IsJournalOf result.now.cell result.now.entries }
         ensures explained { IsTrue (are_clocks_kept result.now.cell (whole_of result.now)) → AreExplained result.now.cell.config (whole_of result.now) }
     {
-        let skip = if base.is_empty() {
-            0
-        } else {
-            restarts_in(&history)
-        };
+        let skip = restarts_in(&history, base.is_empty());
         Journal {
             history,
             skip,
@@ -100,7 +96,9 @@ impl Journal {
     }
 
     // The journal that it stands behind, if there is one.
-    fn into_base(self) -> Vec<Journal> {
+    fn into_base(self) -> Vec<Journal>
+        ensures { joined result.items ≡ self.earlier }
+    {
         let Self {
             history: _history,
             skip: _,
@@ -136,7 +134,6 @@ impl Journal {
     }
 
     /// The step at a place, from 0.
-    #[tactic(auto, using(crate::proofs::EarlierJournals::event_past, crate::proofs::EarlierJournals::event_at))]
     pub fn event(&self, place: usize) -> Option<&JournalEntry>
         ensures { option_copied result ≡ slice_get (steps_in self.now) place }
     {
@@ -148,20 +145,21 @@ impl Journal {
     }
 }
 
-// With how many entries the nodes of a cell began again: one of each, the master's first, if all did, and else none.
-fn restarts_in(history: &ClosedHistory) -> usize
+// With how many entries the nodes of a cell began again: one of each, the master's first, if all did behind an earlier journal, and else none.
+fn restarts_in(history: &ClosedHistory, is_first: bool) -> usize
     ensures { AreSkipped history.now result }
 {
     let servers = history.cell().servers();
-    if all_restart(history, servers) {
-        servers as usize + 1
-    } else {
-        0
+    if is_first {
+        return 0;
     }
+    if !all_restart(history, servers) {
+        return 0;
+    }
+    servers as usize + 1
 }
 
 // Whether the first entries are the restarts of the master and then of each server.
-#[tactic(auto, using(crate::proofs::EarlierJournals::first_restart, crate::proofs::EarlierJournals::restart_more))]
 fn all_restart(history: &ClosedHistory, servers: u64) -> bool
     ensures restarts { result ≡ true → AreRestarts servers (take (servers + 1) history.now.entries) }
     ensures few { result ≡ true → servers < 65536 }
@@ -170,19 +168,29 @@ fn all_restart(history: &ClosedHistory, servers: u64) -> bool
         return false;
     }
     for before in 0..servers {
-        let Ok(number) = u16::try_from(before + 1) else {
-            return false;
-        };
-        if !restarts_at(history, number as usize, Node::Server(ServerId(number))) {
+        if !next_restarts(history, before) {
             return false;
         }
     }
     true
 }
 
+// Whether after the master and so many servers the next server began again.
+fn next_restarts(history: &ClosedHistory, before: u64) -> bool
+    requires { AreRestarts before (take (before + 1) history.now.entries) }
+    ensures restarts { result ≡ true → AreRestarts (before + 1) (take (before + 1 + 1) history.now.entries) }
+    ensures few { result ≡ true → before + 1 < 65536 }
+{
+    if before >= 65_535 {
+        return false;
+    }
+    let number = before as u16 + 1;
+    restarts_at(history, number as usize, Node::Server(ServerId(number)))
+}
+
 // Whether a node began again with the entry at this place.
 fn restarts_at(history: &ClosedHistory, place: usize, node: Node) -> bool
-    ensures { result ≡ true → (e : Entry) × (slice_get history.now.entries place ≡ Some e) × (e.node ≡ node) × (e.cause ≡ Restarts) }
+    ensures { result ≡ true → HasRestart history.now.entries place node }
 {
     match history.event(place) {
         Some(entry) => entry.node() == node && is_restart(entry.cause()),
