@@ -36,7 +36,6 @@ struct HandedIn {
 }
 
 /// The cell is parked with the seats of all clients, and goes on. Where a fault comes it is closed, or stays parked.
-#[tactic(auto, using(crate::proofs::Players::all_named, crate::proofs::Players::over_count, crate::proofs::Players::all_reopen))]
 pub fn reopen<T: Threads + Wait + Clock + Copy + Send + 'static>(
     rt: T,
     alloc: Global,

@@ -86,7 +86,6 @@ pub fn run_live_watched<
 }
 
 // The clients of a new cell once all lines were played and the cell was closed.
-#[tactic(auto, using(crate::proofs::Players::told_so, crate::proofs::Players::still_of, crate::proofs::Players::played_cells))]
 fn play_on_new<
     T: Threads + Wait + Clock + Copy + Send + Sync + 'static,
     P: Watcher + Send + Drop + 'static,
@@ -257,7 +256,6 @@ struct Running<P: Watcher + Send + Drop + 'static> {
 
 // All clients make their calls up to the next barrier, and are answered; then those up to the one after it. The watcher, if there is one, is told
 // meanwhile how far the cell is.
-#[tactic(auto, using(crate::proofs::Players::all_new, crate::proofs::Players::still_one, crate::proofs::Players::same_reopened, crate::proofs::Players::mid_cells, crate::proofs::Players::barrier_passed, crate::proofs::Players::all_lines))]
 fn play_all<
     T: Threads + Wait + Clock + Copy + Send + Sync + 'static,
     P: Watcher + Send + Drop + 'static,
