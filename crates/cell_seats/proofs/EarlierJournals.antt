@@ -1,7 +1,8 @@
 -- A journal behind an earlier one, and the entries with which its nodes began again.
 use Rattle.std.proofs.Common.{◌≡◌, ℕ, zero, suc, ◌+◌, ◌-◌, ◌≤◌, List, [], ◌∷◌, ◌++◌, length, take, drop, map, Some, None, refl, sym, ap, subst, ◌∙◌, append_assoc, length-append, arith}
 use Rattle.std.specs.Prelude.{Option, All, IfSome, IfNone, slice_get}
-use Rattle.std.specs.Option.{option_map}
+use Rattle.std.specs.Option.{option_map, option_to_list}
+use denote.Param.Weighed.{most}
 use Rattle.std.proofs.lemmas.List.{append-nil, map-append, length-drop}
 use Rattle.std.proofs.lemmas.List.Elements.{All-nil, All-cons, All-append}
 use Rattle.std.proofs.lemmas.Option.{slice_get_past}
@@ -12,6 +13,7 @@ use Rattle.protocol.specs.Sending.{the_server}
 use Rattle.protocol_journal.specs.Journal.{StepCause, Entry, Restarts}
 use Rattle.cell_journal.specs.Identity.{Identity, Closed}
 use Rattle.cell_journal.specs.WholeHistories.{whole_of, AreRestarts}
+use Rattle.cell_seats.specs.declared.journal.Journal.TheDeep.{size-Journal}
 use Rattle.cell_seats.specs.Journals.{JournalState, journal_state, all_in, joined, steps_in, AreBehind, HasRestart}
 
 -- the journal that stands right before
@@ -39,11 +41,19 @@ popped_length : (xs : List JournalState) (x : JournalState) → length (joined (
 popped_length xs x =
     omega (arith, ap length (joined_append xs (x ∷ [])), length-append (joined xs) (all_in x ++ []), ap length (append-nil (all_in x)))
 
-pub others_left : (before after : List JournalState) (x : JournalState) (most : ℕ) → before ≡ after ++ x ∷ [] → length (joined before) ≤ most → length (joined after) ≤ most
-others_left before after x most is few = omega (arith, ap (λ (l : List JournalState). length (joined l)) is, popped_length after x, few)
+pub others_left : (before after : List JournalState) (o : Option JournalState) (most : ℕ) → before ≡ after ++ option_to_list o → length (joined before) ≤ most → length (joined after) ≤ most
+others_left before after None most is few = omega (arith, ap (λ (l : List JournalState). length (joined l)) (is ∙ append-nil after), few)
+others_left before after (Some x) most is few = omega (arith, ap (λ (l : List JournalState). length (joined l)) is, popped_length after x, few)
 
-pub earlier_left : (before after : List JournalState) (x : JournalState) (most : ℕ) → before ≡ after ++ x ∷ [] → length (joined before) ≤ most → length x.earlier + 1 ≤ most
-earlier_left before after x most is few = omega (arith, ap (λ (l : List JournalState). length (joined l)) is, popped_length after x, few)
+pub earlier_left : (before after : List JournalState) (o : Option JournalState) (x : JournalState) (most : ℕ) → before ≡ after ++ option_to_list o → o ≡ Some x → length (joined before) ≤ most → length x.earlier + 1 ≤ most
+earlier_left before after o x most is last few =
+    let all : before ≡ after ++ x ∷ [] = is ∙ ap (λ (p : Option JournalState). after ++ option_to_list p) last in
+    omega (arith, ap (λ (l : List JournalState). length (joined l)) all, popped_length after x, few)
+
+-- each is smaller than all of them
+pub sizes_less : (kids : List JournalState) → most size-Journal kids ≤ length (joined kids)
+sizes_less [] = omega arith
+sizes_less (k ∷ ks) = omega (arith, sizes_less ks, length-append (all_in k) (joined ks))
 
 -- by reference
 pub some_mapped : {A B : Type 0} (f : A → B) (o : Option A) (P : B → Type 0) → IfSome (option_map f o) P → IfSome o (λ x. P (f x))
