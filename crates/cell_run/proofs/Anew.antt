@@ -4,10 +4,9 @@ use Rattle.std.specs.Prelude.{Option, Some, None, IfSome, get_or}
 use Rattle.std.specs.Option.{option_map}
 use Rattle.cell_journal.specs.Identity.{Identity}
 use Rattle.cell_seats.specs.ParkedNodes.{ParkedNodeState}
-use Rattle.cell_seats.specs.Seats.{SeatState, StaysOver, MovesOver, GoesOver}
-use Rattle.cell_seats.proofs.GoingOver.{goes_stay, goes_move}
+use Rattle.cell_seats.specs.Seats.{SeatState, GoesOver}
 use Rattle.cell_run.specs.Parked.{AllGoOver}
-use Rattle.cell_run.specs.ParkedSeats.{ParkedSeatState, is_anew, goes_anew, one_where, count_anew}
+use Rattle.cell_run.specs.ParkedSeats.{ParkedSeatState, goes_anew, one_where, count_anew}
 
 pub count_append : (xs ys : List ParkedSeatState) → count_anew (xs ++ ys) ≡ count_anew xs + count_anew ys
 count_append [] ys = refl
@@ -48,27 +47,14 @@ some_saw p o c saw is = saw ∙ ap saw_of is
 pub saw_count : (p : ParkedSeatState) (o : Option ParkedNodeState) (c : ParkedNodeState) (k : ℕ) → p.saw ≡ saw_of o → o ≡ Some c → IfSome p.saw (λ j. j ≡ k) → length c.history.items ≡ k
 saw_count p o c k saw is count = subst (λ (x : Option ℕ). IfSome x (λ j. j ≡ k)) (some_saw p o c saw is) count
 
-waits_as : (p : ParkedSeatState) (o : Option ParkedNodeState) (c : ParkedNodeState) (b : Bool) → p.saw ≡ saw_of o → o ≡ Some c → goes_anew p ≡ b → p.seat.waits ≡ b
-waits_as p o c b saw is anew = sym (ap (λ (x : Option ℕ). is_anew x p.seat.waits) (some_saw p o c saw is)) ∙ anew
-
-pub waits_not : (p : ParkedSeatState) (s : SeatState) (o : Option ParkedNodeState) (c : ParkedNodeState) → s ≡ p.seat → p.saw ≡ saw_of o → o ≡ Some c → goes_anew p ≡ false → s.waits ≡ false
-waits_not p s o c same saw is anew = ap (λ (x : SeatState). x.waits) same ∙ waits_as p o c false saw is anew
-
 -- seats that go over
 
 over_so : (cell : Identity) (p : ParkedSeatState) (s new : SeatState) (saw : Option ℕ) → s ≡ p.seat → p.saw ≡ saw → GoesOver cell saw s new → GoesOver cell p.saw p.seat new
 over_so cell p s new saw same is over = subst (λ (o : Option ℕ). GoesOver cell o p.seat new) (sym is) (subst (λ (x : SeatState). GoesOver cell saw x new) same over)
 
-pub stays_over : (p : ParkedSeatState) (s new : SeatState) (o : Option ParkedNodeState) (c : ParkedNodeState) (cell : Identity) → s ≡ p.seat → p.saw ≡ saw_of o → o ≡ Some c → goes_anew p ≡ false → cell.name ≡ s.cell.name
-    → StaysOver cell s new → GoesOver cell p.saw p.seat new
-stays_over p s new o c cell same saw is anew named over =
-    over_so cell p s new (Some (length c.history.items)) same (some_saw p o c saw is) (goes_stay (length c.history.items) cell s new (waits_not p s o c same saw is anew) named over)
-
-pub moves_over : (p : ParkedSeatState) (s new : SeatState) (o : Option ParkedNodeState) (c : ParkedNodeState) (cell : Identity) → s ≡ p.seat → p.saw ≡ saw_of o → o ≡ Some c → goes_anew p ≡ true → cell.name ≡ s.cell.name
-    → MovesOver cell s new → GoesOver cell p.saw p.seat new
-moves_over p s new o c cell same saw is anew named over =
-    over_so cell p s new (Some (length c.history.items)) same (some_saw p o c saw is)
-    (goes_move (length c.history.items) cell s new (ap (λ (x : SeatState). x.waits) same ∙ waits_as p o c true saw is anew) named over)
+pub client_over : (cell : Identity) (p : ParkedSeatState) (s new : SeatState) (o : Option ParkedNodeState) (c : ParkedNodeState) → s ≡ p.seat → p.saw ≡ saw_of o → o ≡ Some c
+    → GoesOver cell (Some (length c.history.items)) s new → GoesOver cell p.saw p.seat new
+client_over cell p s new o c same saw is over = over_so cell p s new (Some (length c.history.items)) same (some_saw p o c saw is) over
 
 pub starts_over : (p : ParkedSeatState) (s new : SeatState) (o : Option ParkedNodeState) (cell : Identity) → s ≡ p.seat → p.saw ≡ saw_of o → o ≡ None → GoesOver cell None s new → GoesOver cell p.saw p.seat new
 starts_over p s new o cell same saw is over = over_so cell p s new None same (saw ∙ ap saw_of is) over

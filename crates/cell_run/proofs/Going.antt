@@ -1,6 +1,6 @@
 -- A parked cell goes on behind its journal.
-use Rattle.std.proofs.Common.{◌≡◌, ℕ, suc, ◌+◌, ◌-◌, ◌≤◌, ◌<◌, Bool, false, List, [], ◌∷◌, ◌++◌, length, Option, None, refl, sym, ap, subst, ◌∙◌, arith}
-use Rattle.std.specs.Prelude.{map, All, IsTrue, get_or}
+use Rattle.std.proofs.Common.{◌≡◌, ℕ, suc, ◌+◌, ◌-◌, ◌≤◌, ◌<◌, Bool, false, List, [], ◌∷◌, length, Option, None, refl, sym, ap, subst, ◌∙◌, arith}
+use Rattle.std.specs.Prelude.{map, All, IsTrue, get_or, replicate}
 use Rattle.std.proofs.lemmas.List.{append-nil, length-map}
 use Rattle.std.proofs.lemmas.List.Elements.{All-nil, All-cons, All-head, All-tail, All-map}
 use Rattle.atomic_table.specs.Table.{Me}
@@ -16,15 +16,21 @@ use Rattle.cell_journal.specs.Log.{Listed, listed}
 use Rattle.cell_journal.specs.Rules.{IsJournalOf, first_view}
 use Rattle.cell_journal.specs.WholeHistories.{history_of, whole_of, IsHistoryOf}
 use Rattle.cell_journal.specs.declared.view.View.{View}
-use Rattle.cell_seats.specs.Journals.{JournalState, all_in, joined, AreBehind}
+use Rattle.cell_seats.specs.Controls.{WritesControls, no_policy}
+use Rattle.cell_seats.specs.Journals.{JournalState, joined, AreBehind}
 use Rattle.cell_seats.specs.NodeLocks.{NodeName, node_name}
-use Rattle.cell_seats.specs.ParkedNodes.{ParkedNodeState, name_of, HasSeenAll, HasSeenBase, GoesOnBehind}
+use Rattle.cell_seats.specs.ParkedNodes.{ParkedNodeState, name_of, HasSeenBase, GoesOnBehind}
 use Rattle.cell_seats.specs.Registry.{Registers}
-use Rattle.cell_seats.proofs.RegisteredNodes.{first_registers}
-use Rattle.cell_run.specs.Cells.{names_of, IsFresh}
-use Rattle.cell_run.specs.Parked.{AreNodesOf, IsSeatOf}
-use Rattle.cell_run.specs.ParkedSeats.{ParkedSeatState}
-use Rattle.cell_run.specs.Resumed.{behind_of}
+use Rattle.cell_seats.specs.Seats.{SeatState}
+use Rattle.cell_seats.specs.declared.controls.Controls.{Controls}
+use Rattle.cell_seats.specs.declared.controls.ControlWriter.{ControlWriter}
+use Rattle.cell_seats.specs.declared.mailboxes.Policy.{Policy}
+use Rattle.cell_run.specs.declared.client_places.ClientPlace.{ClientPlace}
+use Rattle.cell_run.specs.declared.running_client.RunningClient.{RunningClient}
+use Rattle.cell_run.specs.Cells.{CellState, cell_state, names_of, IsFresh, HasMade}
+use Rattle.cell_run.specs.Parked.{ParkedState, AreNodesOf, IsSeatOf, AllGoOver, IsResumed}
+use Rattle.cell_run.specs.ParkedSeats.{ParkedSeatState, count_anew}
+use Rattle.cell_run.specs.Resumed.{behind_of, ArePlacesOf, AreNewClients, IsSeating}
 use Rattle.cell_run.proofs.NewLocks.{numbers_count}
 
 -- the list beside a journal to which nothing was added has what stands before it
@@ -105,3 +111,53 @@ first_seen cell master servers all = All-head (HasSeenBase cell) master servers 
 
 pub others_seen : (cell : Identity) (master : ParkedNodeState) (servers : List ParkedNodeState) → All (HasSeenBase cell) (master ∷ servers) → All (HasSeenBase cell) servers
 others_seen cell master servers all = All-tail (HasSeenBase cell) master servers all
+
+-- a cell that goes on so is the parked one's
+pub resumed_so : (p : ParkedState) (retired : List Bool) (of : Identity) (c : CellState) (seats : List SeatState) (made : ℕ) (policy : Policy) (restarts : List ℕ) → c ≡ cell_state of made policy restarts → of ≡ behind_of p.journal retired
+    → made ≡ p.made + count_anew p.seats → policy ≡ no_policy → restarts ≡ replicate 66 0 → AllGoOver of p.seats seats → IsResumed p c seats
+resumed_so p retired of c seats made policy restarts is same made_is none never over =
+    subst (λ (x : CellState). IsResumed p x seats) (sym is)
+    (record {
+      name = ap (λ (i : Identity). i.name) same;
+      config_is = ap (λ (i : Identity). i.config) same;
+      servers_are = ap (λ (i : Identity). i.servers) same;
+      clients_are = ap (λ (i : Identity). i.clients) same;
+      base = ap (λ (i : Identity). i.base) same;
+      made = made_is;
+      policy = none;
+      restarts = never;
+      go_over = over;
+    })
+
+-- what is known of its registry once all nodes have their places
+pub made_behind : (p : ParkedState) (retired : List Bool) (of : Identity) (config : Config) (servers registered made boxes : ℕ) (nothing : Listed Entry) (controls : Controls) (control_writer : ControlWriter) → of ≡ behind_of p.journal retired
+    → of.config ≡ config → 64 ≤ p.journal.cell.config.chunk → registered ≡ servers + 1 + made → boxes + made ≡ 64 → nothing ≡ listed p.journal.cell.name [] → made ≡ p.made + count_anew p.seats
+    → ((k : ℕ) → p.made ≤ k → get_or retired k false ≡ false) → ((n : ℕ) → p.made < n → own (Client (record { 0 = n })) (whole_of p.journal) ≡ []) → WritesControls controls control_writer
+    → HasMade config servers registered made boxes of nothing controls control_writer
+made_behind p retired of config servers registered made boxes nothing controls control_writer same config_is least next waiting nothing_is made_is alive unused asks = record {
+  least = subst (λ (c : Config). 64 ≤ c.chunk) (sym (ap (λ (i : Identity). i.config) same) ∙ config_is) least;
+  next = next;
+  waiting = waiting;
+  nothing_is = nothing_is ∙ ap (λ (i : Identity). listed i.name []) (sym same);
+  fresh = λ n past.
+      let before : p.made < n = omega (arith, past, made_is) in
+      fresh_behind p.journal retired of p.made n same before alive (unused n before);
+  asks = asks;
+}
+
+-- seats may go over to it
+pub ready_behind : (journal : Closed) (retired : List Bool) (cell : Identity) (base_len : ℕ) (config : Config) (made : ℕ) (places : List (Option ClientPlace)) (clients : List (Option RunningClient)) → cell ≡ behind_of journal retired
+    → base_len ≡ length (whole_of journal) → cell.config ≡ config → journal.cell.clients ≡ 64 → ArePlacesOf cell places → config ≡ journal.cell.config → AreNewClients journal.cell.config made clients → IsJournalOf journal.cell journal.entries
+    → first_out_of_range journal.cell.config ≡ None → IsTrue (are_clocks_kept cell cell.base) → made ≤ 64 → ((n : ℕ) → made < n → own (Client (record { 0 = n })) cell.base ≡ [])
+    → IsSeating cell base_len config retired made places clients
+ready_behind journal retired cell base_len config made places clients is count config_is clients_are there settings anew lawful in_range kept few fresh = record {
+  base_is = ap (λ (i : Identity). length i.base) is ∙ sym count;
+  config_is = config_is;
+  clients_are = ap (λ (i : Identity). i.clients) is ∙ clients_are;
+  retired_are = ap (λ (i : Identity). i.retired) is;
+  places_are = there;
+  anew = subst (λ (c : Config). AreNewClients c made clients) (sym settings) anew;
+  goes_on = goes_behind journal retired cell is lawful kept (ap (λ (i : Identity). first_out_of_range i.config) is ∙ in_range);
+  few = few;
+  fresh = fresh;
+}

@@ -8,4 +8,5 @@ pub mod Parking
 pub mod Anew
 pub mod Fresh
 pub mod Going
+pub mod GoingSeats
 pub mod Placing

@@ -6,4 +6,5 @@ pub mod SeatFaults
 pub mod Parked
 pub mod ParkedSeats
 pub mod Resumed
+pub mod Seatings
 pub mod EndedCells

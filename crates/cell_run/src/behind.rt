@@ -1,35 +1,38 @@
 //! A parked cell with a journal behind its own, of which no node was touched yet.
 
-ghost use Rattle.std.specs.Prelude.{◌≡◌, ◌≤◌, ◌<◌, ◌+◌, ℕ, [], None, false, get_or, length, vec_len, vec_capacity, All, IfOk, IfErr, IsTrue};
+ghost use Rattle.std.specs.Prelude.{◌≡◌, ◌≤◌, ◌<◌, ◌+◌, ℕ, [], false, get_or, length, vec_len, vec_capacity, All, IfOk, IfErr, IsTrue};
 ghost use Rattle.std.specs.Arc.{arc_value};
-ghost use Rattle.gfs_types.specs.Settings.{first_out_of_range};
-ghost use Rattle.cell_journal.specs.Clocks.{are_clocks_kept};
-ghost use Rattle.cell_journal.specs.Identity.{Identity};
-ghost use Rattle.cell_journal.specs.Log.{listed};
-ghost use Rattle.cell_journal.specs.WholeHistories.{whole_of};
-ghost use Rattle.cell_seats.specs.Controls.{WritesControls};
-ghost use Rattle.cell_seats.specs.Journals.{joined, AreBehind};
 ghost use Rattle.gfs_types.specs.declared.ids.Node.TheVariants.{Client};
 ghost use Rattle.protocol_journal.specs.Journal.{own};
+ghost use Rattle.cell_journal.specs.Clocks.{are_clocks_kept};
+ghost use Rattle.cell_journal.specs.Identity.{Identity, filled};
+ghost use Rattle.cell_journal.specs.Log.{listed};
+ghost use Rattle.cell_journal.specs.Rules.{first_view};
+ghost use Rattle.cell_journal.specs.WholeHistories.{whole_of};
+ghost use Rattle.cell_seats.specs.Controls.{WritesControls, policy_in};
+ghost use Rattle.cell_seats.specs.Journals.{joined, AreBehind};
 ghost use Rattle.cell_seats.specs.Registries.{IsSameRegistry};
+ghost use Rattle.cell_run.specs.Cells.{HasMade, cell_state, names_of};
 ghost use Rattle.cell_run.specs.Parked.{IsResumed, IsSeatOf, AllGoOver};
 ghost use Rattle.cell_run.specs.ParkedSeats.{count_anew};
-ghost use Rattle.cell_run.specs.Resumed.{HasRoom, IsRoomFor, behind_of};
+ghost use Rattle.cell_run.specs.Resumed.{HasRoom, IsRoomFor, StandsBehind, behind_of};
 
-use crate::cell::{Cell, ClientSeat, Ticker, end_all, start_node, ticks};
+use crate::cell::{Cell, ClientSeat, Thread, Ticker, end_all, start_node, ticks};
 use crate::client_places::client_places;
 use crate::node_locks::NodeLocks;
 use crate::parked::{KeptParts, Parked, ParkedParts};
 use crate::parked_seat::ParkedSeat;
-use crate::resume_room::{ClientRoom, ResumeRoom, ThreadRoom, resume_room};
+use crate::resume_room::{ClientRoom, ResumeMemory, ResumeRoom, ThreadRoom, resume_memory};
 use crate::seating::{Seating, seat_all};
 use crate::start_fault::StartFault;
 use cell_journal::history::History;
+use cell_journal::identity::CellIdentity;
 use cell_journal::raised_entry::RaisedEntry;
-use cell_journal::{GrowingList, open_or_back, reclaim};
+use cell_journal::{GrowingList, JournalWriter, open_or_back, reclaim};
+use cell_seats::controls::{ControlWriter, Controls};
 use cell_seats::gate::{Gate, OpenGate};
 use cell_seats::journal::Journal;
-use cell_seats::mailboxes::{Input, MailboxItem};
+use cell_seats::mailboxes::{Input, MailboxItem, MailboxSenders};
 use cell_seats::node_registry::NodeRegistry;
 use cell_seats::shared_state::{STARTING, SharedState};
 use crossbeam_channel::Receiver;
@@ -42,17 +45,10 @@ use std::time::Clock;
 
 /// The parked cell without its list, which lies in the table that the nodes share, and of which no node was registered.
 pub struct Behind {
-    parts: ParkedParts,
-    registry: NodeRegistry,
-    room: ResumeRoom,
-    retired: [bool; 64],
-    ghost first: { registry.registered ≡ 0 },
-    ghost cell_is: { registry.cell ≡ behind_of parts.journal retired },
-    ghost settings: { (registry.config ≡ parts.journal.cell.config) × (registry.servers ≡ parts.journal.cell.servers) },
-    ghost few: { parts.made + count_anew parts.seats ≤ 64 },
-    ghost alive: { (k : ℕ) → parts.made ≤ k → get_or retired k false ≡ false },
-    ghost room_is: { HasRoom registry.cell parts room },
-    ghost asks: { WritesControls (arc_value registry.shared).controls room.control_writer },
+    pub parts: ParkedParts,
+    pub registry: NodeRegistry,
+    pub room: ResumeRoom,
+    pub retired: [bool; 64],
 }
 
 // Stands here, once, so that no crate above proves the drops of all that a cell owns.
@@ -68,89 +64,163 @@ impl Drop for Behind {
 }
 
 /// Makes the journal behind the parked one, and all that the cell needs to go on. A fault gives the parked cell back.
-pub fn begin<R: Wait + Clock>(rt: &R, parked: Parked) -> Result<Behind, (Parked, StartFault)>
+pub fn begin<R: Wait + Clock>(
+    rt: &R,
+    parked: Parked,
+) -> Result<(Behind, ThreadRoom), (Parked, StartFault)>
     requires { parked.made + count_anew parked.seats ≤ 64 }
-    ensures ok { IfOk result (λ b. b.parts ≡ parked) }
+    ensures parts { IfOk result (λ b. b.0.parts ≡ parked) }
+    ensures stands { IfOk result (λ b. StandsBehind b.0.parts b.0.registry b.0.room b.0.retired) }
     ensures back { IfErr result (λ f. f.0 ≡ parked) }
 {
     let (parts, list) = parked.into_parts();
     let retired = parts.retired_then();
-    let restarts = u64::from(parts.servers) + 1;
-    let made = History::behind(
+    match list_behind(&parts, list, retired) {
+        Ok(history) => begin_in(rt, parts, history, retired),
+        Err(list) => Err((Parked { parts, list }, StartFault::NoMemory)),
+    }
+}
+
+// The journal behind the one that was parked, with room for the restarts of its nodes.
+fn list_behind(
+    parts: &ParkedParts,
+    list: GrowingList<RaisedEntry>,
+    retired: [bool; 64],
+) -> Result<History, GrowingList<RaisedEntry>>
+    requires { list ≡ listed parts.now.journal.cell.name (whole_of parts.now.journal) }
+    ensures ok { IfOk result (λ h. h ≡ filled (behind_of parts.now.journal retired) [] 0) }
+    ensures back { IfErr result (λ l. l ≡ list) }
+{
+    History::behind(
         parts.alloc,
         parts.journal.history(),
         list,
         parts.sent,
         retired,
-        restarts,
-    );
-    let history = match made {
-        Ok(history) => history,
-        Err(list) => return Err((Parked { parts, list }, StartFault::NoMemory)),
-    };
+        u64::from(parts.servers) + 1,
+    )
+}
+
+fn begin_in<R: Wait + Clock>(
+    rt: &R,
+    parts: ParkedParts,
+    history: History,
+    retired: [bool; 64],
+) -> Result<(Behind, ThreadRoom), (Parked, StartFault)>
+    requires few { parts.made + count_anew parts.seats ≤ 64 }
+    requires history { history ≡ filled (behind_of parts.journal retired) [] 0 }
+    requires alive { (k : ℕ) → parts.made ≤ k → get_or retired k false ≡ false }
+    ensures parts { IfOk result (λ b. b.0.parts ≡ parts) }
+    ensures stands { IfOk result (λ b. StandsBehind b.0.parts b.0.registry b.0.room b.0.retired) }
+    ensures back { IfErr result (λ f. f.0 ≡ parts) }
+{
     match open_behind(rt, &parts, history) {
-        Ok((registry, room)) => Ok(Behind {
-            parts,
-            registry,
-            room,
-            retired,
-        }),
+        Ok((registry, room, threads)) => Ok((
+            Behind {
+                parts,
+                registry,
+                room,
+                retired,
+            },
+            threads,
+        )),
         Err((list, fault)) => Err((Parked { parts, list }, fault)),
     }
 }
 
-// Puts the journal into a table that the nodes share. A fault gives its list back.
-#[tactic(auto, using(crate::proofs::Going::list_behind, crate::proofs::Going::first_behind))]
+// Makes what the cell needs, and puts the journal into a table that the nodes share. A fault gives its list back.
 fn open_behind<R: Wait + Clock>(
     rt: &R,
     parts: &ParkedParts,
     history: History,
-) -> Result<(NodeRegistry, ResumeRoom), (GrowingList<RaisedEntry>, StartFault)>
+) -> Result<(NodeRegistry, ResumeRoom, ThreadRoom), (GrowingList<RaisedEntry>, StartFault)>
     requires none { history.entries ≡ [] }
-    requires range { first_out_of_range history.cell.config ≡ None }
     requires few { parts.now.made + count_anew parts.now.seats ≤ 64 }
-    requires settings { (history.cell.config ≡ parts.now.journal.cell.config) × (history.cell.servers ≡ parts.now.journal.cell.servers) × (history.cell.clients ≡ 64) }
+    requires settings { (history.cell.config ≡ parts.now.journal.cell.config) × (history.cell.servers ≡ parts.now.journal.cell.servers) × (history.cell.clients ≡ parts.now.journal.cell.clients) }
     ensures registry { IfOk result (λ r. (r.0.registered ≡ 0) × (r.0.cell ≡ history.cell) × (r.0.config ≡ history.cell.config) × (r.0.servers ≡ history.cell.servers)) }
     ensures room { IfOk result (λ r. HasRoom history.cell parts.now r.1) }
     ensures asks { IfOk result (λ r. WritesControls (arc_value r.0.shared).controls r.1.control_writer) }
     ensures back { IfErr result (λ f. f.0 ≡ listed history.cell.name history.cell.base) }
 {
     let cell = history.cell();
-    let (senders, controls, room) = match resume_room(parts, &cell) {
-        Ok(made) => made,
-        Err(fault) => return Err((history.into_list(), fault)),
-    };
-    let (table, writer) = match open_or_back(parts.alloc, history) {
-        Ok(opened) => opened,
-        Err(history) => return Err((history.into_list(), StartFault::NoMemory)),
-    };
-    let shared = SharedState {
-        table,
-        senders,
-        controls,
-        began: parts.began,
-        calling: AtomicU64::new(0),
-        closing: AtomicU64::new(STARTING),
-        answered: AtomicU64::new(0),
-        events: AtomicU64::new(0),
-    };
-    match Arc::new(parts.alloc, shared) {
-        Ok(shared) => {
-            let registry = NodeRegistry {
-                shared,
-                cell,
-                config: parts.config,
-                servers: parts.servers,
-                registered: 0,
-                writer,
+    match resume_memory(parts, &cell) {
+        Ok(memory) => {
+            let ResumeMemory {
+                senders,
+                controls,
+                room,
+                threads,
+            } = memory;
+            match new_registry(rt, parts, history, senders, controls) {
+                Ok(registry) => Ok((registry, room, threads)),
+                Err(list) => Err((list, StartFault::NoMemory)),
+            }
+        }
+        Err(fault) => Err((history.into_list(), fault)),
+    }
+}
+
+// Puts the journal into a table that the nodes share. Where memory is refused its list comes back.
+fn new_registry<R: Wait + Clock>(
+    rt: &R,
+    parts: &ParkedParts,
+    history: History,
+    senders: MailboxSenders,
+    controls: Controls,
+) -> Result<NodeRegistry, GrowingList<RaisedEntry>>
+    requires none { history.entries ≡ [] }
+    requires settings { (history.cell.config ≡ parts.now.journal.cell.config) × (history.cell.servers ≡ parts.now.journal.cell.servers) × (history.cell.clients ≡ parts.now.journal.cell.clients) }
+    ensures registry { IfOk result (λ r. (r.registered ≡ 0) × (r.cell ≡ history.cell) × (r.config ≡ history.cell.config) × (r.servers ≡ history.cell.servers)) }
+    ensures controls { IfOk result (λ r. (arc_value r.shared).controls ≡ controls) }
+    ensures back { IfErr result (λ l. l ≡ listed history.cell.name history.cell.base) }
+{
+    let cell = history.cell();
+    match open_or_back(parts.alloc, history) {
+        Ok((table, writer)) => {
+            let shared = SharedState {
+                table,
+                senders,
+                controls,
+                began: parts.began,
+                calling: AtomicU64::new(0),
+                closing: AtomicU64::new(STARTING),
+                answered: AtomicU64::new(0),
+                events: AtomicU64::new(0),
             };
-            Ok((registry, room))
+            registry_of(rt, parts, cell, shared, writer)
         }
-        Err(refused) => {
-            let mut writer = writer;
-            let history = reclaim(rt, &refused.value.table.shared, &mut writer);
-            Err((history.into_list(), StartFault::NoMemory))
-        }
+        Err(history) => Err(history.into_list()),
+    }
+}
+
+// The registry of a journal that has no entries, in what the nodes share. Where memory is refused the journal's list comes back.
+#[tactic(auto, using(crate::proofs::Going::first_behind))]
+fn registry_of<R: Wait + Clock>(
+    rt: &R,
+    parts: &ParkedParts,
+    cell: CellIdentity,
+    shared: SharedState,
+    writer: JournalWriter,
+) -> Result<NodeRegistry, GrowingList<RaisedEntry>>
+    requires here { writer.table_id ≡ shared.table.shared.table_id }
+    requires first { writer.me ≡ (first_view cell, []) }
+    requires settings { (cell.config ≡ parts.now.journal.cell.config) × (cell.servers ≡ parts.now.journal.cell.servers) × (cell.clients ≡ parts.now.journal.cell.clients) }
+    ensures registry { IfOk result (λ r. (r.registered ≡ 0) × (r.cell ≡ cell) × (r.config ≡ cell.config) × (r.servers ≡ cell.servers)) }
+    ensures controls { IfOk result (λ r. (arc_value r.shared).controls ≡ shared.controls) }
+    ensures back { IfErr result (λ l. l ≡ listed cell.name cell.base) }
+{
+    let mut writer = writer;
+    parts.journal.history();
+    match Arc::new(parts.alloc, shared) {
+        Ok(shared) => Ok(NodeRegistry {
+            shared,
+            cell,
+            config: parts.config,
+            servers: parts.servers,
+            registered: 0,
+            writer,
+        }),
+        Err(refused) => Err(reclaim(rt, &refused.value.table.shared, &mut writer).into_list()),
     }
 }
 
@@ -159,26 +229,15 @@ impl Behind {
     pub fn start_threads<
         R: Threads + Wait + Clock + Copy + Send + 'static,
         G: Gate + Clone + Send + Drop + 'static,
-    >(&mut self, rt: R, gate: G) -> Result<Ticker, StartFault>
-        ensures { self.new.parts ≡ self.old.parts }
-    {
+    >(&self, rt: R, threads: &mut ThreadRoom, gate: G) -> Result<Ticker, StartFault> {
         let shared = &self.registry.shared;
-        let servers = self.parts.servers;
-        let ticker = ticks(rt, self.parts.alloc, shared, servers)?;
-        match start_all(
-            rt,
-            shared,
-            servers,
-            &self.room.locks,
-            &mut self.room.threads,
-            gate,
-        ) {
+        let servers = self.registry.servers;
+        let alloc = self.parts.alloc;
+        let ticker = ticks(rt, alloc, shared, servers)?;
+        match start_all(rt, shared, servers, &self.room.locks, threads, gate) {
             Ok(()) => Ok(ticker),
             Err(fault) => {
-                let nodes = mem::replace(
-                    &mut self.room.threads.threads,
-                    Vec::new(self.parts.alloc),
-                );
+                let nodes = mem::replace(&mut threads.threads, Vec::new(alloc));
                 end_all(&rt, shared, servers, ticker, nodes);
                 Err(fault)
             }
@@ -186,8 +245,8 @@ impl Behind {
     }
 
     /// The parked cell as it was.
-    #[tactic(auto, using(crate::proofs::Going::list_behind))]
     pub fn give_back<R: Wait + Clock>(self, rt: &R) -> Parked
+        requires { StandsBehind self.parts self.registry self.room self.retired }
         ensures { result ≡ self.parts }
     {
         let Self {
@@ -196,15 +255,19 @@ impl Behind {
             room: _room,
             retired: _,
         } = self;
-        let history = registry.reclaim(rt);
-        let list = history.into_list();
+        let list = registry.reclaim(rt).into_list();
         Parked { parts, list }
     }
 
     /// Each node gets its place and lies in its lock, the seats go over, each node begins again, and the threads take steps. Nothing of it
     /// fails.
-    #[tactic(auto, using(crate::proofs::Going::seen_base, crate::proofs::Going::nodes_count, crate::proofs::Going::seats_behind, crate::proofs::Going::fresh_behind))]
-    pub fn go_on<R: Wait + Clock>(self, rt: &R, ticker: Ticker) -> (Cell, Vec<ClientSeat>)
+    pub fn go_on<R: Wait + Clock>(
+        self,
+        rt: &R,
+        ticker: Ticker,
+        threads: Vec<Thread>,
+    ) -> (Cell, Vec<ClientSeat>)
+        requires { StandsBehind self.parts self.registry self.room self.retired }
         ensures { IsResumed self.parts result.0 result.1.items }
     {
         let Self {
@@ -213,38 +276,77 @@ impl Behind {
             room,
             retired,
         } = self;
-        let alloc = parts.alloc;
-        let made = parts.made + parts.count_anew();
         let ResumeRoom {
             control_writer,
             locks,
             clients,
             base,
-            threads,
         } = room;
+        let made = parts.made_then();
         let (kept, nodes, parked) = parts.taken_apart();
-        locks.put_all(rt, alloc, &mut registry, nodes);
+        locks.put_all(rt, kept.alloc, &mut registry, nodes);
         let (seats, inboxes) = seats_over(rt, &mut registry, &kept, made, retired, parked, clients);
         begin_again(rt, &registry.shared, &locks);
-        let KeptParts {
-            alloc: _,
-            made: _,
-            journal,
-            nothing,
-        } = kept;
-        let cell = Cell {
-            alloc,
+        let places = CellPlaces {
             registry,
             locks,
-            base: base_of(base, journal),
-            nothing,
             inboxes,
             made,
-            control_writer,
-            ticker,
-            nodes: threads.threads,
         };
-        (cell, seats)
+        (
+            cell_of(kept, places, base, control_writer, ticker, threads),
+            seats,
+        )
+    }
+}
+
+/// What a cell that goes on has once its nodes and its seats have their places.
+#[derive(Drop)]
+struct CellPlaces {
+    registry: NodeRegistry,
+    locks: NodeLocks,
+    inboxes: Vec<Receiver<MailboxItem>>,
+    made: u64,
+}
+
+// The cell itself.
+fn cell_of(
+    kept: KeptParts,
+    places: CellPlaces,
+    base: Vec<Journal>,
+    control_writer: ControlWriter,
+    ticker: Ticker,
+    threads: Vec<Thread>,
+) -> Cell
+    requires made { HasMade places.registry.config places.registry.servers places.registry.registered places.made (vec_len places.inboxes) places.registry.writer.me.0.of kept.nothing (arc_value places.registry.shared).controls control_writer }
+    requires locks { places.locks ≡ names_of places.registry.writer.me.0.of places.registry.servers }
+    requires base { (base.items ≡ []) × (1 ≤ vec_capacity base) }
+    requires behind { (places.registry.writer.me.0.of.base ≡ whole_of kept.journal.now) × (places.registry.writer.me.0.of.name ≡ kept.journal.now.cell.name) }
+    ensures { result ≡ cell_state places.registry.writer.me.0.of places.made (policy_in control_writer.policy.me.0) control_writer.restarts.me.0 }
+{
+    let KeptParts {
+        alloc,
+        made: _,
+        journal,
+        nothing,
+    } = kept;
+    let CellPlaces {
+        registry,
+        locks,
+        inboxes,
+        made,
+    } = places;
+    Cell {
+        alloc,
+        registry,
+        locks,
+        base: base_of(base, journal),
+        nothing,
+        inboxes,
+        made,
+        control_writer,
+        ticker,
+        nodes: threads,
     }
 }
 
@@ -262,7 +364,6 @@ fn base_of(room: Vec<Journal>, journal: Journal) -> Vec<Journal>
 }
 
 // The seats go over to the places of their clients. Beside them the mailboxes of the clients that were not made.
-#[tactic(auto, using(crate::proofs::Going::goes_behind))]
 fn seats_over<R: Wait + Clock>(
     rt: &R,
     registry: &mut NodeRegistry,
@@ -274,7 +375,8 @@ fn seats_over<R: Wait + Clock>(
 ) -> (Vec<ClientSeat>, Vec<Receiver<MailboxItem>>)
     requires registered { registry.old.registered ≡ registry.old.servers + 1 }
     requires cell { registry.old.cell ≡ behind_of kept.now.journal.now retired }
-    requires made { kept.now.made ≤ made × (made ≤ 64) }
+    requires settings { (registry.old.config ≡ kept.now.journal.now.cell.config) × (kept.now.journal.now.cell.clients ≡ 64) }
+    requires made { (kept.now.made ≤ made) × (made ≤ 64) }
     requires room { IsRoomFor kept.now.journal.now.cell.config kept.now.made (length parked.items) room }
     requires seats { All (IsSeatOf registry.old.cell (length registry.old.cell.base)) parked.items }
     requires fresh { (n : ℕ) → kept.now.made < n → own (Client (record { 0 = n })) registry.old.cell.base ≡ [] }
@@ -302,7 +404,8 @@ fn seats_over<R: Wait + Clock>(
         clients: anew,
         taken: 0,
     };
-    (seat_all(rt, &mut seating, parked, seats), inboxes)
+    let seats = seat_all(rt, &mut seating, parked, seats);
+    (seats, inboxes)
 }
 
 // Starts a thread for each node.

@@ -1,6 +1,6 @@
 //! A cell that is parked.
 
-ghost use Rattle.std.specs.Prelude.{◌≡◌, ◌≤◌, ◌<◌, ℕ, [], false, length, get_or, All, IsSome, IsTrue};
+ghost use Rattle.std.specs.Prelude.{◌≡◌, ◌≤◌, ◌<◌, ◌+◌, ℕ, [], true, false, length, get_or, All, IsSome, IsTrue};
 ghost use Rattle.gfs_types.specs.declared.ids.Node.TheVariants.{Client};
 ghost use Rattle.protocol_journal.specs.Journal.{own};
 ghost use Rattle.cell_journal.specs.Clocks.{are_clocks_kept};
@@ -77,6 +77,15 @@ impl ParkedParts {
             }
         }
         count
+    }
+
+    /// How many clients are made once the cell goes on.
+    pub(crate) fn made_then(&self) -> u64
+        requires { self.now.made + count_anew self.now.seats ≤ 64 }
+        ensures { result ≡ self.now.made + count_anew self.now.seats }
+    {
+        let anew = self.count_anew();
+        self.made + anew
     }
 
     fn have_clients(&self) -> bool

@@ -3,10 +3,12 @@
 ghost use Rattle.std.specs.Prelude.{◌≡◌, ◌≤◌, ◌+◌, IfOk, IfErr, OnOk};
 ghost use Rattle.cell_run.specs.Parked.{IsResumed};
 ghost use Rattle.cell_run.specs.ParkedSeats.{count_anew};
+ghost use Rattle.cell_run.specs.Resumed.{StandsBehind};
 
-use crate::behind::begin;
+use crate::behind::{Behind, begin};
 use crate::cell::{Cell, ClientSeat};
 use crate::parked::{Parked, ParkedParts};
+use crate::resume_room::ThreadRoom;
 use crate::start_fault::StartFault;
 use cell_seats::gate::Gate;
 use cell_seats::shared_state::MOST_CLIENTS;
@@ -29,18 +31,53 @@ impl Parked {
         ensures resumed { IfOk result (λ r. IsResumed self r.0 r.1.items) }
         ensures fault { IfErr result (λ f. f.0 ≡ self) }
     {
-        if let Err(fault) = self.parts.may_resume(&rt) {
-            return Err((self, fault));
+        match self.parts.may_resume(&rt) {
+            Ok(()) => go_behind(rt, self, gate),
+            Err(fault) => Err((self, fault)),
         }
-        let begun = match begin(&rt, self) {
-            Ok(begun) => begun,
-            Err(refused) => return Err(refused),
-        };
-        let mut begun = begun;
-        match begun.start_threads(rt, gate) {
-            Ok(ticker) => Ok(begun.go_on(&rt, ticker)),
-            Err(fault) => Err((begun.give_back(&rt), fault)),
+    }
+}
+
+// The same, where the clock went on and there are numbers.
+fn go_behind<
+    R: Threads + Wait + Clock + Copy + Send + 'static,
+    G: Gate + Clone + Send + Drop + 'static,
+>(rt: R, parked: Parked, gate: G) -> Result<(Cell, Vec<ClientSeat>), (Parked, StartFault)>
+    requires { parked.made + count_anew parked.seats ≤ 64 }
+    ensures resumed { IfOk result (λ r. IsResumed parked r.0 r.1.items) }
+    ensures fault { IfErr result (λ f. f.0 ≡ parked) }
+{
+    match begin(&rt, parked) {
+        Ok((behind, threads)) => go_on_threads(rt, behind, threads, gate),
+        Err(refused) => Err(refused),
+    }
+}
+
+// The same, once all that a cell needs is there but its threads.
+fn go_on_threads<
+    R: Threads + Wait + Clock + Copy + Send + 'static,
+    G: Gate + Clone + Send + Drop + 'static,
+>(
+    rt: R,
+    behind: Behind,
+    room: ThreadRoom,
+    gate: G,
+) -> Result<(Cell, Vec<ClientSeat>), (Parked, StartFault)>
+    requires { StandsBehind behind.parts behind.registry behind.room behind.retired }
+    ensures resumed { IfOk result (λ r. IsResumed behind.parts r.0 r.1.items) }
+    ensures fault { IfErr result (λ f. f.0 ≡ behind.parts) }
+{
+    let mut room = room;
+    match behind.start_threads(rt, &mut room, gate) {
+        Ok(ticker) => {
+            let ThreadRoom {
+                master: _master,
+                servers: _servers,
+                threads,
+            } = room;
+            Ok(behind.go_on(&rt, ticker, threads))
         }
+        Err(fault) => Err((behind.give_back(&rt), fault)),
     }
 }
 

@@ -1,15 +1,15 @@
 //! The seats of a parked cell go over.
 
-ghost use Rattle.std.specs.Prelude.{◌≡◌, ◌≤◌, ◌<◌, ◌+◌, ◌++◌, ◌∷◌, ℕ, [], None, true, false, length, vec_capacity, get_or, All};
-ghost use Rattle.gfs_types.specs.declared.ids.ClientId.{ClientId};
+ghost use Rattle.std.specs.Prelude.{◌≡◌, ◌≤◌, ◌<◌, ◌+◌, ◌++◌, ◌∷◌, ℕ, [], None, Some, true, false, length, vec_capacity, slice_get, get_or, All, IfSome};
 ghost use Rattle.gfs_types.specs.declared.ids.Node.TheVariants as client;
 ghost use Rattle.protocol.specs.Client.{new_client as new_client_state};
 ghost use Rattle.protocol_journal.specs.Journal.{own};
-ghost use Rattle.cell_seats.specs.ParkedNodes.{IsClientOf, GoesOnBehind, IsBehindAll};
+ghost use Rattle.cell_seats.specs.ParkedNodes.{IsClientOf, IsBehindAll};
 ghost use Rattle.cell_seats.specs.Seats.{GoesOver, StaysOver, MovesOver};
 ghost use Rattle.cell_seats.specs.Seen.{clients_in};
 ghost use Rattle.cell_run.specs.Parked.{AllGoOver, IsSeatOf};
-ghost use Rattle.cell_run.specs.Resumed.{IsPlaceOf, ArePlacesOf, AreNewClients};
+ghost use Rattle.cell_run.specs.Resumed.{IsPlaceOf, IsLeftOf};
+ghost use Rattle.cell_run.specs.Seatings.{IsReady};
 
 use crate::cell::ClientSeat;
 use crate::client_places::ClientPlace;
@@ -28,8 +28,8 @@ use std::sync::Wait;
 use std::thread;
 use std::time::{Clock, Duration};
 
-/// What seats go over to: the cell, the places of its clients by their numbers, from 1, and the clients of new numbers, of which so many were
-/// taken.
+/// What seats go over to: the cell, how many clients were made before, the places of its clients by their numbers, from 1, and the clients of new
+/// numbers, of which so many were taken.
 #[derive(Drop)]
 pub struct Seating {
     pub alloc: Global,
@@ -42,24 +42,16 @@ pub struct Seating {
     pub places: Vec<Option<ClientPlace>>,
     pub clients: Vec<Option<RunningClient>>,
     pub taken: u64,
-    pub ghost base_is: { length cell.base ≡ base_len },
-    pub ghost settings: { (cell.config ≡ config) × (cell.clients ≡ 64) },
-    pub ghost retired_are: { cell.retired ≡ retired },
-    pub ghost places_are: { ArePlacesOf cell places.items },
-    pub ghost clients_are: { AreNewClients config made clients.items },
-    pub ghost goes_on: { GoesOnBehind cell.name cell },
-    pub ghost few: { made ≤ 64 },
-    pub ghost fresh: { (n : ℕ) → made < n → own (client.Client (record { 0 = n })) cell.base ≡ [] },
 }
 
 /// All seats go over, in their order.
-#[tactic(auto, using(crate::proofs::Anew::one_over))]
 pub fn seat_all<R: Wait + Clock>(
     rt: &R,
     seating: &mut Seating,
     parked: Vec<ParkedSeat>,
     room: Vec<ClientSeat>,
 ) -> Vec<ClientSeat>
+    requires ready { IsReady seating.old }
     requires seats { All (IsSeatOf seating.old.cell (length seating.old.cell.base)) parked.items }
     requires none { room.items ≡ [] }
     requires room { length parked.items ≤ vec_capacity room }
@@ -72,41 +64,59 @@ pub fn seat_all<R: Wait + Clock>(
     seats
 }
 
-// A seat goes over: as the client that it is, or as one of a new number.
-#[tactic(auto, using(crate::proofs::Anew::stays_over, crate::proofs::Anew::moves_over, crate::proofs::Anew::starts_over, crate::proofs::Anew::waits_not, crate::proofs::Anew::saw_count, cell_seats::proofs::GoingOver::behind_met))]
+// A seat goes over: with its client, or, where an earlier parking left it behind, as one of a new number.
 fn seat_one<R: Wait + Clock>(rt: &R, seating: &mut Seating, parked: ParkedSeat) -> ClientSeat
-    requires { IsSeatOf seating.old.cell (length seating.old.cell.base) parked }
+    requires ready { IsReady seating.old }
+    requires seat { IsSeatOf seating.old.cell (length seating.old.cell.base) parked }
+    ensures ready { IsReady seating.new }
     ensures cell { seating.new.cell ≡ seating.old.cell }
     ensures over { GoesOver seating.old.cell parked.saw parked.seat result }
 {
-    let goes_anew = parked.goes_anew();
     let (seat, client) = parked.into_parts();
     match client {
-        Some(client) => {
-            client.meets(seating.cell.base());
-            hold(rt, client.is_of(&seating.cell));
-            if goes_anew {
-                move_on(rt, seating, seat, client)
-            } else {
-                stay(rt, seating, seat, client)
-            }
-        }
+        Some(client) => go_over(rt, seating, seat, client),
         None => start_anew(rt, seating, seat),
     }
 }
 
+// A seat goes over with its client: as the client that it is, or, where a call of it waits, as one of a new number.
+fn go_over<R: Wait + Clock>(
+    rt: &R,
+    seating: &mut Seating,
+    seat: ClientSeat,
+    client: ParkedNode<RunningClient>,
+) -> ClientSeat
+    requires ready { IsReady seating.old }
+    requires client { IsClientOf seat client }
+    requires named { seat.cell.name ≡ seating.old.cell.name }
+    requires count { length client.history.items ≡ length seating.old.cell.base }
+    ensures ready { IsReady seating.new }
+    ensures cell { seating.new.cell ≡ seating.old.cell }
+    ensures over { GoesOver seating.old.cell (Some (length client.history.items)) seat result }
+{
+    client.meets(seating.cell.base());
+    hold(rt, client.is_of(&seating.cell));
+    let waits = seat.waits();
+    if waits {
+        move_on(rt, seating, seat, client)
+    } else {
+        stay(rt, seating, seat, client)
+    }
+}
+
 // The seat keeps its client.
-#[tactic(auto, using(cell_seats::proofs::GoingOver::behind_at, cell_seats::proofs::GoingOver::stay_flags))]
 fn stay<R: Wait + Clock>(
     rt: &R,
     seating: &mut Seating,
     seat: ClientSeat,
     client: ParkedNode<RunningClient>,
 ) -> ClientSeat
+    requires ready { IsReady seating.old }
     requires client { IsClientOf seat client }
     requires named { seat.cell.name ≡ seating.old.cell.name }
     requires calm { seat.waits ≡ false }
     requires behind { IsBehindAll seating.old.cell client }
+    ensures ready { IsReady seating.new }
     ensures cell { seating.new.cell ≡ seating.old.cell }
     ensures over { StaysOver seating.old.cell seat result }
 {
@@ -118,31 +128,33 @@ fn stay<R: Wait + Clock>(
         inbox,
         bit,
     } = place_of(rt, seating, node);
-    let slot = client.into_slot(seating.alloc, journal);
-    seat.sit(slot, inbox, bit, earlier)
+    seat.sit(
+        client.into_slot(seating.alloc, journal),
+        inbox,
+        bit,
+        earlier,
+    )
 }
 
 // A call of the seat waits, so that it goes on as a client of a new number.
-#[tactic(auto, using(cell_seats::proofs::GoingOver::move_flags, cell_seats::proofs::GoingOver::moved_over))]
 fn move_on<R: Wait + Clock>(
     rt: &R,
     seating: &mut Seating,
     seat: ClientSeat,
     client: ParkedNode<RunningClient>,
 ) -> ClientSeat
+    requires ready { IsReady seating.old }
     requires client { IsClientOf seat client }
     requires named { seat.cell.name ≡ seating.old.cell.name }
     requires behind { IsBehindAll seating.old.cell client }
+    ensures ready { IsReady seating.new }
     ensures cell { seating.new.cell ≡ seating.old.cell }
     ensures over { MovesOver seating.old.cell seat result }
 {
     let _saw = client;
     let number = number_of(seat.name());
     let earlier = seat.earlier();
-    hold(
-        rt,
-        number > 0 && number <= seating.made && are_before(&earlier, number),
-    );
+    hold(rt, is_after(&earlier, number));
     let then = with_client(earlier, number);
     hold(rt, are_within(&then, &seating.retired));
     let NewClient { slot, inbox, bit } = new_client(rt, seating);
@@ -150,13 +162,14 @@ fn move_on<R: Wait + Clock>(
 }
 
 // An earlier parking left the seat behind, so that it goes on as a client of a new number.
-#[tactic(auto, using(cell_seats::proofs::GoingOver::anew_here, cell_seats::proofs::GoingOver::goes_anew, cell_seats::proofs::Flags::no_clients))]
 fn start_anew<R: Wait + Clock>(rt: &R, seating: &mut Seating, seat: ClientSeat) -> ClientSeat
-    requires { seat.cell.name ≡ seating.old.cell.name }
+    requires ready { IsReady seating.old }
+    requires named { seat.cell.name ≡ seating.old.cell.name }
+    ensures ready { IsReady seating.new }
     ensures cell { seating.new.cell ≡ seating.old.cell }
     ensures over { GoesOver seating.old.cell None seat result }
 {
-    hold(rt, seat.seen() <= seating.base_len);
+    hold(rt, is_at_most(seat.seen(), seating.base_len));
     meet(seat.view(), seating.cell.base());
     let NewClient { slot, inbox, bit } = new_client(rt, seating);
     seat.sit(slot, inbox, bit, [false; 64])
@@ -171,69 +184,76 @@ struct NewClient {
 }
 
 // The next client of a new number. There is one for each seat that needs it.
-#[tactic(auto, using(crate::proofs::Standing::client_anew))]
 fn new_client<R: Wait + Clock>(rt: &R, seating: &mut Seating) -> NewClient
+    requires { IsReady seating.old }
+    ensures ready { IsReady seating.new }
     ensures cell { seating.new.cell ≡ seating.old.cell }
     ensures slot { (result.slot.view.of ≡ seating.old.cell) × (result.slot.view.mine ≡ []) }
     ensures unused { own result.slot.node seating.old.cell.base ≡ [] }
 {
     let before = seating.taken;
-    hold(rt, before < 64 && seating.made + before < 64);
-    let id = ClientId(seating.made + before + 1);
+    let made = seating.made;
+    hold(rt, are_fewer(made, before));
+    let id = ClientId(made + before + 1);
     seating.taken = before + 1;
     let ClientPlace {
         journal,
         inbox,
         bit,
     } = place_of(rt, seating, Node::Client(id));
-    let client = client_at(rt, seating, before);
     NewClient {
-        slot: Slot::new(seating.alloc, journal, client),
+        slot: Slot::new(seating.alloc, journal, client_at(rt, seating, before)),
         inbox,
         bit,
     }
 }
 
-#[tactic(auto, using(crate::proofs::Placing::client_taken))]
+// The client of a new number, which is there.
 fn client_at<R: Wait + Clock>(rt: &R, seating: &mut Seating, before: u64) -> RunningClient
-    ensures cell { (seating.new.cell ≡ seating.old.cell) × (seating.new.alloc ≡ seating.old.alloc) }
-    ensures client { result.node.client ≡ new_client_state seating.old.config (seating.old.made + before + 1) }
+    requires { IsReady seating.old }
+    ensures ready { IsReady seating.new }
+    ensures same { (seating.new.cell ≡ seating.old.cell) × (seating.new.made ≡ seating.old.made) }
+    ensures client { result.node.client ≡ new_client_state seating.old.cell.config (seating.old.made + before + 1) }
 {
-    if (before as usize) < seating.clients.len()
-        && let Some(client) = seating.clients[before as usize].take()
-    {
-        return client;
-    }
-    for _ in rt.forever() {
-        thread::sleep(rt, Duration::from_secs(1));
-    }
-    unreachable!()
+    let Some(client) = take_at(&mut seating.clients, before) else {
+        hold(rt, false);
+        unreachable!()
+    };
+    client
 }
 
 // The place of a client, which is there.
-#[tactic(auto, using(crate::proofs::Placing::place_taken, crate::proofs::Placing::the_place))]
 fn place_of<R: Wait + Clock>(rt: &R, seating: &mut Seating, node: Node) -> ClientPlace
-    ensures cell { (seating.new.cell ≡ seating.old.cell) × (seating.new.alloc ≡ seating.old.alloc) × (seating.new.config ≡ seating.old.config) × (seating.new.made ≡ seating.old.made) }
+    requires { IsReady seating.old }
+    ensures ready { IsReady seating.new }
+    ensures same { (seating.new.cell ≡ seating.old.cell) × (seating.new.made ≡ seating.old.made) }
     ensures node { result.journal.node ≡ node }
     ensures place { IsPlaceOf seating.old.cell result }
 {
     let number = number_of(node);
-    if number > 0
-        && number as usize <= seating.places.len()
-        && let Some(place) = seating.places[number as usize - 1].take()
-    {
-        hold(rt, place.journal.node == node);
-        return place;
+    let Some(place) = take_at(&mut seating.places, number.saturating_sub(1)) else {
+        hold(rt, false);
+        unreachable!()
+    };
+    hold(rt, place.journal.node == node);
+    place
+}
+
+// Takes out what is at a place, if something is.
+#[tactic(auto, using(crate::proofs::Placing::left_of, crate::proofs::Placing::taken_some))]
+fn take_at<T: Drop>(all: &mut Vec<Option<T>>, before: u64) -> Option<T>
+    ensures taken { IfSome result (λ x. slice_get all.old.items before ≡ Some (Some x)) }
+    ensures left { IsLeftOf all.old.items all.new.items }
+{
+    let place = before as usize;
+    if place >= all.len() {
+        return None;
     }
-    for _ in rt.forever() {
-        thread::sleep(rt, Duration::from_secs(1));
-    }
-    unreachable!()
+    all[place].take()
 }
 
 fn number_of(node: Node) -> u64
-    ensures number { (id : ClientId) → node ≡ client.Client id → result ≡ id.0 }
-    ensures client { 0 < result → node ≡ client.Client (record { 0 = result }) }
+    ensures { 0 < result → node ≡ client.Client (record { 0 = result }) }
 {
     match node {
         Node::Client(id) => id.0,
@@ -254,6 +274,7 @@ fn with_client(flags: [bool; 64], number: u64) -> [bool; 64]
 }
 
 // Whether each of these flags stands among those.
+#[tactic(auto, using(std::proofs::lemmas::List::get_or_past))]
 fn are_within(flags: &[bool; 64], all: &[bool; 64]) -> bool
     ensures { result ≡ true → (k : ℕ) → get_or flags.now k false ≡ true → get_or all.now k false ≡ true }
 {
@@ -265,7 +286,16 @@ fn are_within(flags: &[bool; 64], all: &[bool; 64]) -> bool
     true
 }
 
+// Whether this is a client's number, and greater than those of these clients.
+fn is_after(flags: &[bool; 64], number: u64) -> bool
+    ensures some { result ≡ true → (0 < number) × (number ≤ 64) }
+    ensures after { result ≡ true → (k : ℕ) → number ≤ k + 1 → get_or flags.now k false ≡ false }
+{
+    number > 0 && number <= 64 && are_before(flags, number)
+}
+
 // Whether the flags of the clients from this number on are down.
+#[tactic(auto, using(std::proofs::lemmas::List::get_or_past))]
 fn are_before(flags: &[bool; 64], number: u64) -> bool
     requires { 0 < number }
     ensures { result ≡ true → (k : ℕ) → number ≤ k + 1 → get_or flags.now k false ≡ false }
@@ -276,6 +306,20 @@ fn are_before(flags: &[bool; 64], number: u64) -> bool
         }
     }
     true
+}
+
+// Whether a number is left, of which there are 64, for one client more.
+fn are_fewer(made: u64, taken: u64) -> bool
+    requires { made ≤ 64 }
+    ensures { result ≡ true → made + taken < 64 }
+{
+    taken < 64 && made + taken < 64
+}
+
+fn is_at_most(count: u64, most: u64) -> bool
+    ensures { result ≡ true → count ≤ most }
+{
+    count <= most
 }
 
 /// Goes on where this is so, as it always is.
