@@ -1,7 +1,9 @@
 -- How many seats go on as clients of new numbers, and which clients go on.
-use Rattle.std.proofs.Common.{◌≡◌, ℕ, zero, suc, ◌+◌, ◌≤◌, Bool, true, false, List, [], ◌∷◌, ◌++◌, length, refl, sym, ap, subst, ◌∙◌, arith, slice_set}
-use Rattle.std.specs.Prelude.{Option, Some, None, IfSome, get_or}
+use Rattle.std.proofs.Common.{◌≡◌, ℕ, zero, suc, ◌+◌, ◌≤◌, ◌<◌, take, Bool, true, false, List, [], ◌∷◌, ◌++◌, length, refl, sym, ap, subst, ◌∙◌, arith, slice_set}
+use Rattle.std.specs.Prelude.{Option, Some, None, All, IfSome, IsSome, get_or}
 use Rattle.std.specs.Option.{option_map}
+use Rattle.std.proofs.Math.Seq.{take-suc}
+use Rattle.std.proofs.lemmas.List.Elements.{All-push}
 use Rattle.cell_journal.specs.Identity.{Identity}
 use Rattle.cell_seats.specs.ParkedNodes.{ParkedNodeState}
 use Rattle.cell_seats.specs.Seats.{SeatState, GoesOver}
@@ -19,6 +21,21 @@ one_at_most false = omega arith
 pub count_few : (xs : List ParkedSeatState) → count_anew xs ≤ length xs
 count_few [] = omega arith
 count_few (x ∷ xs) = omega (arith, one_at_most (goes_anew x), count_few xs)
+
+one_more : (xs : List ParkedSeatState) (i : ℕ) (x : ParkedSeatState) → i < length xs → x ≡ get_or xs i x → take (i + 1) xs ≡ take i xs ++ x ∷ []
+one_more xs i x within at = ap (λ n. take n xs) (let next : i + 1 ≡ suc i = omega arith in next) ∙ (take-suc xs i x within ∙ ap (λ (y : ParkedSeatState). take i xs ++ y ∷ []) (sym at))
+
+pub count_one_more : (xs : List ParkedSeatState) (i : ℕ) (x : ParkedSeatState) → i < length xs → x ≡ get_or xs i x → goes_anew x ≡ true → count_anew (take (i + 1) xs) ≡ count_anew (take i xs) + 1
+count_one_more xs i x within at anew =
+    ap count_anew (one_more xs i x within at) ∙ (count_append (take i xs) (x ∷ []) ∙ ap (λ (b : Bool). count_anew (take i xs) + (one_where b + 0)) anew)
+
+pub count_as_before : (xs : List ParkedSeatState) (i : ℕ) (x : ParkedSeatState) → i < length xs → x ≡ get_or xs i x → goes_anew x ≡ false → count_anew (take (i + 1) xs) ≡ count_anew (take i xs)
+count_as_before xs i x within at stays =
+    let none : count_anew (take i xs) + 0 ≡ count_anew (take i xs) = omega arith in
+    ap count_anew (one_more xs i x within at) ∙ (count_append (take i xs) (x ∷ []) ∙ (ap (λ (b : Bool). count_anew (take i xs) + (one_where b + 0)) stays ∙ none))
+
+pub clients_more : (xs : List ParkedSeatState) (i : ℕ) (x : ParkedSeatState) → i < length xs → x ≡ get_or xs i x → IsSome x.saw → All (λ s. IsSome s.saw) (take i xs) → All (λ s. IsSome s.saw) (take (i + 1) xs)
+clients_more xs i x within at some all = subst (All (λ s. IsSome s.saw)) (sym (one_more xs i x within at)) (All-push (λ s. IsSome s.saw) (take i xs) x all some)
 
 -- a flag that is set leaves the others
 pub others_stay : (flags : List Bool) (i k : ℕ) (flag : Bool) → suc i ≤ k → get_or (slice_set flags i flag) k false ≡ get_or flags k false

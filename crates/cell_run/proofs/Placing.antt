@@ -1,15 +1,12 @@
 -- Places and clients that seats take.
 use Rattle.std.proofs.Common.{◌≡◌, ℕ, zero, suc, ◌+◌, ◌-◌, ◌<◌, Bool, false, List, [], ◌∷◌, ◌++◌, length, get_or, inl, inr, refl, sym, ap, subst, ◌∙◌, arith, slice_set}
-use Rattle.std.specs.Prelude.{◌⊎◌, Option, Some, None, slice_get}
-use Rattle.std.proofs.lemmas.Option.{slice_get_read, get_or_from_slice_get}
+use Rattle.std.specs.Prelude.{◌⊎◌, Option, Some, None, IfSome, slice_get}
+use Rattle.std.proofs.lemmas.Option.{slice_get_read}
 use Rattle.gfs_types.specs.declared.config.Config.{Config}
-use Rattle.gfs_types.specs.declared.ids.Node.{Node}
 use Rattle.gfs_types.specs.declared.ids.Node.TheVariants.{Client}
 use Rattle.protocol.specs.Client.{new_client}
 use Rattle.cell_journal.specs.Identity.{Identity}
 use Rattle.cell_journal.specs.WholeHistories.{is_retired}
-use Rattle.cell_journal.specs.declared.view.View.{View}
-use Rattle.cell_seats.specs.Registry.{IsRegistered}
 use Rattle.cell_run.specs.declared.client_places.ClientPlace.{ClientPlace}
 use Rattle.cell_run.specs.declared.running_client.RunningClient.{RunningClient}
 use Rattle.cell_run.specs.Resumed.{IsPlaceOf, ArePlacesOf, AreNewClients, IsLeftOf}
@@ -47,14 +44,14 @@ in_more (x ∷ xs) y (suc k) z h = further (in_more xs y k z h)
     further (inl there) = inl there
     further (inr both) = inr (ap (λ (n : ℕ). suc n) both.0, both.1)
 
-pub no_place_more : (cell : Identity) (was now : List (Option ClientPlace)) → now ≡ was ++ None ∷ [] → ArePlacesOf cell was → ArePlacesOf cell now
+no_place_more : (cell : Identity) (was now : List (Option ClientPlace)) → now ≡ was ++ None ∷ [] → ArePlacesOf cell was → ArePlacesOf cell now
 no_place_more cell was now is all k place at = by (in_more was None k (Some place) (subst (λ (l : List (Option ClientPlace)). slice_get l k ≡ Some (Some place)) is at))
   where
     by : (slice_get was k ≡ Some (Some place)) ⊎ ((k ≡ length was) × (None ≡ Some place)) → IsPlaceOf cell place
     by (inl there) = all k place there
     by (inr both) = absurd (let e : ◌≡◌ {A = Option ClientPlace} None (Some place) = both.1 in cc)
 
-pub place_more : (cell : Identity) (was now : List (Option ClientPlace)) (new : ClientPlace) → now ≡ was ++ Some new ∷ [] → IsPlaceOf cell new → ArePlacesOf cell was → ArePlacesOf cell now
+place_more : (cell : Identity) (was now : List (Option ClientPlace)) (new : ClientPlace) → now ≡ was ++ Some new ∷ [] → IsPlaceOf cell new → ArePlacesOf cell was → ArePlacesOf cell now
 place_more cell was now new is one all k place at = by (in_more was (Some new) k (Some place) (subst (λ (l : List (Option ClientPlace)). slice_get l k ≡ Some (Some place)) is at))
   where
     by : (slice_get was k ≡ Some (Some place)) ⊎ ((k ≡ length was) × (Some new ≡ Some place)) → IsPlaceOf cell place
@@ -73,13 +70,12 @@ client_more config made was now new is one all k c at = by (in_more was (Some ne
 
 -- places that are made
 
-pub is_place : (config : Config) (servers : ℕ) (node : Node) (v : View) (place : ClientPlace) (cell : Identity) → IsRegistered config servers node v place.journal.node place.journal.writer.me.0 → v.of ≡ cell → IsPlaceOf cell place
-is_place config servers node v place cell registered of = record { of = registered.of ∙ of; mine = registered.mine }
+pub place_added : (cell : Identity) (was now : List (Option ClientPlace)) (o : Option ClientPlace) → now ≡ was ++ o ∷ [] → IfSome o (IsPlaceOf cell) → ArePlacesOf cell was → ArePlacesOf cell now
+place_added cell was now None is one all = no_place_more cell was now is all
+place_added cell was now (Some place) is one all = place_more cell was now place is one all
 
 -- a client whose flag is down goes on
-pub goes_on_at : (cell : Identity) (retired : List Bool) (before : ℕ) (flag : Bool) → cell.retired ≡ retired → before < length retired → flag ≡ get_or retired before flag → flag ≡ false
-    → is_retired cell (Client (record { 0 = before + 1 })) ≡ false
-goes_on_at cell retired before flag same within at down =
+pub goes_on_at : (cell : Identity) (retired : List Bool) (before : ℕ) → cell.retired ≡ retired → get_or retired before false ≡ false → is_retired cell (Client (record { 0 = before + 1 })) ≡ false
+goes_on_at cell retired before same down =
     let place : before + 1 - 1 ≡ before = omega arith in
-    ap (λ (l : List Bool). get_or l (before + 1 - 1) false) same
-    ∙ (ap (λ (n : ℕ). get_or retired n false) place ∙ (get_or_from_slice_get retired before flag false (slice_get_read retired (length retired) before flag refl within at) ∙ down))
+    ap (λ (l : List Bool). get_or l (before + 1 - 1) false) same ∙ (ap (λ (n : ℕ). get_or retired n false) place ∙ down)

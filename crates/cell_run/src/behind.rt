@@ -144,19 +144,36 @@ fn open_behind<R: Wait + Clock>(
 {
     let cell = history.cell();
     match resume_memory(parts, &cell) {
-        Ok(memory) => {
-            let ResumeMemory {
-                senders,
-                controls,
-                room,
-                threads,
-            } = memory;
-            match new_registry(rt, parts, history, senders, controls) {
-                Ok(registry) => Ok((registry, room, threads)),
-                Err(list) => Err((list, StartFault::NoMemory)),
-            }
-        }
+        Ok(memory) => open_in(rt, parts, history, memory),
         Err(fault) => Err((history.into_list(), fault)),
+    }
+}
+
+// The same, in memory that is there.
+fn open_in<R: Wait + Clock>(
+    rt: &R,
+    parts: &ParkedParts,
+    history: History,
+    memory: ResumeMemory,
+) -> Result<(NodeRegistry, ResumeRoom, ThreadRoom), (GrowingList<RaisedEntry>, StartFault)>
+    requires none { history.entries ≡ [] }
+    requires settings { (history.cell.config ≡ parts.now.journal.cell.config) × (history.cell.servers ≡ parts.now.journal.cell.servers) × (history.cell.clients ≡ parts.now.journal.cell.clients) }
+    requires room { HasRoom history.cell parts.now memory.room }
+    requires asks { WritesControls memory.controls memory.room.control_writer }
+    ensures registry { IfOk result (λ r. (r.0.registered ≡ 0) × (r.0.cell ≡ history.cell) × (r.0.config ≡ history.cell.config) × (r.0.servers ≡ history.cell.servers)) }
+    ensures room { IfOk result (λ r. HasRoom history.cell parts.now r.1) }
+    ensures asks { IfOk result (λ r. WritesControls (arc_value r.0.shared).controls r.1.control_writer) }
+    ensures back { IfErr result (λ f. f.0 ≡ listed history.cell.name history.cell.base) }
+{
+    let ResumeMemory {
+        senders,
+        controls,
+        room,
+        threads,
+    } = memory;
+    match new_registry(rt, parts, history, senders, controls) {
+        Ok(registry) => Ok((registry, room, threads)),
+        Err(list) => Err((list, StartFault::NoMemory)),
     }
 }
 
@@ -404,8 +421,7 @@ fn seats_over<R: Wait + Clock>(
         clients: anew,
         taken: 0,
     };
-    let seats = seat_all(rt, &mut seating, parked, seats);
-    (seats, inboxes)
+    (seat_all(rt, &mut seating, parked, seats), inboxes)
 }
 
 // Starts a thread for each node.

@@ -1,11 +1,11 @@
 //! The places of the clients in the journal of a cell that goes on.
 
-ghost use Rattle.std.specs.Prelude.{◌≡◌, ◌≤◌, ◌+◌, ◌<◌, [], false, vec_len, vec_capacity};
+ghost use Rattle.std.specs.Prelude.{◌≡◌, ◌≤◌, ◌+◌, ◌<◌, [], false, vec_len, vec_capacity, IfSome};
 ghost use Rattle.gfs_types.specs.declared.ids.Node.TheVariants.{Client};
 ghost use Rattle.cell_journal.specs.WholeHistories.{is_retired};
 ghost use Rattle.cell_seats.specs.Registry.{IsRegistered};
 ghost use Rattle.cell_seats.specs.Registries.{IsSameRegistry};
-ghost use Rattle.cell_run.specs.Resumed.{ArePlacesOf};
+ghost use Rattle.cell_run.specs.Resumed.{ArePlacesOf, IsPlaceOf};
 
 use crate::node_slots::client_journal;
 use cell_seats::mailboxes::MailboxItem;
@@ -26,7 +26,6 @@ pub struct ClientPlace {
 }
 
 /// The places of the first so many clients, but of those of which nothing more is written, and the mailboxes of the others.
-#[tactic(auto, using(crate::proofs::Placing::place_more, crate::proofs::Placing::is_place, crate::proofs::Placing::goes_on_at))]
 pub fn client_places<R: Wait + Clock>(
     rt: &R,
     registry: &mut NodeRegistry,
@@ -48,23 +47,48 @@ pub fn client_places<R: Wait + Clock>(
     let mut places = room;
     let mut inboxes = inboxes;
     for before in 0..count {
-        let Some(inbox) = inboxes.pop() else {
-            unreachable!()
-        };
-        if retired[before as usize] {
-            registry.skip();
-            places.push_reserved(None);
-        } else {
-            let journal = journal_of(rt, registry, ClientId(before + 1));
-            let bit = 1u64 << before;
-            places.push_reserved(Some(ClientPlace {
-                journal,
-                inbox,
-                bit,
-            }));
-        }
+        let inbox = next_inbox(&mut inboxes);
+        places.push_reserved(client_place(rt, registry, retired, before, inbox));
     }
     (places, inboxes)
+}
+
+fn next_inbox(inboxes: &mut Vec<Receiver<MailboxItem>>) -> Receiver<MailboxItem>
+    requires { 0 < vec_len inboxes.old }
+    ensures { vec_len inboxes.new + 1 ≡ vec_len inboxes.old }
+{
+    match inboxes.pop() {
+        Some(inbox) => inbox,
+        None => unreachable!(),
+    }
+}
+
+// The place of the next client, unless nothing more is written of it.
+fn client_place<R: Wait + Clock>(
+    rt: &R,
+    registry: &mut NodeRegistry,
+    retired: &[bool; 64],
+    before: u64,
+    inbox: Receiver<MailboxItem>,
+) -> Option<ClientPlace>
+    requires registered { registry.old.registered ≡ registry.old.servers + 1 + before }
+    requires retired { registry.old.cell.retired ≡ retired.now }
+    requires few { before < 64 }
+    ensures same { IsSameRegistry registry.old registry.new }
+    ensures registered { registry.new.registered ≡ registry.old.registered + 1 }
+    ensures place { IfSome result (IsPlaceOf registry.old.cell) }
+{
+    let _servers = registry.servers;
+    let is_retired = retired[before as usize];
+    if is_retired {
+        registry.skip();
+        return None;
+    }
+    Some(ClientPlace {
+        journal: journal_of(rt, registry, ClientId(before + 1)),
+        inbox,
+        bit: 1u64 << before,
+    })
 }
 
 // A client's place. It is there at once, since what all share has few owners.

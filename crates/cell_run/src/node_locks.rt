@@ -1,6 +1,6 @@
 //! The locks of a running cell's nodes, which its threads share with it.
 
-ghost use Rattle.std.specs.Prelude.{◌≡◌, ◌≤◌, ◌<◌, ◌+◌, ◌^◌, ◌∷◌, suc, false, [], map, length, All, vec_capacity, IfOk, IfSome};
+ghost use Rattle.std.specs.Prelude.{◌≡◌, ◌≤◌, ◌<◌, ◌+◌, ◌^◌, ◌∷◌, suc, false, [], map, length, get_or, All, vec_capacity, IfOk, IfSome};
 ghost use Rattle.std.specs.Arc.{arc_value};
 ghost use Rattle.cell_seats.specs.NodeLocks.{node_name, IsNamed};
 ghost use Rattle.cell_journal.specs.Roles.{node_at};
@@ -78,7 +78,6 @@ impl NodeLocks {
 
 impl NodeLocks {
     /// Each parked node gets its place in the journal of the cell that goes on, and lies in its lock.
-    #[tactic(auto, using(crate::proofs::Going::first_seen, crate::proofs::Going::others_seen, cell_seats::proofs::Starting::master_at))]
     pub fn put_all<R: Wait + Clock>(
         &self,
         rt: &R,
@@ -100,7 +99,6 @@ impl NodeLocks {
 }
 
 // The servers get their places, in the order of their numbers, and lie in their locks.
-#[tactic(auto, using(crate::proofs::NewLocks::lock_at, crate::proofs::NewLocks::locks_count, cell_seats::proofs::Starting::server_at))]
 fn put_servers<R: Wait + Clock>(
     rt: &R,
     alloc: Global,
@@ -117,15 +115,22 @@ fn put_servers<R: Wait + Clock>(
 {
     let mut before: u16 = 0;
     for server in servers {
-        let lock = &locks[usize::from(before)];
-        let node = Node::Server(ServerId(before + 1));
-        put_node(rt, alloc, registry, lock, server, node);
+        let lock = lock_of(locks, before);
         before += 1;
+        let node = Node::Server(ServerId(before));
+        put_node(rt, alloc, registry, lock, server, node);
     }
 }
 
+// The lock at this place.
+fn lock_of<N: Stepper + Drop>(locks: &[Arc<NodeLock<N>>], before: u16) -> &Arc<NodeLock<N>>
+    requires { before < length locks.now }
+    ensures { result.now ≡ get_or locks.now before result.now }
+{
+    &locks[usize::from(before)]
+}
+
 // A node gets its place and lies in its lock.
-#[tactic(auto, using(cell_seats::proofs::GoingOver::behind_all, cell_seats::proofs::GoingOver::behind_at))]
 fn put_node<R: Wait + Clock, N: Stepper + Drop>(
     rt: &R,
     alloc: Global,

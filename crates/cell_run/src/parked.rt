@@ -66,17 +66,10 @@ impl Model for ParkedParts {
 
 impl ParkedParts {
     /// How many seats go on as clients of new numbers.
-    #[tactic(auto, using(crate::proofs::Anew::count_append))]
     pub(crate) fn count_anew(&self) -> u64
         ensures { result ≡ count_anew self.now.seats }
     {
-        let mut count: u64 = 0;
-        for seat in self.seats.as_slice() {
-            if seat.goes_anew() {
-                count += 1;
-            }
-        }
-        count
+        count_in(self.seats.as_slice())
     }
 
     /// How many clients are made once the cell goes on.
@@ -91,31 +84,71 @@ impl ParkedParts {
     fn have_clients(&self) -> bool
         ensures { result ≡ true → All (λ s. IsSome s.saw) self.now.seats }
     {
-        for before in 0..self.seats.len() {
-            if !self.seats[before].has_client() {
-                return false;
-            }
-        }
-        true
+        all_have_clients(self.seats.as_slice())
     }
 
     /// Of which clients nothing more is written once the cell goes on: of all that were made but those whose seats go on as they are.
-    #[tactic(auto, using(crate::proofs::Anew::others_stay, crate::proofs::Fresh::no_flag))]
     pub(crate) fn retired_then(&self) -> [bool; 64]
         ensures { (k : ℕ) → self.now.made ≤ k → get_or result k false ≡ false }
     {
-        let mut retired = [false; 64];
-        for before in 0..self.made {
-            retired[before as usize] = true;
-        }
-        for seat in self.seats.as_slice() {
-            let number = seat.number();
-            if !seat.goes_anew() && number > 0 && number <= self.made {
-                retired[number as usize - 1] = false;
-            }
-        }
-        retired
+        without_stays(first_flags(self.made), self.made, self.seats.as_slice())
     }
+}
+
+#[tactic(auto, using(crate::proofs::Anew::count_one_more, crate::proofs::Anew::count_as_before))]
+fn count_in(seats: &[ParkedSeat]) -> u64
+    ensures { result ≡ count_anew seats.now }
+{
+    let mut count: u64 = 0;
+    for seat in seats {
+        let anew = seat.goes_anew();
+        if anew {
+            count += 1;
+        }
+    }
+    count
+}
+
+#[tactic(auto, using(crate::proofs::Anew::clients_more))]
+fn all_have_clients(seats: &[ParkedSeat]) -> bool
+    ensures { result ≡ true → All (λ s. IsSome s.saw) seats.now }
+{
+    for seat in seats {
+        if !seat.has_client() {
+            return false;
+        }
+    }
+    true
+}
+
+// The flags of so many clients.
+#[tactic(auto, using(crate::proofs::Anew::others_stay, crate::proofs::Fresh::no_flag))]
+fn first_flags(count: u64) -> [bool; 64]
+    requires { count ≤ 64 }
+    ensures { (k : ℕ) → count ≤ k → get_or result k false ≡ false }
+{
+    let mut flags = [false; 64];
+    for before in 0..count {
+        flags[before as usize] = true;
+    }
+    flags
+}
+
+// Without those of the clients whose seats go on as they are.
+#[tactic(auto, using(crate::proofs::Anew::others_stay))]
+fn without_stays(flags: [bool; 64], count: u64, seats: &[ParkedSeat]) -> [bool; 64]
+    requires few { count ≤ 64 }
+    requires down { (k : ℕ) → count ≤ k → get_or flags k false ≡ false }
+    ensures { (k : ℕ) → count ≤ k → get_or result k false ≡ false }
+{
+    let mut left = flags;
+    for seat in seats {
+        let number = seat.number();
+        if !seat.goes_anew() && number > 0 && number <= count {
+            left[number as usize - 1] = false;
+        }
+    }
+    left
 }
 
 /// What is left of a parked cell's parts once its nodes and its seats were taken.

@@ -1,11 +1,12 @@
 //! All memory that a parked cell takes to go on, beside its journal.
 
-ghost use Rattle.std.specs.Prelude.{◌≡◌, ◌≤◌, ◌+◌, map, length, vec_len, IfOk};
+ghost use Rattle.std.specs.Prelude.{◌≡◌, ◌≤◌, ◌<◌, ◌+◌, [], map, length, vec_len, vec_capacity, IfOk};
 ghost use Rattle.std.specs.Arc.{arc_value};
 ghost use Rattle.protocol.specs.Tables.{first_numbers};
 ghost use Rattle.protocol.specs.Sending.{the_server};
 ghost use Rattle.cell_seats.specs.Controls.{WritesControls};
 ghost use Rattle.cell_seats.specs.NodeLocks.{node_name};
+ghost use Rattle.cell_run.specs.Cells.{names_of};
 ghost use Rattle.cell_run.specs.ParkedSeats.{count_anew};
 ghost use Rattle.cell_run.specs.Resumed.{HasRoom, IsRoomFor, AreNewClients};
 
@@ -23,7 +24,9 @@ use cell_seats::mailboxes::{MailboxItem, MailboxSenders, Mailboxes};
 use cell_seats::node_lock::NodeLock;
 use cell_seats::shared_state::MOST_CLIENTS;
 use crossbeam_channel::Receiver;
+use gfs_types::config::Config;
 use gfs_types::ids::{ClientId, Node, ServerId};
+use std::alloc::Global;
 use std::sync::Arc;
 
 /// What is made for a cell before any part of the parked one is taken: its locks, in which no node lies yet, what its clients need, and room
@@ -72,20 +75,18 @@ pub fn resume_memory(parts: &ParkedParts, cell: &CellIdentity) -> Result<ResumeM
 {
     let alloc = parts.alloc;
     let (senders, boxes) = MailboxSenders::new(alloc, parts.servers, MOST_CLIENTS)?;
-    let (controls, control_writer) = new_controls(alloc)?;
     let Mailboxes {
         master,
         servers,
         clients,
     } = boxes;
-    let locks = NodeLocks {
-        master: new_lock(alloc, cell, Node::Master)?,
-        servers: server_locks(parts, cell)?,
-    };
-    let threads = thread_room(parts, master, servers)?;
-    let clients = client_room(parts, clients)?;
-    let mut base = Vec::new(alloc);
-    base.reserve(1)?;
+    let threads = thread_room(alloc, parts.servers, master, servers)?;
+    let anew = parts.count_anew();
+    let seats = parts.seats.len();
+    let clients = client_room(alloc, parts.config, parts.made, anew, seats, clients)?;
+    let locks = new_locks(alloc, parts.servers, cell)?;
+    let base = room_for_one(alloc)?;
+    let (controls, control_writer) = new_controls(alloc)?;
     Ok(ResumeMemory {
         senders,
         controls,
@@ -100,14 +101,15 @@ pub fn resume_memory(parts: &ParkedParts, cell: &CellIdentity) -> Result<ResumeM
 }
 
 fn thread_room(
-    parts: &ParkedParts,
+    alloc: Global,
+    count: u16,
     master: Receiver<MailboxItem>,
     servers: Vec<Receiver<MailboxItem>>,
 ) -> Result<ThreadRoom, StartFault> {
     let mut servers = servers;
     servers.reverse();
-    let mut threads = Vec::new(parts.alloc);
-    threads.reserve(usize::from(parts.servers) + 1)?;
+    let mut threads = Vec::new(alloc);
+    threads.reserve(usize::from(count) + 1)?;
     Ok(ThreadRoom {
         master: Some(master),
         servers,
@@ -115,22 +117,36 @@ fn thread_room(
     })
 }
 
+fn room_for_one(alloc: Global) -> Result<Vec<Journal>, StartFault>
+    ensures { IfOk result (λ b. (b.items ≡ []) × (1 ≤ vec_capacity b)) }
+{
+    let mut base = Vec::new(alloc);
+    base.reserve(1)?;
+    Ok(base)
+}
+
+// What clients of so many new numbers, behind those that were made, and so many seats need.
 fn client_room(
-    parts: &ParkedParts,
+    alloc: Global,
+    config: Config,
+    made: u64,
+    anew: u64,
+    count: usize,
     inboxes: Vec<Receiver<MailboxItem>>,
 ) -> Result<ClientRoom, StartFault>
-    requires few { parts.now.made + count_anew parts.now.seats ≤ 64 }
+    requires least { 0 < config.chunk }
+    requires few { made + anew ≤ 64 }
     requires boxes { vec_len inboxes ≡ 64 }
-    ensures room { IfOk result (λ r. IsRoomFor parts.now.journal.cell.config parts.now.made (length parts.now.seats) r) }
-    ensures count { IfOk result (λ r. length r.anew.items ≡ count_anew parts.now.seats) }
+    ensures room { IfOk result (λ r. IsRoomFor config made count r) }
+    ensures count { IfOk result (λ r. length r.anew.items ≡ anew) }
 {
     let mut inboxes = inboxes;
     inboxes.reverse();
-    let anew = new_clients(parts)?;
-    let mut places = Vec::new(parts.alloc);
+    let anew = new_clients(alloc, config, made, anew)?;
+    let mut places = Vec::new(alloc);
     places.reserve(64)?;
-    let mut seats = Vec::new(parts.alloc);
-    seats.reserve(parts.seats.len())?;
+    let mut seats = Vec::new(alloc);
+    seats.reserve(count)?;
     Ok(ClientRoom {
         anew,
         inboxes,
@@ -139,33 +155,46 @@ fn client_room(
     })
 }
 
-#[tactic(auto, using(crate::proofs::NewLocks::one_lock_more))]
+// The locks of a cell's nodes, in which none lies yet.
+fn new_locks(alloc: Global, servers: u16, cell: &CellIdentity) -> Result<NodeLocks, StartFault>
+    ensures { IfOk result (λ l. l ≡ names_of cell.now servers) }
+{
+    let master = new_lock(alloc, cell, Node::Master)?;
+    let servers = server_locks(alloc, servers, cell)?;
+    Ok(NodeLocks { master, servers })
+}
+
 fn server_locks(
-    parts: &ParkedParts,
+    alloc: Global,
+    servers: u16,
     cell: &CellIdentity,
 ) -> Result<Vec<Arc<NodeLock<RunningServer>>>, StartFault>
-    ensures { IfOk result (λ l. map arc_value l.items ≡ map (λ s. node_name cell.now (the_server s)) (first_numbers parts.now.journal.cell.servers)) }
+    ensures { IfOk result (λ l. map arc_value l.items ≡ map (λ s. node_name cell.now (the_server s)) (first_numbers servers)) }
 {
-    let mut locks = Vec::new(parts.alloc);
-    for before in 0..parts.servers {
+    let mut locks = Vec::new(alloc);
+    for before in 0..servers {
         let node = Node::Server(ServerId(before + 1));
-        let lock: Arc<NodeLock<RunningServer>> = new_lock(parts.alloc, cell, node)?;
+        let lock: Arc<NodeLock<RunningServer>> = new_lock(alloc, cell, node)?;
         keep(&mut locks, lock)?;
     }
     Ok(locks)
 }
 
-// The clients as which seats go on whose own one does not, in rising order.
-#[tactic(auto, using(crate::proofs::Placing::client_more))]
-fn new_clients(parts: &ParkedParts) -> Result<Vec<Option<RunningClient>>, StartFault>
-    requires { parts.now.made + count_anew parts.now.seats ≤ 64 }
-    ensures clients { IfOk result (λ c. AreNewClients parts.now.journal.cell.config parts.now.made c.items) }
-    ensures count { IfOk result (λ c. length c.items ≡ count_anew parts.now.seats) }
+// So many clients of the numbers behind those that were made, in rising order.
+fn new_clients(
+    alloc: Global,
+    config: Config,
+    made: u64,
+    anew: u64,
+) -> Result<Vec<Option<RunningClient>>, StartFault>
+    requires least { 0 < config.chunk }
+    requires few { made + anew ≤ 64 }
+    ensures clients { IfOk result (λ c. AreNewClients config made c.items) }
+    ensures count { IfOk result (λ c. length c.items ≡ anew) }
 {
-    let mut clients = Vec::new(parts.alloc);
-    for before in 0..parts.count_anew() {
-        let id = ClientId(parts.made + before + 1);
-        let client = RunningClient::new(parts.alloc, parts.config, id)?;
+    let mut clients = Vec::new(alloc);
+    for before in 0..anew {
+        let client = RunningClient::new(alloc, config, ClientId(made + before + 1))?;
         keep(&mut clients, Some(client))?;
     }
     Ok(clients)

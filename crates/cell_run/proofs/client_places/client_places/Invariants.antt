@@ -1,4 +1,4 @@
-use Rattle.std.proofs.Common.{◌≡◌, ◌+◌, length}
+use Rattle.std.proofs.Common.{◌≡◌, ◌+◌}
 use Rattle.std.specs.Prelude.{vec_len, vec_capacity}
 use Rattle.cell_seats.specs.Registries.{IsSameRegistry}
 use Rattle.cell_run.specs.Resumed.{ArePlacesOf}
@@ -10,7 +10,7 @@ invariant-loop-before g l = record {
   same : IsSameRegistry l.fn.registry l.registry;
   registered : l.registry.registered ≡ l.fn.registry.servers + 1 + l.before;
   places : ArePlacesOf l.fn.registry.cell l.places.items;
-  count : length l.places.items ≡ l.before;
+  count : vec_len l.places ≡ l.before;
   room : vec_capacity l.places ≡ vec_capacity l.fn.room;
   boxes : vec_len l.inboxes + l.before ≡ 64;
 }

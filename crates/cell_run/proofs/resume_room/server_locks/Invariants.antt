@@ -8,4 +8,4 @@ use Rattle.cell_run.proofs.resume_room.server_locks.Given as goal
 
 -- so many servers have their locks
 abbrev pub invariant-loop-before : goal.invariant-loop-before
-invariant-loop-before g l = map arc_value l.locks.items ≡ map (λ s. node_name l.fn.cell (the_server s)) (first_numbers l.before)
+invariant-loop-before l = map arc_value l.locks.items ≡ map (λ s. node_name l.fn.cell (the_server s)) (first_numbers l.before)

@@ -1,7 +1,7 @@
 use Rattle.std.proofs.Common.{◌≡◌, ◌≤◌, take}
 use Rattle.cell_run.specs.ParkedSeats.{count_anew}
-use Rattle.cell_run.proofs.parked.ParkedParts.count_anew.Given as goal
+use Rattle.cell_run.proofs.parked.count_in.Given as goal
 
 -- those that were looked at are counted
 abbrev pub invariant-loop-seat : goal.invariant-loop-seat
-invariant-loop-seat g l = record { count : l.count ≡ count_anew (take l.seat-index l.seat-items); few : l.count ≤ l.seat-index }
+invariant-loop-seat l = record { count : l.count ≡ count_anew (take l.seat-index l.seat-items); few : l.count ≤ l.seat-index }
