@@ -1,9 +1,10 @@
 -- The locks of so many servers, and of one more.
-use Rattle.std.proofs.Common.{◌≡◌, ℕ, zero, suc, ◌+◌, ◌<◌, ◌≤◌, List, [], ◌∷◌, ◌++◌, length, get_or, Some, refl, sym, ap, subst, ◌∙◌, arith}
+use Rattle.std.proofs.Common.{◌≡◌, ℕ, zero, suc, ◌+◌, ◌<◌, ◌≤◌, List, [], ◌∷◌, ◌++◌, length, get_or, Some, refl, sym, ap, ◌∙◌, arith}
 use Rattle.std.specs.Prelude.{map, slice_get}
 use Rattle.std.specs.Option.{option_map}
 use Rattle.std.proofs.lemmas.List.{length-map, length-append}
 use Rattle.std.proofs.lemmas.Option.{slice_get-map, slice_get_read}
+use Rattle.gfs_types.specs.declared.ids.Node.TheVariants.{Master}
 use Rattle.protocol.specs.Tables.{first_numbers, element_at}
 use Rattle.protocol.specs.Sending.{the_server}
 use Rattle.cell_journal.specs.Identity.{Identity}
@@ -63,3 +64,11 @@ lock_at f cell servers i xs x all within at =
     let both : Some (f x) ≡ Some (node_name cell (the_server (suc i))) = sym here ∙ (ap (λ (l : List NodeName). slice_get l i) all ∙ there) in
     let same : f x ≡ node_name cell (the_server (suc i)) = (let e = both in cc) in
     same ∙ ap (λ (n : ℕ). node_name cell (the_server n)) next
+
+-- the master's lock is the first one, and those of the servers are the others
+
+pub first_lock : (x : NodeName) (xs : List NodeName) (cell : Identity) (servers : ℕ) → x ∷ xs ≡ names_of cell servers → x ≡ node_name cell Master
+first_lock x xs cell servers all = (let both : x ∷ xs ≡ node_name cell Master ∷ servers_of cell servers = all in cc)
+
+pub other_locks : (x : NodeName) (xs : List NodeName) (cell : Identity) (servers : ℕ) → x ∷ xs ≡ names_of cell servers → xs ≡ map (λ s. node_name cell (the_server s)) (first_numbers servers)
+other_locks x xs cell servers all = (let both : x ∷ xs ≡ node_name cell Master ∷ servers_of cell servers = all in cc)

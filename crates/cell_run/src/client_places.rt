@@ -100,10 +100,10 @@ fn journal_of<R: Wait + Clock>(rt: &R, registry: &mut NodeRegistry, id: ClientId
     ensures journal { IsRegistered registry.old.config registry.old.servers (Client id) registry.old.writer.me.0 result.node result.writer.me.0 }
 {
     for _ in rt.forever() {
-        if let Ok(journal) = client_journal(registry, id) {
-            return journal;
+        match client_journal(registry, id) {
+            Ok(journal) => return journal,
+            Err(_) => thread::sleep(rt, Duration::from_millis(1)),
         }
-        thread::sleep(rt, Duration::from_millis(1));
     }
     unreachable!()
 }

@@ -150,11 +150,13 @@ fn put_node<R: Wait + Clock, N: Stepper + Drop>(
     parked.meets(registry.cell.base());
     hold(rt, parked.name() == node);
     for _ in rt.forever() {
-        if let Ok(journal) = registry.next(node) {
-            lock.put(rt, parked.into_slot(alloc, journal));
-            return;
+        match registry.next(node) {
+            Ok(journal) => {
+                lock.put(rt, parked.into_slot(alloc, journal));
+                return;
+            }
+            Err(_) => thread::sleep(rt, Duration::from_millis(1)),
         }
-        thread::sleep(rt, Duration::from_millis(1));
     }
     unreachable!()
 }
