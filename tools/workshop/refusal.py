@@ -1,13 +1,15 @@
-"""A library that refuses one allocation of a program that it is loaded before, and tests that run with it."""
+"""A library that refuses one allocation, or one thread, of a program that it is loaded before, and tests that run with it."""
 import os
 import subprocess
 
 MOST = 100_000
 
-# Refuses the allocation whose number is REFUSED, whichever thread asks for it, and tells so on the file TOLD. The first one is the main thread's.
-SHIM = r"""
+# Refuses what is asked for under the number REFUSED, whichever thread asks for it, and tells so on the file TOLD. The first allocation is the main thread's.
+HEAD = r"""
 #define _GNU_SOURCE
 #include <dlfcn.h>
+#include <errno.h>
+#include <pthread.h>
 #include <stdlib.h>
 #include <unistd.h>
 static long left;
@@ -21,6 +23,8 @@ static int is_refused(void) {
     if (write(atoi(getenv("TOLD")), "!", 1) != 1) abort();
     return 1;
 }
+"""
+ALLOCATIONS = r"""
 void *malloc(size_t size) {
     static void *(*next)(size_t);
     if (!next) next = dlsym(RTLD_NEXT, "malloc");
@@ -32,12 +36,19 @@ void *realloc(void *old, size_t size) {
     return is_refused() ? NULL : next(old, size);
 }
 """
+THREADS = r"""
+int pthread_create(pthread_t *thread, const pthread_attr_t *with, void *(*run)(void *), void *given) {
+    static int (*next)(pthread_t *, const pthread_attr_t *, void *(*)(void *), void *);
+    if (!next) next = dlsym(RTLD_NEXT, "pthread_create");
+    return is_refused() ? EAGAIN : next(thread, with, run, given);
+}
+"""
 
 
-def built_shim(folder):
+def built_shim(folder, what=ALLOCATIONS):
     source, shim = f"{folder}/shim.c", f"{folder}/shim.so"
     with open(source, "w", encoding="utf-8") as it:
-        it.write(SHIM)
+        it.write(HEAD + what)
     subprocess.run(["cc", "-O1", "-shared", "-fPIC", "-o", shim, source, "-ldl"], check=True)
     return shim
 
@@ -63,9 +74,9 @@ def try_test(program, test, shim):
         was_refused, status, text = run(program, test, shim, number)
         if status != 0:
             failed += 1
-            print(f"{test}: allocation {number}: status {status}\n{text}")
+            print(f"{test}: number {number}: status {status}\n{text}")
         if not was_refused:
-            print(f"{test}: {number - 1} allocations refused in turn, {failed} runs failed")
+            print(f"{test}: {number - 1} refused in turn, {failed} runs failed")
             return failed
     return failed + 1
 

@@ -1,6 +1,7 @@
 //! Parked cells that go on.
 
-ghost use Rattle.std.specs.Prelude.{◌≡◌, IfSome, length};
+ghost use Rattle.std.specs.Prelude.{◌≡◌, ◌∷◌, [], All, IfSome};
+ghost use Rattle.tests_live.specs.ParkFaults.{KeepsName};
 
 use crate::cells::{OddClock, small};
 use cell_run::ParkFault;
@@ -43,23 +44,52 @@ fn mkdir<R: Wait + Clock>(
     }
 }
 
-// Parks the cell with its seat. None: memory was refused, or clocks were not kept.
-fn park<R: Threads + Wait + Clock>(rt: &R, alloc: Global, seated: Seated) -> Option<Parked>
-    ensures { IfSome result (λ p. length p.seats ≡ 1) }
-{
-    let Seated { cell, seat } = seated;
-    let mut seats = Vec::new(alloc);
-    if seats.push(seat).is_err() {
+// A new cell's first seat.
+fn new_seated<R: Threads + Wait + Clock>(rt: &R, cell: Cell) -> Option<Seated> {
+    let mut cell = cell;
+    let Ok(seat) = cell.client() else {
         drop(cell.close(rt));
         return None;
+    };
+    let seated = Seated { cell, seat };
+    Some(seated)
+}
+
+// A list of one seat. Where memory is refused it is asked for once more.
+fn one(alloc: Global, seat: ClientSeat) -> Option<Vec<ClientSeat>>
+    ensures { IfSome result (λ l. l.items ≡ seat ∷ []) }
+{
+    match Vec::from_array(alloc, [seat]) {
+        Ok(seats) => Some(seats),
+        Err(refused) => match Vec::from_array(alloc, refused.value) {
+            Ok(seats) => Some(seats),
+            Err(_) => None,
+        },
     }
+}
+
+// Parks the cell with its seat. Where memory is refused it does so once more, with what came back. None: clocks were not kept.
+fn park<R: Threads + Wait + Clock>(rt: &R, alloc: Global, seated: Seated) -> Option<Parked> {
+    let Seated { cell, seat } = seated;
+    let Some(seats) = one(alloc, seat) else {
+        drop(cell.close(rt));
+        return None;
+    };
     match cell.park(rt, seats) {
         Ok(parked) => Some(parked),
-        Err(ParkFault::NoMemory(cell, _)) => {
-            drop(cell.close(rt));
-            None
-        }
-        Err(ParkFault::Clock(_, _)) => None,
+        Err(fault) => park_again(rt, fault),
+    }
+}
+
+fn park_again<R: Threads + Wait + Clock>(rt: &R, fault: ParkFault) -> Option<Parked>
+    requires { KeepsName fault }
+{
+    match fault {
+        ParkFault::NoMemory(cell, seats) => match cell.park(rt, seats) {
+            Ok(parked) => Some(parked),
+            Err(_) => None,
+        },
+        ParkFault::Clock(_, _) => None,
     }
 }
 
@@ -67,16 +97,23 @@ fn park<R: Threads + Wait + Clock>(rt: &R, alloc: Global, seated: Seated) -> Opt
 fn resume<R: Threads + Wait + Clock + Copy + Send + 'static>(
     rt: R,
     parked: Parked,
-) -> Result<Seated, StartFault>
-    requires { length parked.seats ≡ 1 }
-{
+) -> Result<Seated, StartFault> {
     match parked.resume(rt, OpenGate) {
-        Ok((cell, mut seats)) => match seats.pop() {
-            Some(seat) => Ok(Seated { cell, seat }),
-            None => unreachable!(),
-        },
+        Ok((cell, seats)) => first_seated(cell, seats).ok_or(StartFault::Count),
         Err((_, fault)) => Err(fault),
     }
+}
+
+// The cell with the last of its seats.
+fn first_seated(cell: Cell, seats: Vec<ClientSeat>) -> Option<Seated>
+    requires { All (λ s. s.cell.name ≡ cell.of.name) seats.items }
+{
+    let mut seats = seats;
+    let Some(seat) = seats.pop() else {
+        return None;
+    };
+    let seated = Seated { cell, seat };
+    Some(seated)
 }
 
 // Makes the directory, by a client of a new number where the journal was full, and tells whether it is there.
@@ -91,7 +128,7 @@ fn made<R: Threads + Wait + Clock + Copy + Send + 'static>(
         seated = resume(rt, park(&rt, alloc, seated)?).ok()?;
     }
     match mkdir(&rt, alloc, &mut seated.seat, name) {
-        Ok(()) | Err(Refusal::Exists) => return Some(seated),
+        Ok(()) => return Some(seated),
         Err(Refusal::JournalFull) => {}
         Err(_) => return None,
     }
@@ -126,12 +163,11 @@ fn a_full_journal_is_gone_past(rt: HostRuntime) -> Result<(), Fail> {
         journal: 64,
         ..small(3)
     };
-    let mut cell = Cell::start(rt, alloc, config, 3, OpenGate)?;
-    let Ok(seat) = cell.client() else {
-        drop(cell.close(&rt));
+    let cell = Cell::start(rt, alloc, config, 3, OpenGate)?;
+    let Some(seated) = new_seated(&rt, cell) else {
         return Err(Fail::new("no client"));
     };
-    let made = make_all(rt, alloc, Seated { cell, seat });
+    let made = make_all(rt, alloc, seated);
     assert!(rt; made == Some((10, true)));
     Ok(())
 }
@@ -140,9 +176,7 @@ fn a_full_journal_is_gone_past(rt: HostRuntime) -> Result<(), Fail> {
 fn resume_by_odd_clock<R: Threads + Wait + Clock + Copy + Send + 'static>(
     rt: R,
     parked: Parked,
-) -> Option<bool>
-    requires { length parked.seats ≡ 1 }
-{
+) -> Option<bool> {
     let broken = OddClock {
         rt,
         is_broken: true,
@@ -158,17 +192,120 @@ fn resume_by_odd_clock<R: Threads + Wait + Clock + Copy + Send + 'static>(
 }
 
 #[test]
-fn a_fault_leaves_a_parked_cell(rt: HostRuntime) -> Result<(), Fail> {
+fn a_clock_that_went_back_leaves_a_parked_cell(rt: HostRuntime) -> Result<(), Fail> {
     let alloc = rt.alloc();
-    let mut cell = Cell::start(rt, alloc, small(3), 1, OpenGate)?;
-    let Ok(seat) = cell.client() else {
-        drop(cell.close(&rt));
+    let cell = Cell::start(rt, alloc, small(3), 1, OpenGate)?;
+    let Some(seated) = new_seated(&rt, cell) else {
         return Err(Fail::new("no client"));
     };
-    let outcome = match park(&rt, alloc, Seated { cell, seat }) {
+    let outcome = match park(&rt, alloc, seated) {
         Some(parked) => resume_by_odd_clock(rt, parked),
         None => None,
     };
     assert!(rt; outcome == Some(true));
+    Ok(())
+}
+
+// Makes clients as long as there are numbers for them.
+fn make_clients(cell: &mut Cell)
+    ensures { cell.new.of ≡ cell.old.of }
+{
+    for _ in 0..64u64 {
+        let Ok(_seat) = cell.client() else {
+            return;
+        };
+    }
+}
+
+// The cell is parked without its seat, and goes on.
+fn leave_behind<R: Threads + Wait + Clock + Copy + Send + 'static>(
+    rt: R,
+    alloc: Global,
+    seated: Seated,
+) -> Option<Seated> {
+    let Seated { cell, seat } = seated;
+    let Ok(parked) = cell.park(&rt, Vec::new(alloc)) else {
+        return None;
+    };
+    let Ok((cell, _none)) = parked.resume(rt, OpenGate) else {
+        return None;
+    };
+    let seated = Seated { cell, seat };
+    Some(seated)
+}
+
+// Whether a seat that was left behind finds no number any more, and the parked cell is still there then.
+fn run_out<R: Threads + Wait + Clock + Copy + Send + 'static>(
+    rt: R,
+    alloc: Global,
+    seated: Seated,
+) -> Option<bool> {
+    let mut seated = seated;
+    make_clients(&mut seated.cell);
+    let seated = leave_behind(rt, alloc, seated)?;
+    let parked = park(&rt, alloc, seated)?;
+    let Err((parked, fault)) = parked.resume(rt, OpenGate) else {
+        return None;
+    };
+    Some(fault == StartFault::Count && !parked.has_all_clients())
+}
+
+#[test]
+fn numbers_of_clients_run_out(rt: HostRuntime) -> Result<(), Fail> {
+    let alloc = rt.alloc();
+    let cell = Cell::start(rt, alloc, small(3), 1, OpenGate)?;
+    let Some(seated) = new_seated(&rt, cell) else {
+        return Err(Fail::new("no client"));
+    };
+    let outcome = run_out(rt, alloc, seated);
+    assert!(rt; outcome == Some(true));
+    Ok(())
+}
+
+// Whether a parked cell that was given back with a fault goes on, and answers.
+fn goes_on_again<R: Threads + Wait + Clock + Copy + Send + 'static>(
+    rt: R,
+    alloc: Global,
+    parked: Parked,
+) -> bool {
+    let Ok(seated) = resume(rt, parked) else {
+        return false;
+    };
+    let Seated { cell, mut seat } = seated;
+    let is_made = mkdir(&rt, alloc, &mut seat, "/a").is_ok();
+    drop(cell.close(&rt));
+    is_made
+}
+
+// Whether the cell is parked and goes on, where a refused one of both is tried again.
+fn goes_on<R: Threads + Wait + Clock + Copy + Send + 'static>(
+    rt: R,
+    alloc: Global,
+    seated: Seated,
+) -> bool {
+    let Some(parked) = park(&rt, alloc, seated) else {
+        return false;
+    };
+    match parked.resume(rt, OpenGate) {
+        Ok((cell, _seats)) => {
+            drop(cell.close(&rt));
+            true
+        }
+        Err((parked, _)) => goes_on_again(rt, alloc, parked),
+    }
+}
+
+#[test]
+fn a_refused_parking_loses_nothing(rt: HostRuntime) -> Result<(), Fail> {
+    let alloc = rt.alloc();
+    // Where there is no cell, or no client of it, nothing is to be parked.
+    let Ok(cell) = Cell::start(rt, alloc, small(3), 1, OpenGate) else {
+        return Ok(());
+    };
+    let Some(seated) = new_seated(&rt, cell) else {
+        return Ok(());
+    };
+    let goes_on = goes_on(rt, alloc, seated);
+    assert!(rt; goes_on);
     Ok(())
 }
