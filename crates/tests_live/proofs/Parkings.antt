@@ -3,7 +3,6 @@ use Rattle.std.proofs.Common.{◌≡◌, List, [], ◌∷◌, ◌++◌, Some, sy
 use Rattle.std.specs.Prelude.{All, Option}
 use Rattle.std.specs.Option.{option_to_list}
 use Rattle.std.proofs.lemmas.List.Elements.{All-nil, All-cons, All-head, All-tail}
-use Rattle.logbook.specs.Pages.{Book}
 use Rattle.cell_journal.specs.Identity.{Identity}
 use Rattle.cell_seats.specs.Seats.{SeatState}
 use Rattle.cell_run.specs.Cells.{CellState}
@@ -21,14 +20,14 @@ one_named of before seats s none is same =
     subst (All named) (sym all) (All-cons named s [] (ap (λ (c : Identity). c.name) same) (All-nil named))
 
 -- by its name alone
-pub one_of_name : (name : Book) (seats : List SeatState) (s : SeatState) → seats ≡ s ∷ [] → s.cell.name ≡ name → All (λ x. x.cell.name ≡ name) seats
-one_of_name name seats s is same =
-    let named : SeatState → Type 0 = λ x. x.cell.name ≡ name in
+pub one_of_name : (of : Identity) (seats : List SeatState) (s : SeatState) → seats ≡ s ∷ [] → s.cell.name ≡ of.name → All (λ x. x.cell.name ≡ of.name) seats
+one_of_name of seats s is same =
+    let named : SeatState → Type 0 = λ x. x.cell.name ≡ of.name in
     subst (All named) (sym is) (All-cons named s [] same (All-nil named))
 
-pub none_named : (name : Book) (seats : List SeatState) → seats ≡ [] → All (λ x. x.cell.name ≡ name) seats
-none_named name seats is =
-    let named : SeatState → Type 0 = λ x. x.cell.name ≡ name in
+pub none_named : (of : Identity) (seats : List SeatState) → seats ≡ [] → All (λ x. x.cell.name ≡ of.name) seats
+none_named of seats is =
+    let named : SeatState → Type 0 = λ x. x.cell.name ≡ of.name in
     subst (All named) (sym is) (All-nil named)
 
 -- the last one of all
@@ -36,9 +35,9 @@ last_of : (P : SeatState → Type 0) (xs : List SeatState) (y : SeatState) → A
 last_of P [] y all = All-head P y [] all
 last_of P (x ∷ xs) y all = last_of P xs y (All-tail P x (xs ++ y ∷ []) all)
 
-pub last_named : (name : Book) (seats left : List SeatState) (o : Option SeatState) (s : SeatState) → seats ≡ left ++ option_to_list o → o ≡ Some s → All (λ x. x.cell.name ≡ name) seats → s.cell.name ≡ name
-last_named name seats left o s is last all =
-    let named : SeatState → Type 0 = λ x. x.cell.name ≡ name in
+pub last_named : (of : Identity) (seats left : List SeatState) (o : Option SeatState) (s : SeatState) → seats ≡ left ++ option_to_list o → o ≡ Some s → All (λ x. x.cell.name ≡ of.name) seats → s.cell.name ≡ of.name
+last_named of seats left o s is last all =
+    let named : SeatState → Type 0 = λ x. x.cell.name ≡ of.name in
     last_of named left s (subst (All named) (is ∙ ap (λ (p : Option SeatState). left ++ option_to_list p) last) all)
 
 -- what came back

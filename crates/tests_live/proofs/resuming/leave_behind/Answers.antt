@@ -4,7 +4,7 @@ use Rattle.tests_live.proofs.Parkings.{none_named}
 use Rattle.tests_live.proofs.resuming.leave_behind.Goals as goal
 
 pub park-requires : goal.park-requires
-park-requires g c = none_named c.args.seated.cell.of.name c.new.result.items c.new.ensures.items
+park-requires g c = none_named c.args.seated.cell.of c.new.result.items c.new.ensures.items
 
 pub invariant_of-seated : goal.invariant_of-seated
 invariant_of-seated g c =

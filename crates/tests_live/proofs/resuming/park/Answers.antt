@@ -2,7 +2,7 @@ use Rattle.tests_live.proofs.Parkings.{one_of_name, keeps_name}
 use Rattle.tests_live.proofs.resuming.park.Goals as goal
 
 pub park-requires : goal.park-requires
-park-requires g c = one_of_name c.args.seated.cell.of.name c.in-Some.seats.items c.args.seated.seat c.in-Some.ensures c.args.seated.of
+park-requires g c = one_of_name c.args.seated.cell.of c.in-Some.seats.items c.args.seated.seat c.in-Some.ensures c.args.seated.of
 
 pub park_again-requires-in-Err : goal.park_again-requires-in-Err
 park_again-requires-in-Err g c =
