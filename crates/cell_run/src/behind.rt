@@ -77,7 +77,7 @@ pub fn begin<R: Wait + Clock>(
     let retired = parts.retired_then();
     match list_behind(&parts, list, retired) {
         Ok(history) => begin_in(rt, parts, history, retired),
-        Err(list) => Err((Parked { parts, list }, StartFault::NoMemory)),
+        Err(list) => Err((parts.with_list(list), StartFault::NoMemory)),
     }
 }
 
@@ -124,7 +124,7 @@ fn begin_in<R: Wait + Clock>(
             },
             threads,
         )),
-        Err((list, fault)) => Err((Parked { parts, list }, fault)),
+        Err((list, fault)) => Err((parts.with_list(list), fault)),
     }
 }
 
@@ -272,8 +272,7 @@ impl Behind {
             room: _room,
             retired: _,
         } = self;
-        let list = registry.reclaim(rt).into_list();
-        Parked { parts, list }
+        parts.with_list(registry.reclaim(rt).into_list())
     }
 
     /// Each node gets its place and lies in its lock, the seats go over, each node begins again, and the threads take steps. Nothing of it

@@ -255,10 +255,7 @@ fn parked_with(
     let sent = history.sent;
     let greatest = history.greatest;
     let (history, list) = history.into_parts();
-    Parked {
-        parts: parts_of(history, sent, greatest, beside, nodes, seats),
-        list,
-    }
+    parts_of(history, sent, greatest, beside, nodes, seats).with_list(list)
 }
 
 // The parts of a parked cell beside its list.

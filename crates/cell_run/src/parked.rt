@@ -224,6 +224,16 @@ impl Model for Parked {
     ghost invariant = { λ p. p.list ≡ listed p.parts.journal.cell.name (whole_of p.parts.journal) };
 }
 
+impl ParkedParts {
+    /// The parked cell with the list of its history.
+    pub(crate) fn with_list(self, list: GrowingList<RaisedEntry>) -> Parked
+        requires { list ≡ listed self.journal.cell.name (whole_of self.journal) }
+        ensures { result ≡ self }
+    {
+        Parked { parts: self, list }
+    }
+}
+
 impl Parked {
     /// The journal up to which its cell is parked.
     pub fn journal(&self) -> &Journal

@@ -26,5 +26,5 @@ returns-in-Ok-clause-stands g c =
       asks = c.in-Ok.ensures.asks;
     }
 
-pub invariant_of-result : goal.invariant_of-result
-invariant_of-result g c = c.in-Err.ensures.back ∙ ap (λ (h : Filled). listed h.cell.name h.cell.base) c.requires.history
+pub with_list-requires : goal.with_list-requires
+with_list-requires g c = c.in-Err.ensures.back ∙ ap (λ (h : Filled). listed h.cell.name h.cell.base) c.requires.history

@@ -24,10 +24,10 @@ parts_of-requires-clause-parts c =
     let beside = c.args.beside in
     subst (λ (j : Closed). ArePartsOf j beside.config beside.nothing c.args.history.sent c.args.nodes c.args.seats.items beside.servers beside.made) (sym (ap (λ p. p.0) c.into_parts.ensures)) c.requires.parts
 
-pub returns : goal.returns
-returns c = c.parts_of.ensures ∙ ap (λ (j : Closed). parked_state j c.args.beside.made c.args.seats.items) (ap (λ p. p.0) c.into_parts.ensures)
-
-pub invariant_of-result : goal.invariant_of-result
-invariant_of-result c =
+pub with_list-requires : goal.with_list-requires
+with_list-requires c =
     let journal = ap (λ (p : ParkedState). p.journal) c.parts_of.ensures ∙ ap (λ p. p.0) c.into_parts.ensures in
     ap (λ p. p.1) c.into_parts.ensures ∙ (c.requires.list ∙ sym (ap (λ (j : Closed). listed j.cell.name (whole_of j)) journal))
+
+pub returns : goal.returns
+returns c = c.with_list.ensures ∙ (c.parts_of.ensures ∙ ap (λ (j : Closed). parked_state j c.args.beside.made c.args.seats.items) (ap (λ p. p.0) c.into_parts.ensures))
