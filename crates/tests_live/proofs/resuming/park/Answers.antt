@@ -8,4 +8,4 @@ pub park_again-requires-in-Err : goal.park_again-requires-in-Err
 park_again-requires-in-Err g c =
     let seats = c.in-Some.seats.items in
     keeps_name c.args.seated.cell seats c.in-Err.fault c.in-Err.ensures.fault
-    (one_of_name c.args.seated.cell.of.name seats c.args.seated.seat c.in-Some.ensures c.args.seated.of)
+    (one_of_name c.args.seated.cell.of seats c.args.seated.seat c.in-Some.ensures c.args.seated.of)
