@@ -113,6 +113,7 @@ fn put_servers<R: Wait + Clock>(
     ensures same { IsSameRegistry registry.old registry.new }
     ensures registered { registry.new.registered ≡ registry.old.servers + 1 }
 {
+    let _servers = registry.servers;
     let mut before: u16 = 0;
     for server in servers {
         let lock = lock_of(locks, before);
