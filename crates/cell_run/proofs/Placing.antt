@@ -15,7 +15,7 @@ use Rattle.cell_run.specs.Resumed.{IsPlaceOf, ArePlacesOf, AreNewClients, IsLeft
 
 kept_some : {X : Type 0} (xs : List (Option X)) (i k : ℕ) (x : X) → slice_get (slice_set xs i None) k ≡ Some (Some x) → slice_get xs k ≡ Some (Some x)
 kept_some [] i k x h = h
-kept_some {X} (o ∷ os) zero zero x h = absurd (let both : ◌≡◌ {A = Option (Option X)} (Some None) (Some (Some x)) = h in cc)
+kept_some {X} (o ∷ os) zero zero x h = absurd (let both : Some None ≡ Some (Some x) = h in cc)
 kept_some (o ∷ os) zero (suc k) x h = h
 kept_some (o ∷ os) (suc i) zero x h = h
 kept_some (o ∷ os) (suc i) (suc k) x h = kept_some os i k x h
@@ -35,8 +35,8 @@ fewer_clients config made was now left all k c at = all k c (left k c at)
 -- what is added
 
 in_more : {X : Type 0} (xs : List X) (y : X) (k : ℕ) (z : X) → slice_get (xs ++ y ∷ []) k ≡ Some z → (slice_get xs k ≡ Some z) ⊎ ((k ≡ length xs) × (y ≡ z))
-in_more {X} [] y zero z h = inr (refl, (let e : ◌≡◌ {A = Option X} (Some y) (Some z) = h in cc))
-in_more {X} [] y (suc k) z h = absurd (let e : ◌≡◌ {A = Option X} None (Some z) = h in cc)
+in_more {X} [] y zero z h = inr (refl, (let e : Some y ≡ Some z = h in cc))
+in_more {X} [] y (suc k) z h = absurd (let e : None ≡ Some z = h in cc)
 in_more (x ∷ xs) y zero z h = inl h
 in_more (x ∷ xs) y (suc k) z h = further (in_more xs y k z h)
   where
@@ -49,14 +49,14 @@ no_place_more cell was now is all k place at = by (in_more was None k (Some plac
   where
     by : (slice_get was k ≡ Some (Some place)) ⊎ ((k ≡ length was) × (None ≡ Some place)) → IsPlaceOf cell place
     by (inl there) = all k place there
-    by (inr both) = absurd (let e : ◌≡◌ {A = Option ClientPlace} None (Some place) = both.1 in cc)
+    by (inr both) = absurd (let e : None ≡ Some place = both.1 in cc)
 
 place_more : (cell : Identity) (was now : List (Option ClientPlace)) (new : ClientPlace) → now ≡ was ++ Some new ∷ [] → IsPlaceOf cell new → ArePlacesOf cell was → ArePlacesOf cell now
 place_more cell was now new is one all k place at = by (in_more was (Some new) k (Some place) (subst (λ (l : List (Option ClientPlace)). slice_get l k ≡ Some (Some place)) is at))
   where
     by : (slice_get was k ≡ Some (Some place)) ⊎ ((k ≡ length was) × (Some new ≡ Some place)) → IsPlaceOf cell place
     by (inl there) = all k place there
-    by (inr both) = subst (IsPlaceOf cell) (let e : ◌≡◌ {A = Option ClientPlace} (Some new) (Some place) = both.1 in let same : new ≡ place = cc in same) one
+    by (inr both) = subst (IsPlaceOf cell) (let e : Some new ≡ Some place = both.1 in let same : new ≡ place = cc in same) one
 
 pub client_more : (config : Config) (made : ℕ) (was now : List (Option RunningClient)) (new : RunningClient) → now ≡ was ++ Some new ∷ [] → new.node.client ≡ new_client config (made + length was + 1)
     → AreNewClients config made was → AreNewClients config made now
@@ -65,7 +65,7 @@ client_more config made was now new is one all k c at = by (in_more was (Some ne
     by : (slice_get was k ≡ Some (Some c)) ⊎ ((k ≡ length was) × (Some new ≡ Some c)) → c.node.client ≡ new_client config (made + k + 1)
     by (inl there) = all k c there
     by (inr both) =
-        let same : new ≡ c = (let e : ◌≡◌ {A = Option RunningClient} (Some new) (Some c) = both.1 in cc) in
+        let same : new ≡ c = (let e : Some new ≡ Some c = both.1 in cc) in
         ap (λ (x : RunningClient). x.node.client) (sym same) ∙ (one ∙ ap (λ (n : ℕ). new_client config (made + n + 1)) (sym both.0))
 
 -- places that are made
