@@ -293,7 +293,6 @@ struct Parts {
 }
 
 // A cell whose ticker runs.
-#[tactic(auto, using(crate::proofs::Fresh::all_fresh))]
 fn start_with<
     R: Threads + Wait + Clock + Copy + Send + 'static,
     G: Gate + Clone + Send + Drop + 'static,
