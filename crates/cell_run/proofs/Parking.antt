@@ -84,7 +84,7 @@ parked_parts cell config servers made count sent nothing history nodes seats at 
         (both c k rest (All-tail (λ s. s.cell.name ≡ c.name) p.seat (map (λ q. q.seat) rest) named) (All-tail (λ q. IfSome q.saw (λ j. j ≡ k)) p rest saw))
 
 -- a cell of such a journal is parked
-pub parked_so : (cell : Identity) (made then count : ℕ) (history : Closed) (seats : List ParkedSeatState) (p : ParkedState) → IsParkedAt cell count history → p ≡ parked_state history then seats → then ≡ made
+pub parked_so : (cell : Identity) (made kept count : ℕ) (history : Closed) (seats : List ParkedSeatState) (p : ParkedState) → IsParkedAt cell count history → p ≡ parked_state history kept seats → kept ≡ made
     → IsParked cell made (map (λ q. q.seat) seats) p
-parked_so cell made then count history seats p at is made_is =
+parked_so cell made kept count history seats p at is made_is =
     subst (IsParked cell made (map (λ q. q.seat) seats)) (sym is) (record { cell_is = at.cell_is; parked = at.parked; made_is = made_is; seats_are = refl })

@@ -155,10 +155,10 @@ fn move_on<R: Wait + Clock>(
     let number = number_of(seat.name());
     let earlier = seat.earlier();
     hold(rt, is_after(&earlier, number));
-    let then = with_client(earlier, number);
-    hold(rt, are_within(&then, &seating.retired));
+    let gone = with_client(earlier, number);
+    hold(rt, are_within(&gone, &seating.retired));
     let NewClient { slot, inbox, bit } = new_client(rt, seating);
-    seat.sit(slot, inbox, bit, then)
+    seat.sit(slot, inbox, bit, gone)
 }
 
 // An earlier parking left the seat behind, so that it goes on as a client of a new number.
