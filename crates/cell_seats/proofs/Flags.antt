@@ -39,9 +39,9 @@ one_more_in k (suc i) (false ∷ rest) below none =
     one_more_in (suc k) i rest (omega (arith, below)) (λ j past. none (suc j) (omega (arith, past))) ∙ ap (λ (n : ℕ). clients_in (suc k) rest ++ client n ∷ []) number
 
 -- and as it stands in code
-pub one_flag_more : (flags then : List Bool) (number : ℕ) → 0 < number → number ≤ length flags → ((j : ℕ) → number ≤ j + 1 → get_or flags j false ≡ false) → then ≡ slice_set flags (number - 1) true
-    → clients_in 0 then ≡ clients_in 0 flags ++ Client (record { 0 = number }) ∷ []
-one_flag_more flags then number some few none is =
+pub one_flag_more : (flags now : List Bool) (number : ℕ) → 0 < number → number ≤ length flags → ((j : ℕ) → number ≤ j + 1 → get_or flags j false ≡ false) → now ≡ slice_set flags (number - 1) true
+    → clients_in 0 now ≡ clients_in 0 flags ++ Client (record { 0 = number }) ∷ []
+one_flag_more flags now number some few none is =
     let place : 0 + (number - 1) + 1 ≡ number = omega (arith, some) in
     ap (clients_in 0) is
     ∙ (one_more_in 0 (number - 1) flags (omega (arith, some, few)) (λ j past. none j (omega (arith, some, past)))
@@ -50,16 +50,16 @@ one_flag_more flags then number some few none is =
 -- flags that stand among those of the clients of which nothing more is written
 pub all_retired : (cell : Identity) (k : ℕ) (flags : List Bool) → ((j : ℕ) → get_or flags j false ≡ true → get_or cell.retired (k + j) false ≡ true) → All (λ m. IsTrue (is_retired cell m)) (clients_in k flags)
 all_retired cell k [] within = All-nil (λ (m : Node). IsTrue (is_retired cell m))
-all_retired cell k (f ∷ rest) within = by_flag f refl
+all_retired cell k (f ∷ rest) within =
+    by_flag
+    (all_retired cell (suc k) rest (λ j up.
+    let place : k + suc j ≡ suc k + j = omega arith in
+    ap (λ (n : ℕ). get_or cell.retired n false) (sym place) ∙ within (suc j) up))
+    f refl
   where
-    later : All (λ m. IsTrue (is_retired cell m)) (clients_in (suc k) rest)
-    later = all_retired cell (suc k) rest (λ j up.
-        let place : k + suc j ≡ suc k + j = omega arith in
-        ap (λ (n : ℕ). get_or cell.retired n false) (sym place) ∙ within (suc j) up)
-
-    by_flag : (b : Bool) → f ≡ b → All (λ m. IsTrue (is_retired cell m)) (clients_in k (b ∷ rest))
-    by_flag true is =
+    by_flag : All (λ m. IsTrue (is_retired cell m)) (clients_in (suc k) rest) → (b : Bool) → f ≡ b → All (λ m. IsTrue (is_retired cell m)) (clients_in k (b ∷ rest))
+    by_flag later true is =
         let place : k ≡ k + 0 = omega arith in
         let here : get_or cell.retired k false ≡ true = ap (λ (n : ℕ). get_or cell.retired n false) place ∙ within 0 is in
         All-cons (λ (m : Node). IsTrue (is_retired cell m)) (client (suc k)) (clients_in (suc k) rest) here later
-    by_flag false is = later
+    by_flag later false is = later

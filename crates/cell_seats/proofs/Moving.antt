@@ -148,6 +148,7 @@ goes_later u v w e a b = record {
   before = b.before;
   last = b.last;
   lawful = b.lawful;
+  leaves = b.leaves;
 }
 
 pub taken_later : (n : Node) (u v w : View) (cause : StepCause) (answer : Result (Option Answer) Refusal) (beginning : Listed Entry) (count : ℕ) → IsLater u v → StepTaken n v w cause answer beginning count → StepTaken n u w cause answer beginning count
