@@ -1,6 +1,6 @@
 //! A parked cell goes on: its nodes begin again, behind all that it did. All that may fail comes before any node is touched.
 
-ghost use Rattle.std.specs.Prelude.{◌≡◌, ◌≤◌, ◌+◌, IfOk, IfErr, OnOk};
+ghost use Rattle.std.specs.Prelude.{◌≡◌, ◌≤◌, ◌+◌, true, IfOk, IfErr, OnOk};
 ghost use Rattle.cell_run.specs.Parked.{IsResumed};
 ghost use Rattle.cell_run.specs.ParkedSeats.{count_anew};
 ghost use Rattle.cell_run.specs.Resumed.{StandsBehind};
@@ -92,11 +92,17 @@ impl ParkedParts {
         if now.saturating_add(u64::from(self.config.skew_ms)) < self.greatest {
             return Err(StartFault::Clock);
         }
-        let anew = self.count_anew();
-        if anew > MOST_CLIENTS || self.made + anew > MOST_CLIENTS {
-            return Err(StartFault::Count);
+        if self.has_numbers() {
+            Ok(())
+        } else {
+            Err(StartFault::Count)
         }
-        Ok(())
+    }
+
+    fn has_numbers(&self) -> bool
+        ensures { result ≡ true → self.now.made + count_anew self.now.seats ≤ 64 }
+    {
+        are_few(self.made, self.count_anew())
     }
 
     // How many milliseconds the cell has run, if there is a clock.
@@ -104,4 +110,11 @@ impl ParkedParts {
         let since = rt.monotonic().ok()?.checked_sub(self.began)?;
         u64::try_from(since.as_millis()).ok()
     }
+}
+
+// Whether so many clients more may be made.
+fn are_few(made: u64, anew: u64) -> bool
+    ensures { result ≡ true → made + anew ≤ 64 }
+{
+    made <= MOST_CLIENTS && anew <= MOST_CLIENTS && made + anew <= MOST_CLIENTS
 }
