@@ -59,7 +59,7 @@ all_retired cell k (f ∷ rest) within =
   where
     by_flag : All (λ m. IsTrue (is_retired cell m)) (clients_in (suc k) rest) → (b : Bool) → f ≡ b → All (λ m. IsTrue (is_retired cell m)) (clients_in k (b ∷ rest))
     by_flag later true is =
-        let place : k ≡ k + 0 = omega arith in
-        let here : get_or cell.retired k false ≡ true = ap (λ (n : ℕ). get_or cell.retired n false) place ∙ within 0 is in
+        let place : suc k - 1 ≡ k + 0 = omega arith in
+        let here : IsTrue (is_retired cell (client (suc k))) = ap (λ (n : ℕ). get_or cell.retired n false) place ∙ within 0 is in
         All-cons (λ (m : Node). IsTrue (is_retired cell m)) (client (suc k)) (clients_in (suc k) rest) here later
     by_flag later false is = later
