@@ -139,7 +139,7 @@ fn made<R: Threads + Wait + Clock + Copy + Send + 'static>(
     }
 }
 
-// How many of the directories are there after all were made, and whether the journal stands behind another.
+// How many directories are there after all were made, and whether the journal stands behind another.
 fn make_all<R: Threads + Wait + Clock + Copy + Send + 'static>(
     rt: R,
     alloc: Global,
@@ -168,7 +168,8 @@ fn a_full_journal_is_gone_past(rt: HostRuntime) -> Result<(), Fail> {
         return Err(Fail::new("no client"));
     };
     let made = make_all(rt, alloc, seated);
-    assert!(rt; made == Some((10, true)));
+    // Beside the ten stands `/.gone`.
+    assert!(rt; made == Some((11, true)));
     Ok(())
 }
 
