@@ -11,17 +11,18 @@ use std::test::*;
 /// How often a cell is parked in a row, and between how many parkings the producers append once each.
 const PARKS: u64 = 1_000;
 
-const APART: u64 = 40;
+const APART: u64 = 50;
 
 const PRODUCERS: u64 = 4;
 
-/// How long a record is, and how much a reader reads at once.
+/// How long a record is, and a chunk, in which all records have room.
 const RECORD: u64 = 8;
 
-const CHUNK: u64 = 64;
+const CHUNK: u32 = 4_096;
 
 fn three_servers(clients: u64, journal: u32) -> Options {
     let mut config = small(3);
+    config.chunk = CHUNK;
     config.journal = journal;
     Options {
         servers: 3,
@@ -60,44 +61,45 @@ fn script_of_parks(alloc: Global) -> Result<String, Fail> {
         }
         write!(text, "reopen\n")?;
     }
-    let most = PARKS / APART * PRODUCERS * RECORD * 2 / CHUNK + 1;
-    for chunk in 0..most {
-        let offset = chunk * CHUNK;
-        write!(text, "c5 read 1 {offset} {CHUNK}\n")?;
-    }
+    write!(text, "c5 read 1 0 {CHUNK}\n")?;
     Ok(text)
 }
 
-/// The bytes, in hexadecimal, that the reader was told of a chunk.
-fn told_of(text: &str, chunk: usize) -> Option<&str> {
-    let line = text
-        .lines()
-        .filter(|line| line.starts_with("c5 bytes "))
-        .nth(chunk)?;
-    line.split(' ').nth(3)
+/// The bytes, in hexadecimal, that the reader was told, and what stands behind them in the line.
+fn told_of(text: &str) -> Option<&str> {
+    for line in text.lines() {
+        if let Some(rest) = line.strip_prefix("c5 bytes ") {
+            let (_, bytes) = rest.split_once(' ')?;
+            return Some(bytes);
+        }
+    }
+    None
+}
+
+/// Whether a record of this digit stands at the offset: each of its bytes is written as 3 and the digit.
+fn is_record(bytes: &[u8], offset: usize, digit: u8) -> bool {
+    for place in 0..RECORD as usize {
+        let first = offset.wrapping_add(place).wrapping_mul(2);
+        let (Some(high), Some(low)) = (bytes.get(first), bytes.get(first.wrapping_add(1))) else {
+            return false;
+        };
+        if *high != b'3' || *low != digit {
+            return false;
+        }
+    }
+    true
 }
 
 /// How many records of a producer were answered; none where one isn't read where it was answered to stand.
-fn count_read(text: &str, client: u64) -> Option<u64> {
+fn count_read(text: &str, answered: &str, digit: u8) -> Option<u64> {
+    let bytes = told_of(text)?;
     let mut count: u64 = 0;
     for line in text.lines() {
-        let mut words = line.split(' ');
-        let (Some(who), Some("at"), Some(offset)) = (words.next(), words.next(), words.next())
-        else {
+        let Some(offset) = line.strip_prefix(answered) else {
             continue;
         };
-        if who.strip_prefix("c").and_then(|it| it.parse::<u64>().ok()) != Some(client) {
-            continue;
-        }
-        let offset = offset.parse::<u64>().ok()?;
-        let bytes = told_of(text, usize::try_from(offset / CHUNK).ok()?)?;
-        let first = usize::try_from(offset % CHUNK).ok()?.checked_mul(2)?;
-        let last = first.checked_add(16)?;
-        let digit = char::from_digit(u32::try_from(client).ok()?, 10)?;
-        let found = bytes.get(first..last)?;
-        if found.chars().step_by(2).any(|it| it != '3')
-            || found.chars().skip(1).step_by(2).any(|it| it != digit)
-        {
+        let offset = offset.parse::<usize>().ok()?;
+        if !is_record(bytes.as_bytes(), offset, digit) {
             return None;
         }
         count = count.wrapping_add(1);
@@ -116,8 +118,9 @@ fn a_thousand_parks_with_four_producers(rt: HostRuntime) -> Result<(), Fail> {
         Ok(())
     );
     let told = str::from_utf8(out.as_slice())?;
-    for client in 1..=PRODUCERS {
-        assert_eq!(rt; count_read(told, client), Some(PARKS / APART));
-    }
+    assert_eq!(rt; count_read(told, "c1 at ", b'1'), Some(PARKS / APART));
+    assert_eq!(rt; count_read(told, "c2 at ", b'2'), Some(PARKS / APART));
+    assert_eq!(rt; count_read(told, "c3 at ", b'3'), Some(PARKS / APART));
+    assert_eq!(rt; count_read(told, "c4 at ", b'4'), Some(PARKS / APART));
     Ok(())
 }
