@@ -14,8 +14,8 @@ park-requires g c = subst (λ (l : List SeatState). All (λ s. s.cell.name ≡ c
 
 pub join-requires-in-Ok-clause-count : goal.join-requires-in-Ok-clause-count
 join-requires-in-Ok-clause-count g c =
-    over_count c.in-Ok-2.cell.of c.in_ok-parked.parked.seats c.in-Ok-2.seats.items c.args.players.items c.in-Ok.handed.rests.items c.in-Ok-2.ensures.resumed.go_over c.in_ok-parked.ensures.parked.seats_are
-    c.in-Ok.ensures.rests
+    over_count c.in-Ok-2.cell.of c.in_ok-parked.parked.seats c.in-Ok-2.seats.items c.args.players.items c.in-Ok.handed.rests.items c.in-Ok-2.ensures.resumed.go_over
+    (c.in_ok-parked.ensures.parked.seats_are ∙ c.in-Ok.ensures.seats) c.in-Ok.ensures.rests
 
 pub join-requires-in-Ok-clause-room : goal.join-requires-in-Ok-clause-room
 join-requires-in-Ok-clause-room g c = omega (arith, ap length c.in-Ok.ensures.rests, length-map c.args.players.items rest_of, c.in-Ok.ensures.room.1)
@@ -36,4 +36,4 @@ returns-in-Ok-clause-players g c =
     let olds = c.args.players.items in
     let news = c.in-Ok-2.seats.items in
     subst (λ (l : List Player). AllReopen cell olds l) (sym (c.join.ensures ∙ ap (λ (us : List Unseated). seated us news) c.in-Ok.ensures.rests))
-    (all_reopen cell olds c.in_ok-parked.parked.seats news c.in_ok-parked.ensures.parked.seats_are c.in_ok-parked.ensures.clients c.in-Ok-2.ensures.resumed.go_over)
+    (all_reopen cell olds c.in_ok-parked.parked.seats news (c.in_ok-parked.ensures.parked.seats_are ∙ c.in-Ok.ensures.seats) c.in_ok-parked.ensures.clients c.in-Ok-2.ensures.resumed.go_over)

@@ -1,4 +1,6 @@
-use Rattle.std.proofs.Common.{◌∙◌, refl}
+use Rattle.std.proofs.Common.{◌∙◌, Vec, Global, refl, ap}
+use Rattle.cell_run.specs.Cells.{CellState}
+use Rattle.live.specs.declared.play.Player.{Player}
 use Rattle.live.proofs.Players.{all_new, still_one, same_reopened, mid_cells, barrier_passed, all_lines}
 use Rattle.live.proofs.run.play_all.Goals as goal
 
@@ -18,7 +20,7 @@ loop-first-preserved g c =
     let next = c.next_barrier-next in
     let now = c.in_ok-pass.field-0 in
     let over = barrier_passed was.cell.of now.cell.of c.args.lines.now c.loop-first.first next.result was.players.items c.play_part.new.players.items now.players.items c.is_reopen_at.result next.ensures.within.0
-    next.ensures.barrier inv.played c.play_part.ensures c.is_reopen_at.ensures (λ calm. let same = c.in_ok-pass.ensures.stays calm in ((cc), (cc))) c.in_ok-pass.ensures.goes in
+    next.ensures.barrier inv.played c.play_part.ensures c.is_reopen_at.ensures (λ calm. let same = c.in_ok-pass.ensures.stays calm in (ap (λ (x : CellState). x.of) same.0, ap (λ (v : Vec Player Global). v.items) same.1)) c.in_ok-pass.ensures.goes in
     record { cell = same_reopened c.args.cell.of was.cell.of now.cell.of inv.cell over.0; count = over.1 ∙ inv.count; played = over.2 }
 
 pub returns-clause-players : goal.returns-clause-players
