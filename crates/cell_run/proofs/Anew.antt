@@ -11,8 +11,10 @@ use Rattle.cell_run.specs.Parked.{AllGoOver}
 use Rattle.cell_run.specs.ParkedSeats.{ParkedSeatState, goes_anew, one_where, count_anew}
 
 pub count_append : (xs ys : List ParkedSeatState) → count_anew (xs ++ ys) ≡ count_anew xs + count_anew ys
-count_append [] ys = refl
-count_append (x ∷ xs) ys = omega (arith, count_append xs ys)
+count_append [] ys = omega arith
+count_append (x ∷ xs) ys =
+    let sum : one_where (goes_anew x) + (count_anew xs + count_anew ys) ≡ one_where (goes_anew x) + count_anew xs + count_anew ys = omega arith in
+    ap (λ (n : ℕ). one_where (goes_anew x) + n) (count_append xs ys) ∙ sum
 
 one_at_most : (b : Bool) → one_where b ≤ 1
 one_at_most true = omega arith

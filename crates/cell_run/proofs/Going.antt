@@ -1,6 +1,6 @@
 -- A parked cell goes on behind its journal.
 use Rattle.std.proofs.Common.{◌≡◌, ℕ, suc, ◌+◌, ◌-◌, ◌≤◌, ◌<◌, Bool, false, List, [], ◌∷◌, length, Option, None, refl, sym, ap, subst, ◌∙◌, arith}
-use Rattle.std.specs.Prelude.{map, All, IsTrue, get_or, replicate}
+use Rattle.std.specs.Prelude.{map, All, IsTrue, get_or, replicate, vec_capacity}
 use Rattle.std.proofs.lemmas.List.{append-nil, length-map}
 use Rattle.std.proofs.lemmas.List.Elements.{All-nil, All-cons, All-head, All-tail, All-map}
 use Rattle.atomic_table.specs.Table.{Me}
@@ -16,7 +16,7 @@ use Rattle.cell_journal.specs.Log.{Listed, listed}
 use Rattle.cell_journal.specs.Rules.{IsJournalOf, first_view}
 use Rattle.cell_journal.specs.WholeHistories.{history_of, whole_of, IsHistoryOf}
 use Rattle.cell_journal.specs.declared.view.View.{View}
-use Rattle.cell_seats.specs.Controls.{WritesControls, no_policy}
+use Rattle.cell_seats.specs.Controls.{WritesControls, policy_in, no_policy}
 use Rattle.cell_seats.specs.Journals.{JournalState, joined, AreBehind}
 use Rattle.cell_seats.specs.NodeLocks.{NodeName, node_name}
 use Rattle.cell_seats.specs.ParkedNodes.{ParkedNodeState, name_of, HasSeenBase, GoesOnBehind}
@@ -26,11 +26,12 @@ use Rattle.cell_seats.specs.declared.controls.Controls.{Controls}
 use Rattle.cell_seats.specs.declared.controls.ControlWriter.{ControlWriter}
 use Rattle.cell_seats.specs.declared.mailboxes.Policy.{Policy}
 use Rattle.cell_run.specs.declared.client_places.ClientPlace.{ClientPlace}
+use Rattle.cell_run.specs.declared.resume_room.ResumeRoom.{ResumeRoom}
 use Rattle.cell_run.specs.declared.running_client.RunningClient.{RunningClient}
 use Rattle.cell_run.specs.Cells.{CellState, cell_state, names_of, IsFresh, HasMade}
 use Rattle.cell_run.specs.Parked.{ParkedState, AreNodesOf, IsSeatOf, AllGoOver, IsResumed}
 use Rattle.cell_run.specs.ParkedSeats.{ParkedSeatState, count_anew}
-use Rattle.cell_run.specs.Resumed.{behind_of, ArePlacesOf, AreNewClients, IsSeating}
+use Rattle.cell_run.specs.Resumed.{behind_of, ArePlacesOf, AreNewClients, IsRoomFor, HasRoom, IsSeating}
 use Rattle.cell_run.proofs.NewLocks.{numbers_count}
 
 -- the list beside a journal to which nothing was added has what stands before it
@@ -160,4 +161,18 @@ ready_behind journal retired cell base_len config made places clients is count c
   goes_on = goes_behind journal retired cell is lawful kept (ap (λ (i : Identity). first_out_of_range i.config) is ∙ in_range);
   few = few;
   fresh = fresh;
+}
+
+-- the memory that it needs
+pub has_room : (cell : Identity) (p q : ParkedState) (config : Config) (servers count : ℕ) (room : ResumeRoom) → q ≡ p → q.journal.cell.config ≡ config → q.journal.cell.servers ≡ servers → count ≡ length q.seats
+    → room.locks ≡ names_of cell servers → IsRoomFor config q.made count room.clients → length room.clients.anew.items ≡ count_anew p.seats → (room.base.items ≡ []) × (1 ≤ vec_capacity room.base)
+    → policy_in room.control_writer.policy.me.0 ≡ no_policy → room.control_writer.restarts.me.0 ≡ replicate 66 0 → HasRoom cell p room
+has_room cell p q config servers count room same config_is servers_are seats locks clients anew base none never = record {
+  locks = locks ∙ ap (names_of cell) (sym (ap (λ (x : ParkedState). x.journal.cell.servers) (sym same) ∙ servers_are));
+  clients = subst (λ (x : ParkedState). IsRoomFor x.journal.cell.config x.made (length x.seats) room.clients) same
+      (subst (λ (n : ℕ). IsRoomFor q.journal.cell.config q.made n room.clients) seats (subst (λ (c : Config). IsRoomFor c q.made count room.clients) (sym config_is) clients));
+  clients_count = anew;
+  base = base;
+  policy = none;
+  restarts = never;
 }

@@ -77,8 +77,7 @@ impl ParkedParts {
         requires { self.now.made + count_anew self.now.seats ≤ 64 }
         ensures { result ≡ self.now.made + count_anew self.now.seats }
     {
-        let anew = self.count_anew();
-        self.made + anew
+        sum_of(self.made, self.count_anew())
     }
 
     fn have_clients(&self) -> bool
@@ -93,6 +92,13 @@ impl ParkedParts {
     {
         without_stays(first_flags(self.made), self.made, self.seats.as_slice())
     }
+}
+
+fn sum_of(made: u64, anew: u64) -> u64
+    requires { made + anew ≤ 64 }
+    ensures { result ≡ made + anew }
+{
+    made + anew
 }
 
 #[tactic(auto, using(crate::proofs::Anew::count_one_more, crate::proofs::Anew::count_as_before))]

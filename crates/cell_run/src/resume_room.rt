@@ -74,17 +74,20 @@ pub fn resume_memory(parts: &ParkedParts, cell: &CellIdentity) -> Result<ResumeM
     ensures room { IfOk result (λ m. HasRoom cell.now parts.now m.room) }
 {
     let alloc = parts.alloc;
-    let (senders, boxes) = MailboxSenders::new(alloc, parts.servers, MOST_CLIENTS)?;
+    let config = parts.config;
+    let count_of_servers = parts.servers;
+    let made = parts.made;
+    let seats = parts.seats.len();
+    let anew = parts.count_anew();
+    let (senders, boxes) = MailboxSenders::new(alloc, count_of_servers, MOST_CLIENTS)?;
     let Mailboxes {
         master,
         servers,
         clients,
     } = boxes;
-    let threads = thread_room(alloc, parts.servers, master, servers)?;
-    let anew = parts.count_anew();
-    let seats = parts.seats.len();
-    let clients = client_room(alloc, parts.config, parts.made, anew, seats, clients)?;
-    let locks = new_locks(alloc, parts.servers, cell)?;
+    let threads = thread_room(alloc, count_of_servers, master, servers)?;
+    let clients = client_room(alloc, config, made, anew, seats, clients)?;
+    let locks = new_locks(alloc, count_of_servers, cell)?;
     let base = room_for_one(alloc)?;
     let (controls, control_writer) = new_controls(alloc)?;
     Ok(ResumeMemory {
