@@ -4,4 +4,4 @@ use Rattle.cell_run.proofs.seating.are_before.Given as goal
 
 -- so far those from the number on are down
 abbrev pub invariant-loop-place : goal.invariant-loop-place
-invariant-loop-place g l = (k : ℕ) → k < l.place → l.fn.number ≤ k + 1 → get_or l.fn.flags k false ≡ false
+invariant-loop-place l = (k : ℕ) → k < l.place → l.fn.number ≤ k + 1 → get_or l.fn.flags k false ≡ false

@@ -4,4 +4,4 @@ use Rattle.cell_run.proofs.seating.are_within.Given as goal
 
 -- so far each stands among those
 abbrev pub invariant-loop-place : goal.invariant-loop-place
-invariant-loop-place g l = (k : ℕ) → k < l.place → get_or l.fn.flags k false ≡ true → get_or l.fn.all k false ≡ true
+invariant-loop-place l = (k : ℕ) → k < l.place → get_or l.fn.flags k false ≡ true → get_or l.fn.all k false ≡ true
