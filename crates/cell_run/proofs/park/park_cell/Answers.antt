@@ -6,12 +6,12 @@ use Rattle.cell_run.proofs.park.park_cell.Goals as goal
 pub parked_with-requires-clause-parts : goal.parked_with-requires-clause-parts
 parked_with-requires-clause-parts g c =
     let of = c.args.cell.registry.writer.me.0.of in
-    let history = c.park_history.ensures in
+    let history = c.park_history-history.ensures in
     let names = c.requires.names ∙ ap (λ (n : ℕ). names_of of n) (sym history.same.1) in
     parked_parts _ _ _ _ _ _ _ _ _ _ history.parked history.beside (sym c.are_clocks_kept-kept.ensures ∙ c.if-kept.true) history.sent names c.requires.seen c.requires.named c.requires.saw
 
 pub returns-then-kept-clause-parked : goal.returns-then-kept-clause-parked
-returns-then-kept-clause-parked g c = parked_so _ _ _ _ _ _ _ c.park_history.ensures.parked c.parked_with.ensures c.park_history.ensures.same.0
+returns-then-kept-clause-parked g c = parked_so _ _ _ _ _ _ _ c.park_history-history.ensures.parked c.parked_with.ensures c.park_history-history.ensures.same.0
 
 pub returns-else-kept-clause-closed : goal.returns-else-kept-clause-closed
-returns-else-kept-clause-closed g c = (c.journal_over.ensures.0 ∙ c.park_history.ensures.parked.cell_is, c.journal_over.ensures.1, c.seats_of.ensures)
+returns-else-kept-clause-closed g c = (c.journal_over.ensures.0 ∙ c.park_history-history.ensures.parked.cell_is, c.journal_over.ensures.1, c.seats_of.ensures)

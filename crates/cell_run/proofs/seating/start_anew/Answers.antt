@@ -16,8 +16,8 @@ pub sit-requires : goal.sit-requires
 sit-requires g c =
     let seating = c.args.seating.now in
     let ready = c.requires.ready in
-    let new = c.new_client.ensures in
-    let slot = c.new_client.result.slot in
+    let new = c.new_client-slot.ensures in
+    let slot = c.new_client-slot.result.slot in
     let begins =
     begins_base c.args.seat seating.cell c.view.result.now c.base.result.now c.seen.result seating.base_len c.view.ensures c.base.ensures c.seen.ensures.count ready.base_is (c.is_at_most.ensures c.hold.ensures) c.meet.ensures
     in
@@ -27,5 +27,5 @@ sit-requires g c =
 pub returns-clause-over : goal.returns-clause-over
 returns-clause-over g c =
     let is = c.sit.ensures in
-    goes_anew _ _ _ (ap (λ (s : SeatState). s.cell) is ∙ c.new_client.ensures.slot.0) (sym c.requires.named) (ap (λ (s : SeatState). s.seen) is) (ap (λ (s : SeatState). s.is_lost) is) (ap (λ (s : SeatState). s.waits) is)
+    goes_anew _ _ _ (ap (λ (s : SeatState). s.cell) is ∙ c.new_client-slot.ensures.slot.0) (sym c.requires.named) (ap (λ (s : SeatState). s.seen) is) (ap (λ (s : SeatState). s.is_lost) is) (ap (λ (s : SeatState). s.waits) is)
     (ap (λ (s : SeatState). s.earlier) is ∙ no_clients)

@@ -20,7 +20,7 @@ put_node-requires-clause-name g c = first_lock _ _ c.args.registry.now.cell c.ar
 pub put_node-requires-clause-seen : goal.put_node-requires-clause-seen
 put_node-requires-clause-seen g c =
     let cell = c.args.registry.now.cell in
-    first_seen cell c.into_parts.result.0 c.into_parts.result.1.items (subst (All (HasSeenBase cell)) c.into_parts.ensures c.requires.nodes)
+    first_seen cell c.into_parts-master.result.0 c.into_parts-master.result.1.items (subst (All (HasSeenBase cell)) c.into_parts-master.ensures c.requires.nodes)
 
 pub put_servers-requires-clause-first : goal.put_servers-requires-clause-first
 put_servers-requires-clause-first g c = omega (arith, c.put_node.ensures.registered, c.requires.first)
@@ -35,13 +35,13 @@ put_servers-requires-clause-locks g c =
     ∙ ap (λ (n : ℕ). map (λ s. node_name c.put_node.new.registry.cell (the_server s)) (first_numbers n)) (sym same.servers_are)))
 
 pub put_servers-requires-clause-count : goal.put_servers-requires-clause-count
-put_servers-requires-clause-count g c = omega (arith, ap length c.into_parts.ensures, c.requires.count, c.put_node.ensures.same.servers_are)
+put_servers-requires-clause-count g c = omega (arith, ap length c.into_parts-master.ensures, c.requires.count, c.put_node.ensures.same.servers_are)
 
 pub put_servers-requires-clause-servers : goal.put_servers-requires-clause-servers
 put_servers-requires-clause-servers g c =
     let cell = c.args.registry.now.cell in
-    let all = subst (All (HasSeenBase cell)) c.into_parts.ensures c.requires.nodes in
-    subst (λ (i : Identity). All (HasSeenBase i) c.into_parts.result.1.items) (sym c.put_node.ensures.same.cell_is) (others_seen cell c.into_parts.result.0 c.into_parts.result.1.items all)
+    let all = subst (All (HasSeenBase cell)) c.into_parts-master.ensures c.requires.nodes in
+    subst (λ (i : Identity). All (HasSeenBase i) c.into_parts-master.result.1.items) (sym c.put_node.ensures.same.cell_is) (others_seen cell c.into_parts-master.result.0 c.into_parts-master.result.1.items all)
 
 pub returns-clause-same : goal.returns-clause-same
 returns-clause-same g c =
