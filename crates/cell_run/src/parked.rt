@@ -128,7 +128,7 @@ fn all_have_clients(seats: &[ParkedSeat]) -> bool
 }
 
 // The flags of so many clients.
-#[tactic(auto, using(crate::proofs::Anew::others_stay, crate::proofs::Fresh::no_flag))]
+#[tactic(auto, using(crate::proofs::Anew::others_stay))]
 fn first_flags(count: u64) -> [bool; 64]
     requires { count ≤ 64 }
     ensures { (k : ℕ) → count ≤ k → get_or result k false ≡ false }
