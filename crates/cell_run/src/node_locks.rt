@@ -1,6 +1,6 @@
 //! The locks of a running cell's nodes, which its threads share with it.
 
-ghost use Rattle.std.specs.Prelude.{◌≡◌, ◌≤◌, ◌<◌, ◌+◌, ◌^◌, ◌∷◌, suc, false, [], map, length, get_or, All, vec_capacity, IfOk, IfSome};
+ghost use Rattle.std.specs.Prelude.{◌≡◌, ◌≤◌, ◌<◌, ◌+◌, ◌^◌, ◌∷◌, suc, true, false, [], map, length, get_or, All, vec_capacity, IfOk, IfSome};
 ghost use Rattle.std.specs.Arc.{arc_value};
 ghost use Rattle.cell_seats.specs.NodeLocks.{node_name, IsNamed};
 ghost use Rattle.cell_journal.specs.Roles.{node_at};
@@ -149,7 +149,7 @@ fn put_node<R: Wait + Clock, N: Stepper + Drop>(
     ensures registered { registry.new.registered ≡ registry.old.registered + 1 }
 {
     parked.meets(registry.cell.base());
-    hold(rt, parked.name() == node);
+    hold(rt, is_node(&parked, node));
     for _ in rt.forever() {
         match registry.next(node) {
             Ok(journal) => {
@@ -160,6 +160,12 @@ fn put_node<R: Wait + Clock, N: Stepper + Drop>(
         }
     }
     unreachable!()
+}
+
+fn is_node<N: Stepper + Drop>(parked: &ParkedNode<N>, node: Node) -> bool
+    ensures { result ≡ true → parked.now.node ≡ node }
+{
+    parked.name() == node
 }
 
 /// The master and the servers, out of their locks. Each has seen so many entries of its cell's history.

@@ -5,11 +5,14 @@ use Rattle.cell_journal.specs.WholeHistories.{is_retired}
 use Rattle.cell_seats.proofs.GoingOver.{behind_all, behind_at}
 use Rattle.cell_run.proofs.node_locks.put_node.Goals as goal
 
-pub next-requires-clause-node : goal.next-requires-clause-node
-next-requires-clause-node g c = (λ j. node_at (c.loop.invariant.same.servers_are j) (c.loop.invariant.registered j)) ∙ c.requires.next
+pub next-requires-in-loop-clause-node : goal.next-requires-in-loop-clause-node
+next-requires-in-loop-clause-node g c = (λ j. node_at (c.loop.invariant.same.servers_are j) (c.loop.invariant.registered j)) ∙ c.requires.next
 
-pub next-requires-clause-goes_on : goal.next-requires-clause-goes_on
-next-requires-clause-goes_on g c = ap (λ (i : Identity). is_retired i c.args.node) c.loop.invariant.same.cell_is ∙ c.requires.goes_on
+pub next-requires-in-loop-clause-goes_on : goal.next-requires-in-loop-clause-goes_on
+next-requires-in-loop-clause-goes_on g c = ap (λ (i : Identity). is_retired i c.args.node) c.loop.invariant.same.cell_is ∙ c.requires.goes_on
+
+pub into_slot-requires-clause-node : goal.into_slot-requires-clause-node
+into_slot-requires-clause-node g c = c.in-Ok.ensures.journal.node_is ∙ sym (c.is_node.ensures c.hold.ensures)
 
 pub into_slot-requires-clause-behind : goal.into_slot-requires-clause-behind
 into_slot-requires-clause-behind g c =
@@ -21,7 +24,7 @@ into_slot-requires-clause-behind g c =
 pub loop-preserved : goal.loop-preserved
 loop-preserved g c =
     let was = c.loop.invariant in
-    let is = c.next.ensures.same in
+    let is = c.next-in-loop.ensures.same in
     record {
       same = record {
         shared_is = is.0 ∙ was.same.shared_is;
@@ -37,7 +40,7 @@ loop-preserved g c =
 pub returns-in-Ok-clause-same : goal.returns-in-Ok-clause-same
 returns-in-Ok-clause-same g c =
     let was = c.loop.invariant.same in
-    let is = c.next.ensures.same in
+    let is = c.next-in-loop.ensures.same in
     record {
       shared_is = is.0 ∙ was.shared_is;
       cell_is = is.1 ∙ was.cell_is;
