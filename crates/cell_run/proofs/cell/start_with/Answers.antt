@@ -5,6 +5,7 @@ use Rattle.gfs_types.specs.declared.ids.Node.TheVariants.{Client}
 use Rattle.cell_journal.specs.Identity.{Identity}
 use Rattle.cell_journal.specs.Log.{listed}
 use Rattle.cell_seats.specs.Controls.{WritesControls}
+use Rattle.cell_seats.specs.declared.shared_state.SharedState.{SharedState}
 use Rattle.cell_seats.specs.Journals.{joined, AreBehind}
 use Rattle.cell_run.specs.Cells.{names_of}
 use Rattle.cell_run.proofs.Fresh.{all_fresh}
@@ -25,7 +26,7 @@ invariant_of-result g c =
         waiting = omega (arith, c.reverse.ensures.len, c.requires.boxes);
         nothing_is = c.requires.nothing ∙ ap (λ (i : Identity). listed i.name []) (sym same.of);
         fresh = λ n past. all_fresh of (Client (record { 0 = n })) base retired;
-        asks = subst (λ s. WritesControls (arc_value s).controls control_writer) (sym same.shared_is) c.requires.asks;
+        asks = subst (λ s. WritesControls (arc_value {X = SharedState} s).controls control_writer) (sym same.shared_is) c.requires.asks;
       },
       c.in-Ok.ensures.locks ∙ ap (λ (i : Identity). names_of i registry.servers) registry.cell_is,
       search rules,

@@ -8,6 +8,7 @@ use Rattle.cell_journal.specs.Clocks.{are_clocks_kept}
 use Rattle.cell_journal.specs.Identity.{Identity, Closed}
 use Rattle.cell_journal.specs.WholeHistories.{whole_of}
 use Rattle.cell_seats.specs.Controls.{WritesControls}
+use Rattle.cell_seats.specs.declared.shared_state.SharedState.{SharedState}
 use Rattle.cell_seats.specs.ParkedNodes.{HasSeenBase}
 use Rattle.cell_run.specs.Cells.{names_of}
 use Rattle.cell_run.specs.Parked.{AllGoOver}
@@ -79,7 +80,7 @@ cell_of-requires-clause-made g c =
     let control_writer = c.args.self.room.control_writer in
     made_behind c.args.self.parts c.args.self.retired registry.writer.me.0.of registry.config registry.servers registry.registered c.made_then-made.result _ c.taken_apart-kept.result.0.nothing _ control_writer
     (sym registry.cell_is ∙ (over.same.cell_is ∙ (put.cell_is ∙ stands.cell_is))) registry.registers.config_is taken.least (over.registered ∙ ap (λ (n : ℕ). n + 1 + c.made_then-made.result) (sym over.same.servers_are)) over.boxes
-    taken.nothing c.made_then-made.ensures stands.alive taken.fresh (subst (λ s. WritesControls (arc_value s).controls control_writer) (sym (over.same.shared_is ∙ put.shared_is)) stands.asks)
+    taken.nothing c.made_then-made.ensures stands.alive taken.fresh (subst (λ s. WritesControls (arc_value {X = SharedState} s).controls control_writer) (sym (over.same.shared_is ∙ put.shared_is)) stands.asks)
 
 pub cell_of-requires-clause-locks : goal.cell_of-requires-clause-locks
 cell_of-requires-clause-locks g c =
