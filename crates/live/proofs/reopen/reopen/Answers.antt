@@ -12,17 +12,17 @@ use Rattle.live.proofs.reopen.reopen.Goals as goal
 pub park-requires : goal.park-requires
 park-requires g c = subst (λ (l : List SeatState). All (λ s. s.cell.name ≡ c.args.cell.of.name) l) (sym c.in-Ok.ensures.seats) (all_named c.args.cell.of c.args.players.items c.requires)
 
-pub join-requires-in-Ok-clause-count : goal.join-requires-in-Ok-clause-count
-join-requires-in-Ok-clause-count g c =
-    over_count c.in-Ok-2.cell.of c.in_ok-parked.parked.seats c.in-Ok-2.seats.items c.args.players.items c.in-Ok.handed.rests.items c.in-Ok-2.ensures.resumed.go_over
+pub join-requires-clause-count : goal.join-requires-clause-count
+join-requires-clause-count g c =
+    over_count c.in-Ok-resume.cell.of c.in_ok-parked.parked.seats c.in-Ok-resume.seats.items c.args.players.items c.in-Ok.handed.rests.items c.in-Ok-resume.ensures.resumed.go_over
     (c.in_ok-parked.ensures.parked.seats_are ∙ c.in-Ok.ensures.seats) c.in-Ok.ensures.rests
 
-pub join-requires-in-Ok-clause-room : goal.join-requires-in-Ok-clause-room
-join-requires-in-Ok-clause-room g c = omega (arith, ap length c.in-Ok.ensures.rests, length-map c.args.players.items rest_of, c.in-Ok.ensures.room.1)
+pub join-requires-clause-room : goal.join-requires-clause-room
+join-requires-clause-room g c = omega (arith, ap length c.in-Ok.ensures.rests, length-map c.args.players.items rest_of, c.in-Ok.ensures.room.1)
 
-pub returns-in-Ok-clause-cell : goal.returns-in-Ok-clause-cell
-returns-in-Ok-clause-cell g c =
-    let over = c.in-Ok-2.ensures.resumed in
+pub returns-in-Ok-resume-clause-cell : goal.returns-in-Ok-resume-clause-cell
+returns-in-Ok-resume-clause-cell g c =
+    let over = c.in-Ok-resume.ensures.resumed in
     let was = c.in_ok-parked.ensures.parked.cell_is in
     record {
       config_is = over.config_is ∙ ap (λ (i : Identity). i.config) was;
@@ -30,10 +30,10 @@ returns-in-Ok-clause-cell g c =
       clients_are = over.clients_are ∙ ap (λ (i : Identity). i.clients) was;
     }
 
-pub returns-in-Ok-clause-players : goal.returns-in-Ok-clause-players
-returns-in-Ok-clause-players g c =
-    let cell = c.in-Ok-2.cell.of in
+pub returns-in-Ok-resume-clause-players : goal.returns-in-Ok-resume-clause-players
+returns-in-Ok-resume-clause-players g c =
+    let cell = c.in-Ok-resume.cell.of in
     let olds = c.args.players.items in
-    let news = c.in-Ok-2.seats.items in
+    let news = c.in-Ok-resume.seats.items in
     subst (λ (l : List Player). AllReopen cell olds l) (sym (c.join.ensures ∙ ap (λ (us : List Unseated). seated us news) c.in-Ok.ensures.rests))
-    (all_reopen cell olds c.in_ok-parked.parked.seats news (c.in_ok-parked.ensures.parked.seats_are ∙ c.in-Ok.ensures.seats) c.in_ok-parked.ensures.clients c.in-Ok-2.ensures.resumed.go_over)
+    (all_reopen cell olds c.in_ok-parked.parked.seats news (c.in_ok-parked.ensures.parked.seats_are ∙ c.in-Ok.ensures.seats) c.in_ok-parked.ensures.clients c.in-Ok-resume.ensures.resumed.go_over)

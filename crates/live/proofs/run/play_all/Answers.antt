@@ -18,9 +18,9 @@ loop-first-preserved g c =
     let was = c.loop-first.running in
     let inv = c.loop-first.invariant in
     let next = c.next_barrier-next in
-    let now = c.in_ok-pass.field-0 in
+    let now = c.in_ok-running.running in
     let over = barrier_passed was.cell.of now.cell.of c.args.lines.now c.loop-first.first next.result was.players.items c.play_part.new.players.items now.players.items c.is_reopen_at.result next.ensures.within.0
-    next.ensures.barrier inv.played c.play_part.ensures c.is_reopen_at.ensures (λ calm. let same = c.in_ok-pass.ensures.stays calm in (ap (λ (x : CellState). x.of) same.0, ap (λ (v : Vec Player Global). v.items) same.1)) c.in_ok-pass.ensures.goes in
+    next.ensures.barrier inv.played c.play_part.ensures c.is_reopen_at.ensures (λ calm. let same = c.in_ok-running.ensures.stays calm in (ap (λ (x : CellState). x.of) same.0, ap (λ (v : Vec Player Global). v.items) same.1)) c.in_ok-running.ensures.goes in
     record { cell = same_reopened c.args.cell.of was.cell.of now.cell.of inv.cell over.0; count = over.1 ∙ inv.count; played = over.2 }
 
 pub returns-clause-players : goal.returns-clause-players

@@ -8,4 +8,4 @@ park-requires g c = none_named c.args.seated.cell.of c.new.result.items c.new.en
 
 pub invariant_of-seated : goal.invariant_of-seated
 invariant_of-seated g c =
-    record { of = c.args.seated.of ∙ sym (c.in-Ok-2.ensures.resumed.name ∙ ap (λ (i : Identity). i.name) c.in-Ok.ensures.parked.cell_is) }
+    record { of = c.args.seated.of ∙ sym (c.in-Ok-resume.ensures.resumed.name ∙ ap (λ (i : Identity). i.name) c.in-Ok.ensures.parked.cell_is) }

@@ -1,5 +1,5 @@
 use Rattle.tests_live.proofs.Parkings.{over_named}
 use Rattle.tests_live.proofs.resuming.resume.Goals as goal
 
-pub first_seated-requires-in-Ok : goal.first_seated-requires-in-Ok
-first_seated-requires-in-Ok g c = over_named c.in-Ok.cell.of c.args.parked.seats c.in-Ok.seats.items c.in-Ok.ensures.resumed.go_over
+pub first_seated-requires : goal.first_seated-requires
+first_seated-requires g c = over_named c.in-Ok.cell.of c.args.parked.seats c.in-Ok.seats.items c.in-Ok.ensures.resumed.go_over
