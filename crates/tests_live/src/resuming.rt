@@ -8,6 +8,8 @@ use cell_run::ParkFault;
 use cell_run::cell::{Cell, ClientSeat, StartFault};
 use cell_run::parked::Parked;
 use cell_seats::gate::OpenGate;
+use gfs_types::answer::Answer;
+use gfs_types::call::Call;
 use gfs_types::config::Config;
 use gfs_types::lists::Text;
 use gfs_types::refusal::Refusal;
@@ -39,7 +41,12 @@ fn mkdir<R: Wait + Clock>(
     ensures { seat.new.cell ≡ seat.old.cell }
 {
     match Text::from_str(name, alloc) {
-        Ok(path) => seat.mkdir(rt, path),
+        Ok(path) => match seat.call(rt, Call::Mkdir(path)) {
+            Ok(Answer::Done) => Ok(()),
+            Ok(Answer::Refused(refusal)) => Err(refusal),
+            Ok(_) => Err(Refusal::Unknown),
+            Err(refusal) => Err(refusal),
+        },
         Err(_) => Err(Refusal::NoMemory),
     }
 }
