@@ -142,11 +142,19 @@ fn open_behind<R: Wait + Clock>(
     ensures asks { IfOk result (λ r. WritesControls (arc_value r.0.shared).controls r.1.control_writer) }
     ensures back { IfErr result (λ f. f.0 ≡ listed history.cell.name history.cell.base) }
 {
-    let cell = history.cell();
-    match resume_memory(parts, &cell) {
+    match memory_for(parts, &history) {
         Ok(memory) => open_in(rt, parts, history, memory),
         Err(fault) => Err((history.into_list(), fault)),
     }
+}
+
+fn memory_for(parts: &ParkedParts, history: &History) -> Result<ResumeMemory, StartFault>
+    requires { parts.now.made + count_anew parts.now.seats ≤ 64 }
+    ensures room { IfOk result (λ m. HasRoom history.now.cell parts.now m.room) }
+    ensures asks { IfOk result (λ m. WritesControls m.controls m.room.control_writer) }
+{
+    let cell = history.cell();
+    resume_memory(parts, &cell)
 }
 
 // The same, in memory that is there.

@@ -10,8 +10,8 @@ use Rattle.cell_run.specs.Resumed.{ArePlacesOf}
 use Rattle.cell_run.proofs.Going.{ready_behind}
 use Rattle.cell_run.proofs.behind.seats_over.Goals as goal
 
-pub client_places-requires-clause-retired : goal.client_places-requires-clause-retired
-client_places-requires-clause-retired g c = ap (λ (i : Identity). i.retired) c.requires.cell
+pub client_places-places-requires-clause-retired : goal.client_places-places-requires-clause-retired
+client_places-places-requires-clause-retired g c = ap (λ (i : Identity). i.retired) c.requires.cell
 
 pub seat_all-requires-clause-ready : goal.seat_all-requires-clause-ready
 seat_all-requires-clause-ready g c =

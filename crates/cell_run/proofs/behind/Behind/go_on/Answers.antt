@@ -32,25 +32,25 @@ put_all-requires-clause-nodes g c =
     let journal = c.args.self.parts.journal in
     subst (λ (i : Identity). All (HasSeenBase i) c.taken_apart-kept.result.1) (sym c.requires.cell_is) (seen_base journal c.args.self.retired journal.cell.servers c.taken_apart-kept.result.1 c.taken_apart-kept.ensures.nodes)
 
-pub seats_over-requires-clause-registered : goal.seats_over-requires-clause-registered
-seats_over-requires-clause-registered g c = c.put_all.ensures.registered ∙ ap (λ (n : ℕ). n + 1) (sym c.put_all.ensures.same.servers_are)
+pub seats_over-seats-requires-clause-registered : goal.seats_over-seats-requires-clause-registered
+seats_over-seats-requires-clause-registered g c = c.put_all.ensures.registered ∙ ap (λ (n : ℕ). n + 1) (sym c.put_all.ensures.same.servers_are)
 
-pub seats_over-requires-clause-cell : goal.seats_over-requires-clause-cell
-seats_over-requires-clause-cell g c =
+pub seats_over-seats-requires-clause-cell : goal.seats_over-seats-requires-clause-cell
+seats_over-seats-requires-clause-cell g c =
     c.put_all.ensures.same.cell_is ∙ (c.requires.cell_is ∙ ap (λ (j : Closed). behind_of j c.args.self.retired) (sym c.taken_apart-kept.ensures.kept.0))
 
-pub seats_over-requires-clause-settings : goal.seats_over-requires-clause-settings
-seats_over-requires-clause-settings g c =
+pub seats_over-seats-requires-clause-settings : goal.seats_over-seats-requires-clause-settings
+seats_over-seats-requires-clause-settings g c =
     let registry = c.args.self.registry in
     let journal = c.taken_apart-kept.ensures.kept.0 in
     let clients = sym (ap (λ (i : Identity). i.clients) c.requires.cell_is) ∙ (ap (λ (i : Identity). i.clients) registry.cell_is ∙ registry.registers.clients_are) in
     (c.put_all.ensures.same.config_is ∙ (c.requires.config_is ∙ ap (λ (j : Closed). j.cell.config) (sym journal)), ap (λ (j : Closed). j.cell.clients) journal ∙ clients)
 
-pub seats_over-requires-clause-made : goal.seats_over-requires-clause-made
-seats_over-requires-clause-made g c = (omega (arith, c.taken_apart-kept.ensures.kept.1, c.made_then-made.ensures), omega (arith, c.made_then-made.ensures, c.requires.few))
+pub seats_over-seats-requires-clause-made : goal.seats_over-seats-requires-clause-made
+seats_over-seats-requires-clause-made g c = (omega (arith, c.taken_apart-kept.ensures.kept.1, c.made_then-made.ensures), omega (arith, c.made_then-made.ensures, c.requires.few))
 
-pub seats_over-requires-clause-room : goal.seats_over-requires-clause-room
-seats_over-requires-clause-room g c =
+pub seats_over-seats-requires-clause-room : goal.seats_over-seats-requires-clause-room
+seats_over-seats-requires-clause-room g c =
     let p = c.args.self.parts in
     let clients = c.args.self.room.clients in
     let taken = c.taken_apart-kept.ensures in
@@ -59,16 +59,16 @@ seats_over-requires-clause-room g c =
     (subst (λ (n : ℕ). IsRoomFor kept.journal.now.cell.config n (length p.seats) clients) (sym taken.kept.1)
     (subst (λ (j : Closed). IsRoomFor j.cell.config p.made (length p.seats) clients) (sym taken.kept.0) c.requires.room_is.clients))
 
-pub seats_over-requires-clause-seats : goal.seats_over-requires-clause-seats
-seats_over-requires-clause-seats g c =
+pub seats_over-seats-requires-clause-seats : goal.seats_over-seats-requires-clause-seats
+seats_over-seats-requires-clause-seats g c =
     seats_behind c.args.self.parts.journal c.args.self.retired c.put_all.new.registry.cell c.taken_apart-kept.result.2.items (c.put_all.ensures.same.cell_is ∙ c.requires.cell_is) c.taken_apart-kept.ensures.seen
 
-pub seats_over-requires-clause-fresh : goal.seats_over-requires-clause-fresh
-seats_over-requires-clause-fresh g c = λ n past.
+pub seats_over-seats-requires-clause-fresh : goal.seats_over-seats-requires-clause-fresh
+seats_over-seats-requires-clause-fresh g c = λ n past.
     ap (λ (i : Identity). own (Client (record { 0 = n })) i.base) (c.put_all.ensures.same.cell_is ∙ c.requires.cell_is) ∙ c.taken_apart-kept.ensures.fresh n (subst (λ (m : ℕ). m < n) c.taken_apart-kept.ensures.kept.1 past)
 
-pub seats_over-requires-clause-clocks : goal.seats_over-requires-clause-clocks
-seats_over-requires-clause-clocks g c = subst (λ (i : Identity). IsTrue (are_clocks_kept i i.base)) (sym (c.put_all.ensures.same.cell_is ∙ c.requires.cell_is)) c.taken_apart-kept.ensures.clocks
+pub seats_over-seats-requires-clause-clocks : goal.seats_over-seats-requires-clause-clocks
+seats_over-seats-requires-clause-clocks g c = subst (λ (i : Identity). IsTrue (are_clocks_kept i i.base)) (sym (c.put_all.ensures.same.cell_is ∙ c.requires.cell_is)) c.taken_apart-kept.ensures.clocks
 
 pub cell_of-requires-clause-made : goal.cell_of-requires-clause-made
 cell_of-requires-clause-made g c =
