@@ -56,9 +56,7 @@ place_more cell was now new is one all k place at = by (in_more was (Some new) k
   where
     by : (slice_get was k ≡ Some (Some place)) ⊎ ((k ≡ length was) × (Some new ≡ Some place)) → IsPlaceOf cell place
     by (inl there) = all k place there
-    by (inr both) =
-        let same : new ≡ place = (let e : Some new ≡ Some place = both.1 in cc) in
-        subst (IsPlaceOf cell) same one
+    by (inr both) = subst (λ (o : Option ClientPlace). IfSome o (IsPlaceOf cell)) both.1 one
 
 pub client_more : (config : Config) (made : ℕ) (was now : List (Option RunningClient)) (new : RunningClient) → now ≡ was ++ Some new ∷ [] → new.node.client ≡ new_client config (made + length was + 1)
     → AreNewClients config made was → AreNewClients config made now

@@ -43,7 +43,7 @@ fn go_behind<
     R: Threads + Wait + Clock + Copy + Send + 'static,
     G: Gate + Clone + Send + Drop + 'static,
 >(rt: R, parked: Parked, gate: G) -> Result<(Cell, Vec<ClientSeat>), (Parked, StartFault)>
-    requires { parked.made + count_anew parked.seats ≤ 64 }
+    requires few { parked.made + count_anew parked.seats ≤ 64 }
     ensures resumed { IfOk result (λ r. IsResumed parked r.0 r.1.items) }
     ensures fault { IfErr result (λ f. f.0 ≡ parked) }
 {
@@ -63,7 +63,7 @@ fn go_on_threads<
     room: ThreadRoom,
     gate: G,
 ) -> Result<(Cell, Vec<ClientSeat>), (Parked, StartFault)>
-    requires { StandsBehind behind.parts behind.registry behind.room behind.retired }
+    requires stands { StandsBehind behind.parts behind.registry behind.room behind.retired }
     ensures resumed { IfOk result (λ r. IsResumed behind.parts r.0 r.1.items) }
     ensures fault { IfErr result (λ f. f.0 ≡ behind.parts) }
 {

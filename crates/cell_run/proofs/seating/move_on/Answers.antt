@@ -2,6 +2,9 @@ use Rattle.std.proofs.Common.{sym, ◌∙◌}
 use Rattle.cell_seats.proofs.GoingOver.{move_flags, moved_over}
 use Rattle.cell_run.proofs.seating.move_on.Goals as goal
 
+pub with_client-gone-requires-clause-before : goal.with_client-gone-requires-clause-before
+with_client-gone-requires-clause-before g c = c.is_after.ensures.after c.hold.ensures
+
 pub sit-requires : goal.sit-requires
 sit-requires g c =
     let seating = c.args.seating.now in
