@@ -439,7 +439,7 @@ all_reopen cell (p ∷ ps) (s ∷ ss) (n ∷ ns) same saw over =
     (one s.saw (All-head (λ x. IsSome x.saw) s ss saw) (subst (λ (x : SeatState). GoesOver cell s.saw x n) head over.0), all_reopen cell ps ss ns tail (All-tail (λ x. IsSome x.saw) s ss saw) over.1)
   where
     one : (o : Option ℕ) → IsSome o → GoesOver cell o p.seat n → Reopens cell p (player_of (rest_of p) n)
-    one None some over = absurd some
+    one None some over = absurd (let both : false ≡ true = some in cc)
     one (Some k) some over = record { id = refl; answers = refl; lacked = refl; saw = k; over = over }
 
 -- of beginnings of a journal the longest
