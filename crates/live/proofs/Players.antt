@@ -318,11 +318,14 @@ reopens_front (x ∷ xs) zero j few = omega arith
 reopens_front (x ∷ xs) (suc i) zero few = absurd (omega (arith, few))
 reopens_front (x ∷ xs) (suc i) (suc j) few = omega (arith, reopens_front xs i j (let e : i ≤ j = omega (arith, few) in e))
 
+abbrev one_if : Bool → ℕ
+one_if b = if b then 1 else 0
+
 reopens_at : (xs : List LiveLine) (i j : ℕ) (line : LiveLine) → i ≤ j → slice_get xs j ≡ Some line → is_reopen line ≡ true → reopens_in (take i xs) + 1 ≤ reopens_in (take (suc j) xs)
 reopens_at [] i j line few at is = absurd (let none : None ≡ Some line = at in cc)
 reopens_at (x ∷ xs) zero zero line few at is =
     let same : x ≡ line = (let both : Some x ≡ Some line = at in (let e : x ≡ line = cc both in e)) in
-    let one : (if is_reopen x then 1 else 0) ≡ 1 = ap (λ (b : Bool). if b then 1 else 0) (ap is_reopen same ∙ is) in
+    let one : ◌≡◌ {A = ℕ} (if is_reopen x then 1 else 0) 1 = ap one_if (ap is_reopen same ∙ is) in
     omega (arith, one)
 reopens_at (x ∷ xs) zero (suc j) line few at is = omega (arith, reopens_at xs zero j line (omega arith) at is)
 reopens_at (x ∷ xs) (suc i) zero line few at is = absurd (omega (arith, few))

@@ -1,6 +1,6 @@
 -- What was read is played, and what was answered is printed.
-use Rattle.std.proofs.Common.{◌≡◌, ◌⊎◌, ℕ, suc, List, [], ◌∷◌, ◌++◌, ⊎_elim, Option, Some, None, map, refl, sym, ap, subst}
-use Rattle.std.specs.Prelude.{IfSome}
+use Rattle.std.proofs.Common.{◌≡◌, ◌⊎◌, ℕ, suc, ◌+◌, List, [], ◌∷◌, ◌++◌, ⊎_elim, Option, Some, None, map, refl, sym, ap, subst}
+use Rattle.std.specs.Prelude.{IfSome, if◌then◌else◌}
 use Rattle.std.specs.Io.KnownBytes.{Appends, Keeps}
 use Rattle.gfs_types.specs.declared.answer.Answer.{Answer}
 use Rattle.gfs_types.specs.declared.call.Call.{Call}
@@ -15,12 +15,18 @@ use Rattle.script.proofs.Bytes.{keeps_all}
 use Rattle.live.specs.declared.play.Player.{Player}
 use Rattle.live.specs.Faults.{IsOfRun}
 use Rattle.live.specs.Live.{IsScript, HasAnswers, AreAnswersOf, Prints, Stops, told_from}
-use Rattle.live.specs.Playing.{calls_on, calls_of}
+use Rattle.script.specs.LiveLines.{is_reopen}
+use Rattle.live.specs.Playing.{calls_on, calls_of, reopens_in}
 
 -- an empty line more makes no call
 no_more_calls : (client : ℕ) (lines : List LiveLine) → calls_of client lines ≡ calls_of client (lines ++ Nothing ∷ [])
 no_more_calls client [] = refl
 no_more_calls client (line ∷ rest) = ap (λ (l : List Call). calls_on client line ++ l) (no_more_calls client rest)
+
+-- and the cell is parked no more often
+no_more_reopens : (lines : List LiveLine) → reopens_in lines ≡ reopens_in (lines ++ Nothing ∷ [])
+no_more_reopens [] = refl
+no_more_reopens (line ∷ rest) = ap (λ (n : ℕ). (if is_reopen line then 1 else 0) + n) (no_more_reopens rest)
 
 answers_of_more : (options : Options) (lines : List LiveLine) (answers : List (List Answer)) → AreAnswersOf options lines answers → AreAnswersOf options (lines ++ Nothing ∷ []) answers
 answers_of_more options lines answers a = record {
@@ -31,7 +37,9 @@ answers_of_more options lines answers a = record {
   clocks = a.clocks;
   explained = a.explained;
   clients = a.clients;
-  each = λ k replies at. subst (λ (calls : List Call). HasAnswers a.entries (suc k) calls replies) (no_more_calls (suc k) lines) (a.each k replies at);
+  each = λ k replies at.
+      subst (λ (n : ℕ). HasAnswers a.entries (suc k) n (calls_of (suc k) (lines ++ Nothing ∷ [])) replies) (no_more_reopens lines)
+      (subst (λ (calls : List Call). HasAnswers a.entries (suc k) (reopens_in lines) calls replies) (no_more_calls (suc k) lines) (a.each k replies at));
 }
 
 -- each line of what was read is in the language

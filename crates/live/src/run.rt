@@ -267,7 +267,7 @@ fn play_all<
     players: Vec<Player>,
     watcher: Option<P>,
 ) -> Result<(Cell, Vec<Player>), ScriptFault>
-    requires { Each (IsNewPlayer cell.of) players.items }
+    requires fresh { Each (IsNewPlayer cell.of) players.items }
     ensures cell { IfOk result (λ r. IsReopened cell.of r.0.of) }
     ensures count { IfOk result (λ r. length r.1.items ≡ length players.items) }
     ensures players { IfOk result (λ r. Each (IsPlayed r.0.of lines.now) r.1.items) }
@@ -307,7 +307,7 @@ fn pass<
     T: Threads + Wait + Clock + Copy + Send + Sync + 'static,
     P: Watcher + Send + Drop + 'static,
 >(rt: T, alloc: Global, running: Running<P>, is_reopen: bool) -> Result<Running<P>, ScriptFault>
-    requires { (k : ℕ) (p : Player) → slice_get running.players.items k ≡ Some p → p.seat.cell ≡ running.cell.of }
+    requires seated { (k : ℕ) (p : Player) → slice_get running.players.items k ≡ Some p → p.seat.cell ≡ running.cell.of }
     ensures stays { is_reopen ≡ false → IfOk result (λ r. (r.cell ≡ running.cell) × (r.players ≡ running.players)) }
     ensures goes { is_reopen ≡ true → IfOk result (λ r. IsReopened running.cell.of r.cell.of × AllReopen r.cell.of running.players.items r.players.items) }
     ensures fault { IfErr result IsOfRun }
