@@ -8,7 +8,7 @@ pub loop-first-init : goal.loop-first-init
 loop-first-init g c = record { cell = still_one c.args.cell.of; count = refl; played = all_new c.args.cell.of c.args.players.items c.requires.fresh }
 
 pub pass-requires-clause-seated : goal.pass-requires-clause-seated
-pass-requires-clause-seated g c κs =
+pass-requires-clause-seated g c κs lives =
     let was = c.loop-first.running in
     let next = c.next_barrier-next in
     mid_cells was.cell.of c.args.lines.now c.loop-first.first next.result next.ensures.within.0 next.ensures.barrier was.players.items c.play_part.new.players.items c.loop-first.invariant.played c.play_part.ensures

@@ -6,7 +6,7 @@ use Rattle.live.specs.Playing.{IsNewPlayer, IsReopened, Each}
 use Rattle.live.proofs.run.play_in.Goals as goal
 
 pub play_all-requires-clause-fresh : goal.play_all-requires-clause-fresh
-play_all-requires-clause-fresh g c κs = subst (λ (i : Identity). Each (IsNewPlayer i) c.in-Ok.players.items) (sym c.new_players.ensures.cell) c.in-Ok.ensures.players
+play_all-requires-clause-fresh g c κs lives = subst (λ (i : Identity). Each (IsNewPlayer i) c.in-Ok.players.items) (sym c.new_players.ensures.cell) c.in-Ok.ensures.players
 
 pub returns-clause-cell : goal.returns-clause-cell
 returns-clause-cell g c = subst (λ (i : Identity). IsReopened i c.in_ok-cell.cell.of) c.new_players.ensures.cell c.in_ok-cell.ensures.cell
