@@ -107,16 +107,20 @@ none_taken d (s ∷ ss) waits =
     first true e = absurd (true≢false (sym e))
     first false e = refl
 
-pub none_ready : (disk : LogDisk) (p : PlanState) → list_all (λ s. not (is_ready (known p) s)) p.snapshots ≡ true → IsPlanned (λ d. takes_ready d d.master.snapshots) disk p p
-none_ready disk p waits = uses_none (λ d. takes_ready d d.master.snapshots) disk p p (λ rest. none_taken (answered disk p rest) p.snapshots waits)
+pub none_ready : (disk : LogDisk) (old new : PlanState) → list_all (λ s. not (is_ready (known new) s)) new.snapshots ≡ true → new ≡ old
+    → IsPlanned (λ d. takes_ready d d.master.snapshots) disk old new
+none_ready disk old new waits same =
+    subst (λ (p : PlanState). IsPlanned (λ d. takes_ready d d.master.snapshots) disk p new) same
+    (uses_none (λ d. takes_ready d d.master.snapshots) disk new new (λ rest. none_taken (answered disk new rest) new.snapshots waits))
 
 -- the list is that of the snapshots that wait as the step's end begins
-pub taken_all : (disk : LogDisk) (old mid new : PlanState) (all : List PendingSnapshot) → all ≡ old.snapshots → new ≡ mid
-    → IsPlanned (λ d. takes_ready d all) disk old mid → IsPlanned (λ d. takes_ready d d.master.snapshots) disk old new
-taken_all disk old mid new all is same does =
-    subst (λ (p : PlanState). IsPlanned (λ d. takes_ready d d.master.snapshots) disk old p) (sym same)
-    (goes_on (λ d. takes_ready d d.master.snapshots) (λ d. takes_ready d all) disk old old mid
-    (λ answers. ap (λ (ss : List PendingSnapshot). takes_ready (answered disk old answers) ss) (sym is)) does)
+pub taken_all : (disk : LogDisk) (old start mid new : PlanState) (all : List PendingSnapshot) → start ≡ old → all ≡ start.snapshots → new ≡ mid
+    → IsPlanned (λ d. takes_ready d all) disk start mid → IsPlanned (λ d. takes_ready d d.master.snapshots) disk old new
+taken_all disk old start mid new all begun is same does =
+    let f : MasterDoing → MasterDoing = λ d. takes_ready d d.master.snapshots in
+    let from_start : IsPlanned f disk start mid =
+    goes_on f (λ d. takes_ready d all) disk start start mid (λ answers. ap (λ (ss : List PendingSnapshot). takes_ready (answered disk start answers) ss) (sym is)) does in
+    subst (λ (p : PlanState). IsPlanned f disk old p) (sym same) (subst (λ (p : PlanState). IsPlanned f disk p mid) begun from_start)
 
 -- A call that meets no refusal finds no lock that conflicts.
 no_test_before : (tests rest : List (Bool × Refusal)) (busy : Bool) (refusal : Refusal) → first_refusal (tests ++ (busy, refusal) ∷ rest) ≡ None → busy ≡ false

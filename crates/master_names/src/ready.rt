@@ -7,7 +7,7 @@ ghost use Rattle.master_names.specs.Doing.{IsPlanned};
 use crate::answers::changes_names;
 use crate::awaited::has_waited;
 use crate::begins::lets_go;
-use crate::waits::notes_wait;
+use crate::waits::{all_wait, notes_wait};
 use log_records::record::Record;
 use master_plan::fault::PlanFault;
 use master_plan::plan::Plan;
@@ -23,7 +23,7 @@ pub fn takes_ready<L: OperationLog, A: Allocator + Clone>(
 ) -> Result<(), PlanFault>
     ensures { OnOk result (IsPlanned (λ d. takes_ready d d.master.snapshots) (L.disk log.now) plan.old plan.new) }
 {
-    if plan.all_wait() {
+    if all_wait(plan) {
         return Ok(());
     }
     let snapshots = plan.copied_snapshots()?;

@@ -1,10 +1,11 @@
 //! How long the snapshots that wait do so at least, by the chunks that they were found to wait for.
 
-ghost use Rattle.std.specs.Prelude.{◌≡◌, false, IfSome};
+ghost use Rattle.std.specs.Prelude.{◌≡◌, true, false, not, IfSome};
 ghost use Rattle.std.specs.List.{list_all};
 ghost use Rattle.chunk_table.specs.ChunkTable.{chunk_of, handles_of};
-ghost use Rattle.protocol.specs.MasterSnapshots.{row_has_ended};
+ghost use Rattle.protocol.specs.MasterSnapshots.{is_ready, row_has_ended};
 ghost use Rattle.master_plan.specs.Due.{WaitAt, is_ready_at};
+ghost use Rattle.master_plan.specs.Plans.{known};
 
 use crate::alone::handles_of;
 use crate::awaited::{file_at, is_in_source};
@@ -13,7 +14,19 @@ use master_plan::plan::Plan;
 use master_plan::waiting::{Awaited, Pending};
 use std::alloc::Allocator;
 
-/// Where a lease is known for which each waits, it is put down until when all of them last.
+/// Whether it is known that none is ready: it was put down, or the chunks say it for which they were found to wait. Takes no memory.
+pub fn all_wait<A: Allocator + Clone>(plan: &mut Plan<A>) -> bool
+    ensures answer { result ≡ true → list_all (λ s. not (is_ready (known plan.new) s)) plan.new.snapshots ≡ true }
+    ensures same { plan.new ≡ plan.old }
+{
+    if plan.all_wait() {
+        return true;
+    }
+    notes_wait(plan);
+    plan.all_wait()
+}
+
+/// Where a lease is known for which each waits, it is put down until when all of them last. Takes no memory.
 pub fn notes_wait<A: Allocator + Clone>(plan: &mut Plan<A>)
     ensures { plan.new ≡ plan.old }
 {
@@ -27,6 +40,13 @@ pub fn notes_wait<A: Allocator + Clone>(plan: &mut Plan<A>)
 fn all_wait_until<A: Allocator + Clone>(plan: &Plan<A>, snapshots: &[Pending]) -> Option<u64>
     ensures { IfSome result (WaitAt plan.now.logged snapshots.now) }
 {
+    // one that has just come was not looked at yet
+    if snapshots
+        .iter()
+        .any(|snapshot| snapshot.awaited().is_none())
+    {
+        return None;
+    }
     let mut until = u64::MAX;
     for snapshot in snapshots {
         match waits_until(plan, snapshot) {
