@@ -1,5 +1,6 @@
 """Pictures of chunks: the order of a chunk's mutations, its replicas and its regions, one below the other."""
 import state
+from facts import stored_bytes
 
 WIDTH = 96
 MARGIN = 26
@@ -23,10 +24,12 @@ def entry_row(entry):
     return label + (' pad' if entry.kind == 'Pad' else ''), {entry.offset + at: shown(byte) for at, byte in enumerate(entry.content)}
 
 
-def replica_row(name, replica):
-    places = {at: shown(byte) for at, byte in enumerate(replica.bytes)}
-    places.update({at: '!' for at in replica.changed})
-    return f'{name} version {replica.version}', places
+def replica_row(cell, number, server, handle):
+    """A replica's bytes as they were stored, with a mark where one rotted."""
+    replica = state.replicas(server)[handle]
+    stored = stored_bytes(cell, server, handle)
+    places = {at: shown(byte) if replica.bytes[at] == byte else '!' for at, byte in enumerate(stored)}
+    return f's{number} version {replica.version}', places
 
 
 def regions_row(regions):
@@ -37,10 +40,9 @@ def picture(cell, title, file, index, handle):
     """The lines of one chunk's picture."""
     order = state.orders(cell.world).get(handle)
     entries = state.entries(order) if order else []
-    stored = [(f's{number + 1}', state.replicas(server).get(handle)) for number, server in enumerate(state.servers(cell.world)) if state.is_up(server)]
-    stored = [(name, replica) for name, replica in stored if replica is not None]
+    holders = [(number, server) for number, server in enumerate(state.servers(cell.world), 1) if state.is_up(server) and handle in state.replicas(server)]
     regions = cell.regions(file, index)
-    rows = [*map(entry_row, entries), *(replica_row(name, replica) for name, replica in stored), regions_row(regions)]
+    rows = [*map(entry_row, entries), *(replica_row(cell, number, server, handle) for number, server in holders), regions_row(regions)]
     end = max((place + 1 for _, places in rows for place in places), default=1)
     scale = -(-end // WIDTH)
     margin = max(MARGIN, *(len(label) for label, _ in rows))

@@ -117,12 +117,12 @@ class AnswerFacts:
         end = begin + end if asked.kind == 'Read' else end
         entries = self.facts.entries_of(handle)
         if message.kind == 'LenIs':
-            part = None if replica.version != version else replica.bytes
+            part = None if replica.version != version else replica.bytes[:replica.count]
             if part is None or message.body[2] != len(part):
                 raise Broken(f'{message.sender} tells another length of chunk {handle} than that of its replica')
             return
-        blocks = range(begin // self.block, (max(begin, min(end, len(replica.bytes)) - 1)) // self.block + 1)
-        if min(end, len(replica.bytes)) > begin and any(place // self.block in blocks for place in replica.changed):
+        blocks = range(begin // self.block, (max(begin, min(end, replica.count) - 1)) // self.block + 1)
+        if min(end, replica.count) > begin and not state.rotten_blocks(replica, self.block).isdisjoint(blocks):
             raise Broken(f'{message.sender} reads a rotten block of chunk {handle}')
         part = message.body[2] if message.kind == 'Bytes' else message.body[4]
         if not is_part(entries, version, part, begin, end):

@@ -5,7 +5,7 @@ import random
 import state
 from answer_facts import AnswerFacts
 from cell import GOES, Cell, call_of, node_name, node_of, wrapped
-from facts import Broken, Facts
+from facts import Broken, Facts, stored_bytes
 from rebased import Rebases, Unlike
 
 PATHS = [b'/a', b'/d', b'/d/f', b'/d/g', b'/e', b'/e/f']
@@ -100,9 +100,9 @@ class Explorer:
     def choice(self, event, node):
         rnd = self.rnd
         choice = {**GOES, 'order': [rnd.randrange(4) for _ in range(rnd.randrange(3))], 'decided': [rnd.random() < .5 for _ in range(2)]}
-        if self.has_faults and event[0] != 'Rot':
+        if self.has_faults:
             # a client that is down stays down
-            if rnd.random() < (.0002 if node[0] == 'c' else self.stopping):
+            if rnd.random() < (.0002 if node[0] == 'c' else .2 if event[0] == 'Rot' else self.stopping):
                 choice['ending'] = rnd.choice([('Lost',), ('Stops', rnd.randrange(3))])
             if rnd.random() < .02:
                 choice['refused'] = [True]
@@ -179,18 +179,22 @@ class Explorer:
         return ('Call', wrapped(client), call_of(call), wrapped(now))
 
     def rot_event(self):
-        """A byte of a replica that is there becomes another."""
+        """A byte of a replica that is there becomes another, or again the one that was stored."""
         rnd = self.rnd
         server = rnd.choice(state.servers(self.cell.world))
         replicas = state.replicas(server)
         if not replicas:
             return None
         handle = rnd.choice(sorted(replicas))
-        size = len(replicas[handle].bytes)
+        size = replicas[handle].count
         if not size:
             return None
         self.counts['rots'] += 1
-        return ('Rot', wrapped(state.server_number(server)), wrapped(handle), rnd.randrange(size), rnd.randrange(256))
+        stored = stored_bytes(self.cell, server, handle)
+        changed = [place for place in range(size) if replicas[handle].bytes[place] != stored[place]]
+        place = rnd.choice(changed) if changed and rnd.random() < .5 else rnd.randrange(size)
+        byte = stored[place] if rnd.random() < .5 else rnd.randrange(256)
+        return ('Rot', wrapped(state.server_number(server)), wrapped(handle), place, byte)
 
     # ------------------------------------------------------------ events
 

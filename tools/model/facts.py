@@ -4,6 +4,12 @@ from cell import GOES
 from words import apply
 
 
+def stored_bytes(cell, server, handle):
+    """The bytes that were stored in a replica, whatever rotted of it since."""
+    index, disk = state.server_number(server) - 1, state.disk(server)
+    return apply(cell.definition('StoredBytes', 'stored_bytes'), cell.world['observer'], index, handle, disk, disk['replicas'].items[handle])
+
+
 class Broken(Exception):
     """A fact that does not hold."""
 
@@ -102,7 +108,7 @@ class Facts:
                     continue
                 entries = self.entries_of(handle)
                 name = f'server {state.server_number(server)}: the replica of chunk {handle} at version {replica.version}'
-                if not is_part(entries, replica.version, replica.bytes, 0, self.chunk + 1):
+                if not is_part(entries, replica.version, stored_bytes(self.cell, server, handle), 0, self.chunk + 1):
                     raise Broken(name + ' is no selection')
                 if any(e.is_settled and e.round == replica.version and e.serial > replica.serial for e in entries):
                     raise Broken(name + ' has a last serial below that of a settled entry')
@@ -127,7 +133,7 @@ class Facts:
                 continue
             left = state.replicas(server)
             for handle, was in state.replicas(old).items():
-                if handle not in left and not was.changed and not self.drops(event, handle, was.version):
+                if handle not in left and not state.rotten_blocks(was, state.disk(old)['block']) and not self.drops(event, handle, was.version):
                     raise Broken(f'server {state.server_number(server)}: chunk {handle} at version {was.version} is dropped, and no order says so')
 
     def drops(self, event, handle, version):

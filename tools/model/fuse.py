@@ -56,6 +56,8 @@ class StoppedDisk:
     def __call__(self, event, cell):
         if event[0] == 'Restart' and event[1] == self.node:
             return self.restart(cell, state.number(event[2]))
+        if event[0] == 'Rot' and ('Server', event[1]) == self.node:
+            return {**GOES, **self.rot(cell, *event[2:4])}
         given = self.input_of(event, cell)
         node = self.state_in(cell)
         if given is None or not state.is_up(node):
@@ -124,16 +126,13 @@ class StoreDisk(StoppedDisk):
         # how many ranges the last change has, and whether it stands behind an open gate
         self.ranges = 0
         self.is_open = False
-        # whether the disk has to be read anew, and whether a byte is to be rotten then
-        self.is_unread = False
-        self.is_rotting = False
 
     def step(self, cell, server, moment, given):
         doing = apply(cell.definition('ServerStep', 'server_goes'), server, moment, given)
-        if given[0] == 'Deliver' and any(self.is_unread or self.fails(reads) for reads in self.looks(cell, server, given[1]['body'], doing)):
+        if given[0] == 'Deliver' and any(self.fails(reads) for reads in self.looks(cell, server, given[1]['body'], doing)):
             return {'ending': ('Lost',)}
         for made, change in enumerate(doing['changes']):
-            if self.is_unread or self.fails(self.reads_of(cell, server, change)):
+            if self.fails(self.reads_of(cell, server, change)):
                 self.made = False
             elif self.changes(self.ranges_of(change)):
                 continue
@@ -168,7 +167,7 @@ class StoreDisk(StoppedDisk):
 
     @staticmethod
     def reads(server, handle, offset=0, count=1 << 64):
-        return BLOCKS if offset < min(offset + count, len(state.replicas(server)[handle].bytes)) else []
+        return BLOCKS if offset < min(offset + count, state.replicas(server)[handle].count) else []
 
     @staticmethod
     def edges(cell, server, handle, offset, end):
@@ -204,21 +203,16 @@ class StoreDisk(StoppedDisk):
         self.failed = self.fails(['stage'] * (1 + 3 * ranges) + ['sync', 'gate', 'sync of the gate'])
         return self.failed is None and self.finishes()
 
-    def rots(self, cell, handle, place, byte):
-        """Whether a byte of a replica rots: not where its block would have its digest then, or the disk fails before."""
+    def rot(self, cell, handle, place):
+        """How a rot ends."""
         server = self.state_in(cell)
-        replica = state.disk(server)['replicas'].items.get(handle)
+        replica = state.disk(server)['replicas'].items.get(state.number(handle))
         if not state.is_up(server) or replica is None or place >= server['config']['chunk']:
-            return True
-        if self.is_unread or self.fails(BLOCKS):
-            return False
-        rotten = apply(cell.program.function('replica_store', 'Replicas', 'rotten_replica'), replica, place, byte)
-        block = state.disk(server)['block']
-        if apply(cell.program.function('replica_store', 'Replicas', 'block_matches'), block, rotten, place // block):
-            return False
-        if not self.changes(1):
-            self.is_unread = self.is_rotting = True
-        return True
+            return {}
+        if self.changes(1):
+            return {}
+        self.is_undecided = True
+        return {'ending': ('Stops', 0)}
 
     # a restart
 
@@ -236,17 +230,17 @@ class StoreDisk(StoppedDisk):
         self.begin_again()
 
     def opens(self, slots):
-        """Whether the disk is read anew."""
+        """Whether the disk is read."""
         if self.fails(OPENING) or self.is_open and (self.fails(['count', 'ranges']) or not self.finishes()):
             return False
-        return not self.fails(['order'] + slots * ['header']) and (not self.is_rotting or self.changes(1))
+        return not self.fails(['order'] + slots * ['header'])
 
     def restart(self, cell, _):
         self.settle()
         if not self.opens(self.state_in(cell)['config']['slots']):
             return {**GOES, 'ending': ('Lost',)}
         choice = {**GOES, 'decided': [] if self.made is None else [self.made]}
-        self.made, self.is_unread, self.is_rotting = None, False, False
+        self.made = None
         return choice
 
 

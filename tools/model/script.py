@@ -256,8 +256,7 @@ class Simulator:
         if server[0] != 's' or number(byte) > 255:
             raise BadLine()
         handle = self.chunk(path, index)[2]
-        if self.disk(server).rots(self.cell, handle, number(place), number(byte)):
-            self.cell.rot(server, handle, number(place), number(byte))
+        self.cell.rot(server, handle, number(place), number(byte))
 
     def line_regions(self, path, index):
         file, at, _ = self.chunk(path, index)

@@ -2,6 +2,7 @@
 
 Numbers that are ids may be wrapped in a record (`ServerId`) or not; `number` takes both.
 """
+import hashlib
 from collections import namedtuple
 
 from words import Grown
@@ -14,7 +15,7 @@ REBASE = 'laws_rebase'
 Entry = namedtuple('Entry', 'client call attempt round serial kind offset content is_settled')
 Row = namedtuple('Row', 'granted issued references primary members lease_end shape')
 Lease = namedtuple('Lease', 'version until members chunk')
-Replica = namedtuple('Replica', 'version serial bytes changed')
+Replica = namedtuple('Replica', 'version serial count bytes digests')
 Snapshot = namedtuple('Snapshot', 'client deadline')
 
 
@@ -194,8 +195,14 @@ def replicas(node):
 
 
 def replica_of(replica):
-    """Its stored bytes, and the places whose byte changed since."""
-    return Replica(replica['version'], replica['serial'], replica['bytes'], replica['changed'].items)
+    """Its bytes as they lie on the disk, those of its whole chunk, and the digests of its blocks."""
+    return Replica(replica['version'], replica['serial'], replica['count'], replica['bytes'], replica['digests'])
+
+
+def rotten_blocks(replica, block):
+    """The numbers of the blocks that don't have their digests."""
+    digests = (hashlib.sha256(bytes(replica.bytes[n * block:(n + 1) * block])).digest() for n in range(len(replica.digests) // 32))
+    return {n for n, digest in enumerate(digests) if list(digest) != replica.digests[32 * n:32 * n + 32]}
 
 
 def leases(node):

@@ -17,6 +17,12 @@ pub record Placed : Type 0 where
   pub seq : ℕ
   pub entry : Entry
 
+-- What was stored in the chunk of a replica, by the place of its server, as a byte of it rotted.
+pub record IntactChunk : Type 0 where
+  pub index : ℕ
+  pub handle : ℕ
+  pub bytes : List ℕ
+
 pub record Observer : Type 0 where
   pub trace : List Visible
   -- the entries of each chunk, by handle
@@ -25,10 +31,12 @@ pub record Observer : Type 0 where
   pub files : Table (List ℕ)
   pub greatest : ℕ
   pub are_clocks_kept : Bool
+  -- what was stored in the replicas of which bytes rotted, the latest first
+  pub intact : List IntactChunk
   pub are_disks_kept : Bool
 
 abbrev pub new_observer : Table (List ℕ) → Observer
-new_observer files = record { trace = []; orders = table.empty; files = files; greatest = 0; are_clocks_kept = true; are_disks_kept = true }
+new_observer files = record { trace = []; orders = table.empty; files = files; greatest = 0; are_clocks_kept = true; intact = []; are_disks_kept = true }
 
 -- a moment was given: it is behind the greatest one by the clock bound at most
 abbrev pub observed_moment : ℕ → Observer → ℕ → Observer
@@ -38,6 +46,14 @@ observed_moment skew o moment =
       greatest = max o.greatest moment;
       are_clocks_kept = o.are_clocks_kept && nat_le o.greatest (moment + skew);
     }
+
+abbrev pub is_chunk_of : ℕ → ℕ → IntactChunk → Bool
+is_chunk_of index handle c = (c.index == index) && (c.handle == handle)
+
+-- what was stored in a replica as a byte of it rotted last
+abbrev pub intact_bytes : List IntactChunk → ℕ → ℕ → List ℕ
+intact_bytes [] index handle = []
+intact_bytes (c ∷ rest) index handle = if is_chunk_of index handle c then c.bytes else intact_bytes rest index handle
 
 abbrev pub is_call_of : ℕ → Visible → Bool
 is_call_of client (Called c asked) = c == client

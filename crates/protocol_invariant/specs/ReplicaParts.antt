@@ -1,5 +1,5 @@
 -- Replicas: one at a version has applied, in order, entries of rounds up to it, and all settled ones among these; a primary that may count has all of its round.
-use Rattle.std.specs.Prelude.{◌≡◌, ◌⊎◌, ℕ, ◌≤◌, ◌<◌, List, Option, Some, IsSomeAnd, IsSome, IsTrue, IsFalse, find, None, IfSome}
+use Rattle.std.specs.Prelude.{◌≡◌, ◌⊎◌, ℕ, ◌-◌, ◌≤◌, ◌<◌, List, Option, Some, IsSomeAnd, IsSome, IsTrue, IsFalse, find, None, IfSome}
 use Rattle.std.specs.List.{AllByRecursion}
 use Rattle.std.specs.FinMap as table
 use Rattle.gfs_types.specs.Image.{image}
@@ -21,6 +21,7 @@ use Rattle.gfs_types.specs.declared.mutation.Mutation.{Mutation}
 use Rattle.gfs_types.specs.declared.mutation.Mutation.TheVariants as mutation
 use Rattle.primary_order.specs.PrimaryOrder.{place_of}
 use Rattle.protocol.specs.Observer.{Placed, order_of, is_placed_as}
+use Rattle.protocol.specs.StoredBytes.{stored_bytes}
 use Rattle.protocol.specs.World.{WorldState}
 use Rattle.protocol.specs.Each.{EachEntry, EachServer, EachReplica, AtReplica}
 use Rattle.protocol_invariant.specs.Sent.{Granted, under, get_under, grant_of}
@@ -89,7 +90,7 @@ IsEntry w g p =
     × IfSome (carried_by p.entry.mutation) (λ bytes. get_under g.sent.pushes p.entry.call.client p.seq ≡ Some bytes)
 
 pub record AreReplicas (w : WorldState) (g : Ghost) : Type 0 where
-  pub replicas : EachReplica w (λ server s handle r. IsImageOf (order_of w.observer handle) r.version r.serial r.bytes (applied_at g server handle))
+  pub replicas : EachReplica w (λ server s handle r. IsImageOf (order_of w.observer handle) r.version r.serial (stored_bytes w.observer (server - 1) handle s.disk r) (applied_at g server handle))
   pub primaries : EachServer w (λ server s. EachEntry s.leases (λ handle p. w.observer.greatest < p.held.until → IsPrimary w g server s handle p))
   pub holders : EachEntry g.sent.grants (λ handle grants. EachEntry grants (λ version grant. AreHolders w g handle version grant))
   pub pushed : EachServer w (λ server s. AllByRecursion (IsPushed g) s.pushed.entries)

@@ -42,6 +42,12 @@ pub enum StoreChange {
     },
     /// The replica goes.
     Remove(Handle),
+    /// A byte becomes another, past its digest, as on a failing disk.
+    Rot {
+        handle: Handle,
+        place: u64,
+        byte: u8,
+    },
 }
 
 // Stands here, once, so that no function that lets one go, here or above, takes its variants apart.
@@ -77,6 +83,11 @@ impl Drop for StoreChange {
                 version: _,
             } => {}
             Self::Remove(_) => {}
+            Self::Rot {
+                handle: _,
+                place: _,
+                byte: _,
+            } => {}
         }
     }
 }
