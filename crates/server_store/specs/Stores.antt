@@ -1,10 +1,10 @@
 -- What a server asks of the store of its replicas, in the words of its disk.
-use Rattle.std.specs.Prelude.{◌≡◌, ◌⊎◌, ℕ, ◌<◌, ◌≤◌, Bool, true, List, take, drop, map, Result, IsErrOf}
+use Rattle.std.specs.Prelude.{◌≡◌, ◌⊎◌, ⊥, ℕ, ◌<◌, ◌≤◌, Bool, true, List, take, drop, map, Result, IsErrOf}
 use Rattle.std.specs.FinMap.{entries}
 use Rattle.messages.specs.declared.message.ReplicaLine.{ReplicaLine}
 use Rattle.replica_store.specs.declared.change.StoreChange.{StoreChange}
-use Rattle.replica_store.specs.declared.change.StoreChange.TheVariants.{SetOrder, Put, Write, Zero, Raise, Copy, Remove}
-use Rattle.replica_store.specs.Replicas.{Replica, ServerDisk, is_copyable_at, replica_of, replica_becomes, rotten_replica, disk_changed_by_all}
+use Rattle.replica_store.specs.declared.change.StoreChange.TheVariants.{SetOrder, Put, Write, Zero, Raise, Copy, Remove, Rot}
+use Rattle.replica_store.specs.Replicas.{Replica, ServerDisk, disk_changed_by_all, is_copyable_at}
 use Rattle.server_store.specs.declared.fault.ReplicaStoreFault.{ReplicaStoreFault}
 use Rattle.server_store.specs.declared.fault.ReplicaStoreFault.TheVariants.{DiskFailed, Damaged}
 
@@ -17,10 +17,6 @@ pub record MadePart (old : ServerDisk) (changes : List StoreChange) (new : Serve
   pub made : ℕ
   pub disk_is : new ≡ disk_changed_by_all old (take made changes)
   pub next_is : under_way ≡ take 1 (drop made changes)
-
--- a byte of a replica becomes another on the disk, past its digest
-abbrev pub disk_rotten : ServerDisk → ℕ → ℕ → ℕ → ServerDisk
-disk_rotten d handle place byte = replica_becomes (λ r. rotten_replica r place byte) d handle (replica_of d handle)
 
 abbrev pub line_of : ℕ × Replica → ReplicaLine
 line_of e = record { handle = record { 0 = e.0 }; version = record { 0 = e.1.version } }
@@ -44,3 +40,4 @@ IsCopyable d (Zero handle serial offset count) = Unit {0}
 IsCopyable d (Raise handle version) = Unit {0}
 IsCopyable d (Copy handle copy version) = is_copyable_at d handle.0 ≡ true
 IsCopyable d (Remove handle) = Unit {0}
+IsCopyable d (Rot handle place byte) = Unit {0}

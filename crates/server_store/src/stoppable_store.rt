@@ -2,11 +2,11 @@
 
 ghost use Rattle.std.specs.Prelude.{◌≡◌};
 
-use crate::store::ReplicaStore;
+use crate::reopened_store::ReopenedStore;
 use gfs_types::torn::Torn;
 
 /// A store whose disk can be told to stop.
-pub trait StoppableStore: ReplicaStore {
+pub trait StoppableStore: ReopenedStore {
     /// Its disk lets so many calls pass and fails each later one until the store is opened again, which then finds what was under way as
     /// `torn` says.
     fn stop_after(&mut self, calls: u64, torn: Torn)

@@ -1,10 +1,9 @@
 //! The store of a server's replicas.
 
-ghost use Rattle.std.specs.Prelude.{◌≡◌, ◌+◌, ◌<◌, ℕ, Bool, true, List, [], ◌∷◌, OnOk, OnErr, IfOk, IsErrOf};
+ghost use Rattle.std.specs.Prelude.{◌≡◌, ◌+◌, ℕ, Bool, true, List, [], ◌∷◌, OnOk, OnErr, IfOk};
 ghost use Rattle.std.specs.FinMap as map;
 ghost use Rattle.replica_store.specs.Replicas.{ServerDisk, disk_changed, disk_changed_by_all, row_at, read_at, is_copyable_at, is_writable_at, is_disk_full};
-ghost use Rattle.server_store.specs.Stores.{HasCause, IsCopyable, IsFound, MadePart, disk_rotten, replica_lines};
-ghost use Rattle.server_store.specs.declared.fault.ReplicaStoreFault.TheVariants.{DiskFailed};
+ghost use Rattle.server_store.specs.Stores.{HasCause, IsCopyable, MadePart, replica_lines};
 
 use crate::fault::ReplicaStoreFault;
 use bytes::Bytes;
@@ -17,7 +16,7 @@ use std::alloc::Global;
 
 /// The replicas of a server, and the number of the last order that it took. What an error leaves is said at each call; where nothing is
 /// said, nothing that a caller sees has changed. Only a failed [`commit`](ReplicaStore::commit) leaves a change under way, and then the
-/// store answers nothing about bytes until it is opened again.
+/// store answers nothing about bytes until its disk is opened again.
 pub trait ReplicaStore {
     ghost use Rattle.replica_store.specs.declared.change.StoreChange.{StoreChange};
 
@@ -104,25 +103,6 @@ pub trait ReplicaStore {
         ensures open { OnErr result (under_way self.new ≡ change ∷ []) }
         ensures stays_open { OnOk result (is_open self.new ≡ true) }
         ensures cause { IsCopyable (disk self.old) change → HasCause (is_open self.old) (failed self.old) (failed self.new) result };
-
-    /// Opens the store again, as a restart does, and finds what was under way made or not. An error leaves all as it was.
-    fn reopen(&mut self) -> Result<(), ReplicaStoreFault>
-        ensures disk { OnOk result (IsFound (disk self.old) (under_way self.old) (disk self.new)) }
-        ensures nothing { OnOk result (under_way self.new ≡ []) }
-        ensures err { OnErr result (disk self.new ≡ disk self.old) }
-        ensures open { OnErr result (under_way self.new ≡ under_way self.old) }
-        ensures opened { OnOk result (is_open self.new ≡ true) }
-        // Its disk counts anew once it begins again.
-        ensures cause { IsErrOf result DiskFailed → 0 < failed self.new };
-
-    /// A byte of a replica becomes another on the disk, past its digest, as a failing disk might do; nothing happens where there is no
-    /// such replica. An error leaves all as it was; NoRoom: no replica of this store can have a byte at that place.
-    fn rot(&mut self, handle: Handle, place: u64, byte: u8) -> Result<(), ReplicaStoreFault>
-        requires { under_way self.old ≡ [] }
-        ensures disk { OnOk result (disk self.new ≡ disk_rotten (disk self.old) handle.0 place byte) }
-        ensures nothing { under_way self.new ≡ [] }
-        ensures err { OnErr result (disk self.new ≡ disk self.old) }
-        ensures cause { HasCause (is_open self.old) (failed self.old) (failed self.new) result };
 }
 
 /// Makes changes in their order. At an error some were made, from the first on, and the next one is under way.
