@@ -14,7 +14,7 @@ use Rattle.store_disk.specs.Stored.{IsDiskOf, is_used}
 use Rattle.store_disk.proofs.Free.{filter_all}
 
 pub formatted_is_empty : (chunk block slots : ℕ) (disk : List ℕ) → IsFormatted chunk block slots disk
-    → IsDiskOf chunk block slots (record { held = map.empty; free = range_with_len 0 slots }) disk (new_server_disk block)
+    → IsDiskOf chunk block slots (record { held = map.empty; free = range_with_len 0 slots }) disk (new_server_disk chunk block slots)
 formatted_is_empty chunk block slots disk formatted =
     let blank = formatted.blank in
     let large = formatted.head.large in
@@ -25,7 +25,9 @@ formatted_is_empty chunk block slots disk formatted =
     let few : i < 16 = omega (arith, lt, size) in
     get_range disk 32 16 i few ∙ blank.order (32 + i) (omega arith) (omega (arith, few)) ∙ sym (get_or-replicate {A = ℕ} 16 i 0 0 few)) in
     record {
+      chunk_is = refl;
       block_is = refl;
+      slots_is = refl;
       head = formatted.head;
       order_is = ap order_in zeros;
       held = λ handle r there. let e : None ≡ Some r = sym (map.get-empty nat_cmp handle) ∙ there in absurd cc;

@@ -1,9 +1,8 @@
 -- Bytes with others in their place, place by place.
 use Rattle.std.proofs.Common.{◌≡◌, inl, inr, ℕ, ◌+◌, ◌-◌, ◌<◌, ◌≤◌, List, ◌++◌, take, drop, length, get_or, replicate, refl, sym, ap, ◌∙◌, arith, length-append, length-drop}
 use Rattle.std.proofs.lemmas.Bool.{cases_lt}
-use Rattle.std.proofs.lemmas.List.{get_or-append_right, get_or-drop, get_or-replicate, get_or-take, get_or_append_left, get_or_past, length-replicate, length-take-le, take_all}
-use Rattle.replica_store.specs.Replicas.{filled_to, with_bytes}
-use Rattle.store_disk.specs.Blocks.{written_over}
+use Rattle.std.proofs.lemmas.List.{get_or-append_right, get_or-drop, get_or-replicate, get_or-take, get_or_append_left, get_or_past, length-replicate, length-take-le}
+use Rattle.replica_store.specs.Replicas.{filled_to, written_over}
 
 -- what stands after the end may as well be written out
 pub get_padded : (xs : List ℕ) (n i : ℕ) → get_or (xs ++ replicate n 0) i 0 ≡ get_or xs i 0
@@ -67,29 +66,3 @@ module _ (old new : List ℕ) (at place : ℕ) (fits : at + length new ≤ lengt
 
 pub length_over : (old new : List ℕ) (at : ℕ) → at + length new ≤ length old → length (written_over old at new) ≡ length old
 length_over old new at fits = let long = joined_long (take at old) new old at 0 (front_size old new at 0 fits) in omega (arith, long, fits)
-
--- the same, of bytes that may be fewer
-module _ (old new : List ℕ) (at place : ℕ) where
-  hole_size : length (take at old ++ replicate (at - length old) 0) ≡ at
-  hole_size = elim (cases_lt at (length old)) [
-    | inl lt ↦ omega (arith, length-append (take at old) (replicate (at - length old) 0), length-replicate {A = ℕ} (at - length old) 0, length-take-le at old (omega (arith, lt)), lt)
-    | inr le ↦ omega (arith, length-append (take at old) (replicate (at - length old) 0), length-replicate {A = ℕ} (at - length old) 0, length_all at old le, le)
-  ]
-    where
-      length_all : (n : ℕ) (xs : List ℕ) → length xs ≤ n → length (take n xs) ≡ length xs
-      length_all n xs le = ap length (take_all n xs le)
-
-  pub with_before : place < at → get_or (with_bytes old at new) place 0 ≡ get_or old place 0
-  with_before lt =
-      joined_before (take at old ++ replicate (at - length old) 0) new old at place hole_size lt
-      ∙ get_padded (take at old) (at - length old) place ∙ get_or-take at old place 0 lt
-
-  pub with_within : at ≤ place → place < at + length new → get_or (with_bytes old at new) place 0 ≡ get_or new (place - at) 0
-  with_within = joined_within (take at old ++ replicate (at - length old) 0) new old at place hole_size
-
-  pub with_after : at + length new ≤ place → get_or (with_bytes old at new) place 0 ≡ get_or old place 0
-  with_after = joined_after (take at old ++ replicate (at - length old) 0) new old at place hole_size
-
--- how many bytes there are then
-pub length_with : (old new : List ℕ) (at : ℕ) → length (with_bytes old at new) ≡ at + length new + (length old - (at + length new))
-length_with old new at = joined_long (take at old ++ replicate (at - length old) 0) new old at 0 (hole_size old new at 0)

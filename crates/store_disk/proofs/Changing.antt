@@ -71,7 +71,9 @@ module _ (chunk block slots : ℕ) (index : IndexState) (disk : List ℕ) (d : S
         let used = used_by chunk block disk found.slot h its.0 its.2.holds in
         let within = its.2.there in
         record {
+          chunk_is = is.chunk_is;
           block_is = is.block_is;
+          slots_is = is.slots_is;
           head = head_still chunk block slots index disk d is new found.slot fits keeps;
           order_is = order_kept chunk block slots index disk d is new found.slot fits keeps;
           held = removed_held;
@@ -165,7 +167,9 @@ module _ (chunk block slots : ℕ) (index : IndexState) (disk : List ℕ) (d : S
 
     pub replica_added : IsDiskOf chunk block slots (record { held = map.insert index.held h (record { slot = s; row = row }); free = rest }) new (with_replica d h r')
     replica_added = record {
+      chunk_is = is.chunk_is;
       block_is = is.block_is;
+      slots_is = is.slots_is;
       head = head_still chunk block slots index disk d is new s fits keeps;
       order_is = order_kept chunk block slots index disk d is new s fits keeps;
       held = added_held;

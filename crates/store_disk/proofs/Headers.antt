@@ -1,13 +1,11 @@
 -- A slot whose header, or first byte, was written.
 use Rattle.std.proofs.Common.{◌≡◌, inl, inr, ℕ, ◌+◌, ◌-◌, ◌*◌, ◌≤◌, true, ◌==◌, List, [], ◌∷◌, ◌++◌, length, get_or, take, refl, sym, ap, ◌∙◌, subst, arith, Some, length-append}
 use Rattle.std.proofs.lemmas.List.{append-nil, drop_at, take_at}
-use Rattle.std.specs.FinMap as map
-use Rattle.store_disk.specs.Digests.{digests_of}
 use Rattle.disk.specs.Bytes.{put_at, range_at}
 use Rattle.disk_redo.proofs.Ranges.{range_put, range_range}
 use Rattle.disk_redo.specs.Moments.{KeepsAt, is_outside}
 use Rattle.disk_redo.proofs.Places.{is_after, is_before, keeps_fewer, length_put, outside_cases, put_keeps, put_within}
-use Rattle.replica_store.specs.Replicas.{Replica, filled_to, with_others}
+use Rattle.replica_store.specs.Replicas.{Replica}
 use Rattle.store_disk.specs.Fields.{FitsHeader, header_bytes, header_in}
 use Rattle.store_disk.specs.declared.header.SlotHeader.{SlotHeader}
 use Rattle.store_disk.proofs.Fields.{header_back}
@@ -58,20 +56,19 @@ module _ (chunk block : ℕ) (disk : List ℕ) (slot : ℕ) (fits : slot_place c
       ap header_in (range_put disk (header_bytes x) place (omega (arith, fits))) ∙ sym (ap header_in (append-nil (header_bytes x))) ∙ header_back x [] small
 
   pub header_holds : (handle : ℕ) (r r' : Replica) (x : SlotHeader) → FitsHeader x → Holds chunk block disk slot handle r
-      → x ≡ record { handle = record { 0 = handle }; version = record { 0 = r'.version }; serial = record { 0 = r'.serial }; count = length r'.bytes }
-      → r'.bytes ≡ r.bytes → r'.changed ≡ r.changed → Holds chunk block (put_at disk place (header_bytes x)) slot handle r'
-  header_holds handle r r' x small h is same_bytes same_changed =
+      → x ≡ record { handle = record { 0 = handle }; version = record { 0 = r'.version }; serial = record { 0 = r'.serial }; count = r'.count }
+      → r'.count ≡ r.count → r'.bytes ≡ r.bytes → r'.digests ≡ r.digests → Holds chunk block (put_at disk place (header_bytes x)) slot handle r'
+  header_holds handle r r' x small h is same_count same_bytes same_digests =
       let new = put_at disk place (header_bytes x) in
       let keeps = put_keeps disk (header_bytes x) place (omega (arith, fits)) in
       let behind : (from : ℕ) → place + 40 ≤ from → (p : ℕ) → from ≤ p → is_outside place 40 p ≡ true = λ from le p at. is_after place 40 p (omega (arith, le, at)) in
       record {
         header = header_put x small ∙ ap (λ (y : SlotHeader). Some y) is;
-        fits = subst (λ (l : List ℕ). length l ≤ chunk) (sym same_bytes) h.fits;
-        within = λ p byte there. h.within p byte (sym (ap (λ m. map.get m p) same_changed) ∙ there);
+        fits = subst (λ (n : ℕ). n ≤ chunk) (sym same_count) h.fits;
         digests =
             range_same (is_outside place 40) disk new (digests_place chunk block slot) (32 * blocks_of chunk block) keeps (omega (arith, fits)) (λ p at lt. behind (digests_place chunk block slot) (omega arith) p at)
-            ∙ h.digests ∙ sym (ap (λ (l : List ℕ). digests_of block (blocks_of chunk block) (filled_to chunk l)) same_bytes);
+            ∙ h.digests ∙ sym same_digests;
         bytes =
             range_same (is_outside place 40) disk new (data_place chunk block slot) chunk keeps (omega (arith, fits)) (λ p at lt. behind (data_place chunk block slot) (omega arith) p at)
-            ∙ h.bytes ∙ sym (ap (λ m. with_others (map.entries m) (filled_to chunk r'.bytes)) same_changed ∙ ap (λ (l : List ℕ). with_others (map.entries r.changed) (filled_to chunk l)) same_bytes);
+            ∙ h.bytes ∙ sym same_bytes;
       }

@@ -26,7 +26,9 @@ order_stored chunk block slots index disk d order small fits is =
     let keeps = put_keeps disk (order_bytes order) 32 room in
     let kept : (slot : ℕ) → KeepsSlot chunk block (is_outside 32 16) slot = λ slot place le lt. is_after 32 16 place (omega (arith, le, slots_behind chunk block slot)) in
     record {
+      chunk_is = is.chunk_is;
       block_is = is.block_is;
+      slots_is = is.slots_is;
       head = head_kept chunk block slots (is_outside 32 16) disk new keeps (λ place lt. is_before 32 16 place lt) is.head;
       order_is = ap order_in (range_put disk (order_bytes order) 32 room) ∙ sym (ap order_in (append-nil (order_bytes order))) ∙ order_back order [] small;
       held = λ handle r there.

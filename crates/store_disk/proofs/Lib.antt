@@ -1,6 +1,4 @@
-pub mod Others
 pub mod BlockPuts
-pub mod Written
 pub mod Rotten
 pub mod BlockDigests
 pub mod Runs

@@ -3,7 +3,7 @@ use Rattle.std.proofs.Common.{◌≡◌, ℕ, zero, suc, ◌+◌, ◌-◌, ◌*�
 use native.Mathlib.Nat.{suc-mul}
 use Rattle.std.proofs.lemmas.List.{append-nil}
 use Rattle.sha2.specs.Sha256.{sha256}
-use Rattle.store_disk.specs.Digests.{digests_of}
+use Rattle.replica_store.specs.Replicas.{digests_of}
 
 one_fewer : (count counter : ℕ) → counter < count → count - counter ≡ suc (count - (counter + 1))
 one_fewer count counter lt = omega (arith, lt)

@@ -1,11 +1,8 @@
 -- A slot that was written whole.
-use Rattle.std.proofs.Common.{◌≡◌, ℕ, zero, suc, ◌+◌, ◌-◌, ◌*◌, ◌≤◌, List, [], ◌∷◌, ◌++◌, length, take, drop, replicate, refl, sym, ap, ◌∙◌, arith, None, Some, append_assoc, length-append}
+use Rattle.std.proofs.Common.{◌≡◌, ℕ, zero, suc, ◌+◌, ◌-◌, ◌*◌, ◌≤◌, List, [], ◌++◌, length, take, drop, replicate, refl, sym, ap, ◌∙◌, arith, Some, append_assoc, length-append}
 use Rattle.std.proofs.lemmas.List.{append-nil, length-replicate}
-use Rattle.std.specs.FinMap as map
-use Rattle.std.specs.Ordering.{nat_cmp}
-use Rattle.store_disk.specs.Digests.{digests_of}
 use Rattle.disk.specs.Bytes.{put_at, range_at}
-use Rattle.replica_store.specs.Replicas.{filled_to, stored_replica, with_others}
+use Rattle.replica_store.specs.Replicas.{digests_of, filled_to, stored_replica}
 use Rattle.sha2.specs.Sha256.{sha256}
 use Rattle.sha2.proofs.Facts256.{length-sha256}
 use Rattle.store_disk.specs.Fields.{FitsHeader, header_bytes, header_in}
@@ -22,13 +19,6 @@ length_digests block (suc n) bytes =
 
 pub length_filled : (chunk : ℕ) (bytes : List ℕ) → length bytes ≤ chunk → length (filled_to chunk bytes) ≡ chunk
 length_filled chunk bytes le = omega (arith, length-append bytes (replicate (chunk - length bytes) 0), length-replicate {A = ℕ} (chunk - length bytes) 0, le)
-
-nothing_in : {X : Type 0} (es : List X) → length es ≡ 0 → es ≡ []
-nothing_in [] e = refl
-nothing_in (x ∷ es) e = absurd (omega (arith, e))
-
-no_entries : map.entries (map.empty {X = ℕ} {R = nat_cmp}) ≡ []
-no_entries = nothing_in (map.entries (map.empty {X = ℕ} {R = nat_cmp})) (sym (map.len-entries map.empty) ∙ map.len-empty nat_cmp ℕ)
 
 module _ (chunk block : ℕ) (disk : List ℕ) (slot : ℕ) (x : SlotHeader) (bytes : List ℕ) (le : length bytes ≤ chunk) where
   abbrev place : ℕ
@@ -84,11 +74,10 @@ module _ (chunk block : ℕ) (disk : List ℕ) (slot : ℕ) (x : SlotHeader) (by
         (sym (append_assoc head digests data_bytes) ∙ ap (λ (l : List ℕ). (head ++ digests) ++ l) (sym (append-nil data_bytes))) room
 
     pub put_holds : (handle version serial : ℕ) → FitsHeader x → x ≡ record { handle = record { 0 = handle }; version = record { 0 = version }; serial = record { 0 = serial }; count = length bytes }
-        → Holds chunk block new slot handle (stored_replica version serial bytes)
+        → Holds chunk block new slot handle (stored_replica chunk block version serial bytes)
     put_holds handle version serial small is = record {
       header = ap header_in header_part ∙ sym (ap header_in (append-nil head)) ∙ header_back x [] small ∙ ap (λ (y : SlotHeader). Some y) is;
       fits = le;
-      within = λ p byte there. let f : None ≡ Some byte = sym (map.get-empty nat_cmp p) ∙ there in absurd cc;
       digests = digests_part;
-      bytes = data_part ∙ sym (ap (λ es. with_others es (filled_to chunk bytes)) no_entries);
+      bytes = data_part;
     }

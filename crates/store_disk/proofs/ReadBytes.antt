@@ -1,52 +1,37 @@
 -- What a read gives, of all the chunk's bytes.
-use Rattle.std.proofs.Common.{◌≡◌, inl, inr, ℕ, ◌+◌, ◌-◌, ◌≤◌, List, [], length, take, drop, replicate, sym, ap, ◌∙◌, arith, length-drop}
-use Rattle.std.specs.FinMap as map
+use Rattle.std.proofs.Common.{◌≡◌, inl, inr, ℕ, ◌+◌, ◌-◌, ◌≤◌, List, [], length, take, drop, sym, ap, ◌∙◌, arith}
 use Rattle.std.proofs.lemmas.Bool.{cases_lt}
-use Rattle.std.proofs.lemmas.List.{drop-take, drop_all, take-append-le, take_all}
-use Rattle.replica_store.specs.Replicas.{Replica, bytes_on_disk, filled_to, read_bytes, read_end, with_others}
-use Rattle.store_disk.specs.Blocks.{chunk_on_disk}
-use Rattle.store_disk.proofs.Others.{length_others, take_others}
+use Rattle.std.proofs.lemmas.List.{drop-take, drop_all, length-take, take-take, take_all}
+use Rattle.replica_store.specs.Replicas.{Replica, own_bytes, read_bytes, read_end}
 
-module _ (chunk : ℕ) (r : Replica) where
-  abbrev stored : ℕ
-  stored = length r.bytes
+module _ (r : Replica) where
+  -- the replica's own bytes from a place on
+  own_from : (offset : ℕ) → offset ≤ r.count → drop offset (own_bytes r) ≡ take (r.count - offset) (drop offset r.bytes)
+  own_from offset le =
+      let whole : offset + (r.count - offset) ≡ r.count = omega (arith, le) in
+      sym (ap (λ (k : ℕ). drop offset (take k r.bytes)) whole) ∙ drop-take offset (r.count - offset) r.bytes
 
-  -- the replica's bytes stand at the front
-  front_is : (n : ℕ) → n ≤ stored → take n (chunk_on_disk chunk r) ≡ take n (bytes_on_disk r)
-  front_is n le =
-      let es = map.entries r.changed in
-      take_others n es (filled_to chunk r.bytes) ∙ ap (with_others es) (take-append-le n r.bytes (replicate (chunk - length r.bytes) 0) le) ∙ sym (take_others n es r.bytes)
-
-  pub read_is : (offset count : ℕ) → offset ≤ read_end r offset count → take (read_end r offset count - offset) (drop offset (chunk_on_disk chunk r)) ≡ read_bytes r offset count
+  pub read_is : (offset count : ℕ) → offset ≤ read_end r offset count → take (read_end r offset count - offset) (drop offset r.bytes) ≡ read_bytes r offset count
   read_is offset count le =
-      let end_place = read_end r offset count in
-      let n = end_place - offset in
-      let disk = bytes_on_disk r in
-      let size : length disk ≡ stored = length_others (map.entries r.changed) r.bytes in
-      let whole : offset + n ≡ end_place = omega (arith, le) in
-      let most : end_place ≤ stored = omega arith in
-      sym (drop-take offset n (chunk_on_disk chunk r))
-      ∙ ap (λ (l : List ℕ). drop offset l) (ap (λ (k : ℕ). take k (chunk_on_disk chunk r)) whole ∙ front_is end_place most ∙ ap (λ (k : ℕ). take k disk) (sym whole))
-      ∙ drop-take offset n disk
-      ∙ rest_is
-    where
-      rest_is : take (read_end r offset count - offset) (drop offset (bytes_on_disk r)) ≡ take count (drop offset (bytes_on_disk r))
-      rest_is =
-          let disk = bytes_on_disk r in
-          let size : length disk ≡ stored = length_others (map.entries r.changed) r.bytes in
-          elim (cases_lt stored (offset + count)) [
-            | inl past ↦ (
-                let few : length (drop offset disk) ≡ stored - offset = length-drop offset disk ∙ ap (λ (k : ℕ). k - offset) size in
-                take_all (read_end r offset count - offset) (drop offset disk) (omega (arith, few, past)) ∙ sym (take_all count (drop offset disk) (omega (arith, few, past))))
-            | inr within ↦ (let n : read_end r offset count - offset ≡ count = omega (arith, within) in ap (λ (k : ℕ). take k (drop offset disk)) n)
-          ]
+      let n = read_end r offset count - offset in
+      let rest = drop offset r.bytes in
+      let own = own_from offset (omega (arith, le)) in
+      elim (cases_lt r.count (offset + count)) [
+        | inl past ↦ (
+            let few : n ≡ r.count - offset = omega (arith, past) in
+            let short : length (take (r.count - offset) rest) ≤ r.count - offset = omega (arith, length-take (r.count - offset) rest) in
+            ap (λ (k : ℕ). take k rest) few ∙ sym (take_all count (take (r.count - offset) rest) (omega (arith, short, past))) ∙ ap (λ (l : List ℕ). take count l) (sym own))
+        | inr within ↦ (
+            let all : n ≡ count = omega (arith, within) in
+            ap (λ (k : ℕ). take k rest) all ∙ sym (take-take count (r.count - offset) rest (omega (arith, within))) ∙ ap (λ (l : List ℕ). take count l) (sym own))
+      ]
 
   -- nothing stands there
   pub read_none : (offset count : ℕ) → read_end r offset count ≤ offset → read_bytes r offset count ≡ []
   read_none offset count le =
-      let disk = bytes_on_disk r in
-      let size : length disk ≡ stored = length_others (map.entries r.changed) r.bytes in
+      let own = own_bytes r in
+      let short : length own ≤ r.count = omega (arith, length-take r.count r.bytes) in
       elim (cases_lt 0 count) [
-        | inl some ↦ ap (λ (l : List ℕ). take count l) (drop_all offset disk (omega (arith, size, le, some))) ∙ take_all count [] (omega arith)
-        | inr none ↦ (let zero_is : count ≡ 0 = omega (arith, none) in ap (λ (k : ℕ). take k (drop offset disk)) zero_is)
+        | inl some ↦ ap (λ (l : List ℕ). take count l) (drop_all offset own (omega (arith, short, le, some))) ∙ take_all count [] (omega arith)
+        | inr none ↦ (let zero_is : count ≡ 0 = omega (arith, none) in ap (λ (k : ℕ). take k (drop offset own)) zero_is)
       ]

@@ -34,7 +34,7 @@ used_by chunk block disk slot handle r h =
     let first : get_or bytes 0 0 ≡ get_or disk (place + 0) 0 = get_range disk place 40 0 (omega arith) in
     let same : place + 0 ≡ place = omega arith in
     ap (λ (k : ℕ). get_or disk k 0 == 1) (sym same) ∙ ap (λ (n : ℕ). n == 1) (sym first)
-    ∙ some_test (get_or bytes 0 0 == 1) (used_header_in bytes) (record { handle = record { 0 = handle }; version = record { 0 = r.version }; serial = record { 0 = r.serial }; count = length r.bytes }) h.header
+    ∙ some_test (get_or bytes 0 0 == 1) (used_header_in bytes) (record { handle = record { 0 = handle }; version = record { 0 = r.version }; serial = record { 0 = r.serial }; count = r.count }) h.header
 
 -- slots don't meet
 pub slot_apart : (chunk block s t : ℕ) → (t ≡ s → ⊥) → KeepsSlot chunk block (is_outside (slot_place chunk block s) (slot_size chunk block)) t
@@ -163,7 +163,9 @@ module _ (chunk block slots : ℕ) (index : IndexState) (disk : List ℕ) (d : S
 
     pub replica_replaced : IsDiskOf chunk block slots (record index { held = map.insert index.held h (record { slot = found.slot; row = row }) }) new (with_replica d h r')
     replica_replaced = record {
+      chunk_is = is.chunk_is;
       block_is = is.block_is;
+      slots_is = is.slots_is;
       head = head_still new found.slot fits keeps;
       order_is = order_kept new found.slot fits keeps;
       held = replaced_held;

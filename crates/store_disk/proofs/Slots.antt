@@ -30,10 +30,17 @@ module _ (chunk block : ℕ) (kept : ℕ → Bool) (disk new : List ℕ) (slot :
   holds_same handle r h = record {
     header = ap header_in (part_same (slot_place chunk block slot) 40 (omega arith) (omega arith)) ∙ h.header;
     fits = h.fits;
-    within = h.within;
     digests = part_same (digests_place chunk block slot) (32 * blocks_of chunk block) (omega arith) (omega arith) ∙ h.digests;
     bytes = part_same (data_place chunk block slot) chunk (omega arith) (omega arith) ∙ h.bytes;
   }
 
   pub used_same : is_used chunk block new slot ≡ is_used chunk block disk slot
   used_same = ap (λ (n : ℕ). n == 1) (p.same (slot_place chunk block slot) (k (slot_place chunk block slot) (omega arith) (omega arith)))
+
+-- how many bytes and digests there are
+module _ (chunk block : ℕ) (disk : List ℕ) (slot handle : ℕ) (r : Replica) (fits : slot_place chunk block slot + slot_size chunk block ≤ length disk) (h : Holds chunk block disk slot handle r) where
+  pub bytes_long : length r.bytes ≡ chunk
+  bytes_long = sym (ap length h.bytes) ∙ length_range disk (data_place chunk block slot) chunk (omega (arith, fits))
+
+  pub digests_long : length r.digests ≡ 32 * blocks_of chunk block
+  digests_long = sym (ap length h.digests) ∙ length_range disk (digests_place chunk block slot) (32 * blocks_of chunk block) (omega (arith, fits))

@@ -3,7 +3,7 @@ use Rattle.std.proofs.Common.{◌≡◌, ℕ, ◌+◌, ◌<◌, ◌≤◌, List,
 use Rattle.std.specs.FinMap as map
 use Rattle.disk.specs.Bytes.{put_at}
 use Rattle.replica_store.specs.declared.change.StoreChange.TheVariants.{Put, Raise, Remove}
-use Rattle.replica_store.specs.Replicas.{Replica, ServerDisk, disk_changed, raised_replica, replica_becomes, stored_replica}
+use Rattle.replica_store.specs.Replicas.{Replica, ServerDisk, disk_changed, raised_replica, replica_becomes, stored_replica, with_replica}
 use Rattle.replica_store.specs.declared.row.Row.{Row}
 use Rattle.store_disk.specs.Index.{IndexState, index_with, index_without}
 use Rattle.store_disk.specs.declared.held.HeldReplica.{HeldReplica}
@@ -32,13 +32,13 @@ module _ (chunk block slots : ℕ) (index : IndexState) (disk : List ℕ) (d : S
       let its = its_replica chunk block slots index disk d is h found there in
       let r = its.0 in
       let room = (slot_fits found there).1 in
-      let was : record { version = record { 0 = r.version }; serial = record { 0 = r.serial }; count = length r.bytes } ≡ found.row = (let e = its.2.row in cc) in
-      let count : length r.bytes ≡ found.row.count = ap (λ (row : Row). row.count) was in
+      let was : record { version = record { 0 = r.version }; serial = record { 0 = r.serial }; count = r.count } ≡ found.row = (let e = its.2.row in cc) in
+      let count : r.count ≡ found.row.count = ap (λ (row : Row). row.count) was in
       let header = header_of h (raised_row version found.row) in
       let new = put_at disk (slot_place chunk block found.slot) (header_bytes header) in
       let keeps = front_keeps disk (header_bytes header) (slot_place chunk block found.slot) (slot_size chunk block) (omega arith) room in
       let holds = header_holds chunk block disk found.slot room h r (raised_replica r version) header small its.2.holds
-      (ap (λ (n : ℕ). record { handle = record { 0 = h }; version = record { 0 = version }; serial = record { 0 = 0 }; count = n }) (sym count)) refl refl in
+      (ap (λ (n : ℕ). record { handle = record { 0 = h }; version = record { 0 = version }; serial = record { 0 = 0 }; count = n }) (sym count)) refl refl refl in
       subst (λ (o : Option Replica). IsDiskOf chunk block slots (record index { held = map.insert index.held h (record found { row = raised_row version found.row }) }) new (replica_becomes (λ q. raised_replica q version) d h o)) (sym its.1)
       (replica_replaced chunk block slots index disk d is h found there new (raised_replica r version) (raised_row version found.row) fits keeps holds
       (ap (λ (n : ℕ). Some (record { version = record { 0 = version }; serial = record { 0 = 0 }; count = n })) count))
@@ -62,6 +62,9 @@ module _ (chunk block slots : ℕ) (index : IndexState) (disk : List ℕ) (d : S
       let room : slot_place chunk block slot + slot_size chunk block ≤ length disk = omega (arith, before, fits) in
       let holds = put_holds chunk block disk slot (header_of h row) bytes le room h row.version.0 row.serial.0 small
       (ap (λ (n : ℕ). record { handle = record { 0 = h }; version = row.version; serial = row.serial; count = n }) count) in
-      replica_added chunk block slots index disk d is h new fits slot rest none first (stored_replica row.version.0 row.serial.0 bytes) row
+      let added = replica_added chunk block slots index disk d is h new fits slot rest none first (stored_replica chunk block row.version.0 row.serial.0 bytes) row
       (front_keeps disk all (slot_place chunk block slot) (slot_size chunk block) (omega (arith, size)) room) holds
-      (ap (λ (n : ℕ). Some (record { version = row.version; serial = row.serial; count = n })) (sym count))
+      (ap (λ (n : ℕ). Some (record { version = row.version; serial = row.serial; count = n })) (sym count)) in
+      let kept : IndexState = index_with index h row (slot ∷ rest) in
+      subst (λ (k : ℕ). IsDiskOf chunk block slots kept new (with_replica d h (stored_replica d.chunk k row.version.0 row.serial.0 bytes))) (sym is.block_is)
+      (subst (λ (k : ℕ). IsDiskOf chunk block slots kept new (with_replica d h (stored_replica k block row.version.0 row.serial.0 bytes))) (sym is.chunk_is) added)

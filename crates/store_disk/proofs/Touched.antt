@@ -1,42 +1,9 @@
--- The blocks that a change of bytes touches, and their digests.
-use Rattle.std.proofs.Common.{◌≡◌, ℕ, ◌+◌, ◌-◌, ◌*◌, ◌/◌, ◌%◌, ◌<◌, ◌≤◌, List, ◌++◌, length, take, drop, sym, ap, ◌∙◌, arith, append_assoc, length-append, length-drop}
-use Rattle.std.proofs.lemmas.List.{drop-append-le, drop-drop, drop-take, drop_at, length-take-le, take-append-le, take-take, take_at}
-use native.Mathlib.Nat.{add-mul}
+-- The blocks that a change of bytes touches.
+use Rattle.std.proofs.Common.{◌≡◌, ℕ, ◌+◌, ◌-◌, ◌*◌, ◌/◌, ◌%◌, ◌<◌, ◌≤◌, List, ◌++◌, length, take, drop, sym, ap, ◌∙◌, arith, length-append, length-drop}
+use Rattle.std.proofs.lemmas.List.{drop-append-le, drop-drop, drop-take, length-take-le, take-take}
 use Rattle.std.proofs.Math.Nat.{lt-div-mul-add, mod-eq-sub-div-mul}
 use Rattle.std.proofs.Math.Seq.{take-append-add}
-use Rattle.store_disk.specs.Digests.{digests_of}
-use Rattle.store_disk.specs.Blocks.{written_over}
-use Rattle.store_disk.proofs.BlockDigests.{digests_alike, digests_split, length_digests}
-
--- the digests where a run of blocks alone is new
-module _ (block first count behind : ℕ) (old new : List ℕ) where
-  pub digests_over : take (first * block) new ≡ take (first * block) old → drop ((first + count) * block) new ≡ drop ((first + count) * block) old
-      → digests_of block (first + (count + behind)) new ≡ written_over (digests_of block (first + (count + behind)) old) (32 * first) (digests_of block count (drop (first * block) new))
-  digests_over front back =
-      let parts : (xs : List ℕ) → digests_of block (first + (count + behind)) xs ≡ digests_of block first xs ++ (digests_of block count (drop (first * block) xs) ++ digests_of block behind (drop ((first + count) * block) xs)) =
-      λ xs. digests_split block first (count + behind) xs
-      ∙ ap (λ (l : List ℕ). digests_of block first xs ++ l)
-      (digests_split block count behind (drop (first * block) xs)
-      ∙ ap (λ (l : List ℕ). digests_of block count (drop (first * block) xs) ++ digests_of block behind l)
-      (drop-drop (count * block) (first * block) xs ∙ ap (λ (k : ℕ). drop k xs) (sym (add-mul first count block)))) in
-      let one = digests_of block first old in
-      let two = digests_of block count (drop (first * block) old) in
-      let three = digests_of block behind (drop ((first + count) * block) old) in
-      let now = digests_of block count (drop (first * block) new) in
-      let one_long : length one ≡ 32 * first = length_digests block first old in
-      let two_long : length two ≡ 32 * count = length_digests block count (drop (first * block) old) in
-      let now_long : length now ≡ 32 * count = length_digests block count (drop (first * block) new) in
-      let before : take (32 * first) (one ++ (two ++ three)) ≡ one = take_at one (two ++ three) (32 * first) one_long in
-      let after : drop (32 * first + length now) (one ++ (two ++ three)) ≡ three =
-      ap (λ (l : List ℕ). drop (32 * first + length now) l) (sym (append_assoc one two three))
-      ∙ drop_at (one ++ two) three (32 * first + length now) (omega (arith, length-append one two, one_long, two_long, now_long)) in
-      parts new
-      ∙ ap (λ (l : List ℕ). l ++ (now ++ digests_of block behind (drop ((first + count) * block) new))) (digests_alike block first new old front)
-      ∙ ap (λ (l : List ℕ). one ++ (now ++ digests_of block behind l)) back
-      ∙ sym (append_assoc one now three)
-      ∙ sym (ap (λ (l : List ℕ). take (32 * first) l ++ now ++ drop (32 * first + length now) l) (parts old)
-      ∙ ap (λ (l : List ℕ). l ++ now ++ drop (32 * first + length now) (one ++ (two ++ three))) before
-      ∙ ap (λ (l : List ℕ). one ++ now ++ l) after)
+use Rattle.replica_store.specs.Replicas.{written_over}
 
 -- A change of bytes from offset on, within the run of blocks from one place to another.
 module _ (old new : List ℕ) (offset from to : ℕ) (low : from ≤ offset) (high : offset + length new ≤ to) (fits : to ≤ length old) where
@@ -45,21 +12,6 @@ module _ (old new : List ℕ) (offset from to : ℕ) (low : from ≤ offset) (hi
 
   front_long : length (take offset old) ≡ offset
   front_long = length-take-le offset old (omega (arith, high, fits))
-
-  pub same_front : take from (written_over old offset new) ≡ take from old
-  same_front =
-      take-append-le from (take offset old ++ new) (drop end_place old) (omega (arith, length-append (take offset old) new, front_long, low))
-      ∙ take-append-le from (take offset old) new (omega (arith, front_long, low))
-      ∙ take-take from offset old low
-
-  pub same_back : drop to (written_over old offset new) ≡ drop to old
-  same_back =
-      let both : length (take offset old ++ new) ≡ end_place = length-append (take offset old) new ∙ ap (λ (k : ℕ). k + length new) front_long in
-      let more : end_place + (to - end_place) ≡ to = omega (arith, high) in
-      ap (λ (k : ℕ). drop k (written_over old offset new)) (sym more)
-      ∙ sym (drop-drop (to - end_place) end_place (written_over old offset new))
-      ∙ ap (λ (l : List ℕ). drop (to - end_place) l) (drop_at (take offset old ++ new) (drop end_place old) end_place both)
-      ∙ drop-drop (to - end_place) end_place old ∙ ap (λ (k : ℕ). drop k old) more
 
   -- the run's bytes then: what stood before the change, the new bytes, and what stood after it
   pub run_then : take (to - from) (drop from (written_over old offset new)) ≡ take (offset - from) (drop from old) ++ new ++ take (to - end_place) (drop end_place old)

@@ -1,7 +1,6 @@
 pub mod Blocks
 pub mod Places
 pub mod Fields
-pub mod Digests
 pub mod Index
 pub mod Formats
 pub mod Stored

@@ -1,10 +1,9 @@
--- The replicas on a chunkserver's disk, each in a slot of its own, for chunks of so many bytes in blocks of so many, in so many slots. What a byte was before it rotted stands in no slot: the digests alone are of it.
-use Rattle.std.specs.Prelude.{◌≡◌, ℕ, ◌*◌, ◌<◌, ◌≤◌, Bool, true, not, ◌==◌, List, ◌++◌, filter, length, slice_index, None, Some}
+-- The replicas on a chunkserver's disk, each in a slot of its own, for chunks of so many bytes in blocks of so many, in so many slots. What a byte was before it rotted stands in no slot; a digest alone is of it.
+use Rattle.std.specs.Prelude.{◌≡◌, ℕ, ◌*◌, ◌<◌, ◌≤◌, Bool, true, not, ◌==◌, List, ◌++◌, filter, slice_index, None, Some}
 use Rattle.std.specs.FinMap as map
 use Rattle.std.specs.List.{range_with_len}
-use Rattle.store_disk.specs.Digests.{digests_of}
 use Rattle.disk.specs.Bytes.{range_at}
-use Rattle.replica_store.specs.Replicas.{Replica, ServerDisk, filled_to, replica_of, row_of, with_others}
+use Rattle.replica_store.specs.Replicas.{Replica, ServerDisk, digests_of, filled_to, replica_of, row_of}
 use Rattle.replica_store.specs.declared.row.Row.{Row}
 use Rattle.store_disk.specs.Index.{IndexState}
 use Rattle.store_disk.specs.declared.held.HeldReplica.{HeldReplica}
@@ -17,7 +16,7 @@ use Rattle.store_disk.specs.Places.{blocks_of, data_place, digests_place, slot_p
 abbrev pub is_used : ℕ → ℕ → List ℕ → ℕ → Bool
 is_used chunk block disk slot = slice_index disk (slot_place chunk block slot) == 1
 
--- a slot with a replica of which no byte has changed
+-- a slot with a new replica
 abbrev pub slot_bytes : ℕ → ℕ → SlotHeader → List ℕ → List ℕ
 slot_bytes chunk block header bytes =
     header_bytes header ++ (digests_of block (blocks_of chunk block) (filled_to chunk bytes) ++ filled_to chunk bytes)
@@ -30,12 +29,10 @@ free_slots chunk block slots disk = filter (λ slot. not (is_used chunk block di
 pub record Holds (chunk block : ℕ) (disk : List ℕ) (slot handle : ℕ) (r : Replica) : Type 0 where
   pub header :
       header_in (range_at disk (slot_place chunk block slot) 40)
-      ≡ Some (record { handle = record { 0 = handle }; version = record { 0 = r.version }; serial = record { 0 = r.serial }; count = length r.bytes })
-  pub fits : length r.bytes ≤ chunk
-  -- past the digests bytes change within the chunk alone
-  pub within : (place byte : ℕ) → map.get r.changed place ≡ Some byte → place < chunk
-  pub digests : range_at disk (digests_place chunk block slot) (32 * blocks_of chunk block) ≡ digests_of block (blocks_of chunk block) (filled_to chunk r.bytes)
-  pub bytes : range_at disk (data_place chunk block slot) chunk ≡ with_others (map.entries r.changed) (filled_to chunk r.bytes)
+      ≡ Some (record { handle = record { 0 = handle }; version = record { 0 = r.version }; serial = record { 0 = r.serial }; count = r.count })
+  pub fits : r.count ≤ chunk
+  pub digests : range_at disk (digests_place chunk block slot) (32 * blocks_of chunk block) ≡ r.digests
+  pub bytes : range_at disk (data_place chunk block slot) chunk ≡ r.bytes
 
 -- what is known of a replica is true
 pub record IsKnown (chunk block slots : ℕ) (disk : List ℕ) (handle : ℕ) (r : Replica) (found : HeldReplica) : Type 0 where
@@ -45,7 +42,9 @@ pub record IsKnown (chunk block slots : ℕ) (disk : List ℕ) (handle : ℕ) (r
 
 -- The disk's head is open, its bytes say what a server keeps over a restart, and the index knows where.
 pub record IsDiskOf (chunk block slots : ℕ) (index : IndexState) (disk : List ℕ) (d : ServerDisk) : Type 0 where
+  pub chunk_is : d.chunk ≡ chunk
   pub block_is : d.block ≡ block
+  pub slots_is : d.slots ≡ slots
   pub head : HasOpenHead chunk block slots disk
   pub order_is : order_in (range_at disk 32 16) ≡ record { epoch = d.epoch; count = d.count }
   pub held : (handle : ℕ) (r : Replica) → replica_of d handle ≡ Some r → (found : HeldReplica) × (map.get index.held handle ≡ Some found) × IsKnown chunk block slots disk handle r found

@@ -1,7 +1,7 @@
 //! A digest for each block.
 
 ghost use Rattle.std.specs.Prelude.{◌≡◌, ◌≤◌, ◌*◌, ◌↔◌, length, IfOk, IsTrue};
-ghost use Rattle.store_disk.specs.Digests.{digests_of};
+ghost use Rattle.replica_store.specs.Replicas.{digests_of};
 
 use crate::hashed_block::HashedBlock;
 use std::alloc::{AllocError, Global};

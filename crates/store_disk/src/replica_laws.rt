@@ -54,5 +54,5 @@ pub fn puts_are_stored()
 /// A disk that was formatted has no replicas, and no order was taken.
 pub fn formatted_disks_are_empty()
     ensures { (chunk block slots : ℕ) (disk : List ℕ) → IsFormatted chunk block slots disk
-        → IsDiskOf chunk block slots (record { held = map.empty; free = range_with_len 0 slots }) disk (new_server_disk block) }
+        → IsDiskOf chunk block slots (record { held = map.empty; free = range_with_len 0 slots }) disk (new_server_disk chunk block slots) }
 {}

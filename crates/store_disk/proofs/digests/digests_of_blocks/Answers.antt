@@ -1,5 +1,5 @@
 use Rattle.std.proofs.Common.{◌≡◌, ◌++◌, ap, arith, drop, length, length-drop, ◌∙◌}
-use Rattle.store_disk.specs.Digests.{digests_of}
+use Rattle.replica_store.specs.Replicas.{digests_of}
 use Rattle.store_disk.proofs.Loop.{goes_on, others_left}
 use Rattle.store_disk.proofs.digests.digests_of_blocks.Goals as goal
 

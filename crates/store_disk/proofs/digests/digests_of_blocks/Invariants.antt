@@ -1,5 +1,5 @@
 use Rattle.std.proofs.Common.{◌≡◌, ◌≤◌, ◌-◌, ◌*◌, ◌++◌, length}
-use Rattle.store_disk.specs.Digests.{digests_of}
+use Rattle.replica_store.specs.Replicas.{digests_of}
 use Rattle.store_disk.proofs.digests.digests_of_blocks.Given as goal
 
 abbrev pub invariant-loop : goal.invariant-loop
