@@ -1,2 +1,1 @@
 pub mod Lent
-pub mod Writing

@@ -1,2 +1,1 @@
 pub mod Becoming
-pub mod Growing

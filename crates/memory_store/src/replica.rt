@@ -1,66 +1,68 @@
 //! One replica.
 
-ghost use Rattle.std.specs.Prelude.{◌≡◌, ◌≤◌, ◌+◌, ◌-◌, ◌^◌, ◌<◌, ◌++◌, ◌&&◌, not, nat_le, Some, take, drop, min, length, replicate, IfOk, IsErrOf, OnOk, OnErr};
-ghost use Rattle.std.specs.Str.{bytes_eq};
-ghost use Rattle.replica_store.specs.Replicas.{with_others, bytes_on_disk, block_matches, blocks_match, is_readable, is_writable, read_bytes, read_end, rotten_replica, stored_byte, row_of, stored_replica, written_replica, raised_replica, with_bytes};
+ghost use Rattle.std.specs.Prelude.{◌≡◌, ◌≤◌, ◌+◌, Some, length, replicate, IfOk, IsErrOf, OnOk, OnErr};
+ghost use Rattle.replica_store.specs.Replicas.{block_matches, blocks_match, is_readable, is_writable, own_bytes, read_bytes, read_end, rotten_replica, row_of, stored_replica, written_replica, raised_replica};
 ghost use Rattle.server_store.specs.declared.fault.ReplicaStoreFault.TheVariants as faults;
-ghost use Rattle.sha2.specs.Sha256.{sha256};
-ghost use Rattle.memory_store.specs.Growing.{grown};
 
-use crate::rotten::{has_changed, kept_outside, listed, put_others};
+use crate::blocks::{all_digests, has_digest, renewed, touched};
+use crate::parts::{filled, part_of, put, zeros};
 use bytes::Bytes;
 use gfs_types::ids::{Serial, Version};
 use gfs_types::no_memory::NoMemory;
-use ordered_map::OrderedMap;
 use replica_store::row::Row;
 use server_store::fault::ReplicaStoreFault;
-use sha2::{Digest, Sha256};
 use std::alloc::Global;
 use std::marker::Model;
+use store_disk::HashedBlock;
 
-// The last place that a byte of a replica can have.
-const LAST_PLACE: u64 = 4_294_967_295;
-
-/// The bytes that were stored, and the places whose byte is another one since.
+/// The bytes of a chunk, with the digests of its blocks.
 #[derive(Drop)]
 pub(crate) struct MemoryReplica {
     version: Version,
     serial: Serial,
+    count: u64,
     bytes: Vec<u8>,
-    changed: OrderedMap<u8>,
+    digests: Vec<u8>,
 }
 
 impl Model for MemoryReplica {
-    ghost use Rattle.std.specs.FinMap as map;
     ghost use Rattle.std.specs.Coded.{codes, coded_ℕ};
     ghost use Rattle.replica_store.specs.Replicas.{Replica};
 
     ghost Value = { Replica };
 
-    ghost coded = { Prim.hlevel (codes, map.code, coded_ℕ) };
+    ghost coded = { Prim.hlevel (codes, coded_ℕ) };
 
     ghost view = { λ r. record {
       version = r.version.0;
       serial = r.serial.0;
+      count = r.count;
       bytes = r.bytes.items;
-      changed = r.changed;
+      digests = r.digests.items;
     } };
 }
 
 impl MemoryReplica {
     pub(crate) fn stored(
         alloc: Global,
+        hashed: &mut HashedBlock,
+        chunk: u64,
+        block: u64,
         version: Version,
         serial: Serial,
         bytes: &[u8],
     ) -> Result<MemoryReplica, NoMemory>
-        ensures { IfOk result (λ r. r ≡ stored_replica version.0 serial.0 bytes.now) }
+        requires { 1 ≤ block }
+        ensures { IfOk result (λ r. r ≡ stored_replica chunk block version.0 serial.0 bytes.now) }
     {
+        let all = filled(alloc, bytes, chunk)?;
+        let digests = all_digests(alloc, hashed, chunk, block, all.as_slice())?;
         Ok(MemoryReplica {
             version,
             serial,
-            bytes: Vec::from_slice(alloc, bytes)?,
-            changed: OrderedMap::new(alloc),
+            count: bytes.len() as u64,
+            bytes: all,
+            digests,
         })
     }
 
@@ -76,46 +78,50 @@ impl MemoryReplica {
         Row {
             version: self.version,
             serial: self.serial,
-            count: self.bytes.len() as u64,
+            count: self.count,
         }
     }
 
-    /// The same bytes, as they are on the disk, in a replica of their own.
-    pub(crate) fn copy(&self, alloc: Global, version: Version) -> Result<MemoryReplica, NoMemory>
-        ensures { IfOk result (λ r. r ≡ stored_replica version.0 0 (bytes_on_disk self.now)) }
+    /// A replica of its own with the same bytes.
+    pub(crate) fn copy(
+        &self,
+        alloc: Global,
+        hashed: &mut HashedBlock,
+        chunk: u64,
+        block: u64,
+        version: Version,
+    ) -> Result<MemoryReplica, NoMemory>
+        requires { 1 ≤ block }
+        ensures { IfOk result (λ r. r ≡ stored_replica chunk block version.0 0 (own_bytes self.now)) }
     {
-        Ok(MemoryReplica {
+        MemoryReplica::stored(
+            alloc,
+            hashed,
+            chunk,
+            block,
             version,
-            serial: Serial(0),
-            bytes: self.bytes_on_disk(alloc)?,
-            changed: OrderedMap::new(alloc),
-        })
+            Serial(0),
+            self.own_bytes(),
+        )
     }
 
-    fn bytes_on_disk(&self, alloc: Global) -> Result<Vec<u8>, NoMemory>
-        ensures { IfOk result (λ v. v.items ≡ bytes_on_disk self.now) }
+    fn own_bytes(&self) -> &[u8]
+        ensures { result.now ≡ own_bytes self.now }
     {
-        let others = listed(alloc, &self.changed)?;
-        let mut bytes = Vec::from_slice(alloc, self.bytes.as_slice())?;
-        put_others(&mut bytes, others.as_slice());
-        Ok(bytes)
+        part_of(self.bytes.as_slice(), 0, self.count)
     }
 
     pub(crate) fn read(&self, alloc: Global, offset: u64, count: u64) -> Result<Bytes, NoMemory>
         ensures { IfOk result (λ b. b ≡ read_bytes self.now offset count) }
     {
-        let others = listed(alloc, &self.changed)?;
-        if others.as_slice().is_empty() {
-            return part_of(alloc, self.bytes.as_slice(), offset, count);
-        }
-        let bytes = self.bytes_on_disk(alloc)?;
-        part_of(alloc, bytes.as_slice(), offset, count)
+        let found = part_of(self.own_bytes(), offset, count);
+        Ok(Bytes::copy_from_slice(alloc, found)?)
     }
 
     /// Whether every block that a read touches matches its digest.
     pub(crate) fn is_readable(
         &self,
-        alloc: Global,
+        hashed: &mut HashedBlock,
         block: u64,
         offset: u64,
         count: u64,
@@ -129,44 +135,62 @@ impl MemoryReplica {
         if end <= offset {
             return Ok(true);
         }
-        self.blocks_match(alloc, block, offset, end)
+        self.blocks_match(hashed, block, offset, end)
     }
 
     fn read_end(&self, offset: u64, count: u64) -> u64
         ensures { result ≡ read_end self.now offset count }
     {
-        offset.saturating_add(count).min(self.bytes.len() as u64)
+        offset.saturating_add(count).min(self.count)
     }
 
     fn blocks_match(
         &self,
-        alloc: Global,
+        hashed: &mut HashedBlock,
         block: u64,
-        first: u64,
+        offset: u64,
         end: u64,
     ) -> Result<bool, ReplicaStoreFault>
         requires size { 1 ≤ block }
         requires some { 1 ≤ end }
-        ensures value { IfOk result (λ b. b ≡ blocks_match block self.now first end) }
+        ensures value { IfOk result (λ b. b ≡ blocks_match block self.now offset end) }
         ensures disk { IsErrOf result faults.DiskFailed → ⊥ }
         ensures undamaged { IsErrOf result faults.Damaged → ⊥ }
     {
-        let others = listed(alloc, &self.changed)?;
+        let first = offset / block;
+        let count = touched(block, offset, end);
         let mut matches = true;
-        for (place, _) in others.as_slice() {
-            let number = *place / block;
-            let differs = self.mismatches(alloc, block, number, first / block, (end - 1) / block)?;
-            if differs {
-                matches = false;
-            }
+        for done in 0..count {
+            let number = first.checked_add(done).ok_or(ReplicaStoreFault::NoRoom)?;
+            let is_same = self.block_matches(hashed, block, number)?;
+            matches = matches && is_same;
         }
         Ok(matches)
+    }
+
+    fn block_matches(
+        &self,
+        hashed: &mut HashedBlock,
+        block: u64,
+        number: u64,
+    ) -> Result<bool, ReplicaStoreFault>
+        ensures value { IfOk result (λ b. b ≡ block_matches block self.now number) }
+        ensures disk { IsErrOf result faults.DiskFailed → ⊥ }
+        ensures undamaged { IsErrOf result faults.Damaged → ⊥ }
+    {
+        has_digest(
+            hashed,
+            block,
+            self.bytes.as_slice(),
+            self.digests.as_slice(),
+            number,
+        )
     }
 
     /// Whether the first and the last block of a range match their digests, where part of them is written over.
     pub(crate) fn is_writable(
         &self,
-        alloc: Global,
+        hashed: &mut HashedBlock,
         block: u64,
         offset: u64,
         end: u64,
@@ -180,83 +204,17 @@ impl MemoryReplica {
             return Ok(true);
         }
         Ok(
-            self.block_matches(alloc, block, offset / block)?
-                && self.block_matches(alloc, block, (end - 1) / block)?,
+            self.block_matches(hashed, block, offset / block)?
+                && self.block_matches(hashed, block, (end - 1) / block)?,
         )
     }
 
-    fn block_matches(
-        &self,
-        alloc: Global,
-        block: u64,
-        number: u64,
-    ) -> Result<bool, ReplicaStoreFault>
-        requires { 1 ≤ block }
-        ensures value { IfOk result (λ b. b ≡ block_matches block self.now number) }
-        ensures disk { IsErrOf result faults.DiskFailed → ⊥ }
-        ensures undamaged { IsErrOf result faults.Damaged → ⊥ }
-    {
-        let others = listed(alloc, &self.changed)?;
-        if !has_changed(others.as_slice(), block, number) {
-            return Ok(true);
-        }
-        let start = number.checked_mul(block).ok_or(ReplicaStoreFault::NoRoom)?;
-        let matches = digests_match(
-            alloc,
-            self.bytes.as_slice(),
-            others.as_slice(),
-            start,
-            block,
-        )?;
-        Ok(matches)
-    }
-
-    // Whether the block is between these two and doesn't match.
-    fn mismatches(
-        &self,
-        alloc: Global,
-        block: u64,
-        number: u64,
-        first: u64,
-        last: u64,
-    ) -> Result<bool, ReplicaStoreFault>
-        requires { 1 ≤ block }
-        ensures value { IfOk result (λ b. b ≡ (nat_le first number && nat_le number last && not (block_matches block self.now number))) }
-        ensures disk { IsErrOf result faults.DiskFailed → ⊥ }
-        ensures undamaged { IsErrOf result faults.Damaged → ⊥ }
-    {
-        if number < first || last < number {
-            return Ok(false);
-        }
-        let matches = self.block_matches(alloc, block, number)?;
-        Ok(!matches)
-    }
-
-    /// A byte becomes another, past its digest. NoRoom: the place is past each that a replica in memory can have. At an error nothing changed.
-    pub(crate) fn rot(&mut self, place: u64, byte: u8) -> Result<(), ReplicaStoreFault>
-        ensures ok { OnOk result (self.new ≡ rotten_replica self.old place byte) }
-        ensures err { OnErr result (self.new ≡ self.old) }
-        ensures disk { IsErrOf result faults.DiskFailed → ⊥ }
-        ensures undamaged { IsErrOf result faults.Damaged → ⊥ }
-    {
-        if place > LAST_PLACE {
-            return Err(ReplicaStoreFault::NoRoom);
-        }
-        if self.stored_byte(place) == byte {
-            self.changed.remove(place);
-            return Ok(());
-        }
-        self.changed.insert(place, byte)?;
-        Ok(())
-    }
-
-    fn stored_byte(&self, place: u64) -> u8
-        ensures { result ≡ stored_byte self.now place }
+    /// A byte becomes another, past its digest.
+    pub(crate) fn rot(&mut self, place: u64, byte: u8)
+        ensures { self.new ≡ rotten_replica self.old place byte }
     {
         if place < self.bytes.len() as u64 {
-            self.bytes[place as usize]
-        } else {
-            0
+            self.bytes[place as usize] = byte;
         }
     }
 
@@ -264,46 +222,72 @@ impl MemoryReplica {
     pub(crate) fn write(
         &mut self,
         alloc: Global,
+        hashed: &mut HashedBlock,
+        block: u64,
         serial: Serial,
         offset: u64,
         content: &[u8],
     ) -> Result<(), ReplicaStoreFault>
-        ensures ok { OnOk result (self.new ≡ written_replica self.old serial.0 offset content.now) }
+        requires { 1 ≤ block }
+        ensures ok { OnOk result (self.new ≡ written_replica block self.old serial.0 offset content.now) }
         ensures err { OnErr result (self.new ≡ self.old) }
         ensures disk { IsErrOf result faults.DiskFailed → ⊥ }
         ensures undamaged { IsErrOf result faults.Damaged → ⊥ }
     {
-        let end = offset
-            .checked_add(content.len() as u64)
-            .ok_or(ReplicaStoreFault::NoRoom)?;
-        let others = listed(alloc, &self.changed)?;
-        let changed = kept_outside(alloc, others.as_slice(), offset, end)?;
-        write_over(&mut self.bytes, offset, content)?;
-        self.changed = changed;
+        let end = self.end_of(offset, content.len() as u64)?;
+        let mut bytes = Vec::from_slice(alloc, self.bytes.as_slice())?;
+        put(&mut bytes, offset as usize, content);
+        let digests = renewed(
+            alloc,
+            hashed,
+            block,
+            self.digests.as_slice(),
+            bytes.as_slice(),
+            offset,
+            end,
+        )?;
+        self.bytes = bytes;
+        self.digests = digests;
         self.serial = serial;
+        if self.count < end {
+            self.count = end;
+        }
         Ok(())
+    }
+
+    // Where a range ends that lies in the chunk.
+    fn end_of(&self, offset: u64, count: u64) -> Result<u64, ReplicaStoreFault>
+        ensures end_place { IfOk result (λ e. e ≡ offset + count) }
+        ensures within { IfOk result (λ e. e ≤ length self.now.bytes) }
+        ensures disk { IsErrOf result faults.DiskFailed → ⊥ }
+        ensures undamaged { IsErrOf result faults.Damaged → ⊥ }
+    {
+        let end = offset.checked_add(count).ok_or(ReplicaStoreFault::NoRoom)?;
+        if (self.bytes.len() as u64) < end {
+            return Err(ReplicaStoreFault::NoRoom);
+        }
+        Ok(end)
     }
 
     /// The same with zeros.
     pub(crate) fn zero(
         &mut self,
         alloc: Global,
+        hashed: &mut HashedBlock,
+        block: u64,
         serial: Serial,
         offset: u64,
         count: u64,
     ) -> Result<(), ReplicaStoreFault>
-        ensures ok { OnOk result (self.new ≡ written_replica self.old serial.0 offset (replicate count 0)) }
+        requires { 1 ≤ block }
+        ensures ok { OnOk result (self.new ≡ written_replica block self.old serial.0 offset (replicate count 0)) }
         ensures err { OnErr result (self.new ≡ self.old) }
         ensures disk { IsErrOf result faults.DiskFailed → ⊥ }
         ensures undamaged { IsErrOf result faults.Damaged → ⊥ }
     {
-        let end = offset.checked_add(count).ok_or(ReplicaStoreFault::NoRoom)?;
-        let others = listed(alloc, &self.changed)?;
-        let changed = kept_outside(alloc, others.as_slice(), offset, end)?;
-        zero_over(&mut self.bytes, offset, end)?;
-        self.changed = changed;
-        self.serial = serial;
-        Ok(())
+        let _end = self.end_of(offset, count)?;
+        let zeros = zeros(alloc, count)?;
+        self.write(alloc, hashed, block, serial, offset, zeros.as_slice())
     }
 
     /// A new version begins, and serials with it.
@@ -313,94 +297,4 @@ impl MemoryReplica {
         self.version = version;
         self.serial = Serial(0);
     }
-}
-
-// Whether so many bytes from a place on, filled with zeros, have the same digest with the others in them.
-fn digests_match(
-    alloc: Global,
-    stored: &[u8],
-    others: &[(u64, u8)],
-    start: u64,
-    count: u64,
-) -> Result<bool, ReplicaStoreFault>
-    ensures value { IfOk result (λ b. b ≡ bytes_eq (sha256 (take count (drop start (with_others others.now (grown stored.now (start + count)))))) (sha256 (take count (drop start (grown stored.now (start + count)))))) }
-    ensures disk { IsErrOf result faults.DiskFailed → ⊥ }
-    ensures undamaged { IsErrOf result faults.Damaged → ⊥ }
-{
-    let end = start.checked_add(count).ok_or(ReplicaStoreFault::NoRoom)?;
-    let mut bytes = Vec::from_slice(alloc, stored)?;
-    grow(&mut bytes, end)?;
-    let stored = Sha256::digest(block_of(bytes.as_slice(), start, count));
-    put_others(&mut bytes, others);
-    let found = Sha256::digest(block_of(bytes.as_slice(), start, count));
-    Ok(found.as_slice() == stored.as_slice())
-}
-
-// At most so many bytes from a place on.
-fn part_of(alloc: Global, bytes: &[u8], offset: u64, count: u64) -> Result<Bytes, NoMemory>
-    ensures { IfOk result (λ b. b ≡ take count (drop offset bytes.now)) }
-{
-    let rest = &bytes[index_within(offset, bytes.len())..];
-    let found = &rest[..index_within(count, rest.len())];
-    Ok(Bytes::copy_from_slice(alloc, found)?)
-}
-
-fn block_of(bytes: &[u8], start: u64, count: u64) -> &[u8]
-    requires { start + count ≤ length bytes.now }
-    ensures { result.now ≡ take count (drop start bytes.now) }
-{
-    let (start, count) = (start as usize, count as usize);
-    &bytes[start..][..count]
-}
-
-fn index_within(n: u64, len: usize) -> usize
-    ensures { result ≡ min n len }
-{
-    if n < len as u64 { n as usize } else { len }
-}
-
-fn write_over(stored: &mut Vec<u8>, offset: u64, content: &[u8]) -> Result<(), NoMemory>
-    requires { offset + length content.now < 2 ^ 64 }
-    ensures ok { OnOk result (stored.new.items ≡ with_bytes stored.old.items offset content.now) }
-    ensures err { OnErr result (stored.new.items ≡ stored.old.items) }
-{
-    grow(stored, offset + content.len() as u64)?;
-    put(stored, offset as usize, content);
-    Ok(())
-}
-
-fn zero_over(stored: &mut Vec<u8>, offset: u64, end: u64) -> Result<(), NoMemory>
-    requires { offset ≤ end }
-    ensures ok { OnOk result (stored.new.items ≡ with_bytes stored.old.items offset (replicate (end - offset) 0)) }
-    ensures err { OnErr result (stored.new.items ≡ stored.old.items) }
-{
-    grow(stored, end)?;
-    put_zeros(stored, offset as usize, end as usize);
-    Ok(())
-}
-
-fn put_zeros(stored: &mut Vec<u8>, offset: usize, end: usize)
-    requires order { offset ≤ end }
-    requires size { end ≤ length stored.old.items }
-    ensures { stored.new.items ≡ take offset stored.old.items ++ replicate (end - offset) 0 ++ drop end stored.old.items }
-{
-    stored[offset..end].fill(0);
-}
-
-// Zeros at the end, up to a length. At an error nothing changed.
-fn grow(stored: &mut Vec<u8>, end: u64) -> Result<(), NoMemory>
-    ensures ok { OnOk result (stored.new.items ≡ grown stored.old.items end) }
-    ensures err { OnErr result (stored.new.items ≡ stored.old.items) }
-{
-    if (stored.len() as u64) < end {
-        stored.resize(end as usize, 0)?;
-    }
-    Ok(())
-}
-
-fn put(stored: &mut Vec<u8>, offset: usize, content: &[u8])
-    requires { offset + length content.now ≤ length stored.old.items }
-    ensures { stored.new.items ≡ take offset stored.old.items ++ content.now ++ drop (offset + length content.now) stored.old.items }
-{
-    stored[offset..offset + content.len()].copy_from_slice(content);
 }

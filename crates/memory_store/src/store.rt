@@ -18,16 +18,21 @@ use ordered_map::OrderedMap;
 use replica_store::change::StoreChange;
 use replica_store::row::Row;
 use server_store::fault::ReplicaStoreFault;
+use server_store::reopened_store::ReopenedStore;
 use server_store::store::ReplicaStore;
 use std::alloc::Global;
 use std::marker::Model;
+use store_disk::HashedBlock;
 
-/// A server's replicas in memory. Each call takes O(log n) of the replicas and what the bytes that it touches take; a replica of which bytes
-/// rotted is read whole.
+/// A server's replicas in memory, each with all bytes of its chunk. A call takes O(log n) of the replicas and what the blocks that it touches
+/// take; one that changes bytes takes what the chunk takes.
 #[derive(Drop)]
 pub struct MemoryStore {
     alloc: Global,
+    chunk: u64,
     block: u64,
+    slots: u32,
+    hashed: HashedBlock,
     order: OrderNo,
     replicas: ReplicaTable,
     under_way: Option<StoreChange>,
@@ -47,7 +52,9 @@ impl Model for MemoryStore {
 
     ghost view = { λ s. (
       record {
+        chunk = s.chunk;
         block = s.block;
+        slots = s.slots;
         epoch = s.order.epoch;
         count = s.order.count;
         replicas = s.replicas;
@@ -59,14 +66,17 @@ impl Model for MemoryStore {
 }
 
 impl MemoryStore {
-    /// An empty store, with blocks of so many bytes.
-    pub fn new(alloc: Global, block: u32) -> MemoryStore
+    /// An empty store, with chunks and blocks of so many bytes, for so many replicas.
+    pub fn new(alloc: Global, chunk: u32, block: u32, slots: u32) -> MemoryStore
         requires { 1 ≤ block }
-        ensures { result ≡ (new_server_disk block, []) }
+        ensures { result ≡ (new_server_disk chunk block slots, []) }
     {
         MemoryStore {
             alloc,
+            chunk: u64::from(chunk),
             block: u64::from(block),
+            slots,
+            hashed: HashedBlock::new(alloc),
             order: OrderNo { epoch: 0, count: 0 },
             replicas: OrderedMap::new(alloc),
             under_way: None,
@@ -87,7 +97,7 @@ impl MemoryStore {
         ensures disk { IsErrOf result faults.DiskFailed → ⊥ }
         ensures undamaged { IsErrOf result faults.Damaged → ⊥ }
     {
-        let alloc = self.alloc;
+        let (alloc, chunk, block) = (self.alloc, self.chunk, self.block);
         match change {
             StoreChange::SetOrder(order) => {
                 self.order = *order;
@@ -99,7 +109,15 @@ impl MemoryStore {
                 serial,
                 bytes,
             } => {
-                let replica = MemoryReplica::stored(alloc, *version, *serial, bytes.as_slice())?;
+                let replica = MemoryReplica::stored(
+                    alloc,
+                    &mut self.hashed,
+                    chunk,
+                    block,
+                    *version,
+                    *serial,
+                    bytes.as_slice(),
+                )?;
                 self.replicas.insert(handle.0, replica)?;
                 Ok(())
             }
@@ -111,6 +129,8 @@ impl MemoryStore {
             } => write(
                 &mut self.replicas,
                 alloc,
+                &mut self.hashed,
+                block,
                 handle.0,
                 *serial,
                 *offset,
@@ -124,6 +144,8 @@ impl MemoryStore {
             } => zero(
                 &mut self.replicas,
                 alloc,
+                &mut self.hashed,
+                block,
                 handle.0,
                 *serial,
                 *offset,
@@ -137,9 +159,26 @@ impl MemoryStore {
                 handle,
                 copy: other,
                 version,
-            } => Ok(copy(&mut self.replicas, alloc, handle.0, other.0, *version)?),
+            } => Ok(copy(
+                &mut self.replicas,
+                alloc,
+                &mut self.hashed,
+                chunk,
+                block,
+                handle.0,
+                other.0,
+                *version,
+            )?),
             StoreChange::Remove(handle) => {
                 self.replicas.remove(handle.0);
+                Ok(())
+            }
+            StoreChange::Rot {
+                handle,
+                place,
+                byte,
+            } => {
+                rot(&mut self.replicas, handle.0, *place, *byte);
                 Ok(())
             }
         }
@@ -181,18 +220,18 @@ impl ReplicaStore for MemoryStore {
         offset: u64,
         end: u64,
     ) -> Result<bool, ReplicaStoreFault> {
-        match self.replica(handle) {
+        match self.replicas.get(handle.0) {
             None => Ok(true),
-            Some(replica) => Ok(replica.is_writable(self.alloc, self.block, offset, end)?),
+            Some(replica) => replica.is_writable(&mut self.hashed, self.block, offset, end),
         }
     }
 
     fn is_copyable(&mut self, handle: Handle) -> Result<bool, ReplicaStoreFault> {
-        match self.replica(handle) {
+        match self.replicas.get(handle.0) {
             None => Ok(false),
             Some(replica) => {
                 let count = replica.row().count;
-                Ok(replica.is_readable(self.alloc, self.block, 0, count)?)
+                replica.is_readable(&mut self.hashed, self.block, 0, count)
             }
         }
     }
@@ -204,10 +243,10 @@ impl ReplicaStore for MemoryStore {
         offset: u64,
         count: u64,
     ) -> Result<Option<Bytes>, ReplicaStoreFault> {
-        let Some(replica) = self.replica(handle) else {
+        let Some(replica) = self.replicas.get(handle.0) else {
             return Ok(None);
         };
-        if !replica.is_readable(alloc, self.block, offset, count)? {
+        if !replica.is_readable(&mut self.hashed, self.block, offset, count)? {
             return Ok(None);
         }
         Ok(Some(replica.read(alloc, offset, count)?))
@@ -220,14 +259,12 @@ impl ReplicaStore for MemoryStore {
         }
         Ok(())
     }
+}
 
+impl ReopenedStore for MemoryStore {
     fn reopen(&mut self) -> Result<(), ReplicaStoreFault> {
         self.under_way = None;
         Ok(())
-    }
-
-    fn rot(&mut self, handle: Handle, place: u64, byte: u8) -> Result<(), ReplicaStoreFault> {
-        rot(&mut self.replicas, handle.0, place, byte)
     }
 }
 

@@ -4,7 +4,7 @@ use Rattle.memory_store.proofs.table.write.Goals as goal
 
 pub returns-in_ok-write-clause-ok : goal.returns-in_ok-write-clause-ok
 returns-in_ok-write-clause-ok c =
-    becomes_lent c.args.replicas.now c.args.handle (λ r. written_replica r c.args.serial.0 c.args.offset c.args.content.now) c.get_mut.result c.in-Some.replica _ _
+    becomes_lent c.args.replicas.now c.args.handle (λ r. written_replica c.args.block r c.args.serial.0 c.args.offset c.args.content.now) c.get_mut.result c.in-Some.replica _ _
     c.in-Some.is (c.get_mut.follows.holds _) c.in-Some.ensures.value c.in_ok-write.ensures.ok
 
 pub returns-in_err-write-clause-err : goal.returns-in_err-write-clause-err

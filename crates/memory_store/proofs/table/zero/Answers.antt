@@ -5,7 +5,7 @@ use Rattle.memory_store.proofs.table.zero.Goals as goal
 
 pub returns-in_ok-zero-clause-ok : goal.returns-in_ok-zero-clause-ok
 returns-in_ok-zero-clause-ok c =
-    becomes_lent c.args.replicas.now c.args.handle (λ r. written_replica r c.args.serial.0 c.args.offset (replicate c.args.count 0)) c.get_mut.result c.in-Some.replica _ _
+    becomes_lent c.args.replicas.now c.args.handle (λ r. written_replica c.args.block r c.args.serial.0 c.args.offset (replicate c.args.count 0)) c.get_mut.result c.in-Some.replica _ _
     c.in-Some.is (c.get_mut.follows.holds _) c.in-Some.ensures.value c.in_ok-zero.ensures.ok
 
 pub returns-in_err-zero-clause-err : goal.returns-in_err-zero-clause-err

@@ -1,8 +1,9 @@
-use Rattle.std.proofs.Common.{◌≡◌, ◌-◌, ◌/◌, ◌&&◌, not, nat_le, take}
-use Rattle.std.specs.List.{list_any}
-use Rattle.replica_store.specs.Replicas.{block_matches}
+use Rattle.std.proofs.Common.{◌≡◌, ◌+◌, ◌-◌, ◌&&◌, not}
+use Rattle.std.specs.List.{list_any, range_with_len}
+use Rattle.replica_store.specs.Replicas.{block_matches, blocks_match}
 use Rattle.memory_store.proofs.replica.MemoryReplica.blocks_match.Given as goal
 
-abbrev pub invariant-loop-place : goal.invariant-loop-place
-invariant-loop-place l =
-    l.matches ≡ not (list_any (λ e. nat_le (l.first / l.block) (e.0 / l.block) && nat_le (e.0 / l.block) ((l.end - 1) / l.block) && not (block_matches l.block l.self (e.0 / l.block))) (take l.place-index l.place-items))
+-- the blocks that are left complete the answer
+abbrev pub invariant-loop-done : goal.invariant-loop-done
+invariant-loop-done l =
+    l.matches && not (list_any (λ n. not (block_matches l.block l.self n)) (range_with_len (l.first + l.done) (l.count - l.done))) ≡ blocks_match l.block l.self l.offset l.end
