@@ -1,38 +1,16 @@
 -- Blocks that are read with their digests.
-use Rattle.std.proofs.Common.{◌≡◌, ◌↔◌, ℕ, suc, ◌+◌, ◌-◌, ◌*◌, ◌/◌, ◌≤◌, Bool, true, false, if◌then◌else◌, List, ◌++◌, length, take, drop, refl, sym, ap, ◌∙◌, arith, None, Some}
+use Rattle.std.proofs.Common.{◌≡◌, ◌↔◌, ℕ, suc, ◌+◌, ◌-◌, ◌*◌, ◌/◌, ◌≤◌, Bool, true, false, if◌then◌else◌, List, length, drop, refl, sym, ap, ◌∙◌, arith, None, Some}
 use native.Mathlib.Nat.{add-mul, suc-mul}
 use Rattle.std.proofs.Math.Nat.{div-mul-le_self}
-use Rattle.std.proofs.lemmas.List.{drop_at, take_at}
 use Rattle.std.proofs.lemmas.Nat.{div-mul-add, mul-le}
-use Rattle.store_disk.specs.Digests.{digests_of}
 use Rattle.disk.specs.Bytes.{range_at}
 use Rattle.disk_redo.proofs.Ranges.{range_range}
-use Rattle.store_disk.specs.Blocks.{chunk_on_disk}
-use Rattle.store_disk.proofs.BlockDigests.{digests_front, digests_split, length_digests}
+use Rattle.store_disk.proofs.BlockDigests.{digests_front}
 use Rattle.store_disk.proofs.Runs.{run_is, touched_is}
-use Rattle.replica_store.specs.Replicas.{Replica, blocks_match, filled_to}
+use Rattle.replica_store.specs.Replicas.{Replica, blocks_match, digests_of}
 use Rattle.store_disk.specs.Places.{blocks_of, data_place, digests_place, slot_place, slot_size}
 use Rattle.store_changes.specs.Reading.{checked_part}
 use Rattle.store_disk.specs.Stored.{Holds}
-
--- a run of digests
-pub digests_part : (block first count behind : ℕ) (xs : List ℕ) → range_at (digests_of block (first + (count + behind)) xs) (32 * first) (32 * count) ≡ digests_of block count (drop (first * block) xs)
-digests_part block first count behind xs =
-    let one = digests_of block first xs in
-    let two = digests_of block count (drop (first * block) xs) in
-    let three = digests_of block behind (drop (count * block) (drop (first * block) xs)) in
-    ap (λ (l : List ℕ). range_at l (32 * first) (32 * count)) (digests_split block first (count + behind) xs ∙ ap (λ (l : List ℕ). one ++ l) (digests_split block count behind (drop (first * block) xs)))
-    ∙ ap (λ (l : List ℕ). take (32 * count) l) (drop_at one (two ++ three) (32 * first) (length_digests block first xs))
-    ∙ take_at two three (32 * count) (length_digests block count (drop (first * block) xs))
-
-by_test : (b : Bool) {P Q : Type 0} → (P → Q) → ((b ≡ true) → P) → (b ≡ true) → Q
-by_test b go from is = go (from is)
-
-both_true : (a b : Bool) → (a ≡ true → b ≡ true) → (b ≡ true → a ≡ true) → a ≡ b
-both_true true true to from = refl
-both_true true false to from = sym (to refl)
-both_true false true to from = from refl
-both_true false false to from = refl
 
 module _ (chunk block : ℕ) (disk : List ℕ) (slot handle : ℕ) (r : Replica) (positive : 1 ≤ block) (room : slot_place chunk block slot + slot_size chunk block ≤ length disk) (h : Holds chunk block disk slot handle r) where
   module _ (first count : ℕ) (some : 1 ≤ count) (fits : first + count ≤ blocks_of chunk block) where
@@ -45,7 +23,7 @@ module _ (chunk block : ℕ) (disk : List ℕ) (slot handle : ℕ) (r : Replica)
     parts = add-mul first count block
 
     -- the bytes of the run
-    pub bytes_are : range_at disk (data_place chunk block slot + first * block) (count * block) ≡ range_at (chunk_on_disk chunk r) (first * block) ((first + count) * block - first * block)
+    pub bytes_are : range_at disk (data_place chunk block slot + first * block) (count * block) ≡ range_at r.bytes (first * block) ((first + count) * block - first * block)
     bytes_are =
         let at = data_place chunk block slot in
         let to = at + first * block in
@@ -54,21 +32,18 @@ module _ (chunk block : ℕ) (disk : List ℕ) (slot handle : ℕ) (r : Replica)
         sym (range_range disk at chunk to (count * block) (omega (arith, room)) (omega arith) (omega (arith, run_fits, parts)))
         ∙ ap (λ (k : ℕ). range_at (range_at disk at chunk) k (count * block)) off
         ∙ ap (λ (l : List ℕ). range_at l (first * block) (count * block)) h.bytes
-        ∙ ap (λ (k : ℕ). range_at (chunk_on_disk chunk r) (first * block) k) (sym size)
+        ∙ ap (λ (k : ℕ). range_at r.bytes (first * block) k) (sym size)
 
     -- and their digests
-    digests_are : range_at disk (digests_place chunk block slot + 32 * first) (32 * count) ≡ digests_of block count (drop (first * block) (filled_to chunk r.bytes))
+    digests_are : range_at disk (digests_place chunk block slot + 32 * first) (32 * count) ≡ range_at r.digests (32 * first) (32 * count)
     digests_are =
         let at = digests_place chunk block slot in
         let k = blocks_of chunk block in
         let to = at + 32 * first in
         let off : to - at ≡ 32 * first = omega arith in
-        let behind = k - (first + count) in
-        let all : first + (count + behind) ≡ k = omega (arith, fits) in
         sym (range_range disk at (32 * k) to (32 * count) (omega (arith, room)) (omega arith) (omega (arith, fits)))
         ∙ ap (λ (n : ℕ). range_at (range_at disk at (32 * k)) n (32 * count)) off
-        ∙ ap (λ (l : List ℕ). range_at l (32 * first) (32 * count)) (h.digests ∙ ap (λ (n : ℕ). digests_of block n (filled_to chunk r.bytes)) (sym all))
-        ∙ digests_part block first count behind (filled_to chunk r.bytes)
+        ∙ ap (λ (l : List ℕ). range_at l (32 * first) (32 * count)) h.digests
 
     -- the first and the last block of the run
     first_is : first * block / block ≡ first
@@ -87,24 +62,24 @@ module _ (chunk block : ℕ) (disk : List ℕ) (slot handle : ℕ) (r : Replica)
         let from = first * block in
         let to = (first + count) * block in
         let size : to - from ≡ count * block = omega (arith, parts) in
-        let read : digests_of block count (range_at disk (data_place chunk block slot + from) (count * block)) ≡ digests_of block count (drop from (chunk_on_disk chunk r)) =
-        ap (λ (l : List ℕ). digests_of block count l) (bytes_are ∙ ap (λ (k : ℕ). range_at (chunk_on_disk chunk r) from k) size) ∙ digests_front block count (drop from (chunk_on_disk chunk r)) in
-        let run = run_is chunk block r positive first count run_fits in
-        let touched = touched_is block r (from / block) ((to - 1) / block) in (
+        let read : digests_of block count (range_at disk (data_place chunk block slot + from) (count * block)) ≡ digests_of block count (drop from r.bytes) =
+        ap (λ (l : List ℕ). digests_of block count l) (bytes_are ∙ ap (λ (k : ℕ). range_at r.bytes from k) size) ∙ digests_front block count (drop from r.bytes) in
+        let run = run_is block r first count in
+        let touched = touched_is block r from to in (
           λ same. touched.1 (λ n low high. run.0 (sym read ∙ same ∙ digests_are) n (omega (arith, low, first_is)) (omega (arith, high, last_is, some))),
           λ is. read ∙ run.1 (λ n low high. touched.0 is n (omega (arith, low, first_is)) (omega (arith, high, last_is))) ∙ sym digests_are,
         )
 
     pub run_matches : digests_of block count (range_at disk (data_place chunk block slot + first * block) (count * block)) ≡ range_at disk (digests_place chunk block slot + 32 * first) (32 * count)
-        → Some (range_at disk (data_place chunk block slot + first * block) (count * block)) ≡ checked_part chunk block r (first * block) ((first + count) * block)
+        → Some (range_at disk (data_place chunk block slot + first * block) (count * block)) ≡ checked_part block r (first * block) ((first + count) * block)
     run_matches same =
         ap (λ (l : List ℕ). Some l) bytes_are
-        ∙ sym (ap (λ b. if b then Some (range_at (chunk_on_disk chunk r) (first * block) ((first + count) * block - first * block)) else None) (matches_is.0 same))
+        ∙ sym (ap (λ b. if b then Some (range_at r.bytes (first * block) ((first + count) * block - first * block)) else None) (matches_is.0 same))
 
     pub run_fails : (digests_of block count (range_at disk (data_place chunk block slot + first * block) (count * block)) ≡ range_at disk (digests_place chunk block slot + 32 * first) (32 * count) → ⊥)
-        → None ≡ checked_part chunk block r (first * block) ((first + count) * block)
+        → None ≡ checked_part block r (first * block) ((first + count) * block)
     run_fails other = by (blocks_match block r (first * block) ((first + count) * block)) refl
       where
-        by : (b : Bool) → blocks_match block r (first * block) ((first + count) * block) ≡ b → None ≡ (if b then Some (range_at (chunk_on_disk chunk r) (first * block) ((first + count) * block - first * block)) else None)
+        by : (b : Bool) → blocks_match block r (first * block) ((first + count) * block) ≡ b → None ≡ (if b then Some (range_at r.bytes (first * block) ((first + count) * block - first * block)) else None)
         by true is = absurd (other (matches_is.1 is))
         by false is = refl

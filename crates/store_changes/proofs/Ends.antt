@@ -1,29 +1,13 @@
 -- The blocks that a range touches, once it is written over.
-use Rattle.std.proofs.Common.{◌≡◌, ◌⊎◌, inl, inr, ℕ, suc, ◌+◌, ◌-◌, ◌*◌, ◌/◌, ◌%◌, ◌<◌, ◌≤◌, Bool, true, false, ◌&&◌, ◌||◌, ◌==◌, List, [], ◌++◌, length, take, drop, refl, sym, ap, ◌∙◌, arith}
-use Rattle.std.specs.Prelude.{nat_le}
+use Rattle.std.proofs.Common.{◌≡◌, inl, inr, ℕ, suc, ◌+◌, ◌-◌, ◌*◌, ◌/◌, ◌%◌, ◌<◌, ◌≤◌, List, ◌++◌, length, take, drop, sym, ap, ◌∙◌, arith}
 use native.Mathlib.Nat.{add-mul, suc-mul}
 use Rattle.std.proofs.Math.Nat.{div-mul-le_self, lt-div-mul-add}
 use Rattle.std.proofs.lemmas.Bool.{cases_lt}
-use Rattle.std.proofs.lemmas.Bool.Decides.{nat_tests}
-use Rattle.std.proofs.lemmas.List.{drop_all, length-take}
 use Rattle.std.proofs.lemmas.Nat.{div-add-mod', div-mul-add, mul-le}
-use Rattle.store_disk.specs.Digests.{digests_of}
-use Rattle.store_disk.specs.Blocks.{IsNoticed, chunk_on_disk}
 use Rattle.store_disk.proofs.BlockDigests.{digests_front}
-use Rattle.store_disk.proofs.BlockPuts.{length_filled}
-use Rattle.store_disk.proofs.Runs.{disk_block, own_block}
 use Rattle.store_disk.proofs.Touched.{part_after, part_before, run_then}
-use Rattle.store_disk.proofs.Written.{stored_written}
-use Rattle.replica_store.specs.Replicas.{Replica, block_matches, filled_to, is_writable, with_bytes}
-use Rattle.store_changes.specs.Edging.{block_at, edges_around}
-
-or_cases : (a b : Bool) → (a || b) ≡ true → (a ≡ true) ⊎ (b ≡ true)
-or_cases true b e = inl refl
-or_cases false b e = inr e
-
-and_both : (a b : Bool) → (a && b) ≡ true → (a ≡ true) × (b ≡ true)
-and_both true b e = (refl, e)
-and_both false b e = absurd cc
+use Rattle.replica_store.specs.Replicas.{Replica, digests_of, written_over}
+use Rattle.store_changes.specs.Edging.{edges_around}
 
 -- a place at which a block ends
 pub block_end : (block place : ℕ) → 1 ≤ block → 1 ≤ place → place % block ≡ 0 → place ≡ (place - 1) / block * block + block
@@ -44,7 +28,7 @@ block_end block place positive some even =
     none_is : (q : ℕ) → q ≤ 0 → q ≡ 0
     none_is q le = omega (arith, le)
 
-module _ (chunk block : ℕ) (r : Replica) (offset : ℕ) (content : List ℕ) (positive : 1 ≤ block) (even : chunk % block ≡ 0) (short : length r.bytes ≤ chunk) (some : 1 ≤ length content) (fits : offset + length content ≤ chunk) where
+module _ (chunk block : ℕ) (r : Replica) (offset : ℕ) (content : List ℕ) (positive : 1 ≤ block) (even : chunk % block ≡ 0) (long : length r.bytes ≡ chunk) (some : 1 ≤ length content) (fits : offset + length content ≤ chunk) where
   abbrev end_place : ℕ
   end_place = offset + length content
 
@@ -59,9 +43,6 @@ module _ (chunk block : ℕ) (r : Replica) (offset : ℕ) (content : List ℕ) (
 
   abbrev to : ℕ
   to = last * block + block
-
-  abbrev stored : List ℕ
-  stored = filled_to chunk r.bytes
 
   low : from ≤ offset
   low = div-mul-le_self offset block
@@ -107,60 +88,15 @@ module _ (chunk block : ℕ) (r : Replica) (offset : ℕ) (content : List ℕ) (
   pub run_within : first + count ≤ chunk / block
   run_within = omega (arith, first_last, last_within)
 
-  pub run_end : (first + count) * block ≡ to
-  run_end =
-      let all : first + count ≡ suc last = omega (arith, first_last) in
-      ap (λ (n : ℕ). n * block) all ∙ omega (arith, suc-mul last block)
-
-  -- a block that matches is as it was stored
-  kept : IsNoticed block r → (n : ℕ) → n * block + block ≤ chunk → block_matches block r n ≡ true → block_at chunk block r n ≡ take block (drop (n * block) stored)
-  kept noticed n room is = sym (disk_block chunk block r n room) ∙ noticed n is ∙ own_block chunk block r n room
-
-  -- what stays of the first block, and of the last one
-  edges_stored : is_writable block r offset end_place ≡ true → IsNoticed block r
-      → ((edges_around chunk block r offset end_place).before ≡ take (offset % block) (take block (drop from stored)))
-      × ((edges_around chunk block r offset end_place).after ≡ drop (end_place - last * block) (take block (drop (last * block) stored)))
-  edges_stored is noticed = elim (or_cases (nat_le end_place offset || ((offset % block) == 0) && ((end_place % block) == 0)) (block_matches block r first && block_matches block r last) is) [
-    | inl either ↦ elim (or_cases (nat_le end_place offset) (((offset % block) == 0) && ((end_place % block) == 0)) either) [
-      | inl none ↦ absurd (grind (arith, nat_tests, some))
-      | inr even ↦ (
-          let both = and_both ((offset % block) == 0) ((end_place % block) == 0) even in
-          let starts : offset % block ≡ 0 = zero_test (offset % block) both.0 in
-          let ends : end_place % block ≡ 0 = zero_test (end_place % block) both.1 in
-          let size : end_place - last * block ≡ block = omega (arith, block_end block end_place positive (omega (arith, some)) ends) in (
-            ap (λ (n : ℕ). take n (block_at chunk block r first)) starts ∙ sym (ap (λ (n : ℕ). take n (take block (drop from stored))) starts),
-            ap (λ (n : ℕ). drop n (block_at chunk block r last)) size ∙ past (drop (last * block) (chunk_on_disk chunk r))
-                ∙ sym (ap (λ (n : ℕ). drop n (take block (drop (last * block) stored))) size ∙ past (drop (last * block) stored)),
-          ))
-    ]
-    | inr match ↦ (
-        let both = and_both (block_matches block r first) (block_matches block r last) match in
-        let room : from + block ≤ chunk = (let more : suc first * block ≤ suc last * block = mul-le (suc first) block (suc last) block (omega (arith, first_last)) (omega arith) in omega (arith, more, suc-mul first block, suc-mul last block, to_within)) in (
-          ap (λ (l : List ℕ). take (offset % block) l) (kept noticed first room both.0),
-          ap (λ (l : List ℕ). drop (end_place - last * block) l) (kept noticed last to_within both.1),
-        ))
-  ]
-    where
-      zero_test : (n : ℕ) → (n == 0) ≡ true → n ≡ 0
-      zero_test n e = grind (arith, nat_tests, e)
-
-      past : (xs : List ℕ) → drop block (take block xs) ≡ []
-      past xs = drop_all block (take block xs) (omega (arith, length-take block xs))
-
-  -- the digests of what is stored in the run then
-  pub new_digests : is_writable block r offset end_place ≡ true → IsNoticed block r
-      → digests_of block count ((edges_around chunk block r offset end_place).before ++ content ++ (edges_around chunk block r offset end_place).after)
-      ≡ digests_of block count (drop from (filled_to chunk (with_bytes r.bytes offset content)))
-  new_digests is noticed =
-      let edges = edges_around chunk block r offset end_place in
-      let own = edges_stored is noticed in
-      let size : length stored ≡ chunk = length_filled chunk r.bytes short in
-      let before : edges.before ≡ take (offset - from) (drop from stored) = own.0 ∙ part_before block positive stored offset in
-      let after : edges.after ≡ take (to - end_place) (drop end_place stored) = own.1 ∙ part_after block positive stored end_place last (omega (arith, last_low)) high in
-      let now = filled_to chunk (with_bytes r.bytes offset content) in
+  -- the digests of what is in the run then
+  pub new_digests : digests_of block count ((edges_around block r offset end_place).before ++ content ++ (edges_around block r offset end_place).after) ≡ digests_of block count (drop from (written_over r.bytes offset content))
+  new_digests =
+      let edges = edges_around block r offset end_place in
+      let before : edges.before ≡ take (offset - from) (drop from r.bytes) = part_before block positive r.bytes offset in
+      let after : edges.after ≡ take (to - end_place) (drop end_place r.bytes) = part_after block positive r.bytes end_place last (omega (arith, last_low)) high in
+      let now = written_over r.bytes offset content in
       let run : take (count * block) (drop from now) ≡ edges.before ++ content ++ edges.after =
       ap (λ (n : ℕ). take n (drop from now)) run_size
-      ∙ ap (λ (l : List ℕ). take (to - from) (drop from l)) (stored_written chunk r.bytes content offset short fits)
-      ∙ run_then stored content offset from to low high (omega (arith, to_within, size))
-      ∙ sym (ap (λ (l : List ℕ). l ++ content ++ edges.after) before ∙ ap (λ (l : List ℕ). take (offset - from) (drop from stored) ++ content ++ l) after) in
+      ∙ run_then r.bytes content offset from to low high (omega (arith, to_within, long))
+      ∙ sym (ap (λ (l : List ℕ). l ++ content ++ edges.after) before ∙ ap (λ (l : List ℕ). take (offset - from) (drop from r.bytes) ++ content ++ l) after) in
       ap (λ (l : List ℕ). digests_of block count l) (sym run) ∙ digests_front block count (drop from now)

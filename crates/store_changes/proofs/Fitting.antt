@@ -1,7 +1,7 @@
 -- The ranges of a mutation have room in the redo area.
 use Rattle.std.proofs.Common.{◌≡◌, ℕ, ◌+◌, ◌*◌, ◌/◌, ◌%◌, ◌<◌, ◌≤◌, true, List, [], ◌∷◌, ◌++◌, length, refl, arith, length-append}
 use Rattle.std.proofs.lemmas.Bool.Decides.{nat_tests}
-use Rattle.store_disk.specs.Digests.{digests_of}
+use Rattle.replica_store.specs.Replicas.{digests_of, touched}
 use Rattle.disk_redo.specs.Changes.{all_outside, lies_outside}
 use Rattle.disk_redo.specs.Redo.{FitsArea, range_bytes}
 use Rattle.disk_redo.specs.declared.range.RedoRange.{RedoRange}
@@ -15,7 +15,7 @@ use Rattle.store_disk.proofs.FormatSlots.{slot_before}
 use Rattle.store_disk.specs.Fields.{header_bytes}
 use Rattle.store_disk.specs.Places.{blocks_of, data_place, digests_place, disk_size, redo_size, slot_place, slot_size}
 use Rattle.store_changes.proofs.Bounds.{run_within}
-use Rattle.store_changes.specs.Writing.{header_range_of, touched, written_ranges}
+use Rattle.store_changes.specs.Writing.{header_range_of, written_ranges}
 use Rattle.store_changes.specs.declared.edges.Edges.{Edges}
 use Rattle.store_disk.specs.Stored.{header_of}
 

@@ -1,17 +1,15 @@
 -- A slot of which the header, the digests of some blocks, and some of the bytes were written.
-use Rattle.std.proofs.Common.{◌≡◌, ◌⊎◌, inl, inr, ℕ, ◌+◌, ◌-◌, ◌*◌, ◌<◌, ◌≤◌, List, [], ◌++◌, length, get_or, take, drop, sym, ap, ◌∙◌, arith, Some, None}
-use Rattle.std.specs.FinMap as map
+use Rattle.std.proofs.Common.{◌≡◌, ◌⊎◌, inl, inr, ℕ, ◌+◌, ◌-◌, ◌*◌, ◌/◌, ◌<◌, ◌≤◌, true, if◌then◌else◌, List, [], ◌++◌, length, get_or, take, drop, sym, ap, ◌∙◌, arith, Some}
+use Rattle.std.specs.Prelude.{max, nat_le}
 use Rattle.std.proofs.lemmas.Bool.{cases_lt}
+use Rattle.std.proofs.lemmas.Bool.Decides.{nat_tests}
 use Rattle.std.proofs.lemmas.List.{append-nil, ext_get_or, take-append-drop}
-use Rattle.store_disk.specs.Digests.{digests_of}
 use Rattle.disk.specs.Bytes.{put_at, range_at}
 use Rattle.disk_redo.proofs.Ranges.{get_range, length_range, put_changes, range_outside, range_put}
 use Rattle.disk_redo.specs.Moments.{KeepsAt, is_outside}
 use Rattle.disk_redo.proofs.Places.{is_after, is_before, keeps_fewer, keeps_then, length_put, outside_cases, put_after, put_before, put_keeps, put_within}
-use Rattle.store_disk.specs.Blocks.{chunk_on_disk, written_over}
 use Rattle.store_disk.proofs.BlockPuts.{length_over, over_after, over_before, over_within}
-use Rattle.store_disk.proofs.Written.{chunk_written, kept_after, kept_before, kept_none, stored_written, written_short}
-use Rattle.replica_store.specs.Replicas.{Replica, filled_to, with_bytes, written_replica}
+use Rattle.replica_store.specs.Replicas.{Replica, digests_of, renewed_digests, touched, written_over, written_replica}
 use Rattle.store_disk.specs.Fields.{FitsHeader, header_bytes, header_in}
 use Rattle.store_disk.specs.declared.header.SlotHeader.{SlotHeader}
 use Rattle.store_disk.proofs.Fields.{header_back}
@@ -49,7 +47,7 @@ put_keeps_outside d c at from size low high fits =
 
 module _ (chunk block : ℕ) (disk : List ℕ) (slot handle : ℕ) (r : Replica) (room : slot_place chunk block slot + slot_size chunk block ≤ length disk) (h : Holds chunk block disk slot handle r)
     (x : SlotHeader) (small : FitsHeader x) (serial offset : ℕ) (content : List ℕ) (fits : offset + length content ≤ chunk)
-    (is : x ≡ record { handle = record { 0 = handle }; version = record { 0 = r.version }; serial = record { 0 = serial }; count = length (with_bytes r.bytes offset content) }) where
+    (is : x ≡ record { handle = record { 0 = handle }; version = record { 0 = r.version }; serial = record { 0 = serial }; count = max r.count (offset + length content) }) where
   abbrev place : ℕ
   place = slot_place chunk block slot
 
@@ -69,32 +67,23 @@ module _ (chunk block : ℕ) (disk : List ℕ) (slot handle : ℕ) (r : Replica)
   one_behind : (a m : ℕ) → place + 40 ≤ a → a + m ≤ place + slot_size chunk block → range_at one a m ≡ range_at disk a m
   one_behind a m low high = range_outside a m place 40 disk one (put_changes disk (header_bytes x) place (omega (arith, room))) (omega (arith, high, room)) (inr low)
 
-  header_said : header_in (header_bytes x) ≡ Some (record { handle = record { 0 = handle }; version = record { 0 = r.version }; serial = record { 0 = serial }; count = length (with_bytes r.bytes offset content) })
+  header_said : header_in (header_bytes x) ≡ Some (record { handle = record { 0 = handle }; version = record { 0 = r.version }; serial = record { 0 = serial }; count = max r.count (offset + length content) })
   header_said = sym (ap header_in (append-nil (header_bytes x))) ∙ header_back x [] small ∙ ap (λ (y : SlotHeader). Some y) is
 
-  still_within : (p byte : ℕ) → map.get (written_replica r serial offset content).changed p ≡ Some byte → p < chunk
-  still_within p byte there = elim (cases_lt p offset) [
-    | inl before ↦ h.within p byte (sym (kept_before r.changed offset (length content) p before) ∙ there)
-    | inr le ↦ elim (cases_lt p (offset + length content)) [
-      | inl inside ↦ (let none : None ≡ Some byte = sym (kept_none r.changed offset (length content) p le inside) ∙ there in absurd cc)
-      | inr after ↦ h.within p byte (sym (kept_after r.changed offset (length content) p after) ∙ there)
-    ]
-  ]
-
   -- No bytes, which may make the replica longer: the header alone.
-  pub longer_holds : content ≡ [] → Holds chunk block one slot handle (written_replica r serial offset content)
+  pub longer_holds : content ≡ [] → Holds chunk block one slot handle (written_replica block r serial offset content)
   longer_holds none =
-      let nothing : (xs : List ℕ) → written_over xs offset content ≡ xs = λ xs. ap (λ (l : List ℕ). written_over xs offset l) none ∙ no_bytes xs in
+      let none_long : nat_le (offset + length content) offset ≡ true = grind (arith, nat_tests, ap length none) in
       let digests_at = digests_place chunk block slot in
       let data_at = data_place chunk block slot in
+      let run : List ℕ = digests_of block (touched block offset (offset + length content)) (drop (offset / block * block) (written_over r.bytes offset content)) in
       record {
         header = ap header_in one_header ∙ header_said;
-        fits = written_short chunk r.bytes content offset h.fits fits;
-        within = still_within;
+        fits = omega (arith, h.fits, fits);
         digests = one_behind digests_at (32 * blocks) (omega arith) (omega arith) ∙ h.digests
-            ∙ sym (ap (λ (l : List ℕ). digests_of block blocks l) (stored_written chunk r.bytes content offset h.fits fits ∙ nothing (filled_to chunk r.bytes)));
+            ∙ sym (ap (λ b. if b then r.digests else written_over r.digests (32 * (offset / block)) run) none_long);
         bytes = one_behind data_at chunk (omega arith) (omega arith) ∙ h.bytes
-            ∙ sym (chunk_written chunk r serial offset content h.fits fits ∙ nothing (chunk_on_disk chunk r));
+            ∙ sym (ap (λ (l : List ℕ). written_over r.bytes offset l) none ∙ no_bytes r.bytes);
       }
     where
       no_bytes : (xs : List ℕ) → written_over xs offset [] ≡ xs
@@ -107,7 +96,7 @@ module _ (chunk block : ℕ) (disk : List ℕ) (slot handle : ℕ) (r : Replica)
 
   -- The header, the digests of a run, and the bytes.
   module _ (first count : ℕ) (digests : List ℕ) (run : first + count ≤ blocks) (size : length digests ≡ 32 * count)
-      (digests_are : written_over (digests_of block blocks (filled_to chunk r.bytes)) (32 * first) digests ≡ digests_of block blocks (filled_to chunk (with_bytes r.bytes offset content))) where
+      (digests_are : written_over r.digests (32 * first) digests ≡ renewed_digests block r.digests (written_over r.bytes offset content) offset (offset + length content)) where
     abbrev digests_at : ℕ
     digests_at = digests_place chunk block slot + 32 * first
 
@@ -135,7 +124,7 @@ module _ (chunk block : ℕ) (disk : List ℕ) (slot handle : ℕ) (r : Replica)
     three_before : (a m : ℕ) → a + m ≤ data_at → range_at three a m ≡ range_at two a m
     three_before a m before = range_outside a m data_at (length content) two three (put_changes two content data_at in_two) (omega (arith, before, in_two)) (inl before)
 
-    pub written_holds : Holds chunk block three slot handle (written_replica r serial offset content)
+    pub written_holds : Holds chunk block three slot handle (written_replica block r serial offset content)
     written_holds =
         let d = digests_place chunk block slot in
         let b = data_place chunk block slot in
@@ -143,8 +132,7 @@ module _ (chunk block : ℕ) (disk : List ℕ) (slot handle : ℕ) (r : Replica)
         let b_off : data_at - b ≡ offset = omega arith in
         record {
           header = ap header_in (three_before place 40 (omega arith) ∙ two_apart place 40 (omega (arith, room)) (inl (omega arith)) ∙ one_header) ∙ header_said;
-          fits = written_short chunk r.bytes content offset h.fits fits;
-          within = still_within;
+          fits = omega (arith, h.fits, fits);
           digests = three_before d (32 * blocks) (omega arith)
               ∙ put_inside one digests d (32 * blocks) digests_at (omega (arith, room, one_size)) (omega arith) (omega (arith, size, run))
               ∙ ap (λ (k : ℕ). written_over (range_at one d (32 * blocks)) k digests) d_off
@@ -152,8 +140,7 @@ module _ (chunk block : ℕ) (disk : List ℕ) (slot handle : ℕ) (r : Replica)
               ∙ digests_are;
           bytes = put_inside two content b chunk data_at (omega (arith, room, two_size)) (omega arith) (omega (arith, fits))
               ∙ ap (λ (k : ℕ). written_over (range_at two b chunk) k content) b_off
-              ∙ ap (λ (l : List ℕ). written_over l offset content) (two_apart b chunk (omega (arith, room)) (inr (omega (arith, size, run))) ∙ one_behind b chunk (omega arith) (omega arith) ∙ h.bytes)
-              ∙ sym (chunk_written chunk r serial offset content h.fits fits);
+              ∙ ap (λ (l : List ℕ). written_over l offset content) (two_apart b chunk (omega (arith, room)) (inr (omega (arith, size, run))) ∙ one_behind b chunk (omega arith) (omega arith) ∙ h.bytes);
         }
 
     pub written_keeps : KeepsAt (is_outside place (slot_size chunk block)) disk three

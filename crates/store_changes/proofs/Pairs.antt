@@ -7,11 +7,10 @@ use Rattle.std.proofs.lemmas.List.{drop_all, length-drop, length-take, length-ta
 use Rattle.std.proofs.Math.Nat.{div-mul-le_self, lt-div-mul-add}
 use Rattle.std.proofs.lemmas.Nat.{div-add-mod', div-mul-add}
 use Rattle.disk.specs.Bytes.{range_at}
-use Rattle.store_disk.specs.Blocks.{chunk_on_disk}
 use Rattle.store_disk.proofs.Runs.{touched_is}
-use Rattle.replica_store.specs.Replicas.{Replica, block_matches, blocks_match, is_writable}
+use Rattle.replica_store.specs.Replicas.{Replica, block_in, block_matches, blocks_match, is_writable}
 use Rattle.store_changes.specs.Reading.{checked_part}
-use Rattle.store_changes.specs.Edging.{AreLong, block_at, checked_edges, edges_around}
+use Rattle.store_changes.specs.Edging.{AreLong, checked_edges, edges_around}
 use Rattle.store_changes.specs.declared.edges.Edges.{Edges}
 use Rattle.store_changes.proofs.Ends.{block_end}
 
@@ -22,8 +21,8 @@ both_true false true to from = from refl
 both_true false false to from = refl
 
 -- one block
-pub one_block : (chunk block : ℕ) (r : Replica) (n : ℕ) → 1 ≤ block → checked_part chunk block r (n * block) ((n + 1) * block) ≡ (if block_matches block r n then Some (block_at chunk block r n) else None)
-one_block chunk block r n positive =
+pub one_block : (block : ℕ) (r : Replica) (n : ℕ) → 1 ≤ block → checked_part block r (n * block) ((n + 1) * block) ≡ (if block_matches block r n then Some (block_in block n r.bytes) else None)
+one_block block r n positive =
     let from = n * block in
     let to = (n + 1) * block in
     let next : n + 1 ≡ suc n = omega arith in
@@ -38,8 +37,8 @@ one_block chunk block r n positive =
     both_true (blocks_match block r from to) (block_matches block r n)
     (λ is. touched.0 is n (omega (arith, first)) (omega (arith, last)))
     (λ is. touched.1 (λ k low high. let it : k ≡ n = omega (arith, low, high, first, last) in ap (λ (m : ℕ). block_matches block r m) it ∙ is)) in
-    ap (λ (k : ℕ). if blocks_match block r from to then Some (range_at (chunk_on_disk chunk r) from k) else None) size
-    ∙ ap (λ b. if b then Some (block_at chunk block r n) else None) same
+    ap (λ (k : ℕ). if blocks_match block r from to then Some (range_at r.bytes from k) else None) size
+    ∙ ap (λ b. if b then Some (block_in block n r.bytes) else None) same
 
 -- two tests
 abbrev pub both_of : {A B : Type 0} → Bool → A → B → Option (A × B)
@@ -71,7 +70,7 @@ or_right false b e = e
 zero_test : (n : ℕ) → (n == 0) ≡ true → n ≡ 0
 zero_test n e = grind (arith, nat_tests, e)
 
-module _ (chunk block : ℕ) (r : Replica) (offset end_place : ℕ) (positive : 1 ≤ block) (some : offset < end_place) where
+module _ (block : ℕ) (r : Replica) (offset end_place : ℕ) (positive : 1 ≤ block) (some : offset < end_place) where
   abbrev aligned : Bool
   aligned = ((offset % block) == 0) && ((end_place % block) == 0)
 
@@ -82,43 +81,43 @@ module _ (chunk block : ℕ) (r : Replica) (offset end_place : ℕ) (positive : 
   longer = grind (arith, nat_tests, some)
 
   -- no block keeps a part
-  pub aligned_edges : aligned ≡ true → Some (record { before = []; after = [] }) ≡ checked_edges chunk block r offset end_place
+  pub aligned_edges : aligned ≡ true → Some (record { before = []; after = [] }) ≡ checked_edges block r offset end_place
   aligned_edges is =
       let both = and_both ((offset % block) == 0) ((end_place % block) == 0) is in
       let starts : offset % block ≡ 0 = zero_test (offset % block) both.0 in
       let ends = block_end block end_place positive (omega (arith, some)) (zero_test (end_place % block) both.1) in
       let size : end_place - (end_place - 1) / block * block ≡ block = omega (arith, ends) in
-      let last = block_at chunk block r ((end_place - 1) / block) in
-      let before : (edges_around chunk block r offset end_place).before ≡ [] = ap (λ (n : ℕ). take n (block_at chunk block r (offset / block))) starts in
-      let after : (edges_around chunk block r offset end_place).after ≡ [] = ap (λ (n : ℕ). drop n last) size ∙ drop_all block last (omega (arith, length-take block (drop ((end_place - 1) / block * block) (chunk_on_disk chunk r)))) in
+      let last = block_in block ((end_place - 1) / block) r.bytes in
+      let before : (edges_around block r offset end_place).before ≡ [] = ap (λ (n : ℕ). take n (block_in block (offset / block) r.bytes)) starts in
+      let after : (edges_around block r offset end_place).after ≡ [] = ap (λ (n : ℕ). drop n last) size ∙ drop_all block last (omega (arith, length-take block (drop ((end_place - 1) / block * block) r.bytes))) in
       let writable : is_writable block r offset end_place ≡ true = ap (λ b. nat_le end_place offset || b || match) is ∙ ap (λ b. b || true || match) longer in
       (λ i. Some (record { before = sym before i; after = sym after i }))
-      ∙ sym (ap (λ b. if b then Some (edges_around chunk block r offset end_place) else None) writable)
+      ∙ sym (ap (λ b. if b then Some (edges_around block r offset end_place) else None) writable)
 
   -- else both ends are looked at
   unaligned : aligned ≡ false → is_writable block r offset end_place ≡ match
   unaligned is = ap (λ b. nat_le end_place offset || b || match) is ∙ ap (λ b. b || false || match) longer
 
-  pub no_edges : aligned ≡ false → None ≡ both_of match (block_at chunk block r (offset / block)) (block_at chunk block r ((end_place - 1) / block)) → None ≡ checked_edges chunk block r offset end_place
+  pub no_edges : aligned ≡ false → None ≡ both_of match (block_in block (offset / block) r.bytes) (block_in block ((end_place - 1) / block) r.bytes) → None ≡ checked_edges block r offset end_place
   no_edges is none = by match (unaligned is) none
     where
-      by : (b : Bool) → is_writable block r offset end_place ≡ b → None ≡ both_of b (block_at chunk block r (offset / block)) (block_at chunk block r ((end_place - 1) / block))
-          → None ≡ checked_edges chunk block r offset end_place
+      by : (b : Bool) → is_writable block r offset end_place ≡ b → None ≡ both_of b (block_in block (offset / block) r.bytes) (block_in block ((end_place - 1) / block) r.bytes)
+          → None ≡ checked_edges block r offset end_place
       by true w e = absurd cc
-      by false w e = sym (ap (λ b. if b then Some (edges_around chunk block r offset end_place) else None) w)
+      by false w e = sym (ap (λ b. if b then Some (edges_around block r offset end_place) else None) w)
 
-  pub some_edges : aligned ≡ false → (one two : List ℕ) → ◌≡◌ {A = Option (List ℕ × List ℕ)} (Some (one, two)) (both_of match (block_at chunk block r (offset / block)) (block_at chunk block r ((end_place - 1) / block)))
-      → Some (record { before = take (offset % block) one; after = drop (end_place - (end_place - 1) / block * block) two }) ≡ checked_edges chunk block r offset end_place
+  pub some_edges : aligned ≡ false → (one two : List ℕ) → ◌≡◌ {A = Option (List ℕ × List ℕ)} (Some (one, two)) (both_of match (block_in block (offset / block) r.bytes) (block_in block ((end_place - 1) / block) r.bytes))
+      → Some (record { before = take (offset % block) one; after = drop (end_place - (end_place - 1) / block * block) two }) ≡ checked_edges block r offset end_place
   some_edges is one two some_ends = by match (unaligned is) some_ends
     where
-      by : (b : Bool) → is_writable block r offset end_place ≡ b → ◌≡◌ {A = Option (List ℕ × List ℕ)} (Some (one, two)) (both_of b (block_at chunk block r (offset / block)) (block_at chunk block r ((end_place - 1) / block)))
-          → Some (record { before = take (offset % block) one; after = drop (end_place - (end_place - 1) / block * block) two }) ≡ checked_edges chunk block r offset end_place
+      by : (b : Bool) → is_writable block r offset end_place ≡ b → ◌≡◌ {A = Option (List ℕ × List ℕ)} (Some (one, two)) (both_of b (block_in block (offset / block) r.bytes) (block_in block ((end_place - 1) / block) r.bytes))
+          → Some (record { before = take (offset % block) one; after = drop (end_place - (end_place - 1) / block * block) two }) ≡ checked_edges block r offset end_place
       by true w e =
-          let pair : ◌≡◌ {A = List ℕ × List ℕ} (one, two) (block_at chunk block r (offset / block), block_at chunk block r ((end_place - 1) / block)) = cc in
-          let first : one ≡ block_at chunk block r (offset / block) = ap (λ (p : List ℕ × List ℕ). p.0) pair in
-          let last : two ≡ block_at chunk block r ((end_place - 1) / block) = ap (λ (p : List ℕ × List ℕ). p.1) pair in
+          let pair : ◌≡◌ {A = List ℕ × List ℕ} (one, two) (block_in block (offset / block) r.bytes, block_in block ((end_place - 1) / block) r.bytes) = cc in
+          let first : one ≡ block_in block (offset / block) r.bytes = ap (λ (p : List ℕ × List ℕ). p.0) pair in
+          let last : two ≡ block_in block ((end_place - 1) / block) r.bytes = ap (λ (p : List ℕ × List ℕ). p.1) pair in
           (λ i. Some (record { before = take (offset % block) (first i); after = drop (end_place - (end_place - 1) / block * block) (last i) }))
-          ∙ sym (ap (λ b. if b then Some (edges_around chunk block r offset end_place) else None) w)
+          ∙ sym (ap (λ b. if b then Some (edges_around block r offset end_place) else None) w)
       by false w e = absurd cc
 
 -- how long what was read is

@@ -27,7 +27,7 @@ module _ (chunk block : ℕ) (r : Replica) (slot handle : ℕ) (row : Row) (offs
   empty_ranges none =
       let at : nat_le end_place offset ≡ true = grind (arith, nat_tests, none) in
       let header = header_range_of chunk block slot handle row ∷ [] in
-      let others = written_ranges chunk block slot handle row (edges_around chunk block r offset end_place) offset content in
+      let others = written_ranges chunk block slot handle row (edges_around block r offset end_place) offset content in
       sym (
       ap (λ b. if b || (((offset % block) == 0) && ((end_place % block) == 0)) || (block_matches block r (offset / block) && block_matches block r ((end_place - 1) / block)) then Some (ranges_of chunk block r slot handle row offset content) else None) at
       ∙ ap (λ b. Some (if b then header else others)) at
@@ -37,19 +37,19 @@ module _ (chunk block : ℕ) (r : Replica) (slot handle : ℕ) (row : Row) (offs
     later : nat_le end_place offset ≡ false
     later = grind (arith, nat_tests, some)
 
-    pub no_ranges : None ≡ checked_edges chunk block r offset end_place → None ≡ checked_ranges chunk block r slot handle row offset content
+    pub no_ranges : None ≡ checked_edges block r offset end_place → None ≡ checked_ranges chunk block r slot handle row offset content
     no_ranges none =
-        let no = none_if (edges_around chunk block r offset end_place) (is_writable block r offset end_place) none in
+        let no = none_if (edges_around block r offset end_place) (is_writable block r offset end_place) none in
         sym (ap (λ b. if b then Some (ranges_of chunk block r slot handle row offset content) else None) no)
 
-    pub some_ranges : (edges : Edges) → Some edges ≡ checked_edges chunk block r offset end_place → Some (written_ranges chunk block slot handle row edges offset content) ≡ checked_ranges chunk block r slot handle row offset content
+    pub some_ranges : (edges : Edges) → Some edges ≡ checked_edges block r offset end_place → Some (written_ranges chunk block slot handle row edges offset content) ≡ checked_ranges chunk block r slot handle row offset content
     some_ranges edges is =
-        let yes = some_if (edges_around chunk block r offset end_place) (is_writable block r offset end_place) edges is in
+        let yes = some_if (edges_around block r offset end_place) (is_writable block r offset end_place) edges is in
         let header = header_range_of chunk block slot handle row ∷ [] in
         ap (λ (e : Edges). Some (written_ranges chunk block slot handle row e offset content)) yes.1
         ∙ sym (
         ap (λ b. if b then Some (ranges_of chunk block r slot handle row offset content) else None) yes.0
-        ∙ ap (λ b. Some (if b then header else written_ranges chunk block slot handle row (edges_around chunk block r offset end_place) offset content)) later
+        ∙ ap (λ b. Some (if b then header else written_ranges chunk block slot handle row (edges_around block r offset end_place) offset content)) later
         )
 
 -- whether it can be written over

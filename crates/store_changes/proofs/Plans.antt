@@ -4,7 +4,6 @@ use Rattle.std.specs.FinMap as map
 use Rattle.disk_redo.specs.Changes.{applied}
 use Rattle.disk_redo.specs.Redo.{is_open, stands_for}
 use Rattle.disk_redo.specs.declared.range.RedoRange.{RedoRange}
-use Rattle.store_disk.specs.Blocks.{IsNoticed}
 use Rattle.replica_store.specs.declared.change.StoreChange.TheVariants.{Write}
 use Rattle.replica_store.specs.declared.row.Row.{Row}
 use Rattle.replica_store.specs.Replicas.{Replica, ServerDisk, disk_changed, is_writable, is_writable_at, replica_of}
@@ -16,7 +15,7 @@ use Rattle.store_changes.proofs.Areas.{rest_size}
 use Rattle.store_disk.specs.Fields.{FitsHeader}
 use Rattle.store_disk.specs.Places.{disk_size}
 use Rattle.store_changes.proofs.Rested.{holds_at_rest}
-use Rattle.store_changes.specs.Writing.{IsNoticedAt, checked_ranges, ranges_of, written_row}
+use Rattle.store_changes.specs.Writing.{checked_ranges, ranges_of, written_row}
 use Rattle.store_changes.proofs.Planning.{none_if, some_if, writable_at}
 use Rattle.store_changes.proofs.Stored.{write_stored}
 use Rattle.store_disk.specs.Stored.{Holds, IsDiskOf, IsKnown, header_of}
@@ -58,10 +57,9 @@ module _ (chunk block slots : ℕ) (index : IndexState) (disk : List ℕ) (size 
       pub is_written : (d : ServerDisk) → Says chunk block slots index disk d → true ≡ is_writable_at d handle offset (offset + length content)
       is_written d says = let p = plan d says in sym (writable_at d block handle p.0 offset (offset + length content) p.1 says.block_is ∙ (tested d says).0)
 
-      pub write_law : 1 ≤ block → chunk % block ≡ 0 → offset + length content ≤ chunk → FitsHeader (header_of handle now) → (d : ServerDisk) → Says chunk block slots index disk d → IsNoticedAt d handle
+      pub write_law : 1 ≤ block → chunk % block ≡ 0 → offset + length content ≤ chunk → FitsHeader (header_of handle now) → (d : ServerDisk) → Says chunk block slots index disk d
           → IsDiskOf chunk block slots index_now (applied items rested) (disk_changed d (Write (record { 0 = handle }) (record { 0 = serial }) offset content))
-      write_law positive even fits small d says noticed =
+      write_law positive even fits small d says =
           let p = plan d says in
           subst (λ (rs : List RedoRange). IsDiskOf chunk block slots index_now (applied rs rested) (disk_changed d (Write (record { 0 = handle }) (record { 0 = serial }) offset content))) (sym (tested d says).1)
-          (write_stored chunk block slots index rested d (rest_size chunk block slots disk size closed) says handle found there p.0 p.1 p.2 serial offset content fits small positive even (tested d says).0
-          (subst (λ (b : ℕ). IsNoticed b p.0) says.block_is (noticed p.0 p.1)))
+          (write_stored chunk block slots index rested d (rest_size chunk block slots disk size closed) says handle found there p.0 p.1 p.2 serial offset content fits small positive even)

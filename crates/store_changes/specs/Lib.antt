@@ -6,4 +6,3 @@ pub mod Reading
 pub mod Images
 pub mod Edging
 pub mod Writing
-pub mod Rotting

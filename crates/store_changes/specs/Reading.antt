@@ -1,9 +1,8 @@
--- What is read of a replica's chunk, which has so many bytes, in blocks of so many.
+-- What is read of a replica's chunk, in blocks of so many bytes.
 use Rattle.std.specs.Prelude.{ℕ, ◌-◌, if◌then◌else◌, List, Option, None, Some}
 use Rattle.disk.specs.Bytes.{range_at}
-use Rattle.store_disk.specs.Blocks.{chunk_on_disk}
 use Rattle.replica_store.specs.Replicas.{Replica, blocks_match}
 
 -- From one place to before another, as it is on the disk; nothing where a block that this touches doesn't match.
-abbrev pub checked_part : ℕ → ℕ → Replica → ℕ → ℕ → Option (List ℕ)
-checked_part chunk block r offset end_place = if blocks_match block r offset end_place then Some (range_at (chunk_on_disk chunk r) offset (end_place - offset)) else None
+abbrev pub checked_part : ℕ → Replica → ℕ → ℕ → Option (List ℕ)
+checked_part block r offset end_place = if blocks_match block r offset end_place then Some (range_at r.bytes offset (end_place - offset)) else None

@@ -29,7 +29,7 @@ pub fn read_blocks<D: Disk>(
     requires some { 1 ≤ count }
     requires within { first + count ≤ blocks_of layout.chunk layout.block }
     ensures blocks { IfOk result (λ o. (handle : ℕ) (r : Replica) → Holds layout.chunk layout.block (D.seen disk.old) slot handle r
-        → o ≡ checked_part layout.chunk layout.block r (first * layout.block) ((first + count) * layout.block)) }
+        → o ≡ checked_part layout.block r (first * layout.block) ((first + count) * layout.block)) }
     ensures size { IfOk result (λ o. IfSome o (λ bytes. length bytes ≡ count * layout.block)) }
     ensures reads { OnlyReads D.seen D.may_leave D.moment D.left_since disk.old disk.new }
     ensures cause { HasCause (D.failed disk.old) (D.failed disk.new) result }
@@ -71,7 +71,7 @@ pub fn read_range<D: Disk>(
     requires some { offset < end }
     requires within { end ≤ layout.chunk }
     ensures part { IfOk result (λ o. (handle : ℕ) (r : Replica) → Holds layout.chunk layout.block (D.seen disk.old) slot handle r
-        → o ≡ checked_part layout.chunk layout.block r offset end) }
+        → o ≡ checked_part layout.block r offset end) }
     ensures reads { OnlyReads D.seen D.may_leave D.moment D.left_since disk.old disk.new }
     ensures cause { HasCause (D.failed disk.old) (D.failed disk.new) result }
 {

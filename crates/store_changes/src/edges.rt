@@ -3,10 +3,10 @@
 ghost use Rattle.std.specs.Prelude.{◌≡◌, ◌≤◌, ◌<◌, ◌+◌, ◌*◌, ◌%◌, ◌==◌, ◌&&◌, if◌then◌else◌, ℕ, length, IfOk, IfSome, Some, None};
 ghost use Rattle.disk.specs.Device.{HasCause};
 ghost use Rattle.disk_redo.specs.GateMoments.{OnlyReads};
-ghost use Rattle.replica_store.specs.Replicas.{Replica, block_matches};
+ghost use Rattle.replica_store.specs.Replicas.{Replica, block_in, block_matches};
 ghost use Rattle.store_disk.specs.Places.{blocks_of, disk_size};
 ghost use Rattle.store_changes.specs.Reading.{checked_part};
-ghost use Rattle.store_changes.specs.Edging.{AreLong, block_at, checked_edges};
+ghost use Rattle.store_changes.specs.Edging.{AreLong, checked_edges};
 ghost use Rattle.store_disk.specs.Stored.{Holds};
 
 use crate::read_blocks;
@@ -46,8 +46,8 @@ fn read_last<D: Disk>(
     requires within { last < blocks_of layout.chunk layout.block }
     requires long { length one.now ≡ layout.block }
     ensures last { IfOk result (λ o. (handle : ℕ) (r : Replica) → Holds layout.chunk layout.block (D.seen disk.old) slot handle r
-        → Some one.now ≡ checked_part layout.chunk layout.block r (first * layout.block) ((first + 1) * layout.block)
-        → o ≡ checked_part layout.chunk layout.block r (last * layout.block) ((last + 1) * layout.block)) }
+        → Some one.now ≡ checked_part layout.block r (first * layout.block) ((first + 1) * layout.block)
+        → o ≡ checked_part layout.block r (last * layout.block) ((last + 1) * layout.block)) }
     ensures long { IfOk result (λ o. IfSome o (λ bytes. length bytes ≡ layout.block)) }
     ensures reads { OnlyReads D.seen D.may_leave D.moment D.left_since disk.old disk.new }
     ensures cause { HasCause (D.failed disk.old) (D.failed disk.new) result }
@@ -73,7 +73,7 @@ fn read_ends<D: Disk>(
     requires order { first ≤ last }
     requires within { last < blocks_of layout.chunk layout.block }
     ensures ends { IfOk result (λ o. (handle : ℕ) (r : Replica) → Holds layout.chunk layout.block (D.seen disk.old) slot handle r
-        → o ≡ (if block_matches layout.block r first && block_matches layout.block r last then Some (block_at layout.chunk layout.block r first, block_at layout.chunk layout.block r last) else None)) }
+        → o ≡ (if block_matches layout.block r first && block_matches layout.block r last then Some (block_in layout.block first r.bytes, block_in layout.block last r.bytes) else None)) }
     ensures long { IfOk result (λ o. IfSome o (λ ends. (length ends.0 ≡ layout.block) × (length ends.1 ≡ layout.block))) }
     ensures reads { OnlyReads D.seen D.may_leave D.moment D.left_since disk.old disk.new }
     ensures cause { HasCause (D.failed disk.old) (D.failed disk.new) result }
@@ -103,7 +103,7 @@ pub fn read_edges<D: Disk>(
     requires some { offset < end }
     requires within { end ≤ layout.chunk }
     ensures edges { IfOk result (λ o. (handle : ℕ) (r : Replica) → Holds layout.chunk layout.block (D.seen disk.old) slot handle r
-        → o ≡ checked_edges layout.chunk layout.block r offset end) }
+        → o ≡ checked_edges layout.block r offset end) }
     ensures long { IfOk result (λ o. IfSome o (AreLong layout.block offset end)) }
     ensures reads { OnlyReads D.seen D.may_leave D.moment D.left_since disk.old disk.new }
     ensures cause { HasCause (D.failed disk.old) (D.failed disk.new) result }

@@ -1,7 +1,7 @@
 //! What is written where a part of a replica is written over.
 
 ghost use Rattle.std.specs.Prelude.{◌≡◌, ◌≤◌, ◌<◌, ◌+◌, ◌*◌, ◌/◌, ◌-◌, ◌%◌, [], ◌∷◌, ◌++◌, length, IfOk};
-ghost use Rattle.store_disk.specs.Digests.{digests_of};
+ghost use Rattle.replica_store.specs.Replicas.{digests_of};
 ghost use Rattle.store_disk.specs.Fields.{FitsHeader};
 ghost use Rattle.store_disk.specs.Places.{blocks_of};
 ghost use Rattle.store_changes.specs.Writing.{header_range_of, written_ranges};

@@ -4,11 +4,10 @@ ghost use Rattle.std.specs.Prelude.{◌≡◌, ◌≤◌, ◌<◌, ◌+◌, [], 
 ghost use Rattle.std.specs.FinMap as map;
 ghost use Rattle.disk.specs.Device.{HasCause};
 ghost use Rattle.disk_redo.specs.Redo.{IsAtRest};
-ghost use Rattle.replica_store.specs.Replicas.{ServerDisk};
+ghost use Rattle.replica_store.specs.declared.change.StoreChange.TheVariants.{Rot};
 ghost use Rattle.store_changes.specs.Areas.{area_of};
-ghost use Rattle.store_changes.specs.Changing.{Says};
+ghost use Rattle.store_changes.specs.Changing.{IsChanged, LeavesEither};
 ghost use Rattle.store_disk.specs.Places.{data_place, disk_size};
-ghost use Rattle.store_changes.specs.Rotting.{LeavesRotten, disk_rotten};
 
 use crate::{change, one_range};
 use bytes::Bytes;
@@ -52,9 +51,8 @@ pub fn rot<D: Disk>(
     requires slot { found.slot < layout.slots }
     requires place { place < layout.chunk }
     ensures rest { OnOk result (IsAtRest D.seen D.may_leave (area_of layout.chunk layout.block) disk.new) }
-    ensures made { OnOk result ((d : ServerDisk) → Says layout.chunk layout.block layout.slots index.now (D.seen disk.old) d
-        → Says layout.chunk layout.block layout.slots index.now (D.seen disk.new) (disk_rotten d handle.0 place byte)) }
-    ensures any_moment { LeavesRotten D.seen D.moment D.left_since layout.chunk layout.block layout.slots disk.old disk.new index.now handle.0 place byte }
+    ensures made { OnOk result (IsChanged layout.chunk layout.block layout.slots index.now (D.seen disk.old) index.now (D.seen disk.new) (Rot handle place byte)) }
+    ensures any_moment { LeavesEither D.seen D.moment D.left_since layout.chunk layout.block layout.slots disk.old disk.new index.now (Rot handle place byte) }
     ensures size { length (D.seen disk.new) ≡ length (D.seen disk.old) }
     ensures cause { HasCause (D.failed disk.old) (D.failed disk.new) result }
 {

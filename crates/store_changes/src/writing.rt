@@ -8,10 +8,10 @@ ghost use Rattle.disk_redo.specs.Redo.{FitsArea, IsAtRest};
 ghost use Rattle.replica_store.specs.declared.change.StoreChange.TheVariants.{Write};
 ghost use Rattle.replica_store.specs.Replicas.{Replica, ServerDisk, disk_changed, is_writable_at};
 ghost use Rattle.store_changes.specs.Areas.{area_of};
-ghost use Rattle.store_changes.specs.Changing.{Says};
+ghost use Rattle.store_changes.specs.Changing.{LeavesEither, Says};
 ghost use Rattle.store_disk.specs.Fields.{FitsHeader};
 ghost use Rattle.store_disk.specs.Places.{disk_size};
-ghost use Rattle.store_changes.specs.Writing.{IsNoticedAt, LeavesWritten, checked_ranges as checked_value};
+ghost use Rattle.store_changes.specs.Writing.{checked_ranges as checked_value};
 ghost use Rattle.store_disk.specs.Stored.{Holds, header_of};
 
 use crate::ranges::{header_range, write_ranges};
@@ -98,13 +98,13 @@ pub fn write<D: Disk>(
     ensures rest { OnOk result (IsAtRest D.seen D.may_leave (area_of layout.chunk layout.block) disk.new) }
     ensures writable { IfOk result (λ written. (d : ServerDisk) → Says layout.chunk layout.block layout.slots index.old (D.seen disk.old) d
         → written ≡ is_writable_at d handle.0 offset (offset + length bytes.now)) }
-    ensures made { IfOk result (λ written. written ≡ true → (d : ServerDisk) → Says layout.chunk layout.block layout.slots index.old (D.seen disk.old) d → IsNoticedAt d handle.0
+    ensures made { IfOk result (λ written. written ≡ true → (d : ServerDisk) → Says layout.chunk layout.block layout.slots index.old (D.seen disk.old) d
         → Says layout.chunk layout.block layout.slots index.new (D.seen disk.new) (disk_changed d (Write handle serial offset bytes.now))) }
     ensures unchanged { IfOk result (λ written. written ≡ false → (index.new ≡ index.old) × (D.seen disk.new ≡ D.seen disk.old)) }
     // A range that can't be written over is only looked at.
     ensures untouched { (d : ServerDisk) → Says layout.chunk layout.block layout.slots index.old (D.seen disk.old) d
         → is_writable_at d handle.0 offset (offset + length bytes.now) ≡ false → OnlyReads D.seen D.may_leave D.moment D.left_since disk.old disk.new }
-    ensures any_moment { LeavesWritten D.seen D.moment D.left_since layout.chunk layout.block layout.slots disk.old disk.new index.old handle.0 (Write handle serial offset bytes.now) }
+    ensures any_moment { LeavesEither D.seen D.moment D.left_since layout.chunk layout.block layout.slots disk.old disk.new index.old (Write handle serial offset bytes.now) }
     ensures size { length (D.seen disk.new) ≡ length (D.seen disk.old) }
     ensures cause { HasCause (D.failed disk.old) (D.failed disk.new) result }
 {

@@ -1,5 +1,5 @@
 use Rattle.std.proofs.Common.{◌≡◌, ℕ, ◌+◌, ◌*◌, true, false, List, length, sym, ap, ◌∙◌, arith, Some}
-use Rattle.store_disk.specs.Digests.{digests_of}
+use Rattle.replica_store.specs.Replicas.{digests_of}
 use Rattle.disk.specs.Bytes.{range_at}
 use Rattle.disk_redo.proofs.Moments.{reads_both}
 use Rattle.disk_redo.proofs.Ranges.{length_range}

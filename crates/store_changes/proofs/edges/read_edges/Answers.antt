@@ -7,7 +7,7 @@ pub returns-then-is_aligned-clause-edges : goal.returns-then-is_aligned-clause-e
 returns-then-is_aligned-clause-edges g c handle r h =
     let l = c.args.layout in
     (λ i. Some (record { before = c.new.ensures i; after = c.new-then-is_aligned.ensures i }))
-    ∙ aligned_edges l.chunk l.block r c.args.offset c.args.end (omega (arith, l.block_range)) c.requires.some (sym c.is_aligned.ensures ∙ c.if-is_aligned.true)
+    ∙ aligned_edges l.block r c.args.offset c.args.end (omega (arith, l.block_range)) c.requires.some (sym c.is_aligned.ensures ∙ c.if-is_aligned.true)
 
 pub read_ends-requires-clause-order : goal.read_ends-requires-clause-order
 read_ends-requires-clause-order g c =
@@ -22,7 +22,7 @@ read_ends-requires-clause-within g c =
 pub returns-in_default-clause-edges : goal.returns-in_default-clause-edges
 returns-in_default-clause-edges g c handle r h =
     let l = c.args.layout in
-    no_edges l.chunk l.block r c.args.offset c.args.end (omega (arith, l.block_range)) c.requires.some (sym c.is_aligned.ensures ∙ c.if-is_aligned.false) (sym c.in_default.is ∙ c.in_ok-ends.ensures.ends handle r h)
+    no_edges l.block r c.args.offset c.args.end (omega (arith, l.block_range)) c.requires.some (sym c.is_aligned.ensures ∙ c.if-is_aligned.false) (sym c.in_default.is ∙ c.in_ok-ends.ensures.ends handle r h)
 
 pub slice-requires-clause-in_bounds : goal.slice-requires-clause-in_bounds
 slice-requires-clause-in_bounds g c =
@@ -46,7 +46,7 @@ returns-clause-edges g c handle r h =
     let before = c.in_ok-before.ensures.ok ∙ first_slice one (c.args.offset % l.block) in
     let after = c.in_ok-after.ensures.ok ∙ last_slice two (c.args.end - (c.args.end - 1) / l.block * l.block) in
     (λ i. Some (record { before = before i; after = after i }))
-    ∙ some_edges l.chunk l.block r c.args.offset c.args.end (omega (arith, l.block_range)) c.requires.some (sym c.is_aligned.ensures ∙ c.if-is_aligned.false) one two (sym c.in-Some.is ∙ c.in_ok-ends.ensures.ends handle r h)
+    ∙ some_edges l.block r c.args.offset c.args.end (omega (arith, l.block_range)) c.requires.some (sym c.is_aligned.ensures ∙ c.if-is_aligned.false) one two (sym c.in-Some.is ∙ c.in_ok-ends.ensures.ends handle r h)
 
 pub returns-then-is_aligned-clause-long : goal.returns-then-is_aligned-clause-long
 returns-then-is_aligned-clause-long g c =

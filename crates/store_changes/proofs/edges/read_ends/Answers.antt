@@ -1,8 +1,7 @@
 use Rattle.std.proofs.Common.{◌≡◌, ℕ, ◌*◌, ◌≤◌, List, length, sym, ◌∙◌, subst, arith, Option}
 use Rattle.std.specs.Prelude.{IfSome}
 use Rattle.disk_redo.proofs.Moments.{reads_both}
-use Rattle.replica_store.specs.Replicas.{block_matches}
-use Rattle.store_changes.specs.Edging.{block_at}
+use Rattle.replica_store.specs.Replicas.{block_in, block_matches}
 use Rattle.store_changes.proofs.Pairs.{both_some, first_none, one_block, second_none}
 use Rattle.store_changes.proofs.edges.read_ends.Goals as goal
 use Rattle.store_disk.specs.Stored.{Holds}
@@ -17,8 +16,8 @@ pub returns-in_default-clause-ends : goal.returns-in_default-clause-ends
 returns-in_default-clause-ends g c handle r h =
     let l = c.args.layout in
     let positive : 1 ≤ l.block = omega (arith, l.block_range) in
-    first_none (block_at l.chunk l.block r c.args.first) (block_at l.chunk l.block r c.args.last) (block_matches l.block r c.args.first) (block_matches l.block r c.args.last)
-    (sym c.in_default.is ∙ c.in_ok-one.ensures.blocks handle r h ∙ one_block l.chunk l.block r c.args.first positive)
+    first_none (block_in l.block c.args.first r.bytes) (block_in l.block c.args.last r.bytes) (block_matches l.block r c.args.first) (block_matches l.block r c.args.last)
+    (sym c.in_default.is ∙ c.in_ok-one.ensures.blocks handle r h ∙ one_block l.block r c.args.first positive)
 
 pub returns-in_default-2-clause-ends : goal.returns-in_default-2-clause-ends
 returns-in_default-2-clause-ends g c handle r h =
@@ -26,8 +25,8 @@ returns-in_default-2-clause-ends g c handle r h =
     let positive : 1 ≤ l.block = omega (arith, l.block_range) in
     let one = sym c.in-Some.is ∙ c.in_ok-one.ensures.blocks handle r h in
     let same = subst (λ (s : List ℕ). Holds l.chunk l.block s c.args.slot handle r) (sym c.read_blocks.ensures.reads.seen_same) h in
-    second_none (block_at l.chunk l.block r c.args.first) (block_at l.chunk l.block r c.args.last) (block_matches l.block r c.args.first) (block_matches l.block r c.args.last)
-    (sym c.in_default-2.is ∙ c.in_ok-two.ensures.last handle r same one ∙ one_block l.chunk l.block r c.args.last positive)
+    second_none (block_in l.block c.args.first r.bytes) (block_in l.block c.args.last r.bytes) (block_matches l.block r c.args.first) (block_matches l.block r c.args.last)
+    (sym c.in_default-2.is ∙ c.in_ok-two.ensures.last handle r same one ∙ one_block l.block r c.args.last positive)
 
 pub returns-in_default-2-clause-reads : goal.returns-in_default-2-clause-reads
 returns-in_default-2-clause-reads g c =
@@ -40,9 +39,9 @@ returns-clause-ends g c handle r h =
     let positive : 1 ≤ l.block = omega (arith, l.block_range) in
     let one = sym c.in-Some.is ∙ c.in_ok-one.ensures.blocks handle r h in
     let same = subst (λ (s : List ℕ). Holds l.chunk l.block s c.args.slot handle r) (sym c.read_blocks.ensures.reads.seen_same) h in
-    both_some (block_at l.chunk l.block r c.args.first) (block_at l.chunk l.block r c.args.last) (block_matches l.block r c.args.first) (block_matches l.block r c.args.last) c.in-Some.one c.in-Some-2.two
-    (one ∙ one_block l.chunk l.block r c.args.first positive)
-    (sym c.in-Some-2.is ∙ c.in_ok-two.ensures.last handle r same one ∙ one_block l.chunk l.block r c.args.last positive)
+    both_some (block_in l.block c.args.first r.bytes) (block_in l.block c.args.last r.bytes) (block_matches l.block r c.args.first) (block_matches l.block r c.args.last) c.in-Some.one c.in-Some-2.two
+    (one ∙ one_block l.block r c.args.first positive)
+    (sym c.in-Some-2.is ∙ c.in_ok-two.ensures.last handle r same one ∙ one_block l.block r c.args.last positive)
 
 pub returns-clause-long : goal.returns-clause-long
 returns-clause-long g c =

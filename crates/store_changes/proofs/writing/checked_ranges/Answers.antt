@@ -16,7 +16,7 @@ returns-then-count-eq0-clause-ranges g c h r holds =
 pub returns-in_default-clause-ranges : goal.returns-in_default-clause-ranges
 returns-in_default-clause-ranges g c h r holds =
     let l = c.args.layout in
-    no_ranges l.chunk l.block r c.args.new.slot c.args.handle.0 c.args.new.row c.args.offset c.args.bytes.now (omega (arith, c.len-count.ensures.value, c.if-count-eq0.false)) (sym c.in_default.is ∙ c.in_ok-edges.ensures.edges h r holds ∙ ap (λ (n : ℕ). checked_edges l.chunk l.block r c.args.offset (c.args.offset + n)) c.len-count.ensures.value)
+    no_ranges l.chunk l.block r c.args.new.slot c.args.handle.0 c.args.new.row c.args.offset c.args.bytes.now (omega (arith, c.len-count.ensures.value, c.if-count-eq0.false)) (sym c.in_default.is ∙ c.in_ok-edges.ensures.edges h r holds ∙ ap (λ (n : ℕ). checked_edges l.block r c.args.offset (c.args.offset + n)) c.len-count.ensures.value)
 
 pub write_ranges-requires-clause-before : goal.write_ranges-requires-clause-before
 write_ranges-requires-clause-before g c = (long_of c.args.layout.block c.args.offset _ c.in-Some.edges c.len-count.result (length c.args.bytes.now) c.in-Some.is c.len-count.ensures.value c.in_ok-edges.ensures.long).before
@@ -28,7 +28,7 @@ pub returns-clause-ranges : goal.returns-clause-ranges
 returns-clause-ranges g c h r holds =
     let l = c.args.layout in
     ap (λ (rs : List RedoRange). Some rs) c.in_ok-ranges.ensures.ranges
-    ∙ some_ranges l.chunk l.block r c.args.new.slot c.args.handle.0 c.args.new.row c.args.offset c.args.bytes.now (omega (arith, c.len-count.ensures.value, c.if-count-eq0.false)) c.in-Some.edges (sym c.in-Some.is ∙ c.in_ok-edges.ensures.edges h r holds ∙ ap (λ (n : ℕ). checked_edges l.chunk l.block r c.args.offset (c.args.offset + n)) c.len-count.ensures.value)
+    ∙ some_ranges l.chunk l.block r c.args.new.slot c.args.handle.0 c.args.new.row c.args.offset c.args.bytes.now (omega (arith, c.len-count.ensures.value, c.if-count-eq0.false)) c.in-Some.edges (sym c.in-Some.is ∙ c.in_ok-edges.ensures.edges h r holds ∙ ap (λ (n : ℕ). checked_edges l.block r c.args.offset (c.args.offset + n)) c.len-count.ensures.value)
 
 pub returns-then-count-eq0-clause-room : goal.returns-then-count-eq0-clause-room
 returns-then-count-eq0-clause-room g c =

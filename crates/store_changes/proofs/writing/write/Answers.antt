@@ -20,13 +20,13 @@ pub returns-in_err-ranges-clause-any_moment : goal.returns-in_err-ranges-clause-
 returns-in_err-ranges-clause-any_moment g c =
     let disk = g.D.Disk in
     let l = c.args.layout in
-    only_read disk.seen disk.may_leave disk.moment disk.left_since l.chunk l.block l.slots c.args.index.now c.args.handle.0 (Write c.args.handle c.args.serial c.args.offset c.args.bytes.now) c.args.disk.now c.checked_ranges.new.disk c.requires.rest c.checked_ranges.ensures.reads
+    only_read disk.seen disk.may_leave disk.moment disk.left_since l.chunk l.block l.slots c.args.index.now (Write c.args.handle c.args.serial c.args.offset c.args.bytes.now) c.args.disk.now c.checked_ranges.new.disk c.requires.rest c.checked_ranges.ensures.reads
 
 pub returns-in_default-clause-any_moment : goal.returns-in_default-clause-any_moment
 returns-in_default-clause-any_moment g c =
     let disk = g.D.Disk in
     let l = c.args.layout in
-    only_read disk.seen disk.may_leave disk.moment disk.left_since l.chunk l.block l.slots c.args.index.now c.args.handle.0 (Write c.args.handle c.args.serial c.args.offset c.args.bytes.now) c.args.disk.now c.checked_ranges.new.disk c.requires.rest c.checked_ranges.ensures.reads
+    only_read disk.seen disk.may_leave disk.moment disk.left_since l.chunk l.block l.slots c.args.index.now (Write c.args.handle c.args.serial c.args.offset c.args.bytes.now) c.args.disk.now c.checked_ranges.new.disk c.requires.rest c.checked_ranges.ensures.reads
 
 pub returns-in_default-clause-rest : goal.returns-in_default-clause-rest
 returns-in_default-clause-rest g c =
@@ -68,7 +68,7 @@ pub returns-in_err-update-clause-any_moment : goal.returns-in_err-update-clause-
 returns-in_err-update-clause-any_moment g c =
     let disk = g.D.Disk in
     let l = c.args.layout in
-    only_read disk.seen disk.may_leave disk.moment disk.left_since l.chunk l.block l.slots c.args.index.now c.args.handle.0 (Write c.args.handle c.args.serial c.args.offset c.args.bytes.now) c.args.disk.now c.checked_ranges.new.disk c.requires.rest c.checked_ranges.ensures.reads
+    only_read disk.seen disk.may_leave disk.moment disk.left_since l.chunk l.block l.slots c.args.index.now (Write c.args.handle c.args.serial c.args.offset c.args.bytes.now) c.args.disk.now c.checked_ranges.new.disk c.requires.rest c.checked_ranges.ensures.reads
 
 pub returns-in_err-change-clause-any_moment : goal.returns-in_err-change-clause-any_moment
 returns-in_err-change-clause-any_moment g c =
@@ -91,7 +91,7 @@ returns-in_err-change-clause-any_moment g c =
     let small : FitsHeader (header_of h now) = subst (λ (row : Row). FitsHeader (header_of h row)) row_is c.checked_ranges.ensures.fits in
     let index_now : IndexState = record index { held = map.insert index.held h (record found { row = now }) } in
     let law = write_law l.chunk l.block l.slots index seen c.requires.size c.requires.rest.closed h found c.requires.found serial offset content items planned positive c.requires.whole c.requires.within small in
-    written_either disk.seen disk.may_leave disk.moment disk.left_since l.chunk l.block l.slots index h (Write c.args.handle c.args.serial offset content) c.args.disk.now c.checked_ranges.new.disk c.change.new.disk items index_now c.checked_ranges.ensures.reads law c.requires.rest c.change.ensures.any_moment
+    written_either disk.seen disk.may_leave disk.moment disk.left_since l.chunk l.block l.slots index (Write c.args.handle c.args.serial offset content) c.args.disk.now c.checked_ranges.new.disk c.change.new.disk items index_now c.checked_ranges.ensures.reads law c.requires.rest c.change.ensures.any_moment
 
 pub returns-clause-any_moment : goal.returns-clause-any_moment
 returns-clause-any_moment g c =
@@ -114,7 +114,7 @@ returns-clause-any_moment g c =
     let small : FitsHeader (header_of h now) = subst (λ (row : Row). FitsHeader (header_of h row)) row_is c.checked_ranges.ensures.fits in
     let index_now : IndexState = record index { held = map.insert index.held h (record found { row = now }) } in
     let law = write_law l.chunk l.block l.slots index seen c.requires.size c.requires.rest.closed h found c.requires.found serial offset content items planned positive c.requires.whole c.requires.within small in
-    written_either disk.seen disk.may_leave disk.moment disk.left_since l.chunk l.block l.slots index h (Write c.args.handle c.args.serial offset content) c.args.disk.now c.checked_ranges.new.disk c.change.new.disk items index_now c.checked_ranges.ensures.reads law c.requires.rest c.change.ensures.any_moment
+    written_either disk.seen disk.may_leave disk.moment disk.left_since l.chunk l.block l.slots index (Write c.args.handle c.args.serial offset content) c.args.disk.now c.checked_ranges.new.disk c.change.new.disk items index_now c.checked_ranges.ensures.reads law c.requires.rest c.change.ensures.any_moment
 
 pub returns-clause-writable : goal.returns-clause-writable
 returns-clause-writable g c d says =
@@ -137,7 +137,7 @@ returns-clause-writable g c d says =
     is_written l.chunk l.block l.slots index seen c.requires.size c.requires.rest.closed h found c.requires.found serial offset content items planned d says
 
 pub returns-clause-made : goal.returns-clause-made
-returns-clause-made g c is_yes d says noticed =
+returns-clause-made g c is_yes d says =
     let disk = g.D.Disk in
     let l = c.args.layout in
     let seen = disk.seen c.args.disk.now in
@@ -159,7 +159,7 @@ returns-clause-made g c is_yes d says noticed =
     let law = write_law l.chunk l.block l.slots index seen c.requires.size c.requires.rest.closed h found c.requires.found serial offset content items planned positive c.requires.whole c.requires.within small in
     let index_is = c.in_ok-update.ensures.ok ∙ ap (λ (row : Row). record index { held = map.insert index.held h (record found { row = row }) }) row_is in
     subst (λ (x : IndexState). Says l.chunk l.block l.slots x (disk.seen c.change.new.disk) (disk_changed d (Write c.args.handle c.args.serial offset content))) (sym index_is)
-    (written_so disk.seen disk.may_leave disk.moment disk.left_since l.chunk l.block l.slots index h (Write c.args.handle c.args.serial offset content) c.args.disk.now c.checked_ranges.new.disk c.change.new.disk items index_now c.checked_ranges.ensures.reads law d c.in_ok-change.ensures.made says noticed)
+    (written_so disk.seen disk.may_leave disk.moment disk.left_since l.chunk l.block l.slots index (Write c.args.handle c.args.serial offset content) c.args.disk.now c.checked_ranges.new.disk c.change.new.disk items index_now c.checked_ranges.ensures.reads law d c.in_ok-change.ensures.made says)
 
 pub returns-in_err-change-clause-untouched : goal.returns-in_err-change-clause-untouched
 returns-in_err-change-clause-untouched g c d says none =
