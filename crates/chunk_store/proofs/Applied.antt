@@ -13,9 +13,8 @@ use Rattle.replica_store.specs.Replicas.{ServerDisk, disk_changed, is_writable_a
 use Rattle.store_disk.specs.Index.{IndexState}
 use Rattle.store_disk.specs.declared.held.HeldReplica.{HeldReplica}
 use Rattle.store_changes.specs.Areas.{area_of}
-use Rattle.store_changes.specs.Changing.{Says}
+use Rattle.store_changes.specs.Changing.{LeavesEither, Says}
 use Rattle.store_changes.proofs.Mutated.{change_same}
-use Rattle.store_changes.specs.Writing.{LeavesWritten}
 use Rattle.store_disk.specs.Stored.{IsStored}
 use Rattle.store_changes.specs.Mutations.{bytes_of, change_of, place_of}
 use Rattle.chunk_store.specs.Volumes.{IsOpen}
@@ -51,14 +50,14 @@ module _ {D : Type 0} (seen : D → List ℕ) (may_leave : D → List ℕ → Ty
         → Says store.layout.chunk store.layout.block store.layout.slots index (seen disk) (disk_changed d (Write h s place bytes)) → IsOpen seen may_leave then_store (disk_changed d (change_of h s m))
     applied_open d is size rest says =
         let l = store.layout in
-        still_open seen may_leave store d is disk index store.order (disk_changed d (change_of h s m)) size (is.order ∙ order_stays (λ r. written_replica r s.0 place bytes) d h.0 (replica_of d h.0) ∙ ap order_of (same d)) rest
+        still_open seen may_leave store d is disk index store.order (disk_changed d (change_of h s m)) size (is.order ∙ order_stays (λ r. written_replica d.block r s.0 place bytes) d h.0 (replica_of d h.0) ∙ ap order_of (same d)) rest
         (subst (λ (e : ServerDisk). Says l.chunk l.block l.slots index (seen disk) e) (same d) says)
 
-    pub leaves_same : LeavesWritten seen moment left_since store.layout.chunk store.layout.block store.layout.slots store.disk disk store.index h.0 (Write h s place bytes)
-        → LeavesWritten seen moment left_since store.layout.chunk store.layout.block store.layout.slots store.disk disk store.index h.0 (change_of h s m)
-    leaves_same written d says noticed =
+    pub leaves_same : LeavesEither seen moment left_since store.layout.chunk store.layout.block store.layout.slots store.disk disk store.index (Write h s place bytes)
+        → LeavesEither seen moment left_since store.layout.chunk store.layout.block store.layout.slots store.disk disk store.index (change_of h s m)
+    leaves_same written d says =
         let l = store.layout in
-        subst (λ (e : ServerDisk). StandsOnly seen moment left_since (area_of l.chunk l.block) store.disk disk (λ bs. IsStored l.chunk l.block l.slots bs d ⊎ IsStored l.chunk l.block l.slots bs e)) (same d) (written d says noticed)
+        subst (λ (e : ServerDisk). StandsOnly seen moment left_since (area_of l.chunk l.block) store.disk disk (λ bs. IsStored l.chunk l.block l.slots bs d ⊎ IsStored l.chunk l.block l.slots bs e)) (same d) (written d says)
 
 -- the serial is a new one
 pub serial_there : {D : Type 0} (seen : D → List ℕ) (may_leave : D → List ℕ → Type 0) (store : StoreVolume D) (d : ServerDisk) → IsOpen seen may_leave store d → {E : Type 0} (h : ℕ) (found : HeldReplica) (version : Version) (serial : ℕ)

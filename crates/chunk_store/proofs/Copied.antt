@@ -15,13 +15,13 @@ use Rattle.store_changes.specs.Images.{image_at}
 use Rattle.store_changes.proofs.Imaged.{image_length}
 use Rattle.chunk_store.specs.Volumes.{IsOpen, IsReady, LeavesChange}
 use Rattle.chunk_store.specs.declared.volume.StoreVolume.{StoreVolume}
-use Rattle.chunk_store.proofs.StillOpen.{held_within, row_held}
+use Rattle.chunk_store.proofs.StillOpen.{enough_bytes, held_within, row_held}
 
 module _ {D : Type 0} (seen : D → List ℕ) (may_leave : D → List ℕ → Type 0) (store : StoreVolume D) (d : ServerDisk) (is : IsOpen seen may_leave store d) where
   -- the bytes that were read fit a chunk
   pub image_fits : (h : ℕ) (found : HeldReplica) → map.get store.index.held h ≡ Some found → (bytes : List ℕ) → Some bytes ≡ image_at d h → length bytes ≤ store.layout.chunk
   image_fits h found there bytes read =
-      let long = image_length d.block (replica_of d h) bytes found.row read (row_held seen may_leave store d is h found there) in
+      let long = image_length d.block (replica_of d h) bytes found.row read (row_held seen may_leave store d is h found there) (enough_bytes seen may_leave store d is h) in
       omega (arith, long, (held_within seen may_leave store d is h found there).1)
 
 module _ {D : Type 0} (seen : D → List ℕ) (may_leave : D → List ℕ → Type 0) (store : StoreVolume D) (ready : IsReady seen may_leave store) where

@@ -32,7 +32,9 @@ module _ (chunk block slots : ℕ) where
       let room : 48 ≤ length disk = omega (arith, fits) in
       let kept : (slot : ℕ) → KeepsSlot chunk block (is_outside 48 n) slot = λ slot place le lt. is_after 48 n place (omega (arith, le)) in
       record {
+        chunk_is = is.chunk_is;
         block_is = is.block_is;
+        slots_is = is.slots_is;
         head = head_kept chunk block slots (is_outside 48 n) disk new keeps (λ place lt. is_before 48 n place (omega (arith, lt))) is.head;
         order_is = ap order_in (range_same (is_outside 48 n) disk new 32 16 keeps room (λ place le lt. is_before 48 n place lt)) ∙ is.order_is;
         held = λ handle r there.
@@ -77,8 +79,8 @@ module _ (chunk block slots : ℕ) where
     found_at_rest found d is = record { says = stands_at_rest found.index d is.says; order = is.order }
 
   -- a disk that was formatted holds no replicas
-  pub formatted_holds : (c : List ℕ) → IsFormatted chunk block slots c → IsStored chunk block slots (stands_for (area_of chunk block) c) (new_server_disk block)
+  pub formatted_holds : (c : List ℕ) → IsFormatted chunk block slots c → IsStored chunk block slots (stands_for (area_of chunk block) c) (new_server_disk chunk block slots)
   formatted_holds c formed =
       let closed : is_open (area_of chunk block) c ≡ false = ap (λ (n : ℕ). n == 1) (formed.blank.order 48 (omega arith) (omega arith)) in
       let index : IndexState = record { held = map.empty; free = range_with_len 0 slots } in
-      (index, stands_at_rest c formed.head.large closed index (new_server_disk block) (formatted_is_empty chunk block slots c formed))
+      (index, stands_at_rest c formed.head.large closed index (new_server_disk chunk block slots) (formatted_is_empty chunk block slots c formed))

@@ -8,10 +8,7 @@ pub mod Moments
 pub mod Applied
 pub mod Copied
 pub mod BegunAgain
-pub mod BlockParts
 pub mod Looked
-pub mod OtherByte
-pub mod Blocks
 pub mod StillOpen
 pub mod Stopped
 pub mod States

@@ -44,10 +44,10 @@ module _ {D : Type 0} (seen : D → List ℕ) (may_leave : D → List ℕ → Ty
         let its = its_replica l.chunk l.block l.slots store.index (stands_for (area_of l.chunk l.block) (seen store.disk)) d is.says h found there in
         (its.0, its.1, its.2.there, holds_at_rest l.chunk l.block l.slots (seen store.disk) is.large is.rest.closed found.slot h its.0 its.2.there its.2.holds)
 
-    pub edges_tell : (offset end_place : ℕ) (o : Option Edges) → ((handle : ℕ) (r : Replica) → Holds store.layout.chunk store.layout.block (seen store.disk) found.slot handle r → o ≡ checked_edges store.layout.chunk store.layout.block r offset end_place)
+    pub edges_tell : (offset end_place : ℕ) (o : Option Edges) → ((handle : ℕ) (r : Replica) → Holds store.layout.chunk store.layout.block (seen store.disk) found.slot handle r → o ≡ checked_edges store.layout.block r offset end_place)
         → is_some o ≡ is_writable_at d h offset end_place
     edges_tell offset end_place o edges =
         let l = store.layout in
         let its = its_slot in
-        ap is_some (edges h its.0 its.3) ∙ some_if (is_writable l.block its.0 offset end_place) (edges_around l.chunk l.block its.0 offset end_place)
+        ap is_some (edges h its.0 its.3) ∙ some_if (is_writable l.block its.0 offset end_place) (edges_around l.block its.0 offset end_place)
         ∙ sym (writable_at d l.block h its.0 offset end_place its.1 is.says.block_is)

@@ -22,7 +22,7 @@ module _ (chunk block slots : ℕ) (bytes : List ℕ) (d : ServerDisk) where
   open_holds opened (inl none) = let e : true ≡ false = sym opened ∙ none.0 in absurd cc
   open_holds opened (inr some) = some.1
 
-  pub closed_holds : is_head_open bytes ≡ false → HoldsReplicas chunk block slots bytes d → d ≡ new_server_disk block
+  pub closed_holds : is_head_open bytes ≡ false → HoldsReplicas chunk block slots bytes d → d ≡ new_server_disk chunk block slots
   closed_holds closed (inl none) = none.1
   closed_holds closed (inr some) = let e : true ≡ false = sym some.0 ∙ closed in absurd cc
 
@@ -67,7 +67,7 @@ module _ {D : Type 0} (seen : D → List ℕ) (may_leave : D → List ℕ → Ty
       by c (inl left) = inr (inl (closed, inr (subst (λ (l : List ℕ). IsFormatted chunk block slots l) (sym (only c left)) formed)))
       by c (inr same) = inr (inr (λ d holds.
           subst (λ (e : ServerDisk). IsStored chunk block slots (stands_for (area_of chunk block) c) e) (sym (closed_holds chunk block slots (seen old) d closed holds))
-          (subst (λ (l : List ℕ). IsStored chunk block slots l (new_server_disk block)) (sym same) (formatted_holds chunk block slots (seen mid) formed))))
+          (subst (λ (l : List ℕ). IsStored chunk block slots l (new_server_disk chunk block slots)) (sym same) (formatted_holds chunk block slots (seen mid) formed))))
 
   -- the head is read, and the change that was under way is made
   pub redoes : (old mid new : D) → is_head_open (seen old) ≡ true → OnlyReads seen may_leave moment left_since old mid → LeavesOnly moment left_since mid new (Redoing mid) → LeavesOnly moment left_since old new (Opening old)

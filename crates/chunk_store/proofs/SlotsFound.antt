@@ -1,5 +1,5 @@
 -- Replicas are found, slot by slot.
-use Rattle.std.proofs.Common.{◌≡◌, inl, inr, ℕ, ◌+◌, ◌<◌, Bool, true, false, not, ◌&&◌, nat_lt, ◌==◌, if◌then◌else◌, List, length, get_or, refl, sym, ap, ◌∙◌, arith, Option, None, Some}
+use Rattle.std.proofs.Common.{◌≡◌, inl, inr, ℕ, ◌+◌, ◌<◌, Bool, true, false, not, ◌&&◌, nat_lt, ◌==◌, if◌then◌else◌, List, get_or, refl, sym, ap, ◌∙◌, arith, Option, None, Some}
 use Rattle.std.specs.BTreeMap.{is_at}
 use Rattle.std.specs.FinMap as map
 use Rattle.std.specs.List.{range_with_len}
@@ -131,10 +131,10 @@ module _ (chunk block slots : ℕ) (all : IndexState) (disk : List ℕ) (d : Ser
           let its = its_replica chunk block slots all disk d is that.0 that.1 that.2 in
           let same : that.1.slot ≡ n = that.3 in
           let r = its.0 in
-          let both : Some header ≡ Some (record { handle = record { 0 = that.0 }; version = record { 0 = r.version }; serial = record { 0 = r.serial }; count = length r.bytes }) =
+          let both : Some header ≡ Some (record { handle = record { 0 = that.0 }; version = record { 0 = r.version }; serial = record { 0 = r.serial }; count = r.count }) =
           sym says ∙ ap (λ (k : ℕ). header_in (range_at disk (slot_place chunk block k) 40)) (sym same) ∙ its.2.holds.header in
-          let e : header ≡ record { handle = record { 0 = that.0 }; version = record { 0 = r.version }; serial = record { 0 = r.serial }; count = length r.bytes } = cc in
-          let row_is : record { version = record { 0 = r.version }; serial = record { 0 = r.serial }; count = length r.bytes } ≡ that.1.row = (let f = its.2.row in cc) in
+          let e : header ≡ record { handle = record { 0 = that.0 }; version = record { 0 = r.version }; serial = record { 0 = r.serial }; count = r.count } = cc in
+          let row_is : record { version = record { 0 = r.version }; serial = record { 0 = r.serial }; count = r.count } ≡ that.1.row = (let f = its.2.row in cc) in
           ap (λ (h : SlotHeader). map.get all.held h.handle.0) e ∙ that.2
           ∙ ap (λ (k : ℕ). Some (record { slot = k; row = that.1.row })) same
           ∙ ap (λ (row : Row). Some (record { slot = n; row = row })) (sym row_is)
@@ -184,7 +184,9 @@ module _ (chunk block slots : ℕ) (all : IndexState) (disk : List ℕ) (d : Ser
   -- all slots
   pub all_known : (some : IndexState) → KnowsFirst chunk block slots disk all slots some → IsDiskOf chunk block slots some disk d
   all_known some so_far = record {
+    chunk_is = is.chunk_is;
     block_is = is.block_is;
+    slots_is = is.slots_is;
     head = is.head;
     order_is = is.order_is;
     held = λ q r e. let k = is.held q r e in (k.0, so_far.each q k.0 k.1 k.2.there, k.2);

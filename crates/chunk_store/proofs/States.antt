@@ -1,5 +1,5 @@
 -- A store as its callers see it, over its volume.
-use Rattle.std.proofs.Common.{◌≡◌, ℕ, ◌<◌, ◌%◌, Bool, true, List, length, refl, sym, ap, ◌∙◌, subst, None, Some, Result, Ok, Err}
+use Rattle.std.proofs.Common.{◌≡◌, ℕ, ◌<◌, ◌≤◌, ◌%◌, Bool, true, List, length, refl, sym, ap, ◌∙◌, subst, None, Some, Result, Ok, Err}
 use Rattle.std.specs.Prelude.{OnOk}
 use Rattle.std.specs.FinMap as map
 use Rattle.disk.specs.Device.{NoMore}
@@ -23,7 +23,7 @@ use Rattle.chunk_store.specs.Reopening.{IsReopened}
 use Rattle.chunk_store.specs.Volumes.{IsOpen as IsVolumeOpen, IsReady, IsReopened as IsVolumeReopened, IsSound, store_of, volume_of}
 use Rattle.chunk_store.proofs.Ready.{ready_after}
 use Rattle.chunk_store.proofs.Looked.{its_slot as volume_its_slot, none_writable as volume_none_writable}
-use Rattle.chunk_store.proofs.StillOpen.{leaves_all as volume_leaves_all, none_held as volume_none_held, read_open as volume_read_open, row_held as volume_row_held, still_open as volume_still_open}
+use Rattle.chunk_store.proofs.StillOpen.{enough_bytes as volume_enough_bytes, leaves_all as volume_leaves_all, none_held as volume_none_held, read_open as volume_read_open, row_held as volume_row_held, still_open as volume_still_open}
 use Rattle.chunk_store.specs.declared.volume.StoreVolume.{StoreVolume}
 
 module _ {D : Type 0} (seen : D → List ℕ) (may_leave : D → List ℕ → Type 0) where
@@ -97,6 +97,9 @@ module _ {D : Type 0} (seen : D → List ℕ) (may_leave : D → List ℕ → Ty
 
   pub row_held : (h : ℕ) (found : HeldReplica) → map.get store.index.held h ≡ Some found → row_at d h ≡ Some found.row
   row_held = volume_row_held seen may_leave (volume_of store) d volume
+
+  pub enough_bytes : (h : ℕ) (r : Replica) → replica_of d h ≡ Some r → r.count ≤ length r.bytes
+  enough_bytes = volume_enough_bytes seen may_leave (volume_of store) d volume
 
   pub none_held : (h : ℕ) → map.get store.index.held h ≡ None → row_at d h ≡ None
   none_held = volume_none_held seen may_leave (volume_of store) d volume

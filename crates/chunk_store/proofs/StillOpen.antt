@@ -8,7 +8,7 @@ use Rattle.gfs_types.specs.declared.ids.Version.{Version}
 use Rattle.disk_redo.specs.Redo.{IsAtRest, is_open, stands_for}
 use Rattle.replica_store.specs.declared.change.StoreChange.{StoreChange}
 use Rattle.replica_store.specs.declared.row.Row.{Row}
-use Rattle.replica_store.specs.Replicas.{ServerDisk, is_disk_full, row_at}
+use Rattle.replica_store.specs.Replicas.{Replica, ServerDisk, is_disk_full, replica_of, row_at}
 use Rattle.store_disk.specs.Index.{IndexState}
 use Rattle.store_disk.specs.declared.held.HeldReplica.{HeldReplica}
 use Rattle.store_changes.specs.Areas.{area_of}
@@ -20,7 +20,9 @@ use Rattle.store_disk.proofs.Changing.{within}
 use Rattle.store_disk.proofs.Looked.{first_free, no_row, one_row, order_of}
 use Rattle.store_disk.proofs.Counted.{full_known}
 use Rattle.store_disk.proofs.Listed.{row_found, row_known}
+use Rattle.store_disk.proofs.FormatSlots.{slot_before}
 use Rattle.store_disk.proofs.Replicas.{its_replica}
+use Rattle.store_disk.proofs.Slots.{bytes_long}
 use Rattle.chunk_store.specs.Volumes.{IsOpen, LeavesChange}
 use Rattle.chunk_store.specs.declared.volume.StoreVolume.{StoreVolume}
 
@@ -51,8 +53,18 @@ module _ {D : Type 0} (seen : D → List ℕ) (may_leave : D → List ℕ → Ty
   pub held_within : (h : ℕ) (found : HeldReplica) → map.get store.index.held h ≡ Some found → (found.slot < store.layout.slots) × (found.row.count ≤ store.layout.chunk)
   held_within h found there =
       let its = its_replica store.layout.chunk store.layout.block store.layout.slots store.index stands d is.says h found there in
-      let same : length its.0.bytes ≡ found.row.count = (let e = its.2.row in cc) in
+      let same : its.0.count ≡ found.row.count = (let e = its.2.row in cc) in
       (its.2.there, omega (arith, its.2.holds.fits, same))
+
+  -- a replica has no more bytes than its chunk
+  pub enough_bytes : (h : ℕ) (r : Replica) → replica_of d h ≡ Some r → r.count ≤ length r.bytes
+  enough_bytes h r own =
+      let l = store.layout in
+      let k = is.says.held h r own in
+      let before = slot_before l.chunk l.block k.0.slot l.slots k.2.there in
+      let rested = rest_size l.chunk l.block l.slots (seen store.disk) is.large is.rest.closed in
+      let long = bytes_long l.chunk l.block stands k.0.slot h r (omega (arith, before, rested)) k.2.holds in
+      omega (arith, long, k.2.holds.fits)
 
   -- a free slot is one of the slots
   pub free_within : (h slot : ℕ) → map.get store.index.held h ≡ None → slice_get store.index.free 0 ≡ Some slot → slot < store.layout.slots

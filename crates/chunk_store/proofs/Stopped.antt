@@ -16,9 +16,9 @@ use Rattle.chunk_store.proofs.OpenHeads.{holds_stored}
 
 module _ (chunk block slots : ℕ) where
   -- a disk that is being formatted holds no replicas
-  pub forming_holds : (c : List ℕ) → IsFormatting chunk block slots c → HoldsReplicas chunk block slots c (new_server_disk block)
+  pub forming_holds : (c : List ℕ) → IsFormatting chunk block slots c → HoldsReplicas chunk block slots c (new_server_disk chunk block slots)
   forming_holds c (inl closed) = inl (closed, refl)
-  forming_holds c (inr is) = holds_stored chunk block slots c (new_server_disk block) (formatted_holds chunk block slots c is)
+  forming_holds c (inr is) = holds_stored chunk block slots c (new_server_disk chunk block slots) (formatted_holds chunk block slots c is)
 
   -- what stands for the same holds the same
   pub same_holds : (b c : List ℕ) (d : ServerDisk) → stands_for (area_of chunk block) c ≡ stands_for (area_of chunk block) b → IsStored chunk block slots (stands_for (area_of chunk block) b) d → HoldsReplicas chunk block slots c d

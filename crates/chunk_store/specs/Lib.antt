@@ -1,6 +1,5 @@
 pub mod Finding
 pub mod Faults
-pub mod Matching
 pub mod Opening
 pub mod Stores
 pub mod Stops

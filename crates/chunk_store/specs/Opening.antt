@@ -10,7 +10,7 @@ use Rattle.store_disk.specs.Stored.{IsDiskOf, IsStored}
 -- What a disk holds: no replicas where its head is closed, and else what its bytes stand for.
 abbrev pub HoldsReplicas : ℕ → ℕ → ℕ → List ℕ → ServerDisk → Type 0
 HoldsReplicas chunk block slots bytes d =
-    ((is_head_open bytes ≡ false) × (d ≡ new_server_disk block))
+    ((is_head_open bytes ≡ false) × (d ≡ new_server_disk chunk block slots))
     ⊎ ((is_head_open bytes ≡ true) × IsStored chunk block slots (stands_for (area_of chunk block) bytes) d)
 
 -- What was found is what the disk says.

@@ -4,10 +4,9 @@ ghost use Rattle.std.specs.Prelude.{◌≡◌, ◌≢◌, ◌≤◌, ◌+◌, �
 ghost use Rattle.disk_redo.specs.GateMoments.{OnlyReads};
 ghost use Rattle.replica_store.specs.declared.row.Row.{Row};
 ghost use Rattle.replica_store.specs.Replicas.{ServerDisk, disk_changed, is_writable_at, row_at};
-ghost use Rattle.store_changes.specs.Writing.{IsNoticedAt, LeavesWritten};
 ghost use Rattle.store_changes.specs.Faults.{IsRefused, MayFail};
 ghost use Rattle.store_changes.specs.Mutations.{bytes_of as bytes_value, change_of, place_of as place_value};
-ghost use Rattle.chunk_store.specs.Volumes.{IsOpen, IsReady};
+ghost use Rattle.chunk_store.specs.Volumes.{IsOpen, IsReady, LeavesChange};
 ghost use Rattle.store_changes.specs.declared.fault.StoreFault.TheVariants as faults;
 
 use crate::volume::StoreVolume;
@@ -28,7 +27,7 @@ impl<D: Disk> StoreVolume<D> {
     ) -> Result<(), StoreFault>
         requires ready { IsReady D.seen D.may_leave self.old }
         requires within { place_value mutation.now + length (bytes_value mutation.now) ≤ self.old.layout.chunk }
-        ensures ok { (d : ServerDisk) → IsOpen D.seen D.may_leave self.old d → IsNoticedAt d handle.0
+        ensures ok { (d : ServerDisk) → IsOpen D.seen D.may_leave self.old d
             → OnOk result (IsOpen D.seen D.may_leave self.new (disk_changed d (change_of handle serial mutation.now))) }
         ensures no_chunk { (d : ServerDisk) → IsOpen D.seen D.may_leave self.old d → (IsErrOf result faults.NoChunk ↔ row_at d handle.0 ≡ None) }
         ensures version { (d : ServerDisk) → IsOpen D.seen D.may_leave self.old d → (IsErrOf result faults.Version ↔ (row : Row) × (row_at d handle.0 ≡ Some row) × (row.version ≢ version)) }
@@ -45,7 +44,7 @@ impl<D: Disk> StoreVolume<D> {
             → OnlyReads D.seen D.may_leave D.moment D.left_since self.old.disk self.new.disk }
         ensures no_room { IsErrOf result faults.NoRoom → ⊥ }
         ensures refused { (d : ServerDisk) → IsOpen D.seen D.may_leave self.old d → IsRefused result → IsOpen D.seen D.may_leave self.new d }
-        ensures any_moment { LeavesWritten D.seen D.moment D.left_since self.old.layout.chunk self.old.layout.block self.old.layout.slots self.old.disk self.new.disk self.old.index handle.0 (change_of handle serial mutation.now) }
+        ensures any_moment { LeavesChange D.seen D.moment D.left_since self.old self.new (change_of handle serial mutation.now) }
         ensures layout { self.new.layout ≡ self.old.layout }
         ensures cause { MayFail (D.failed self.old.disk) (D.failed self.new.disk) result }
     {

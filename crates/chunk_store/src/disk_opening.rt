@@ -33,9 +33,9 @@ fn open_new<D: Disk>(
     requires durable { Only (D.seen disk.old) (D.may_leave disk.old) }
     ensures rest { OnOk result (IsAtRest D.seen D.may_leave (area_of layout.chunk layout.block) disk.new) }
     ensures large { OnOk result (disk_size layout.chunk layout.block layout.slots ≤ length (D.seen disk.new)) }
-    ensures found { IfOk result (λ found. IsFound layout.chunk layout.block layout.slots found (stands_for (area_of layout.chunk layout.block) (D.seen disk.new)) (new_server_disk layout.block)) }
+    ensures found { IfOk result (λ found. IsFound layout.chunk layout.block layout.slots found (stands_for (area_of layout.chunk layout.block) (D.seen disk.new)) (new_server_disk layout.chunk layout.block layout.slots)) }
     ensures undamaged { IsErrOf result faults.Damaged → ⊥ }
-    ensures held { HoldsReplicas layout.chunk layout.block layout.slots (D.seen disk.new) (new_server_disk layout.block) }
+    ensures held { HoldsReplicas layout.chunk layout.block layout.slots (D.seen disk.new) (new_server_disk layout.chunk layout.block layout.slots) }
     ensures any_moment { LeavesOnly D.moment D.left_since disk.old disk.new (IsOpening layout.chunk layout.block layout.slots (D.seen disk.old) (D.may_leave disk.old)) }
     ensures cause { MayFail (D.failed disk.old) (D.failed disk.new) result }
 {

@@ -1,10 +1,10 @@
 //! Bytes that rot.
 
 ghost use Rattle.std.specs.Prelude.{◌≡◌, ◌<◌, ◌↔◌, OnOk, IsErrOf, None};
-ghost use Rattle.replica_store.specs.Replicas.{ServerDisk, row_at};
-ghost use Rattle.store_changes.specs.Rotting.{LeavesRotten, disk_rotten};
+ghost use Rattle.replica_store.specs.Replicas.{ServerDisk, disk_changed, row_at};
+ghost use Rattle.replica_store.specs.declared.change.StoreChange.TheVariants.{Rot};
 ghost use Rattle.store_changes.specs.Faults.{IsRefused, MayFail};
-ghost use Rattle.chunk_store.specs.Volumes.{IsOpen, IsReady};
+ghost use Rattle.chunk_store.specs.Volumes.{IsOpen, IsReady, LeavesChange};
 ghost use Rattle.store_changes.specs.declared.fault.StoreFault.TheVariants as faults;
 
 use crate::volume::StoreVolume;
@@ -23,11 +23,11 @@ impl<D: Disk> StoreVolume<D> {
     ) -> Result<(), StoreFault>
         requires ready { IsReady D.seen D.may_leave self.old }
         requires place { place < self.old.layout.chunk }
-        ensures ok { (d : ServerDisk) → IsOpen D.seen D.may_leave self.old d → OnOk result (IsOpen D.seen D.may_leave self.new (disk_rotten d handle.0 place byte)) }
+        ensures ok { (d : ServerDisk) → IsOpen D.seen D.may_leave self.old d → OnOk result (IsOpen D.seen D.may_leave self.new (disk_changed d (Rot handle place byte))) }
         ensures no_chunk { (d : ServerDisk) → IsOpen D.seen D.may_leave self.old d → (IsErrOf result faults.NoChunk ↔ row_at d handle.0 ≡ None) }
         ensures only { IsRefused result → IsErrOf result faults.NoChunk }
         ensures refused { (d : ServerDisk) → IsOpen D.seen D.may_leave self.old d → IsRefused result → IsOpen D.seen D.may_leave self.new d }
-        ensures any_moment { LeavesRotten D.seen D.moment D.left_since self.old.layout.chunk self.old.layout.block self.old.layout.slots self.old.disk self.new.disk self.old.index handle.0 place byte }
+        ensures any_moment { LeavesChange D.seen D.moment D.left_since self.old self.new (Rot handle place byte) }
         ensures layout { self.new.layout ≡ self.old.layout }
         ensures ready { OnOk result (IsReady D.seen D.may_leave self.new) }
         ensures kept { IsRefused result → IsReady D.seen D.may_leave self.new }

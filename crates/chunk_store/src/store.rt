@@ -1,23 +1,20 @@
 //! The store.
 
-ghost use Rattle.chunk_store.specs.Matching.{HasItsDigest};
 ghost use Rattle.chunk_store.specs.Opening.{HoldsReplicas, IsOpening};
 ghost use Rattle.chunk_store.specs.Reopening.{IsReopened, StillSays};
 ghost use Rattle.chunk_store.specs.Stores.{IsOpen, LeavesChange};
 ghost use Rattle.chunk_store.specs.declared.fault.OpenFault.TheVariants as opening_faults;
 ghost use Rattle.disk.specs.Device.{Follows, HasCause, NoMore};
 ghost use Rattle.disk_redo.specs.GateMoments.{LeavesOnly, OnlyReads};
-ghost use Rattle.replica_store.specs.Replicas.{Replica, ServerDisk, disk_changed, is_disk_full, is_writable_at, read_at, replica_of, row_at};
-ghost use Rattle.replica_store.specs.declared.change.StoreChange.TheVariants.{Copy, Put, Raise, Remove, SetOrder};
+ghost use Rattle.replica_store.specs.Replicas.{ServerDisk, disk_changed, is_disk_full, is_writable_at, read_at, row_at};
+ghost use Rattle.replica_store.specs.declared.change.StoreChange.TheVariants.{Copy, Put, Raise, Remove, Rot, SetOrder};
 ghost use Rattle.replica_store.specs.declared.row.Row.{Row};
 ghost use Rattle.std.specs.FinMap as map;
 ghost use Rattle.std.specs.Option.{option_map};
-ghost use Rattle.std.specs.Prelude.{is_ok, IfErr, IfOk, IsErrOf, IsTrue, None, OnOk, Some, [], false, length, true, ◌%◌, ◌+◌, ◌<◌, ◌↔◌, ◌≡◌, ◌≢◌, ◌≤◌, ◌⊎◌};
+ghost use Rattle.std.specs.Prelude.{is_ok, IfErr, IfOk, IsErrOf, None, OnOk, Some, [], false, length, true, ◌%◌, ◌+◌, ◌<◌, ◌↔◌, ◌≡◌, ◌≢◌, ◌≤◌, ◌⊎◌};
 ghost use Rattle.store_changes.specs.Faults.{IsRefused, MayFail};
 ghost use Rattle.store_changes.specs.Images.{image_at};
 ghost use Rattle.store_changes.specs.Mutations.{bytes_of as bytes_value, change_of, place_of as place_value};
-ghost use Rattle.store_changes.specs.Rotting.{LeavesRotten, disk_rotten};
-ghost use Rattle.store_changes.specs.Writing.{IsNoticedAt, LeavesWritten};
 ghost use Rattle.store_changes.specs.declared.fault.StoreFault.TheVariants as faults;
 ghost use Rattle.store_disk.specs.Formats.{IsHeadOf, is_head_open};
 ghost use Rattle.store_disk.specs.Places.{disk_size};
@@ -344,7 +341,7 @@ impl<D: Disk> Store<D> {
     ) -> Result<(), StoreFault>
         requires is_open { self.old.is_open ≡ true }
         requires within { place_value mutation.now + length (bytes_value mutation.now) ≤ self.old.layout.chunk }
-        ensures ok { (d : ServerDisk) → IsOpen D.seen D.may_leave self.old d → IsNoticedAt d handle.0
+        ensures ok { (d : ServerDisk) → IsOpen D.seen D.may_leave self.old d
             → OnOk result (IsOpen D.seen D.may_leave self.new (disk_changed d (change_of handle serial mutation.now))) }
         ensures no_chunk { (d : ServerDisk) → IsOpen D.seen D.may_leave self.old d → (IsErrOf result faults.NoChunk ↔ row_at d handle.0 ≡ None) }
         ensures version { (d : ServerDisk) → IsOpen D.seen D.may_leave self.old d → (IsErrOf result faults.Version ↔ (row : Row) × (row_at d handle.0 ≡ Some row) × (row.version ≢ version)) }
@@ -360,7 +357,7 @@ impl<D: Disk> Store<D> {
             → OnlyReads D.seen D.may_leave D.moment D.left_since self.old.disk self.new.disk }
         ensures no_room { IsErrOf result faults.NoRoom → ⊥ }
         ensures refused { (d : ServerDisk) → IsOpen D.seen D.may_leave self.old d → IsRefused result → IsOpen D.seen D.may_leave self.new d }
-        ensures any_moment { LeavesWritten D.seen D.moment D.left_since self.old.layout.chunk self.old.layout.block self.old.layout.slots self.old.disk self.new.disk self.old.index handle.0 (change_of handle serial mutation.now) }
+        ensures any_moment { LeavesChange D.seen D.moment D.left_since self.old self.new (change_of handle serial mutation.now) }
         ensures layout { self.new.layout ≡ self.old.layout }
         ensures open { self.new.is_open ≡ stays_open result }
         ensures cause { MayFail (D.failed self.old.disk) (D.failed self.new.disk) result }
@@ -412,11 +409,11 @@ impl<D: Disk> Store<D> {
     ) -> Result<(), StoreFault>
         requires is_open { self.old.is_open ≡ true }
         requires place { place < self.old.layout.chunk }
-        ensures ok { (d : ServerDisk) → IsOpen D.seen D.may_leave self.old d → OnOk result (IsOpen D.seen D.may_leave self.new (disk_rotten d handle.0 place byte)) }
+        ensures ok { (d : ServerDisk) → IsOpen D.seen D.may_leave self.old d → OnOk result (IsOpen D.seen D.may_leave self.new (disk_changed d (Rot handle place byte))) }
         ensures no_chunk { (d : ServerDisk) → IsOpen D.seen D.may_leave self.old d → (IsErrOf result faults.NoChunk ↔ row_at d handle.0 ≡ None) }
         ensures only { IsRefused result → IsErrOf result faults.NoChunk }
         ensures refused { (d : ServerDisk) → IsOpen D.seen D.may_leave self.old d → IsRefused result → IsOpen D.seen D.may_leave self.new d }
-        ensures any_moment { LeavesRotten D.seen D.moment D.left_since self.old.layout.chunk self.old.layout.block self.old.layout.slots self.old.disk self.new.disk self.old.index handle.0 place byte }
+        ensures any_moment { LeavesChange D.seen D.moment D.left_since self.old self.new (Rot handle place byte) }
         ensures layout { self.new.layout ≡ self.old.layout }
         ensures open { self.new.is_open ≡ stays_open result }
         ensures cause { MayFail (D.failed self.old.disk) (D.failed self.new.disk) result }
@@ -443,27 +440,6 @@ impl<D: Disk> Store<D> {
         ensures cause { HasCause (D.failed self.old.disk) (D.failed self.new.disk) result }
     {
         self.volume.is_writable(alloc, handle, offset, end)
-    }
-
-    /// Whether the block of a place of a replica would have its stored digest, were this byte there: not so where there is no such replica. The simulator's alone.
-    pub fn would_match(
-        &mut self,
-        alloc: Global,
-        handle: Handle,
-        place: u64,
-        byte: u8,
-    ) -> Result<bool, DiskFault>
-        requires is_open { self.old.is_open ≡ true }
-        requires place { place < self.old.layout.chunk }
-        ensures value { (d : ServerDisk) (r : Replica) → IsOpen D.seen D.may_leave self.old d → replica_of d handle.0 ≡ Some r
-            → IfOk result (λ b. IsTrue b ↔ HasItsDigest self.old.layout.chunk d.block r place byte) }
-        ensures none { (d : ServerDisk) → IsOpen D.seen D.may_leave self.old d → replica_of d handle.0 ≡ None → IfOk result (λ b. b ≡ false) }
-        ensures still_open { (d : ServerDisk) → IsOpen D.seen D.may_leave self.old d → IsOpen D.seen D.may_leave self.new d }
-        ensures unchanged { self.new ≡ record self.old { disk = self.new.disk } }
-        ensures reads { OnlyReads D.seen D.may_leave D.moment D.left_since self.old.disk self.new.disk }
-        ensures cause { HasCause (D.failed self.old.disk) (D.failed self.new.disk) result }
-    {
-        self.volume.would_match(alloc, handle, place, byte)
     }
 }
 

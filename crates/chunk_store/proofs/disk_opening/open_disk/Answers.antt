@@ -52,7 +52,7 @@ returns-else-is_open-clause-found g c =
     let old = seen c.args.disk.now in
     let closed = gate_read old c.in_ok-head.head false c.in_ok-head.ensures.bytes c.if-is_open.ensures in
     IfOk-weaker c.open_new.result
-    (λ found. IsFound layout.chunk layout.block layout.slots found (stands_for area (seen c.open_new.new.disk)) (new_server_disk layout.block))
+    (λ found. IsFound layout.chunk layout.block layout.slots found (stands_for area (seen c.open_new.new.disk)) (new_server_disk layout.chunk layout.block layout.slots))
     (λ found. (d : ServerDisk) → HoldsReplicas layout.chunk layout.block layout.slots old d → IsFound layout.chunk layout.block layout.slots found (stands_for area (seen c.open_new.new.disk)) d)
     (λ found none d holds.
     subst (λ (e : ServerDisk). IsFound layout.chunk layout.block layout.slots found (stands_for area (seen c.open_new.new.disk)) e) (sym (closed_holds layout.chunk layout.block layout.slots old d closed holds)) none)

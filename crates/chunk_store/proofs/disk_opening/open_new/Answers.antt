@@ -17,7 +17,7 @@ pub returns-clause-found : goal.returns-clause-found
 returns-clause-found g c =
     let layout = c.args.layout in
     let mid = g.D.Disk.seen c.format.new.disk in
-    c.in_ok-open_formatted.ensures.found (new_server_disk layout.block) (formatted_holds layout.chunk layout.block layout.slots mid c.in_ok-format.ensures.formatted)
+    c.in_ok-open_formatted.ensures.found (new_server_disk layout.chunk layout.block layout.slots) (formatted_holds layout.chunk layout.block layout.slots mid c.in_ok-format.ensures.formatted)
 
 pub returns-clause-any_moment : goal.returns-clause-any_moment
 returns-clause-any_moment g c =
@@ -40,11 +40,11 @@ returns-in_err-open_formatted-clause-held g c =
     let seen = g.D.Disk.seen in
     let layout = c.args.layout in
     let mid = seen c.format.new.disk in
-    same_holds layout.chunk layout.block layout.slots mid (seen c.open_formatted.new.disk) (new_server_disk layout.block) c.open_formatted.ensures.same (formatted_holds layout.chunk layout.block layout.slots mid c.in_ok-format.ensures.formatted)
+    same_holds layout.chunk layout.block layout.slots mid (seen c.open_formatted.new.disk) (new_server_disk layout.chunk layout.block layout.slots) c.open_formatted.ensures.same (formatted_holds layout.chunk layout.block layout.slots mid c.in_ok-format.ensures.formatted)
 
 pub returns-clause-held : goal.returns-clause-held
 returns-clause-held g c =
     let seen = g.D.Disk.seen in
     let layout = c.args.layout in
     let mid = seen c.format.new.disk in
-    same_holds layout.chunk layout.block layout.slots mid (seen c.open_formatted.new.disk) (new_server_disk layout.block) c.open_formatted.ensures.same (formatted_holds layout.chunk layout.block layout.slots mid c.in_ok-format.ensures.formatted)
+    same_holds layout.chunk layout.block layout.slots mid (seen c.open_formatted.new.disk) (new_server_disk layout.chunk layout.block layout.slots) c.open_formatted.ensures.same (formatted_holds layout.chunk layout.block layout.slots mid c.in_ok-format.ensures.formatted)

@@ -1,6 +1,5 @@
 use Rattle.std.proofs.Common.{inl, refl}
 use Rattle.replica_store.specs.Replicas.{disk_changed}
-use Rattle.store_changes.specs.Rotting.{disk_rotten}
 use Rattle.chunk_store.proofs.Stopped.{held_after, opening_holds, reads_hold, reopens_either}
 use Rattle.chunk_store.proofs.laws.stops_leave_before_or_after.Goals as goal
 
@@ -25,15 +24,3 @@ returns-clause-change g c old new d change is leaves =
     let disk = g.D.Disk in
     let l = old.layout in
     reopens_either disk.seen disk.may_leave disk.moment disk.left_since l.chunk l.block l.slots old.disk new.disk d (disk_changed d change) (leaves d is.says)
-
-pub returns-clause-mutation : goal.returns-clause-mutation
-returns-clause-mutation g c old new d handle change is noticed leaves =
-    let disk = g.D.Disk in
-    let l = old.layout in
-    reopens_either disk.seen disk.may_leave disk.moment disk.left_since l.chunk l.block l.slots old.disk new.disk d (disk_changed d change) (leaves d is.says noticed)
-
-pub returns-clause-rot : goal.returns-clause-rot
-returns-clause-rot g c old new d handle place byte is leaves =
-    let disk = g.D.Disk in
-    let l = old.layout in
-    reopens_either disk.seen disk.may_leave disk.moment disk.left_since l.chunk l.block l.slots old.disk new.disk d (disk_rotten d handle place byte) (leaves d is.says)

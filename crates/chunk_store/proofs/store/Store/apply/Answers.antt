@@ -19,11 +19,11 @@ invariant_of-self g c =
     changed_sound disk.seen disk.may_leave call.new.self after.result was.volume call.result after.ensures call.ensures.layout call.ensures.ready call.ensures.kept c.self.invariant.whole
 
 pub returns-clause-ok : goal.returns-clause-ok
-returns-clause-ok g c d is noticed =
+returns-clause-ok g c d is =
     let was = c.self.inside in
     let disk = g.D.Disk in
     let told = as_volume disk.seen disk.may_leave was.volume was.is_open _ c.self.view_is d is in
-    made_open disk.seen disk.may_leave c.apply-done.new.self c.stays_open-self-inside.result c.apply-done.result _ c.stays_open-self-inside.ensures (c.apply-done.ensures.ok d told noticed)
+    made_open disk.seen disk.may_leave c.apply-done.new.self c.stays_open-self-inside.result c.apply-done.result _ c.stays_open-self-inside.ensures (c.apply-done.ensures.ok d told)
 
 pub returns-clause-no_chunk : goal.returns-clause-no_chunk
 returns-clause-no_chunk g c d is =

@@ -22,7 +22,7 @@ pub returns-in-Err-clause-corrupt : goal.returns-in-Err-clause-corrupt
 returns-in-Err-clause-corrupt g c d is e = absurd (not_corrupt c.in-Err.fault c.in-Err.ensures.no_other e)
 
 pub returns-in-Err-clause-any_moment : goal.returns-in-Err-clause-any_moment
-returns-in-Err-clause-any_moment g c d says noticed =
+returns-in-Err-clause-any_moment g c d says =
     let disk = g.D.Disk in
     leaves_none disk.seen disk.may_leave c.args.self.now c.requires.ready disk.moment disk.left_since (g.met.D.Disk.only_now c.args.self.now.disk) (change_of c.args.handle c.args.serial c.args.mutation.now) d says
 
@@ -38,7 +38,7 @@ returns-then-new-last-clause-old_serial g c d is =
     (λ e. (c.in-Ok.found.row, row, c.in-Ok.ensures.found.1, c.if-new-last.true), λ p. refl)
 
 pub returns-then-new-last-clause-any_moment : goal.returns-then-new-last-clause-any_moment
-returns-then-new-last-clause-any_moment g c d says noticed =
+returns-then-new-last-clause-any_moment g c d says =
     let disk = g.D.Disk in
     leaves_none disk.seen disk.may_leave c.args.self.now c.requires.ready disk.moment disk.left_since (g.met.D.Disk.only_now c.args.self.now.disk) (change_of c.args.handle c.args.serial c.args.mutation.now) d says
 
@@ -58,7 +58,7 @@ pub returns-in_err-bytes-clause-refused : goal.returns-in_err-bytes-clause-refus
 returns-in_err-bytes-clause-refused g c d is e = absurd (not_refused c.from_residual.result faults.NoMemory c.from_residual.ensures.1 refl e)
 
 pub returns-in_err-bytes-clause-any_moment : goal.returns-in_err-bytes-clause-any_moment
-returns-in_err-bytes-clause-any_moment g c d says noticed =
+returns-in_err-bytes-clause-any_moment g c d says =
     let disk = g.D.Disk in
     leaves_none disk.seen disk.may_leave c.args.self.now c.requires.ready disk.moment disk.left_since (g.met.D.Disk.only_now c.args.self.now.disk) (change_of c.args.handle c.args.serial c.args.mutation.now) d says
 
@@ -88,10 +88,10 @@ returns-in_err-written-clause-any_moment g c =
     leaves_same disk.seen disk.may_leave disk.moment disk.left_since c.args.self.now c.write.new.disk c.write.new.index c.args.handle c.args.serial c.args.mutation.now c.place_of-place.result c.in_ok-bytes.bytes c.place_of-place.ensures c.in_ok-bytes.ensures c.write.ensures.any_moment
 
 pub returns-then-written-clause-ok : goal.returns-then-written-clause-ok
-returns-then-written-clause-ok g c d is noticed =
+returns-then-written-clause-ok g c d is =
     let disk = g.D.Disk in
     applied_open disk.seen disk.may_leave disk.moment disk.left_since c.args.self.now c.write.new.disk c.write.new.index c.args.handle c.args.serial c.args.mutation.now c.place_of-place.result c.in_ok-bytes.bytes c.place_of-place.ensures c.in_ok-bytes.ensures d is c.write.ensures.size c.in_ok-written.ensures.rest
-    (c.in_ok-written.ensures.made c.if-written.true d is.says noticed)
+    (c.in_ok-written.ensures.made c.if-written.true d is.says)
 
 pub returns-then-written-clause-no_chunk : goal.returns-then-written-clause-no_chunk
 returns-then-written-clause-no_chunk g c d is = chunk_there g.D.Disk.seen g.D.Disk.may_leave c.args.self.now d is c.args.handle.0 c.in-Ok.found c.in-Ok.ensures.found.0 (λ e. absurd cc)

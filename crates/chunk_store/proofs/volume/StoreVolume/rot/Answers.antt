@@ -1,7 +1,7 @@
 use Rattle.std.proofs.Common.{refl, sym, ◌∙◌}
-use Rattle.replica_store.specs.Replicas.{replica_of, rotten_replica}
-use Rattle.store_changes.specs.Rotting.{disk_rotten}
-use Rattle.store_changes.proofs.Rotten.{nothing_rots}
+use Rattle.replica_store.specs.Replicas.{disk_changed, replica_of, rotten_replica}
+use Rattle.replica_store.specs.declared.change.StoreChange.TheVariants.{Rot}
+use Rattle.store_changes.proofs.Made.{nothing_made}
 use Rattle.store_disk.proofs.Looked.{order_stays}
 use Rattle.store_changes.specs.Faults.{fault_of}
 use Rattle.store_changes.proofs.Answered.{disk_never, not_refused}
@@ -19,7 +19,7 @@ returns-in_default-clause-any_moment g c =
     let disk = g.D.Disk in
     let store = c.args.self.now in
     let l = store.layout in
-    nothing_rots disk.seen disk.may_leave disk.moment disk.left_since l.chunk l.block l.slots store.index c.args.handle.0 c.args.place c.args.byte store.disk store.disk c.requires.ready.rest.durable (g.met.D.Disk.only_now store.disk)
+    nothing_made disk.seen disk.may_leave disk.moment disk.left_since l.chunk l.block l.slots store.index (Rot c.args.handle c.args.place c.args.byte) store.disk c.requires.ready.rest.durable (g.met.D.Disk.only_now store.disk)
 
 pub rot-requires-clause-found : goal.rot-requires-clause-found
 rot-requires-clause-found g c = c.held_within.ensures.held c.in-Some.found c.in-Some.is
@@ -27,7 +27,7 @@ rot-requires-clause-found g c = c.held_within.ensures.held c.in-Some.found c.in-
 pub returns-clause-ok : goal.returns-clause-ok
 returns-clause-ok g c d is =
     let store = c.args.self.now in
-    still_open g.D.Disk.seen g.D.Disk.may_leave store d is c.rot.new.disk store.index store.order (disk_rotten d c.args.handle.0 c.args.place c.args.byte) c.rot.ensures.size
+    still_open g.D.Disk.seen g.D.Disk.may_leave store d is c.rot.new.disk store.index store.order (disk_changed d (Rot c.args.handle c.args.place c.args.byte)) c.rot.ensures.size
     (is.order ∙ order_stays (λ r. rotten_replica r c.args.place c.args.byte) d c.args.handle.0 (replica_of d c.args.handle.0)) c.in_ok-rot.ensures.rest (c.in_ok-rot.ensures.made d is.says)
 
 pub returns-clause-no_chunk : goal.returns-clause-no_chunk
