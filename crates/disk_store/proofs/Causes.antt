@@ -100,15 +100,6 @@ unfit_or change.Device x = inr (λ e. absurd cc)
 unfit_or change.NoMemory x = inr (λ e. absurd cc)
 
 -- what is refused for want of a replica alone isn't refused for want of room
-pub rot_has_room : {T : Type 0} (r : Result T ChangeFault) → (IsRefused r → IsErrOf r change.NoChunk) → IsErrOf r change.NoRoom → ⊥
-rot_has_room (Ok x) only e = absurd cc
-rot_has_room (Err f) only e =
-    let is : f ≡ change.NoRoom = cc in
-    let none = only (ap is_refusal is) in
-    let other : f ≡ change.NoChunk = cc in
-    let both : change.NoRoom ≡ change.NoChunk = sym is ∙ other in
-    absurd cc
-
 -- the disk's, since the change can be told from its lack
 pub begun_cause : {T U S : Type 0} (Began : Type 0) (before now : ℕ) (x : StoreChange) (f : ChangeFault) (standing : S) → (f ≡ change.Corrupt → writes x ≡ false)
     → (Began → IsFitting {T = T} x (Err f)) → MayFail {T = T} before now (Err f)
@@ -145,15 +136,6 @@ opening_cause opening.Damaged x is h e = absurd cc
 opening_cause opening.Device x is h e = h refl
 opening_cause opening.NoMemory x is h e = absurd cc
 
--- of a rotten byte
-pub rot_cause : {T U : Type 0} (before now : ℕ) (f : ChangeFault) (x : ReplicaStoreFault) → x ≡ of_change f → (IsRefused {T = T} (Err f) → IsErrOf {T = T} (Err f) change.NoChunk)
-    → (f ≡ change.NoChunk → ⊥) → MayFail {T = T} before now (Err f) → HasCause {T = U} before now (Err x)
-rot_cause before now f x is only there may =
-    change_cause before now f x is there (λ e. other change.Version e refl) (λ e. other change.OldSerial e refl) (λ e. other change.Corrupt e refl) may
-  where
-    other : (y : ChangeFault) → f ≡ y → is_refusal y ≡ true → ⊥
-    other y e refused = let none = only (ap is_refusal e ∙ refused) in let same : f ≡ change.NoChunk = cc in there same
-
 -- what a store's callers see of a cause
 pub told_cause : {T : Type 0} (is_open : Bool) (before now : ℕ) (r : Result T ReplicaStoreFault) → HasCause before now r → IsOfStore is_open before now r
 told_cause is_open before now r h = record { later = h.later; failed = λ o e. h.failed e; undamaged = h.undamaged }
@@ -161,7 +143,7 @@ told_cause is_open before now r h = record { later = h.later; failed = λ o e. h
 -- a store that isn't open needs none
 pub closed_cause : {T : Type 0} (standing : DiskStoreState) (n : ℕ) → (standing ≡ Open → ⊥) → IsOfStore {T = T} (is_standing_open standing) n n (Err store.DiskFailed)
 closed_cause Open n closed = absurd (closed refl)
-closed_cause (Unread change byte) n closed = record { later = omega arith; failed = λ o e. absurd cc; undamaged = λ e. absurd cc }
+closed_cause (Unread change) n closed = record { later = omega arith; failed = λ o e. absurd cc; undamaged = λ e. absurd cc }
 closed_cause (Changing change) n closed = record { later = omega arith; failed = λ o e. absurd cc; undamaged = λ e. absurd cc }
 
 pub no_cause : {T : Type 0} (is_open : Bool) (before now : ℕ) (x : T) → before ≤ now → IsOfStore is_open before now (Ok x)
@@ -179,5 +161,5 @@ passed_cause is_open before now (Err g) f is h = record {
 
 pub opened_standing : (standing : DiskStoreState) → is_standing_open standing ≡ true → standing ≡ Open
 opened_standing Open e = refl
-opened_standing (Unread change byte) e = absurd cc
+opened_standing (Unread change) e = absurd cc
 opened_standing (Changing change) e = absurd cc

@@ -1,6 +1,6 @@
--- A change that can be told from its lack is refused for want of room alone, or for a block that doesn't match.
+-- A change that can be made is refused for want of room alone, or for a block that doesn't match.
 use Rattle.std.proofs.Common.{◌≡◌, ◌⊎◌, inl, inr, ℕ, ◌+◌, ◌<◌, ◌≤◌, true, false, List, length, refl, sym, ap, ◌∙◌, arith, Option, None, Some, Result, Ok, Err}
-use Rattle.std.specs.Prelude.{◌↔◌, ◌≢◌, IsErrAnd, IsErrOf, is_none, is_some, nat_le}
+use Rattle.std.specs.Prelude.{◌↔◌, ◌≢◌, IsErrAnd, IsErrOf, is_none, is_some, nat_le, nat_lt}
 use Rattle.std.specs.FinMap as map
 use Rattle.std.proofs.lemmas.Bool.{and_parts}
 use Rattle.std.proofs.lemmas.Bool.Decides.{nat_tests}
@@ -8,7 +8,7 @@ use Rattle.gfs_types.specs.declared.ids.Handle.{Handle}
 use Rattle.gfs_types.specs.declared.ids.Serial.{Serial}
 use Rattle.gfs_types.specs.declared.ids.Version.{Version}
 use Rattle.replica_store.specs.declared.change.StoreChange.{StoreChange}
-use Rattle.replica_store.specs.declared.change.StoreChange.TheVariants.{Put, Write, Zero, Raise, Copy}
+use Rattle.replica_store.specs.declared.change.StoreChange.TheVariants.{Put, Write, Zero, Raise, Copy, Rot}
 use Rattle.replica_store.specs.declared.row.Row.{Row}
 use Rattle.replica_store.specs.Replicas.{ServerDisk, is_copyable_at, row_at}
 use Rattle.store_changes.specs.Faults.{IsRefused, is_refusal}
@@ -18,7 +18,7 @@ use Rattle.store_changes.specs.declared.fault.StoreFault.TheVariants as change
 use Rattle.store_changes.proofs.Answered.{never}
 use Rattle.store_disk.proofs.Looked.{full_none, no_row, one_row, test_some}
 use Rattle.disk_store.specs.Faults.{IsFitting}
-use Rattle.disk_store.specs.Known.{Rows, can_be_told, can_take, other_version}
+use Rattle.disk_store.specs.Known.{Rows, can_be_made, can_take, other_version}
 use Rattle.disk_store.specs.Standing.{writes}
 use Rattle.disk_store.proofs.Looked.{image_lacks}
 
@@ -44,21 +44,24 @@ none_there None is there = cc
 none_there (Some row) is there = cc
 
 module _ (chunk : ℕ) (rows : Rows) where
-  pub write_takes : (handle : Handle) (serial : Serial) (offset : ℕ) (bytes : List ℕ) → can_be_told chunk rows (Write handle serial offset bytes) ≡ true
+  pub write_takes : (handle : Handle) (serial : Serial) (offset : ℕ) (bytes : List ℕ) → can_be_made chunk rows (Write handle serial offset bytes) ≡ true
       → can_take serial.0 (map.get rows handle.0) ≡ true
   write_takes handle serial offset bytes told = (and_parts (can_take serial.0 (map.get rows handle.0)) (nat_le (offset + length bytes) chunk) told).0
 
-  pub zero_takes : (handle : Handle) (serial : Serial) (offset count : ℕ) → can_be_told chunk rows (Zero handle serial offset count) ≡ true → can_take serial.0 (map.get rows handle.0) ≡ true
+  pub zero_takes : (handle : Handle) (serial : Serial) (offset count : ℕ) → can_be_made chunk rows (Zero handle serial offset count) ≡ true → can_take serial.0 (map.get rows handle.0) ≡ true
   zero_takes handle serial offset count told = (and_parts (can_take serial.0 (map.get rows handle.0)) (nat_le (offset + count) chunk) told).0
 
-  pub put_lacks : (handle : Handle) (version : Version) (serial : Serial) (bytes : List ℕ) → can_be_told chunk rows (Put handle version serial bytes) ≡ true → map.get rows handle.0 ≡ None
+  pub put_lacks : (handle : Handle) (version : Version) (serial : Serial) (bytes : List ℕ) → can_be_made chunk rows (Put handle version serial bytes) ≡ true → map.get rows handle.0 ≡ None
   put_lacks handle version serial bytes told = full_none (map.get rows handle.0) (and_parts (is_none (map.get rows handle.0)) (nat_le (0 + length bytes) chunk) told).0
 
-  pub copy_there : (handle copy : Handle) (version : Version) → can_be_told chunk rows (Copy handle copy version) ≡ true → is_some (map.get rows handle.0) ≡ true
+  pub copy_there : (handle copy : Handle) (version : Version) → can_be_made chunk rows (Copy handle copy version) ≡ true → is_some (map.get rows handle.0) ≡ true
   copy_there handle copy version told = (and_parts (is_some (map.get rows handle.0)) (is_none (map.get rows copy.0)) told).0
 
-  pub copy_lacks : (handle copy : Handle) (version : Version) → can_be_told chunk rows (Copy handle copy version) ≡ true → map.get rows copy.0 ≡ None
+  pub copy_lacks : (handle copy : Handle) (version : Version) → can_be_made chunk rows (Copy handle copy version) ≡ true → map.get rows copy.0 ≡ None
   copy_lacks handle copy version told = full_none (map.get rows copy.0) (and_parts (is_some (map.get rows handle.0)) (is_none (map.get rows copy.0)) told).1
+
+  pub rot_there : (handle : Handle) (place byte : ℕ) → can_be_made chunk rows (Rot handle place byte) ≡ true → (row : Row) × (map.get rows handle.0 ≡ Some row)
+  rot_there handle place byte told = test_some (map.get rows handle.0) (and_parts (is_some (map.get rows handle.0)) (nat_lt place chunk) told).0
 
 module _ {T : Type 0} (x : StoreChange) (r : Result T StoreFault) where
   -- memory was refused

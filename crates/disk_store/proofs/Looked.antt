@@ -1,5 +1,5 @@
 -- What the blocks that were read tell.
-use Rattle.std.proofs.Common.{◌≡◌, ℕ, true, false, List, length, refl, sym, ap, ◌∙◌, Option, None, Some}
+use Rattle.std.proofs.Common.{◌≡◌, ℕ, true, false, List, refl, sym, ap, ◌∙◌, Option, None, Some}
 use Rattle.std.specs.Prelude.{is_some}
 use Rattle.replica_store.specs.Replicas.{Replica, ServerDisk, copyable_in, is_copyable_at, is_readable, read_at, read_from, replica_of, row_at, row_of}
 use Rattle.store_changes.specs.Images.{image_at, image_of}
@@ -7,7 +7,7 @@ use Rattle.chunk_store.proofs.Looked.{some_if}
 
 copy_told : (block : ℕ) (o : Option Replica) → copyable_in block o ≡ is_some (image_of block o)
 copy_told block None = refl
-copy_told block (Some r) = sym (some_if (is_readable block r 0 (length r.bytes)) _)
+copy_told block (Some r) = sym (some_if (is_readable block r 0 r.count) _)
 
 pub image_there : (d : ServerDisk) (h : ℕ) (bytes : List ℕ) → Some bytes ≡ image_at d h → true ≡ is_copyable_at d h
 image_there d h bytes e = ap is_some e ∙ sym (copy_told d.block (replica_of d h))

@@ -1,19 +1,16 @@
--- A new store, and one whose disk is told when to stop.
-use Rattle.std.proofs.Common.{◌≡◌, ℕ, ◌%◌, List, length, refl, sym, ap, ◌∙◌, subst, None, Some}
-use Rattle.std.specs.FinMap as map
-use Rattle.std.specs.Ordering.{nat_cmp}
+-- A store that was opened, and one whose disk is told when to stop.
+use Rattle.std.proofs.Common.{◌≡◌, ℕ, List, [], ◌∷◌, length, refl, sym, ap, ◌∙◌, subst}
 use Rattle.disk.specs.Device.{NoMore}
 use Rattle.gfs_types.specs.declared.ids.OrderNo.{OrderNo}
-use Rattle.disk_redo.specs.Redo.{is_open}
-use Rattle.replica_store.specs.Replicas.{Replica, ServerDisk, new_server_disk, replica_of}
+use Rattle.disk_redo.specs.Redo.{is_open, stands_for}
+use Rattle.replica_store.specs.Replicas.{ServerDisk, disk_changed}
 use Rattle.store_changes.specs.Areas.{area_of}
 use Rattle.store_changes.specs.Changing.{Says}
-use Rattle.store_disk.specs.declared.places.Layout.{Layout}
 use Rattle.chunk_store.specs.Stores.{IsOpen, StoreState}
 use Rattle.chunk_store.proofs.States.{still_open}
 use Rattle.disk_store.specs.Known.{IsKnownOf, Rows}
-use Rattle.disk_store.specs.Noticed.{AreNoticed}
-use Rattle.disk_store.specs.Standing.{IsKept, Leaves}
+use Rattle.disk_store.specs.Standing.{IsKept, Leaves, before_or, disk_said}
+use Rattle.disk_store.specs.Views.{disk_in, disk_of}
 use Rattle.disk_store.specs.declared.standing.DiskStoreState.{DiskStoreState}
 use Rattle.disk_store.specs.declared.standing.DiskStoreState.TheVariants.{Open, Unread, Changing}
 use Rattle.disk_store.proofs.Keeping.{in_layout}
@@ -33,28 +30,29 @@ module _ {D : Type 0} (seen : D → List ℕ) (may_leave : D → List ℕ → Ty
   -- the disk was told when to stop
   pub quiet_kept : (standing : DiskStoreState) → IsKept seen may_leave store order rows d standing → IsKept seen may_leave (record store { disk = disk }) order rows d standing
   quiet_kept Open kept = in_layout seen may_leave store order rows d Open Open (record store { disk = disk }) refl kept (quiet_open kept.stands)
-  quiet_kept (Unread change byte) kept =
-      in_layout seen may_leave store order rows d (Unread change byte) (Unread change byte) (record store { disk = disk }) refl kept (kept.stands.0, kept.stands.1, kept.stands.2, quiet_leaves kept.stands.0 d kept.stands.3)
-  quiet_kept (Changing change) kept =
-      in_layout seen may_leave store order rows d (Changing change) (Changing change) (record store { disk = disk }) refl kept (kept.stands.0, λ c left. kept.stands.1 c (less c left))
+  quiet_kept (Unread change) kept = in_layout seen may_leave store order rows d (Unread change) (Unread change) (record store { disk = disk }) refl kept (quiet_leaves d d kept.stands)
+  quiet_kept (Changing change) kept = in_layout seen may_leave store order rows d (Changing change) (Changing change) (record store { disk = disk }) refl kept (quiet_leaves d (disk_changed d change) kept.stands)
 
-no_replica_yet : (block handle : ℕ) (r : Replica) → replica_of (new_server_disk block) handle ≡ Some r → ⊥
-no_replica_yet block handle r there = let f : None ≡ Some r = sym (map.get-empty nat_cmp handle) ∙ there in absurd cc
+  -- and says what it said
+  quiet_of : disk_of seen (record store { disk = disk }) ≡ disk_of seen store
+  quiet_of = ap (λ (bytes : List ℕ). disk_in store.layout store.order store.index (stands_for (area_of store.layout.chunk store.layout.block) bytes)) same
 
-new_noticed : (chunk block : ℕ) → AreNoticed chunk (new_server_disk block)
-new_noticed chunk block = record {
-  fit = λ handle r there. absurd (no_replica_yet block handle r there);
-  noticed = λ handle r there. absurd (no_replica_yet block handle r there);
+  quiet_before : (before : List (StoreState D)) → disk_of seen (before_or (record store { disk = disk }) before) ≡ disk_of seen (before_or store before)
+  quiet_before [] = quiet_of
+  quiet_before (x ∷ rest) = refl
+
+  pub quiet_said : (before : List (StoreState D)) (standing : DiskStoreState) → disk_said seen (record store { disk = disk }) before standing ≡ disk_said seen store before standing
+  quiet_said before Open = quiet_of
+  quiet_said before (Unread change) = quiet_before before
+  quiet_said before (Changing change) = quiet_before before
+
+-- a store that was opened
+pub opened_kept : {D : Type 0} (seen : D → List ℕ) (may_leave : D → List ℕ → Type 0) (store : StoreState D) (order : OrderNo) (rows : Rows) (d : ServerDisk) → IsKnownOf order rows d → IsOpen seen may_leave store d → IsKept seen may_leave store order rows d Open
+opened_kept seen may_leave store order rows d known is = record {
+  chunk_is = is.says.chunk_is;
+  block_is = is.says.block_is;
+  slots_is = is.says.slots_is;
+  whole = is.whole;
+  known = known;
+  stands = is;
 }
-
--- a new store
-pub new_kept : {D : Type 0} (seen : D → List ℕ) (may_leave : D → List ℕ → Type 0) (store : StoreState D) (order : OrderNo) (rows : Rows) (d : ServerDisk) (layout : Layout) → store.layout ≡ layout → layout.chunk % layout.block ≡ 0 → d ≡ new_server_disk layout.block
-    → IsKnownOf order rows (new_server_disk layout.block) → IsOpen seen may_leave store (new_server_disk layout.block) → IsKept seen may_leave store order rows d Open
-new_kept seen may_leave store order rows d layout laid whole new known is =
-    subst (λ (x : ServerDisk). IsKept seen may_leave store order rows x Open) (sym new) (record {
-      block_is = sym (ap (λ (l : Layout). l.block) laid);
-      whole = ap (λ (l : Layout). l.chunk % l.block) laid ∙ whole;
-      known = known;
-      noticed = new_noticed store.layout.chunk layout.block;
-      stands = is;
-    })

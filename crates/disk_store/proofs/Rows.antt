@@ -1,30 +1,21 @@
 -- Rows and the disk that they are known of.
-use Rattle.std.proofs.Common.{◌≡◌, inl, inr, ℕ, ◌+◌, ◌-◌, ◌≤◌, Bool, true, false, cond, List, [], ◌∷◌, map as mapped, length, replicate, refl, sym, ap, ◌∙◌, arith, Option, None, Some}
-use Rattle.std.specs.Prelude.{max}
+use Rattle.std.proofs.Common.{◌≡◌, inl, inr, ℕ, ◌+◌, ◌≤◌, Bool, true, false, cond, List, [], ◌∷◌, map as mapped, length, replicate, refl, sym, ap, ◌∙◌, Option, None, Some}
 use Rattle.std.specs.FinMap as map
 use Rattle.std.specs.Cmp.{nat_cmp_total}
 use Rattle.std.specs.Option.{option_map}
 use Rattle.std.specs.Ordering.{eq_by_cmp, nat_cmp}
 use Rattle.std.proofs.lemmas.Bool.{cases_eq, cases_lt}
-use Rattle.std.proofs.lemmas.List.{length-replicate}
+use Rattle.std.proofs.lemmas.List.{length-replicate, length-take-le}
 use Rattle.gfs_types.specs.declared.ids.Handle.{Handle}
 use Rattle.messages.specs.declared.message.ReplicaLine.{ReplicaLine}
-use Rattle.store_disk.proofs.Others.{length_others}
-use Rattle.store_disk.proofs.BlockPuts.{length_with}
 use Rattle.replica_store.specs.declared.row.Row.{Row}
-use Rattle.replica_store.specs.declared.change.StoreChange.{StoreChange}
-use Rattle.replica_store.specs.declared.change.StoreChange.TheVariants.{SetOrder, Put, Write, Zero, Raise, Copy, Remove}
-use Rattle.replica_store.specs.Replicas.{Replica, ServerDisk, bytes_on_disk, disk_changed, new_server_disk, raised_replica, replica_becomes, replica_of, row_at, row_of, stored_replica, with_replica, written_replica}
+use Rattle.replica_store.specs.Replicas.{Replica, ServerDisk, own_bytes, raised_replica, replica_becomes, replica_of, rotten_replica, row_at, row_of, stored_replica, with_replica, written_replica}
 use Rattle.server_store.specs.Stores.{line_of, replica_lines}
 use Rattle.store_disk.specs.Rows.{known_row, listed_as, rows_of}
 use Rattle.store_disk.proofs.Listed.{same_len, same_listed}
 use Rattle.store_disk.proofs.Lookups.{found_elsewhere, found_here, gone_here, kept_elsewhere}
 use Rattle.store_disk.proofs.Looked.{order_stays}
 use Rattle.disk_store.specs.Known.{IsKnownOf, Rows, entry_of, longer_row, raised_row, row_line, rows_with}
-
--- of a new disk
-pub new_rows : (block handle : ℕ) → map.get (map.empty {X = Row} {R = nat_cmp}) handle ≡ row_at (new_server_disk block) handle
-new_rows block handle = map.get-empty nat_cmp handle ∙ sym (ap row_of (map.get-empty nat_cmp handle))
 
 module _ (d : ServerDisk) (rows : Rows) (known : (h : ℕ) → map.get rows h ≡ row_at d h) where
   pub insert_known : (h : ℕ) (r : Replica) (row : Row) → row_of (Some r) ≡ Some row → (q : ℕ) → map.get (map.insert rows h row) q ≡ row_at (with_replica d h r) q
@@ -47,19 +38,15 @@ module _ (d : ServerDisk) (rows : Rows) (known : (h : ℕ) → map.get rows h �
     | inr other ↦ kept_elsewhere rows h q other ∙ known q ∙ sym (ap row_of (kept_elsewhere d.replicas h q other))
   ]
 
-  longer_is : (serial offset : ℕ) (content : List ℕ) (r : Replica) → row_of (Some (written_replica r serial offset content)) ≡ Some (longer_row (known_row r) serial (offset + length content))
-  longer_is serial offset content r =
-      ap (λ (n : ℕ). Some (record { version = record { 0 = r.version }; serial = record { 0 = serial }; count = n })) (length_with r.bytes content offset ∙ most (length r.bytes) (offset + length content))
-    where
-      most : (a b : ℕ) → b + (a - b) ≡ max a b
-      most a b = omega arith
+  longer_is : (serial offset : ℕ) (content : List ℕ) (r : Replica) → row_of (Some (written_replica d.block r serial offset content)) ≡ Some (longer_row (known_row r) serial (offset + length content))
+  longer_is serial offset content r = refl
 
   pub write_known : (h serial offset : ℕ) (content : List ℕ) (q : ℕ)
-      → map.get (rows_with (λ row. longer_row row serial (offset + length content)) rows h (map.get rows h)) q ≡ row_at (replica_becomes (λ r. written_replica r serial offset content) d h (replica_of d h)) q
-  write_known h serial offset content q = becomes_known (λ r. written_replica r serial offset content) (λ row. longer_row row serial (offset + length content)) (longer_is serial offset content) h h q
+      → map.get (rows_with (λ row. longer_row row serial (offset + length content)) rows h (map.get rows h)) q ≡ row_at (replica_becomes (λ r. written_replica d.block r serial offset content) d h (replica_of d h)) q
+  write_known h serial offset content q = becomes_known (λ r. written_replica d.block r serial offset content) (λ row. longer_row row serial (offset + length content)) (longer_is serial offset content) h h q
 
   pub zero_known : (h serial offset count : ℕ) (q : ℕ)
-      → map.get (rows_with (λ row. longer_row row serial (offset + count)) rows h (map.get rows h)) q ≡ row_at (replica_becomes (λ r. written_replica r serial offset (replicate count 0)) d h (replica_of d h)) q
+      → map.get (rows_with (λ row. longer_row row serial (offset + count)) rows h (map.get rows h)) q ≡ row_at (replica_becomes (λ r. written_replica d.block r serial offset (replicate count 0)) d h (replica_of d h)) q
   zero_known h serial offset count q =
       ap (λ (n : ℕ). map.get (rows_with (λ row. longer_row row serial (offset + n)) rows h (map.get rows h)) q) (sym (length-replicate {A = ℕ} count 0))
       ∙ write_known h serial offset (replicate count 0) q
@@ -67,9 +54,27 @@ module _ (d : ServerDisk) (rows : Rows) (known : (h : ℕ) → map.get rows h �
   pub raise_known : (h version q : ℕ) → map.get (rows_with (λ row. raised_row row version) rows h (map.get rows h)) q ≡ row_at (replica_becomes (λ r. raised_replica r version) d h (replica_of d h)) q
   raise_known h version q = becomes_known (λ r. raised_replica r version) (λ row. raised_row row version) (λ r. refl) h h q
 
-  pub copy_known : (h copy version q : ℕ) → map.get (rows_with (λ row. raised_row row version) rows copy (map.get rows h)) q ≡ row_at (replica_becomes (λ r. stored_replica version 0 (bytes_on_disk r)) d copy (replica_of d h)) q
-  copy_known h copy version q = becomes_known (λ r. stored_replica version 0 (bytes_on_disk r)) (λ row. raised_row row version)
-      (λ r. ap (λ (n : ℕ). Some (record { version = record { 0 = version }; serial = record { 0 = 0 }; count = n })) (length_others (map.entries r.changed) r.bytes)) h copy q
+  -- a copy has as many bytes, where each replica has no more than its chunk
+  pub copy_known : (h copy version q : ℕ) → ((r : Replica) → replica_of d h ≡ Some r → r.count ≤ length r.bytes)
+      → map.get (rows_with (λ row. raised_row row version) rows copy (map.get rows h)) q ≡ row_at (replica_becomes (λ r. stored_replica d.chunk d.block version 0 (own_bytes r)) d copy (replica_of d h)) q
+  copy_known h copy version q enough = by (replica_of d h) refl
+    where
+      by : (o : Option Replica) → replica_of d h ≡ o → map.get (rows_with (λ row. raised_row row version) rows copy (map.get rows h)) q ≡ row_at (replica_becomes (λ r. stored_replica d.chunk d.block version 0 (own_bytes r)) d copy o) q
+      by None e = ap (λ o. map.get (rows_with (λ row. raised_row row version) rows copy o) q) (known h ∙ ap row_of e) ∙ known q
+      by (Some r) e =
+          ap (λ o. map.get (rows_with (λ row. raised_row row version) rows copy o) q) (known h ∙ ap row_of e)
+          ∙ insert_known copy (stored_replica d.chunk d.block version 0 (own_bytes r)) (raised_row (known_row r) version)
+          (ap (λ (n : ℕ). Some (record { version = record { 0 = version }; serial = record { 0 = 0 }; count = n })) (length-take-le r.count r.bytes (enough r e))) q
+
+  pub rot_known : (h place byte q : ℕ) → map.get rows q ≡ row_at (replica_becomes (λ r. rotten_replica r place byte) d h (replica_of d h)) q
+  rot_known h place byte q = by (replica_of d h) refl
+    where
+      by : (o : Option Replica) → replica_of d h ≡ o → map.get rows q ≡ row_at (replica_becomes (λ r. rotten_replica r place byte) d h o) q
+      by None e = known q
+      by (Some r) e = elim (cases_eq q h) [
+        | inl same ↦ known q ∙ ap (λ (k : ℕ). row_at d k) same ∙ ap row_of e ∙ sym (ap (λ (k : ℕ). row_at (with_replica d h (rotten_replica r place byte)) k) same ∙ ap row_of (found_here d.replicas h (rotten_replica r place byte)))
+        | inr other ↦ known q ∙ sym (ap row_of (found_elsewhere d.replicas h (rotten_replica r place byte) q other))
+      ]
 
   -- how many, and in what order
 

@@ -1,16 +1,14 @@
 -- What a stop leaves says.
-use Rattle.std.proofs.Common.{◌≡◌, inl, inr, ℕ, ◌≤◌, ◌%◌, List, refl, sym, subst, Option, None, Some}
+use Rattle.std.proofs.Common.{◌≡◌, inl, inr, ℕ, ◌≤◌, List, refl, sym, subst, Option, None, Some}
 use Rattle.std.specs.Prelude.{Err, Ok, OnErr, OnOk, Result}
 use Rattle.disk_redo.specs.Redo.{StandsOnly, stands_for}
 use Rattle.replica_store.specs.Replicas.{Replica, ServerDisk, disk_changed, replica_becomes, replica_of}
 use Rattle.replica_store.specs.declared.change.StoreChange.{StoreChange}
-use Rattle.replica_store.specs.declared.change.StoreChange.TheVariants.{SetOrder, Put, Write, Zero, Raise, Copy, Remove}
+use Rattle.replica_store.specs.declared.change.StoreChange.TheVariants.{SetOrder, Put, Write, Zero, Raise, Copy, Remove, Rot}
 use Rattle.store_changes.specs.Areas.{area_of}
 use Rattle.chunk_store.specs.Stores.{IsOpen, StoreState}
-use Rattle.disk_store.specs.Noticed.{AreNoticed}
-use Rattle.disk_store.proofs.NoticedBlocks.{all_noticed}
 use Rattle.chunk_store.specs.Reopening.{IsSaid}
-use Rattle.disk_store.specs.Standing.{AllNoticed, Leaves}
+use Rattle.disk_store.specs.Standing.{Leaves}
 
 -- what holds, holds of an error
 pub on_err : {T E P : Type 0} (r : Result T E) → P → OnErr r P
@@ -21,19 +19,23 @@ pub on_ok : {T E P : Type 0} (r : Result T E) → P → OnOk r P
 on_ok (Ok x) p = p
 on_ok (Err e) p = tt
 
-becomes_block : (f : Replica → Replica) (d : ServerDisk) (h : ℕ) (o : Option Replica) → (replica_becomes f d h o).block ≡ d.block
-becomes_block f d h None = refl
-becomes_block f d h (Some r) = refl
+abbrev AreAlike : ServerDisk → ServerDisk → Type 0
+AreAlike d e = (d.chunk ≡ e.chunk) × (d.block ≡ e.block) × (d.slots ≡ e.slots)
 
--- the blocks stay as large as they were
-pub changed_block : (d : ServerDisk) (change : StoreChange) → (disk_changed d change).block ≡ d.block
-changed_block d (SetOrder order) = refl
-changed_block d (Put handle version serial bytes) = refl
-changed_block d (Write handle serial offset bytes) = becomes_block _ d handle.0 (replica_of d handle.0)
-changed_block d (Zero handle serial offset count) = becomes_block _ d handle.0 (replica_of d handle.0)
-changed_block d (Raise handle version) = becomes_block _ d handle.0 (replica_of d handle.0)
-changed_block d (Copy handle copy version) = becomes_block _ d copy.0 (replica_of d handle.0)
-changed_block d (Remove handle) = refl
+becomes_alike : (f : Replica → Replica) (d : ServerDisk) (h : ℕ) (o : Option Replica) → AreAlike (replica_becomes f d h o) d
+becomes_alike f d h None = (refl, refl, refl)
+becomes_alike f d h (Some r) = (refl, refl, refl)
+
+-- the disk's sizes stay
+pub changed_alike : (d : ServerDisk) (change : StoreChange) → AreAlike (disk_changed d change) d
+changed_alike d (SetOrder order) = (refl, refl, refl)
+changed_alike d (Put handle version serial bytes) = (refl, refl, refl)
+changed_alike d (Write handle serial offset bytes) = becomes_alike _ d handle.0 (replica_of d handle.0)
+changed_alike d (Zero handle serial offset count) = becomes_alike _ d handle.0 (replica_of d handle.0)
+changed_alike d (Raise handle version) = becomes_alike _ d handle.0 (replica_of d handle.0)
+changed_alike d (Copy handle copy version) = becomes_alike _ d copy.0 (replica_of d handle.0)
+changed_alike d (Remove handle) = (refl, refl, refl)
+changed_alike d (Rot handle place byte) = becomes_alike _ d handle.0 (replica_of d handle.0)
 
 module _ {D : Type 0} (seen : D → List ℕ) (may_leave : D → List ℕ → Type 0) (store : StoreState D) where
   -- a stop leaves what an open store says
@@ -46,12 +48,6 @@ module _ {D : Type 0} (seen : D → List ℕ) (may_leave : D → List ℕ → Ty
     | inl says ↦ inl says
     | inr says ↦ inl says
   ]
-
-  -- no byte of an open store's replicas has changed unnoticed
-  pub open_noticed : (d : ServerDisk) → 1 ≤ d.block → store.layout.chunk % d.block ≡ 0 → IsOpen seen may_leave store d → AreNoticed store.layout.chunk d → AllNoticed d
-  open_noticed d positive whole is are handle r there =
-      let known = is.says.held handle r there in
-      all_noticed store.layout.chunk d.block r positive (are.noticed handle r there) known.2.holds.within whole
 
 module _ {D : Type 0} (may_leave : D → List ℕ → Type 0) (moment : D → ℕ) (left_since : D → ℕ → List ℕ → Type 0) (seen : D → List ℕ) (counts_now : (disk : D) (t : ℕ) (c : List ℕ) → t ≤ moment disk → may_leave disk c → left_since disk t c) where
   -- what is left at the end is left at some moment of the call

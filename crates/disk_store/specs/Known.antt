@@ -1,5 +1,5 @@
 -- What is known of a server's disk without a look at it: the number of the last order, and each replica's row by handle.
-use Rattle.std.specs.Prelude.{◌≡◌, ℕ, ◌+◌, max, Bool, true, false, not, ◌&&◌, ◌==◌, nat_le, nat_lt, List, length, Option, None, Some, is_none, is_some}
+use Rattle.std.specs.Prelude.{◌≡◌, ℕ, ◌+◌, ◌≤◌, max, Bool, true, false, not, ◌&&◌, ◌==◌, nat_le, nat_lt, List, length, Option, None, Some, is_none, is_some}
 use Rattle.std.specs.FinMap as map
 use Rattle.std.specs.Ordering.{nat_cmp}
 use Rattle.gfs_types.specs.declared.ids.Handle.{Handle}
@@ -7,8 +7,8 @@ use Rattle.gfs_types.specs.declared.ids.OrderNo.{OrderNo}
 use Rattle.messages.specs.declared.message.ReplicaLine.{ReplicaLine}
 use Rattle.replica_store.specs.declared.row.Row.{Row}
 use Rattle.replica_store.specs.declared.change.StoreChange.{StoreChange}
-use Rattle.replica_store.specs.declared.change.StoreChange.TheVariants.{SetOrder, Put, Write, Zero, Raise, Copy, Remove}
-use Rattle.replica_store.specs.Replicas.{ServerDisk, row_at}
+use Rattle.replica_store.specs.declared.change.StoreChange.TheVariants.{SetOrder, Put, Write, Zero, Raise, Copy, Remove, Rot}
+use Rattle.replica_store.specs.Replicas.{Replica, ServerDisk, replica_of, row_at}
 
 abbrev pub Rows : Type 0
 Rows = map.FinMap nat_cmp Row
@@ -17,6 +17,10 @@ Rows = map.FinMap nat_cmp Row
 pub record IsKnownOf (order : OrderNo) (rows : Rows) (d : ServerDisk) : Type 0 where
   pub order_is : order ≡ record { epoch = d.epoch; count = d.count }
   pub rows_are : (handle : ℕ) → map.get rows handle ≡ row_at d handle
+
+-- no replica is longer than its chunk
+abbrev pub HaveTheirBytes : ServerDisk → Type 0
+HaveTheirBytes d = (handle : ℕ) (r : Replica) → replica_of d handle ≡ Some r → r.count ≤ length r.bytes
 
 -- what a change makes of the rows
 
@@ -31,7 +35,7 @@ abbrev pub rows_with : (Row → Row) → Rows → ℕ → Option Row → Rows
 rows_with change rows handle None = rows
 rows_with change rows handle (Some row) = map.insert rows handle (change row)
 
--- changes that can be told from their lack
+-- changes that a disk can take, by its rows
 
 abbrev pub can_take : ℕ → Option Row → Bool
 can_take serial None = false
@@ -41,33 +45,16 @@ abbrev pub other_version : ℕ → Option Row → Bool
 other_version version None = false
 other_version version (Some row) = not (row.version.0 == version)
 
--- Once it is made, the order or a row is another one; and the change lies within a chunk of so many bytes.
-abbrev pub can_be_told : ℕ → Rows → StoreChange → Bool
-can_be_told chunk rows (SetOrder order) = true
-can_be_told chunk rows (Put handle version serial bytes) = is_none (map.get rows handle.0) && nat_le (0 + length bytes) chunk
-can_be_told chunk rows (Write handle serial offset bytes) = can_take serial.0 (map.get rows handle.0) && nat_le (offset + length bytes) chunk
-can_be_told chunk rows (Zero handle serial offset count) = can_take serial.0 (map.get rows handle.0) && nat_le (offset + count) chunk
-can_be_told chunk rows (Raise handle version) = other_version version.0 (map.get rows handle.0)
-can_be_told chunk rows (Copy handle copy version) = is_some (map.get rows handle.0) && is_none (map.get rows copy.0)
-can_be_told chunk rows (Remove handle) = is_some (map.get rows handle.0)
-
-abbrev pub has_version : ℕ → Option Row → Bool
-has_version version None = false
-has_version version (Some row) = row.version.0 == version
-
-abbrev pub has_serial : ℕ → Option Row → Bool
-has_serial serial None = false
-has_serial serial (Some row) = row.serial.0 == serial
-
--- the order or the row is the one that the change makes
-abbrev pub is_made : OrderNo → Rows → StoreChange → Bool
-is_made last rows (SetOrder order) = (last.epoch == order.epoch) && (last.count == order.count)
-is_made last rows (Put handle version serial bytes) = is_some (map.get rows handle.0)
-is_made last rows (Write handle serial offset bytes) = has_serial serial.0 (map.get rows handle.0)
-is_made last rows (Zero handle serial offset count) = has_serial serial.0 (map.get rows handle.0)
-is_made last rows (Raise handle version) = has_version version.0 (map.get rows handle.0)
-is_made last rows (Copy handle copy version) = is_some (map.get rows copy.0)
-is_made last rows (Remove handle) = is_none (map.get rows handle.0)
+-- The rows tell that it can be made; and it lies within a chunk of so many bytes.
+abbrev pub can_be_made : ℕ → Rows → StoreChange → Bool
+can_be_made chunk rows (SetOrder order) = true
+can_be_made chunk rows (Put handle version serial bytes) = is_none (map.get rows handle.0) && nat_le (0 + length bytes) chunk
+can_be_made chunk rows (Write handle serial offset bytes) = can_take serial.0 (map.get rows handle.0) && nat_le (offset + length bytes) chunk
+can_be_made chunk rows (Zero handle serial offset count) = can_take serial.0 (map.get rows handle.0) && nat_le (offset + count) chunk
+can_be_made chunk rows (Raise handle version) = other_version version.0 (map.get rows handle.0)
+can_be_made chunk rows (Copy handle copy version) = is_some (map.get rows handle.0) && is_none (map.get rows copy.0)
+can_be_made chunk rows (Remove handle) = is_some (map.get rows handle.0)
+can_be_made chunk rows (Rot handle place byte) = is_some (map.get rows handle.0) && nat_lt place chunk
 
 -- how rows are listed
 

@@ -1,5 +1,5 @@
 pub mod Known
-pub mod Noticed
-pub mod Said
+pub mod Careful
+pub mod Views
 pub mod Faults
 pub mod Standing

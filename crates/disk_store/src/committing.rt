@@ -29,7 +29,8 @@ fn writes(change: &StoreChange) -> bool
         | StoreChange::Put { .. }
         | StoreChange::Raise { .. }
         | StoreChange::Copy { .. }
-        | StoreChange::Remove(_) => false,
+        | StoreChange::Remove(_)
+        | StoreChange::Rot { .. } => false,
     }
 }
 
@@ -50,18 +51,17 @@ fn failed(fault: MakeFault, change: StoreChange) -> (ReplicaStoreFault, DiskStor
     (fault_of(fault), DiskStoreState::Changing(change))
 }
 
-/// Makes a change of the disk and of what is known of it, and hands it back. An error comes with the standing that has it under way: a
-/// change that was refused wasn't begun.
+/// Makes a change of the disk and of what is known of it. An error comes with the standing that has it under way: a change that was
+/// refused wasn't begun.
 pub fn commit<D: Disk>(
     alloc: Global,
     store: &mut Store<D>,
     known: &mut Known,
     standing: DiskStoreState,
     change: StoreChange,
-) -> Result<StoreChange, (ReplicaStoreFault, DiskStoreState)>
+) -> Result<(), (ReplicaStoreFault, DiskStoreState)>
     requires kept { (d : ServerDisk) × IsKept D.seen D.may_leave store.old known.old.order known.old.rows d standing }
     requires nothing { changes_of standing ≡ [] }
-    ensures made { IfOk result (λ made. made ≡ change) }
     ensures ok { (d : ServerDisk) → IsKept D.seen D.may_leave store.old known.old.order known.old.rows d standing
         → OnOk result (IsKept D.seen D.may_leave store.new known.new.order known.new.rows (disk_changed d change) Open) }
     ensures open { IfErr result (λ e. changes_of e.1 ≡ change ∷ []) }
@@ -83,7 +83,7 @@ pub fn commit<D: Disk>(
         Err(fault) => return Err(failed(fault, change)),
     }
     match known.make(chunk, &change) {
-        Ok(()) => Ok(change),
+        Ok(()) => Ok(()),
         Err(_) => Err((
             ReplicaStoreFault::NoMemory,
             DiskStoreState::Changing(change),

@@ -1,17 +1,20 @@
 //! The store over its disk.
 
-ghost use Rattle.std.specs.Prelude.{◌≡◌, ◌%◌, [], true, IfOk};
-ghost use Rattle.replica_store.specs.Replicas.{new_server_disk};
+ghost use Rattle.std.specs.Prelude.{◌≡◌, ◌≤◌, ◌<◌, ◌%◌, [], true, length, IfErr, IfOk};
+ghost use Rattle.replica_store.specs.Replicas.{ServerDisk};
+ghost use Rattle.disk_redo.specs.GateMoments.{LeavesOnly};
+ghost use Rattle.store_disk.specs.Formats.{IsHeadOf, is_head_open};
+ghost use Rattle.store_disk.specs.Places.{disk_size};
+ghost use Rattle.chunk_store.specs.Opening.{HoldsReplicas, IsOpening};
+ghost use Rattle.chunk_store.specs.Stores.{IsOpen};
+ghost use Rattle.server_store.specs.declared.fault.ReplicaStoreFault.TheVariants as faults;
+ghost use Rattle.disk_store.specs.Standing.{LeavesHolding, remembered};
 
-use crate::change::SaidChange;
 use crate::committing::commit;
 use crate::faults::fault_of_opening;
-use crate::finding::has_open_head;
 use crate::known::Known;
 use crate::looking::{is_copyable, is_writable, read};
-use crate::reopening::{made_in, open_again};
-use crate::rotting::rot;
-use crate::said::SaidDisk;
+use crate::reopening::{known_of, open_again};
 use crate::standing::{DiskStoreState, closed};
 use bytes::Bytes;
 use chunk_store::Store;
@@ -19,10 +22,13 @@ use disk::{Disk, StoppableDisk};
 use gfs_types::ids::{Handle, OrderNo};
 use gfs_types::no_memory::NoMemory;
 use gfs_types::torn::Torn;
+use ghost_list::GhostList;
 use messages::message_lists::ReplicaList;
 use replica_store::change::StoreChange;
 use replica_store::row::Row;
+use server_store::armed_store::ArmedStore;
 use server_store::fault::ReplicaStoreFault;
+use server_store::reopened_store::ReopenedStore;
 use server_store::stoppable_store::StoppableStore;
 use server_store::store::ReplicaStore;
 use std::alloc::Global;
@@ -31,69 +37,127 @@ use std::mem;
 use store_disk::Layout;
 
 /// A server's replicas on a disk. In memory it keeps the last order's number and each replica's row, so that it answers them while its disk
-/// is to be read anew. Its drop stands here, once, so that no crate above proves those of all that it owns.
-pub struct DiskStore<D: StoppableDisk> {
+/// is to be read anew; proofs alone read how the store was when it last was open. Its drop stands here, once, so that no crate above proves
+/// those of all that it owns.
+pub struct DiskStore<D: Disk> {
     alloc: Global,
     store: Store<D>,
-    said: SaidDisk,
+    before: GhostList<Store<D>>,
     known: Known,
     standing: DiskStoreState,
 }
 
-impl<D: StoppableDisk + Drop> Drop for DiskStore<D> {
+impl<D: Disk + Drop> Drop for DiskStore<D> {
     fn drop(self) {
         let Self {
             alloc: _alloc,
             store: _store,
-            said: _said,
+            before: _before,
             known: _known,
             standing: _standing,
         } = self;
     }
 }
 
-impl<D: StoppableDisk> Model for DiskStore<D> {
+impl<D: Disk> Model for DiskStore<D> {
     ghost use Rattle.std.specs.FinMap as map;
     ghost use Rattle.std.specs.Coded.{codes, coded_ℕ};
-    ghost use Rattle.disk_store.specs.Standing.{DiskStoreView, IsKept, changes_of, is_standing_open};
+    ghost use Rattle.disk_store.specs.Standing.{DiskStoreView, IsKept, IsRemembered, changes_of, disk_said, is_standing_open};
 
     ghost Value = { DiskStoreView };
 
     ghost coded = { Prim.hlevel (codes, map.code, coded_ℕ) };
 
-    ghost view = { λ s. record { disk = s.said; under_way = changes_of s.standing; is_open = is_standing_open s.standing; failed = D.failed s.store.disk } };
+    ghost view = { λ s. record {
+      disk = disk_said D.seen s.store s.before.items s.standing;
+      under_way = changes_of s.standing;
+      is_open = is_standing_open s.standing;
+      failed = D.failed s.store.disk;
+    } };
 
-    ghost invariant = { λ s. IsKept D.seen D.may_leave s.store s.known.order s.known.rows s.said s.standing };
+    ghost invariant = { λ s. IsKept D.seen D.may_leave s.store s.known.order s.known.rows (disk_said D.seen s.store s.before.items s.standing) s.standing × IsRemembered s.before.items s.standing };
 }
 
-impl<D: StoppableDisk + Drop> DiskStore<D> {
-    /// A new store on a disk that holds none, for chunks of whole blocks.
-    pub fn new(alloc: Global, disk: D, layout: Layout) -> Result<DiskStore<D>, ReplicaStoreFault>
-        requires { layout.chunk % layout.block ≡ 0 }
-        ensures new { IfOk result (λ s. (s.disk ≡ new_server_disk layout.block) × (s.under_way ≡ [])) }
-        ensures open { IfOk result (λ s. s.is_open ≡ true) }
-    {
-        let mut disk = disk;
-        if disk.size() < layout.disk_size() {
-            return Err(ReplicaStoreFault::DiskFailed);
-        }
-        if has_open_head(&mut disk)? {
-            return Err(ReplicaStoreFault::DiskFailed);
-        }
-        match Store::open(disk, alloc, layout) {
-            Ok(store) => Ok(DiskStore {
-                alloc,
-                store,
-                said: SaidDisk::new(layout.block),
-                known: Known::new(alloc),
-                standing: DiskStoreState::Open,
-            }),
-            Err((_, fault)) => Err(fault_of_opening(fault)),
-        }
+// Proofs remember how an open store is.
+fn remembered<D: Disk>(
+    standing: &DiskStoreState,
+    store: &Store<D>,
+    before: GhostList<Store<D>>,
+) -> GhostList<Store<D>>
+    ensures { result.items ≡ remembered standing.now store.now before.items }
+{
+    match standing {
+        DiskStoreState::Open => GhostList::new().and(store),
+        DiskStoreState::Unread(_) | DiskStoreState::Changing(_) => before,
     }
 }
 
-impl<D: StoppableDisk> ReplicaStore for DiskStore<D> {
+// What is known of an open store is read of its disk. An error hands the disk back.
+fn known_or_disk<D: Disk>(
+    alloc: Global,
+    store: Store<D>,
+) -> Result<DiskStore<D>, (D, ReplicaStoreFault)>
+    requires kept { (d : ServerDisk) × IsOpen D.seen D.may_leave store d }
+    ensures opened { (d : ServerDisk) → IsOpen D.seen D.may_leave store d → IfOk result (λ s. s.disk ≡ d) }
+    ensures nothing { IfOk result (λ s. (s.under_way ≡ []) × (s.is_open ≡ true)) }
+    ensures failed { IfOk result (λ s. s.failed ≡ D.failed store.disk) }
+    ensures disk { IfErr result (λ e. (e.0 ≡ store.disk) × (e.1 ≡ faults.NoMemory)) }
+{
+    match known_of(alloc, &store) {
+        Ok(known) => Ok(DiskStore {
+            alloc,
+            store,
+            before: GhostList::new(),
+            known,
+            standing: DiskStoreState::Open,
+        }),
+        Err(_) => Err((store.into_disk(), ReplicaStoreFault::NoMemory)),
+    }
+}
+
+impl<D: Disk> DiskStore<D> {
+    /// A store on what a disk holds, for chunks of whole blocks: on one that an earlier store left, wherever it stopped, or on a new one,
+    /// which is formatted. An error hands the disk back, which holds what it held.
+    pub fn open(
+        alloc: Global,
+        disk: D,
+        layout: Layout,
+    ) -> Result<DiskStore<D>, (D, ReplicaStoreFault)>
+        requires whole { layout.chunk % layout.block ≡ 0 }
+        requires holds { (d : ServerDisk) × HoldsReplicas layout.chunk layout.block layout.slots (D.seen disk) d }
+        ensures opened { (d : ServerDisk) → HoldsReplicas layout.chunk layout.block layout.slots (D.seen disk) d → IfOk result (λ s. s.disk ≡ d) }
+        ensures nothing { IfOk result (λ s. (s.under_way ≡ []) × (s.is_open ≡ true)) }
+        ensures held { IfErr result (λ e. (d : ServerDisk) → HoldsReplicas layout.chunk layout.block layout.slots (D.seen disk) d → HoldsReplicas layout.chunk layout.block layout.slots (D.seen e.0) d) }
+        // A stop at any moment of a call that fails leaves what one before it might have left, or what holds the same.
+        ensures any_moment_of_error { IfErr result (λ e. LeavesOnly D.moment D.left_since disk e.0 (IsOpening layout.chunk layout.block layout.slots (D.seen disk) (D.may_leave disk))) }
+        ensures cause { IfErr result (λ e. e.1 ≡ faults.DiskFailed → D.failed disk < D.failed e.0) }
+        ensures undamaged { disk_size layout.chunk layout.block layout.slots ≤ length (D.seen disk)
+            → (is_head_open (D.seen disk) ≡ true → IsHeadOf layout.chunk layout.block layout.slots (D.seen disk)) → IfErr result (λ e. e.1 ≡ faults.Damaged → ⊥) }
+    {
+        match Store::open(disk, alloc, layout) {
+            Ok(store) => known_or_disk(alloc, store),
+            Err((disk, fault)) => Err((disk, fault_of_opening(fault))),
+        }
+    }
+
+    /// The disk as it is: it holds what the store says, with what is under way made or not, whenever it stops.
+    pub fn into_disk(self) -> D
+        ensures holds { self.is_open ≡ true → HoldsReplicas self.disk.chunk self.disk.block self.disk.slots (D.seen result) self.disk }
+        ensures left { LeavesHolding (D.may_leave result) self.disk self.under_way }
+        ensures failed { D.failed result ≡ self.failed }
+    {
+        let DiskStore {
+            alloc: _alloc,
+            store,
+            before: _before,
+            known: _known,
+            standing: _standing,
+        } = self;
+        store.into_disk()
+    }
+}
+
+impl<D: Disk> ReplicaStore for DiskStore<D> {
     ghost disk = { λ s. s.disk };
 
     ghost under_way = { λ s. s.under_way };
@@ -161,6 +225,8 @@ impl<D: StoppableDisk> ReplicaStore for DiskStore<D> {
     }
 
     fn commit(&mut self, change: StoreChange) -> Result<(), ReplicaStoreFault> {
+        let before = mem::replace(&mut self.before, GhostList::new());
+        self.before = remembered(&self.standing, &self.store, before);
         let standing = mem::replace(&mut self.standing, DiskStoreState::Open);
         match commit(
             self.alloc,
@@ -169,49 +235,36 @@ impl<D: StoppableDisk> ReplicaStore for DiskStore<D> {
             standing,
             change,
         ) {
-            Ok(made) => {
-                self.said.change(&SaidChange::Made(made));
-                Ok(())
-            }
+            Ok(()) => Ok(()),
             Err((fault, standing)) => {
                 self.standing = standing;
                 Err(fault)
             }
         }
     }
+}
 
+impl<D: Disk> ArmedStore for DiskStore<D> {
+    fn arm(&mut self, calls: u64) {
+        self.store.arm(calls);
+    }
+}
+
+impl<D: StoppableDisk> ReopenedStore for DiskStore<D> {
     fn reopen(&mut self) -> Result<(), ReplicaStoreFault> {
+        let before = mem::replace(&mut self.before, GhostList::new());
+        self.before = remembered(&self.standing, &self.store, before);
         let standing = closed(mem::replace(&mut self.standing, DiskStoreState::Open));
-        let known = match open_again(self.alloc, &mut self.store, &standing) {
-            Ok(known) => known,
-            Err(fault) => {
-                self.standing = standing;
-                return Err(fault);
-            }
-        };
-        let made = made_in(standing, &known);
-        self.known = known;
-        match made {
-            None => Ok(()),
-            Some(change) => {
-                self.said.change(&SaidChange::Made(change));
+        match open_again(self.alloc, &mut self.store, &standing) {
+            Ok(known) => {
+                self.known = known;
                 Ok(())
             }
+            Err(fault) => {
+                self.standing = standing;
+                Err(fault)
+            }
         }
-    }
-
-    fn rot(&mut self, handle: Handle, place: u64, byte: u8) -> Result<(), ReplicaStoreFault> {
-        let DiskStoreState::Open = self.standing else {
-            return Err(ReplicaStoreFault::DiskFailed);
-        };
-        let standing = rot(self.alloc, &mut self.store, handle, place, byte)?;
-        self.standing = standing;
-        self.said.change(&SaidChange::Rotten {
-            handle,
-            place,
-            byte,
-        });
-        Ok(())
     }
 }
 

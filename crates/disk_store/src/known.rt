@@ -3,13 +3,11 @@
 ghost use Rattle.std.specs.Prelude.{◌≡◌, ◌+◌, ℕ, true, map as mapped, nat_le, IfOk, OnErr, OnOk};
 ghost use Rattle.store_disk.specs.Rows.{rows_of};
 ghost use Rattle.std.specs.FinMap as map;
-ghost use Rattle.replica_store.specs.Replicas.{ServerDisk, disk_changed, is_disk_full, new_server_disk, row_at};
+ghost use Rattle.replica_store.specs.Replicas.{ServerDisk, disk_changed, is_disk_full, row_at};
 ghost use Rattle.server_store.specs.Stores.{replica_lines};
-ghost use Rattle.disk_store.specs.Known.{IsKnownOf, can_be_told, entry_of, is_made, longer_row, raised_row, row_line, rows_with};
+ghost use Rattle.disk_store.specs.Known.{IsKnownOf, HaveTheirBytes, can_be_made, entry_of, longer_row, raised_row, row_line, rows_with};
 
-use crate::telling::{
-    can_take, has_serial, has_version, is_within, longer_row, other_version, raised_row,
-};
+use crate::telling::{can_take, is_within, longer_row, other_version, raised_row};
 use gfs_types::ids::{Handle, OrderNo, Serial, Version};
 use gfs_types::no_memory::NoMemory;
 use messages::message::ReplicaLine;
@@ -27,16 +25,6 @@ pub struct Known {
 }
 
 impl Known {
-    /// Of a new disk.
-    pub fn new(alloc: Global) -> Known
-        ensures { (block : ℕ) → IsKnownOf result.order result.rows (new_server_disk block) }
-    {
-        Known {
-            order: OrderNo { epoch: 0, count: 0 },
-            rows: OrderedMap::new(alloc),
-        }
-    }
-
     /// Of a disk with this order and these replicas.
     pub fn of(alloc: Global, order: OrderNo, list: &[(Handle, Row)]) -> Result<Known, AllocError>
         ensures { IfOk result (λ k. (d : ServerDisk) → order ≡ record { epoch = d.epoch; count = d.count } → list.now ≡ rows_of d → IsKnownOf k.order k.rows d) }
@@ -73,9 +61,9 @@ impl Known {
         lines_of(alloc, &self.rows)
     }
 
-    /// Whether what is known tells a disk with this change made from one without it, and the change lies within a chunk.
-    pub fn can_be_told(&self, chunk: u32, change: &StoreChange) -> bool
-        ensures { result ≡ can_be_told chunk self.now.rows change.now }
+    /// Whether the rows tell that the change can be made, and it lies within a chunk.
+    pub fn can_be_made(&self, chunk: u32, change: &StoreChange) -> bool
+        ensures { result ≡ can_be_made chunk self.now.rows change.now }
     {
         match change {
             StoreChange::SetOrder(_) => true,
@@ -102,30 +90,16 @@ impl Known {
                 self.row(*handle).is_some() && self.row(*copy).is_none()
             }
             StoreChange::Remove(handle) => self.row(*handle).is_some(),
-        }
-    }
-
-    /// Whether this is known of a disk with the change made, where it is of one with it or of one without it.
-    pub fn is_made(&self, change: &StoreChange) -> bool
-        ensures { result ≡ is_made self.now.order self.now.rows change.now }
-    {
-        match change {
-            StoreChange::SetOrder(order) => {
-                self.order.epoch == order.epoch && self.order.count == order.count
+            StoreChange::Rot { handle, place, .. } => {
+                self.row(*handle).is_some() && *place < u64::from(chunk)
             }
-            StoreChange::Put { handle, .. } => self.row(*handle).is_some(),
-            StoreChange::Write { handle, serial, .. } => has_serial(self.row(*handle), *serial),
-            StoreChange::Zero { handle, serial, .. } => has_serial(self.row(*handle), *serial),
-            StoreChange::Raise { handle, version } => has_version(self.row(*handle), *version),
-            StoreChange::Copy { copy, .. } => self.row(*copy).is_some(),
-            StoreChange::Remove(handle) => self.row(*handle).is_none(),
         }
     }
 
     /// The change was made. At an error nothing that is known has changed.
     pub fn make(&mut self, chunk: u32, change: &StoreChange) -> Result<(), AllocError>
-        requires { can_be_told chunk self.old.rows change.now ≡ true }
-        ensures ok { (d : ServerDisk) → IsKnownOf self.old.order self.old.rows d → OnOk result (IsKnownOf self.new.order self.new.rows (disk_changed d change.now)) }
+        requires { can_be_made chunk self.old.rows change.now ≡ true }
+        ensures ok { (d : ServerDisk) → IsKnownOf self.old.order self.old.rows d → HaveTheirBytes d → OnOk result (IsKnownOf self.new.order self.new.rows (disk_changed d change.now)) }
         ensures err { OnErr result (self.new ≡ self.old) }
     {
         match change {
@@ -176,6 +150,12 @@ impl Known {
                 self.rows.remove(handle.0);
                 Ok(())
             }
+            // A byte that rots shows in no row.
+            StoreChange::Rot {
+                handle: _handle,
+                place: _place,
+                byte: _byte,
+            } => Ok(()),
         }
     }
 }

@@ -1,7 +1,7 @@
-//! Changes that the rows tell from their lack.
+//! What the rows tell of changes.
 
 ghost use Rattle.std.specs.Prelude.{◌≡◌, ◌+◌, nat_le, max};
-ghost use Rattle.disk_store.specs.Known.{can_take, has_serial, has_version, longer_row, other_version, raised_row};
+ghost use Rattle.disk_store.specs.Known.{can_take, longer_row, other_version, raised_row};
 
 use gfs_types::ids::{Serial, Version};
 use replica_store::row::Row;
@@ -31,26 +31,6 @@ pub(crate) fn other_version(row: Option<Row>, version: Version) -> bool
     match row {
         None => false,
         Some(row) => row.version.0 != version.0,
-    }
-}
-
-/// Whether it is there under this version.
-pub(crate) fn has_version(row: Option<Row>, version: Version) -> bool
-    ensures { result ≡ has_version version.0 row }
-{
-    match row {
-        None => false,
-        Some(row) => row.version.0 == version.0,
-    }
-}
-
-/// Whether the mutation of this serial was its last one.
-pub(crate) fn has_serial(row: Option<Row>, serial: Serial) -> bool
-    ensures { result ≡ has_serial serial.0 row }
-{
-    match row {
-        None => false,
-        Some(row) => row.serial.0 == serial.0,
     }
 }
 

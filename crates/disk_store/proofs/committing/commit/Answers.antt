@@ -1,17 +1,17 @@
-use Rattle.std.proofs.Common.{◌≡◌, ℕ, true, false, inl, inr, sym, ap, ◌∙◌, refl, subst, arith, None, Some, Err}
-use Rattle.replica_store.specs.declared.change.StoreChange.{StoreChange}
+use Rattle.std.proofs.Common.{◌≡◌, ℕ, true, false, inl, inr, sym, ap, ◌∙◌, refl, subst, arith, Some, Err}
 use Rattle.server_store.specs.Stores.{IsCopyable}
 use Rattle.server_store.specs.declared.fault.ReplicaStoreFault.{ReplicaStoreFault}
 use Rattle.server_store.specs.declared.fault.ReplicaStoreFault.TheVariants.{NoMemory, NoRoom}
 use Rattle.store_changes.specs.declared.fault.StoreFault.{StoreFault as ChangeFault}
 use Rattle.disk_store.specs.declared.known.Known.{Known}
 use Rattle.disk_store.specs.Faults.{HasCauseOf, of_change}
-use Rattle.disk_store.specs.Known.{can_be_told}
+use Rattle.disk_store.specs.Known.{can_be_made}
 use Rattle.disk_store.specs.Standing.{IsKept, changes_of}
 use Rattle.disk_store.specs.declared.standing.DiskStoreState.{DiskStoreState}
 use Rattle.disk_store.specs.declared.standing.DiskStoreState.TheVariants.{Open, Unread, Changing}
+use Rattle.chunk_store.proofs.States.{enough_bytes}
 use Rattle.disk_store.proofs.Causes.{begun_cause, only_room, other_cause, unfit_or}
-use Rattle.disk_store.proofs.Commits.{failed_after, made_after, open_all_noticed, open_as, unbegun_after, unknown_after}
+use Rattle.disk_store.proofs.Commits.{failed_after, made_after, open_as, unbegun_after, unknown_after}
 use Rattle.disk_store.proofs.Keeping.{refused_is, refused_kept}
 use Rattle.disk_store.proofs.committing.commit.Goals as goal
 
@@ -26,7 +26,7 @@ returns-in-Err-clause-err g c d kept =
     subst (λ (x : DiskStoreState). IsKept disk.seen disk.may_leave s n.order n.rows d x) (sym c.refused.ensures) (refused_kept disk.seen disk.may_leave s n.order n.rows d c.args.standing c.args.change c.requires.nothing kept)
 
 pub returns-in-Err-clause-no_room : goal.returns-in-Err-clause-no_room
-returns-in-Err-clause-no_room g c d kept e = let unfit = c.in-Err.ensures.no_room (ap (λ (x : ReplicaStoreFault). Err x) e) in inl (inl (subst (λ (n : ℕ). can_be_told n c.args.known.now.rows c.args.change ≡ false) c.chunk-chunk.ensures unfit.1))
+returns-in-Err-clause-no_room g c d kept e = let unfit = c.in-Err.ensures.no_room (ap (λ (x : ReplicaStoreFault). Err x) e) in inl (inl (subst (λ (n : ℕ). can_be_made n c.args.known.now.rows c.args.change ≡ false) c.chunk-chunk.ensures unfit.1))
 
 pub make-requires-clause-is_open : goal.make-requires-clause-is_open
 make-requires-clause-is_open g c =
@@ -36,7 +36,7 @@ make-requires-clause-is_open g c =
     (open_as disk.seen disk.may_leave c.args.store.now n.order n.rows some.0 c.args.standing some.1 c.in-Ok.ensures.open).is_open
 
 pub make-requires-clause-told : goal.make-requires-clause-told
-make-requires-clause-told g c = subst (λ (n : ℕ). can_be_told n c.args.known.now.rows c.args.change ≡ true) c.chunk-chunk.ensures c.in-Ok.ensures.told
+make-requires-clause-told g c = subst (λ (n : ℕ). can_be_made n c.args.known.now.rows c.args.change ≡ true) c.chunk-chunk.ensures c.in-Ok.ensures.told
 
 pub returns-in-Err-make-clause-open : goal.returns-in-Err-make-clause-open
 returns-in-Err-make-clause-open g c = elim (unfit_or c.in-Err-make.fault c.args.change) [
@@ -54,7 +54,7 @@ returns-in-Err-make-clause-err g c d kept =
       | inl is ↦ subst (λ (p : ReplicaStoreFault × DiskStoreState). IsKept disk.seen disk.may_leave c.make.new.store n.order n.rows d p.1) (sym (c.failed.ensures.unfit is.0 is.1))
           (unbegun_after disk.seen disk.may_leave s n.order n.rows d c.args.standing kept c.in-Ok.ensures.open c.args.change c.make.new.store c.make.ensures.layout (c.in-Err-make.ensures.unfit d opened (ap (λ (x : ChangeFault). Err x) is.0) is.1).1)
       | inr other ↦ subst (λ (p : ReplicaStoreFault × DiskStoreState). IsKept disk.seen disk.may_leave c.make.new.store n.order n.rows d p.1) (sym (c.failed.ensures.begun other))
-          (failed_after disk.seen disk.may_leave s n.order n.rows d c.args.standing kept c.in-Ok.ensures.open c.args.change c.make.new.store c.make.ensures.layout (subst (λ (n : ℕ). can_be_told n c.args.known.now.rows c.args.change ≡ true) c.chunk-chunk.ensures c.in-Ok.ensures.told) disk.moment disk.left_since g.met.D.Disk.counts_now c.make.ensures.any_moment (c.make.ensures.untouched d opened))
+          (failed_after disk.seen disk.may_leave s n.order n.rows d c.args.standing kept c.in-Ok.ensures.open c.args.change c.make.new.store c.make.ensures.layout disk.moment disk.left_since g.met.D.Disk.counts_now c.make.ensures.any_moment)
     ]
 
 pub returns-in-Err-make-clause-no_room : goal.returns-in-Err-make-clause-no_room
@@ -78,9 +78,8 @@ returns-in-Ok-make-2-clause-ok g c d kept =
     let s = c.args.store.now in
     let n = c.args.known.now in
     let opened = open_as disk.seen disk.may_leave s n.order n.rows d c.args.standing kept c.in-Ok.ensures.open in
-    let noticed = open_all_noticed disk.seen disk.may_leave s n.order n.rows d c.args.standing kept c.in-Ok.ensures.open in
     made_after disk.seen disk.may_leave s n.order n.rows d c.args.standing kept c.in-Ok.ensures.open c.args.change c.make.new.store c.make.ensures.layout c.make-2.new.self.order c.make-2.new.self.rows
-    (c.in-Ok-make.ensures.careful d opened) (c.in-Ok-make-2.ensures.ok d kept.known) (c.in-Ok-make.ensures.ok d opened noticed)
+    (c.in-Ok-make-2.ensures.ok d kept.known (enough_bytes disk.seen disk.may_leave s d opened)) (c.in-Ok-make.ensures.ok d opened)
 
 pub returns-clause-err : goal.returns-clause-err
 returns-clause-err g c d kept =
@@ -88,9 +87,8 @@ returns-clause-err g c d kept =
     let s = c.args.store.now in
     let n = c.args.known.now in
     let opened = open_as disk.seen disk.may_leave s n.order n.rows d c.args.standing kept c.in-Ok.ensures.open in
-    let noticed = open_all_noticed disk.seen disk.may_leave s n.order n.rows d c.args.standing kept c.in-Ok.ensures.open in
     subst (λ (k : Known). IsKept disk.seen disk.may_leave c.make.new.store k.order k.rows d (Changing c.args.change)) (sym c.in-Err-make-2.ensures.err)
-    (unknown_after disk.seen disk.may_leave s n.order n.rows d c.args.standing kept c.in-Ok.ensures.open c.args.change c.make.new.store c.make.ensures.layout (subst (λ (n : ℕ). can_be_told n c.args.known.now.rows c.args.change ≡ true) c.chunk-chunk.ensures c.in-Ok.ensures.told) (c.in-Ok-make.ensures.careful d opened) (c.in-Ok-make.ensures.ok d opened noticed))
+    (unknown_after disk.seen disk.may_leave s n.order n.rows d c.args.standing kept c.in-Ok.ensures.open c.args.change c.make.new.store c.make.ensures.layout (c.in-Ok-make.ensures.ok d opened))
 
 pub returns-in-Err-clause-cause : goal.returns-in-Err-clause-cause
 returns-in-Err-clause-cause g c d kept =
@@ -106,10 +104,10 @@ returns-in-Err-make-clause-cause g c d kept =
     let opened = open_as g.D.Disk.seen g.D.Disk.may_leave c.args.store.now n.order n.rows d c.args.standing kept c.in-Ok.ensures.open in
     let call = c.in-Err-make.ensures in
     elim (unfit_or c.in-Err-make.fault c.args.change) [
-      | inl is ↦ subst (λ (p : ReplicaStoreFault × DiskStoreState). HasCauseOf {T = StoreChange} Began before now (Err p)) (sym (c.failed.ensures.unfit is.0 is.1))
-          (other_cause {T = StoreChange} Began before now NoRoom (Unread (Some c.args.change) None) call.cause.later (λ began e. cc) (λ e. cc))
-      | inr other ↦ subst (λ (p : ReplicaStoreFault × DiskStoreState). HasCauseOf {T = StoreChange} Began before now (Err p)) (sym (c.failed.ensures.begun other))
-          (begun_cause {U = StoreChange} Began before now c.args.change c.in-Err-make.fault (Changing c.args.change) other (λ began. call.only d opened kept.known began.1) call.cause)
+      | inl is ↦ subst (λ (p : ReplicaStoreFault × DiskStoreState). HasCauseOf {T = Unit {0}} Began before now (Err p)) (sym (c.failed.ensures.unfit is.0 is.1))
+          (other_cause {T = Unit {0}} Began before now NoRoom (Unread (Some c.args.change)) call.cause.later (λ began e. cc) (λ e. cc))
+      | inr other ↦ subst (λ (p : ReplicaStoreFault × DiskStoreState). HasCauseOf {T = Unit {0}} Began before now (Err p)) (sym (c.failed.ensures.begun other))
+          (begun_cause {U = Unit {0}} Began before now c.args.change c.in-Err-make.fault (Changing c.args.change) other (λ began. call.only d opened kept.known began.1) call.cause)
     ]
 
 pub returns-in-Ok-make-2-clause-cause : goal.returns-in-Ok-make-2-clause-cause

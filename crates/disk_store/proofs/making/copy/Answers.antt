@@ -18,7 +18,7 @@ pub returns-clause-no_room : goal.returns-clause-no_room
 returns-clause-no_room g c d is e = ((c.copy_local.ensures.no_room d is).0 e).4
 
 pub returns-clause-ok : goal.returns-clause-ok
-returns-clause-ok g c d is noticed = c.copy_local.ensures.ok d is
+returns-clause-ok g c d is = c.copy_local.ensures.ok d is
 
 pub returns-in_default-clause-only : goal.returns-in_default-clause-only
 returns-in_default-clause-only g c d is known told copyable =

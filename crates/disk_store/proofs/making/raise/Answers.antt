@@ -15,7 +15,7 @@ returns-clause-any_moment g c =
     change_made disk.seen disk.may_leave disk.moment disk.left_since c.args.store.now c.set_version.new.self (Raise c.args.handle c.args.version) c.set_version.ensures.any_moment
 
 pub returns-clause-ok : goal.returns-clause-ok
-returns-clause-ok g c d is noticed = c.set_version.ensures.ok d is
+returns-clause-ok g c d is = c.set_version.ensures.ok d is
 
 pub returns-in_default-clause-only : goal.returns-in_default-clause-only
 returns-in_default-clause-only g c d is known told = absurd (none_raised c.args.version.0 _ (sym c.row.ensures ∙ c.in_default.is) told)

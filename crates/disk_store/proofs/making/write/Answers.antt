@@ -7,7 +7,7 @@ use Rattle.chunk_store.specs.Stores.{IsOpen}
 use Rattle.disk_store.specs.Known.{can_take}
 use Rattle.disk_store.specs.Standing.{LeavesMade}
 use Rattle.disk_store.proofs.Causes.{corrupt_refused}
-use Rattle.disk_store.proofs.Made.{none_made, write_made}
+use Rattle.disk_store.proofs.Made.{change_made, none_made}
 use Rattle.disk_store.proofs.Fitting.{applied_fits, memory_fits, none_takes, write_takes}
 use Rattle.disk_store.proofs.making.write.Goals as goal
 
@@ -25,14 +25,14 @@ pub apply-requires-clause-within : goal.apply-requires-clause-within
 apply-requires-clause-within g c = (let same = ap length c.in_ok-clone.ensures.cases in omega (arith, c.requires.within, same))
 
 pub returns-clause-ok : goal.returns-clause-ok
-returns-clause-ok g c d is noticed =
-    subst (λ (b : List ℕ). OnOk c.apply.result (IsOpen g.D.Disk.seen g.D.Disk.may_leave c.apply.new.self (disk_changed d (Write c.args.handle c.args.serial c.args.offset b)))) c.in_ok-clone.ensures.cases (c.apply.ensures.ok d is (noticed c.args.handle.0))
+returns-clause-ok g c d is =
+    subst (λ (b : List ℕ). OnOk c.apply.result (IsOpen g.D.Disk.seen g.D.Disk.may_leave c.apply.new.self (disk_changed d (Write c.args.handle c.args.serial c.args.offset b)))) c.in_ok-clone.ensures.cases (c.apply.ensures.ok d is)
 
 pub returns-clause-any_moment : goal.returns-clause-any_moment
 returns-clause-any_moment g c =
     let disk = g.D.Disk in
     subst (λ (b : List ℕ). LeavesMade disk.seen disk.may_leave disk.moment disk.left_since c.args.store.now c.apply.new.self (Write c.args.handle c.args.serial c.args.offset b)) c.in_ok-clone.ensures.cases
-    (write_made disk.seen disk.may_leave disk.moment disk.left_since c.args.store.now c.apply.new.self c.args.handle.0 (Write c.args.handle c.args.serial c.args.offset c.in_ok-clone.field-0) c.apply.ensures.any_moment)
+    (change_made disk.seen disk.may_leave disk.moment disk.left_since c.args.store.now c.apply.new.self (Write c.args.handle c.args.serial c.args.offset c.in_ok-clone.field-0) c.apply.ensures.any_moment)
 
 pub returns-in_default-clause-untouched : goal.returns-in_default-clause-untouched
 returns-in_default-clause-untouched g c d is none =

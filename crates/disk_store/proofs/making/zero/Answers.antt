@@ -8,7 +8,7 @@ use Rattle.chunk_store.specs.Stores.{IsOpen}
 use Rattle.disk_store.specs.Known.{can_take}
 use Rattle.disk_store.specs.Standing.{LeavesMade}
 use Rattle.disk_store.proofs.Causes.{corrupt_refused}
-use Rattle.disk_store.proofs.Made.{none_made, write_made}
+use Rattle.disk_store.proofs.Made.{change_made, none_made}
 use Rattle.disk_store.proofs.Fitting.{applied_fits, memory_fits, none_takes, zero_takes}
 use Rattle.disk_store.proofs.making.zero.Goals as goal
 
@@ -23,14 +23,14 @@ returns-in_err-zeros-clause-any_moment g c =
     none_made disk.seen disk.may_leave disk.moment disk.left_since c.args.store.now (g.met.D.Disk.only_now c.args.store.now.disk) (Zero c.args.handle c.args.serial c.args.offset c.args.count)
 
 pub returns-clause-ok : goal.returns-clause-ok
-returns-clause-ok g c d is noticed =
-    subst (λ (b : List ℕ). OnOk c.apply.result (IsOpen g.D.Disk.seen g.D.Disk.may_leave c.apply.new.self (disk_changed d (Write c.args.handle c.args.serial c.args.offset b)))) c.in_ok-zeros.ensures (c.apply.ensures.ok d is (noticed c.args.handle.0))
+returns-clause-ok g c d is =
+    subst (λ (b : List ℕ). OnOk c.apply.result (IsOpen g.D.Disk.seen g.D.Disk.may_leave c.apply.new.self (disk_changed d (Write c.args.handle c.args.serial c.args.offset b)))) c.in_ok-zeros.ensures (c.apply.ensures.ok d is)
 
 pub returns-clause-any_moment : goal.returns-clause-any_moment
 returns-clause-any_moment g c =
     let disk = g.D.Disk in
     subst (λ (b : List ℕ). LeavesMade disk.seen disk.may_leave disk.moment disk.left_since c.args.store.now c.apply.new.self (Write c.args.handle c.args.serial c.args.offset b)) c.in_ok-zeros.ensures
-    (write_made disk.seen disk.may_leave disk.moment disk.left_since c.args.store.now c.apply.new.self c.args.handle.0 (Write c.args.handle c.args.serial c.args.offset c.in_ok-zeros.field-0) c.apply.ensures.any_moment)
+    (change_made disk.seen disk.may_leave disk.moment disk.left_since c.args.store.now c.apply.new.self (Write c.args.handle c.args.serial c.args.offset c.in_ok-zeros.field-0) c.apply.ensures.any_moment)
 
 pub returns-in_default-clause-untouched : goal.returns-in_default-clause-untouched
 returns-in_default-clause-untouched g c d is none =

@@ -1,23 +1,28 @@
 use Rattle.std.proofs.Common.{◌≡◌, ap, ◌∙◌, subst}
 use Rattle.std.specs.Prelude.{IfOk}
 use Rattle.replica_store.specs.Replicas.{is_writable_at}
-use Rattle.disk_store.specs.Standing.{DiskStoreView}
-use Rattle.disk_store.proofs.Commits.{looked_kept, open_as}
+use Rattle.disk_store.specs.Standing.{DiskStoreView, disk_said}
+use Rattle.disk_store.proofs.Commits.{looked_anew, looked_said, open_as}
 use Rattle.disk_store.proofs.Causes.{closed_cause, told_cause}
 use Rattle.disk_store.proofs.disk_store.DiskStoreReplicaStore.is_writable.Goals as goal
 
 pub is_writable-requires : goal.is_writable-requires
 is_writable-requires g c =
     let was = c.self.inside in
-    record { is_open = (open_as g.D.Disk.seen g.D.Disk.may_leave was.store was.known.order was.known.rows was.said was.standing c.self.invariant c.in-Open.is).is_open }
+    record { is_open = (open_as g.D.Disk.seen g.D.Disk.may_leave was.store was.known.order was.known.rows (disk_said g.D.Disk.seen was.store was.before.items was.standing) was.standing c.self.invariant.0 c.in-Open.is).is_open }
 
 pub invariant_of-self : goal.invariant_of-self
 invariant_of-self g c =
-    let was = c.self.inside in
-    looked_kept g.D.Disk.seen g.D.Disk.may_leave was.store was.known.order was.known.rows was.said was.standing c.self.invariant c.is_writable.new.store c.is_writable.ensures.unchanged c.is_writable.ensures.still_open c.in-Open.is
+    let was = c.self.inside in (
+      looked_anew g.D.Disk.seen g.D.Disk.may_leave was.store was.known.order was.known.rows (disk_said g.D.Disk.seen was.store was.before.items was.standing) was.standing c.self.invariant.0 c.is_writable.new.store c.is_writable.ensures.unchanged c.is_writable.ensures.still_open c.in-Open.is was.before.items,
+      c.self.invariant.1,
+    )
 
 pub returns-clause-disk : goal.returns-clause-disk
-returns-clause-disk g c = ap (λ (s : DiskStoreView). s.disk) c.self.view_is
+returns-clause-disk g c =
+    let was = c.self.inside in
+    looked_said g.D.Disk.seen g.D.Disk.may_leave was.store was.known.order was.known.rows (disk_said g.D.Disk.seen was.store was.before.items was.standing) was.standing c.self.invariant.0 c.is_writable.new.store c.is_writable.ensures.unchanged c.is_writable.ensures.still_open c.in-Open.is was.before.items
+    ∙ ap (λ (s : DiskStoreView). s.disk) c.self.view_is
 
 pub returns-clause-nothing : goal.returns-clause-nothing
 returns-clause-nothing g c = ap (λ (s : DiskStoreView). s.under_way) c.self.view_is ∙ c.requires
@@ -26,7 +31,7 @@ pub returns-clause-value : goal.returns-clause-value
 returns-clause-value g c =
     let was = c.self.inside in
     subst (λ (s : DiskStoreView). IfOk c.is_writable.result (λ o. o ≡ is_writable_at s.disk c.args.handle.0 c.args.offset c.args.end)) c.self.view_is
-    (c.is_writable.ensures.value was.said (open_as g.D.Disk.seen g.D.Disk.may_leave was.store was.known.order was.known.rows was.said was.standing c.self.invariant c.in-Open.is))
+    (c.is_writable.ensures.value (disk_said g.D.Disk.seen was.store was.before.items was.standing) (open_as g.D.Disk.seen g.D.Disk.may_leave was.store was.known.order was.known.rows (disk_said g.D.Disk.seen was.store was.before.items was.standing) was.standing c.self.invariant.0 c.in-Open.is))
 
 pub returns-clause-open : goal.returns-clause-open
 returns-clause-open g c = ap (λ (s : DiskStoreView). s.is_open) c.self.view_is

@@ -1,18 +1,29 @@
 use Rattle.std.proofs.Common.{sym, ap, subst, ◌∙◌}
+use Rattle.replica_store.specs.Replicas.{ServerDisk}
 use Rattle.chunk_store.specs.Stores.{StoreState}
-use Rattle.disk_store.specs.Standing.{DiskStoreView, IsKept}
-use Rattle.disk_store.proofs.Quiet.{quiet_kept}
+use Rattle.disk_store.specs.Standing.{DiskStoreView, IsKept, disk_said}
+use Rattle.disk_store.proofs.Quiet.{quiet_kept, quiet_said}
 use Rattle.disk_store.proofs.disk_store.DiskStoreStoppableStore.stop_after_restart.Goals as goal
 
 pub invariant_of-self : goal.invariant_of-self
 invariant_of-self g c =
     let was = c.self.inside in
     let disk = g.D.Disk in
-    subst (λ (s : StoreState _). IsKept disk.seen disk.may_leave s was.known.order was.known.rows was.said was.standing) (sym c.stop_after_restart.ensures.unchanged)
-    (quiet_kept disk.seen disk.may_leave was.store was.known.order was.known.rows was.said c.stop_after_restart.new.self.disk c.stop_after_restart.ensures.seen c.stop_after_restart.ensures.crash was.standing c.self.invariant)
+    let told = subst (λ (s : StoreState _). IsKept disk.seen disk.may_leave s was.known.order was.known.rows (disk_said g.D.Disk.seen was.store was.before.items was.standing) was.standing) (sym c.stop_after_restart.ensures.unchanged)
+    (quiet_kept disk.seen disk.may_leave was.store was.known.order was.known.rows (disk_said g.D.Disk.seen was.store was.before.items was.standing) c.stop_after_restart.new.self.disk c.stop_after_restart.ensures.seen c.stop_after_restart.ensures.crash was.standing c.self.invariant.0) in
+    let said = ap (λ (s : StoreState _). disk_said disk.seen s was.before.items was.standing) c.stop_after_restart.ensures.unchanged
+    ∙ quiet_said disk.seen disk.may_leave was.store was.known.order was.known.rows (disk_said g.D.Disk.seen was.store was.before.items was.standing) c.stop_after_restart.new.self.disk c.stop_after_restart.ensures.seen c.stop_after_restart.ensures.crash was.before.items was.standing in (
+      subst (λ (e : ServerDisk). IsKept disk.seen disk.may_leave c.stop_after_restart.new.self was.known.order was.known.rows e was.standing) (sym said) told,
+      c.self.invariant.1,
+    )
 
 pub returns-clause-disk : goal.returns-clause-disk
-returns-clause-disk g c = ap (λ (s : DiskStoreView). s.disk) c.self.view_is
+returns-clause-disk g c =
+    let was = c.self.inside in
+    let disk = g.D.Disk in
+    ap (λ (s : StoreState _). disk_said disk.seen s was.before.items was.standing) c.stop_after_restart.ensures.unchanged
+    ∙ quiet_said disk.seen disk.may_leave was.store was.known.order was.known.rows (disk_said g.D.Disk.seen was.store was.before.items was.standing) c.stop_after_restart.new.self.disk c.stop_after_restart.ensures.seen c.stop_after_restart.ensures.crash was.before.items was.standing
+    ∙ ap (λ (s : DiskStoreView). s.disk) c.self.view_is
 
 pub returns-clause-under_way : goal.returns-clause-under_way
 returns-clause-under_way g c = ap (λ (s : DiskStoreView). s.under_way) c.self.view_is
