@@ -285,7 +285,7 @@ times_kept =
             clock = h.clock;
             timely = λ clocks. silent_timely x.sent (server_restart s moment choice).out.sent k x.greatest x.config.lease_ms x.master (restarts_tell s moment choice choice.ending) (h.timely clocks);
           };
-      rots = λ x index handle s r at up h. record { base = revoked_kept.rots x index handle s r at up h.base; clock = h.clock; timely = h.timely };
+      rots = λ x index c s e is at up h. record { base = revoked_kept.rots x index c s e is at up h.base; clock = h.clock; timely = h.timely };
     }
 
 -- in each reached world whose clocks were kept, each end of a lease that was told is past, or its chunk's row has that version and an end that is not earlier

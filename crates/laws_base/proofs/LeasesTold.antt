@@ -23,19 +23,20 @@ use Rattle.protocol.specs.Sending.{the_server, handle_of, version_of}
 use Rattle.leases.specs.LeaseHeld.{LeaseHeld}
 use Rattle.primary_order.specs.SerialOrder.{SerialOrder}
 use Rattle.replica_store.specs.declared.change.StoreChange.{StoreChange}
-use Rattle.replica_store.specs.declared.change.StoreChange.TheVariants.{SetOrder, Put, Write, Zero, Raise, Copy, Remove}
+use Rattle.replica_store.specs.declared.change.StoreChange.TheVariants.{SetOrder, Put, Write, Zero, Raise, Copy, Remove, Rot}
 use Rattle.replica_store.specs.Replicas.{ServerDisk, disk_changed, disk_changed_by_all, is_new_order, new_server_disk}
 use Rattle.protocol.specs.Server.{ServerState, ServerDoing, started_server}
 use Rattle.protocol.specs.ServerStep.{server_goes, server_ends, server_step, server_restarts}
-use Rattle.protocol.specs.World.{stamped}
+use Rattle.protocol.specs.World.{stamped, after_rot}
 use Rattle.laws_base.proofs.LeaseOrders.{SaysGrant, moved_grant, was_granted, HasGrant, grant_counts, grant_ends}
 use Rattle.laws_base.specs.Laws.{IsSameOrLater, is_grant, grants_of, tells_end, WasEndTold, LeasesAreTold, VersionsHaveOnePrimary}
 use Rattle.laws_base.proofs.Steps.{none_some, same_some, tally, put_cases, count-cons}
 use Rattle.laws_base.proofs.Entries.{same_number}
 use Rattle.laws_base.proofs.ServerMoves.{IsOfReplica, AreHeldFrom, lease_of, until_moment, KeepsServer, IsCameIn, server_goes_holds}
-use Rattle.laws_base.proofs.RisingOrders.{Later, same_later, then_later, newer, risen_later, HasOneRisingChange, step_goes_on, restarts_as, none_under_way, set_cases}
+use Rattle.laws_base.proofs.RisingOrders.{Later, then_later, newer, risen_later, HasOneRisingChange, step_goes_on, rot_goes_on, restarts_as, none_under_way, set_cases}
 use Rattle.laws_base.proofs.MembersRecorded.{kept_place}
-use Rattle.laws_base.proofs.ScenesReached.{Scene, IsSentTo, rotten_server, IsKeptByScenes, scene_reached}
+use Rattle.laws_base.proofs.Rots.{rot_held, rot_id}
+use Rattle.laws_base.proofs.ScenesReached.{Scene, IsSentTo, IsKeptByScenes, scene_reached}
 use Rattle.laws_base.proofs.GrantsOnce.{versions_are_granted_once}
 
 -- orders that were taken
@@ -64,6 +65,7 @@ replica_later d (Zero handle serial offset count) is = risen_later d (Zero handl
 replica_later d (Raise handle version) is = risen_later d (Raise handle version) tt
 replica_later d (Copy handle copy version) is = risen_later d (Copy handle copy version) tt
 replica_later d (Remove handle) is = risen_later d (Remove handle) tt
+replica_later d (Rot handle place byte) is = risen_later d (Rot handle place byte) tt
 
 -- a lease that was granted to this server with this size of the chunk, by an order that was taken, and whose end was told
 pub record IsToldLease (sent : List Message) (n : ℕ) (d : ServerDisk) (handle chunk : ℕ) (held : LeaseHeld) : Type 0 where
@@ -213,6 +215,14 @@ step_told sent index s moment i choice is up h =
     (ends_told sent index s d choice choice.ending h.id (subst (λ (t : Taken ServerState). HasOneRisingChange t.state) same whole)
     (server_goes_holds (CameTo sent (suc index)) (λ c. (c.id ≡ suc index) × AreToldLeases sent (suc index) c.disk c.leases) (telling_keeps sent (suc index)) s moment i (came_in sent (suc index) i is) (h.id, h.told)))
 
+rot_told : (sent : List Message) (index : ℕ) (s : ServerState) (x : StoreChange) (e : Ending) → IsOfReplica x → IsTrue s.up → IsToldServer sent index s → IsToldServer sent index (after_rot s x e)
+rot_told sent index s x e is up h =
+    record {
+      id = rot_id s x e ∙ h.id;
+      sound = (rot_goes_on s x e is h.sound up).sound;
+      told = told_from sent (suc index) (after_rot s x e).disk s.leases (after_rot s x e).leases (rot_held s x e) (all_later sent (suc index) s.disk (after_rot s x e).disk s.leases (rot_goes_on s x e is h.sound up).later h.told);
+    }
+
 restart_told : (sent : List Message) (index : ℕ) (s : ServerState) (moment : ℕ) (choice : Choice) (e : Ending) → IsToldServer sent index s → IsToldServer sent index (server_restarts s moment choice e).state
 restart_told sent index s moment choice Lost h = record { id = h.id; sound = (restarts_as s moment choice Lost h.sound).sound; told = none_told sent (suc index) _ }
 restart_told sent index s moment choice (Stops made) h = record { id = h.id; sound = (restarts_as s moment choice (Stops made) h.sound).sound; told = none_told sent (suc index) _ }
@@ -258,9 +268,9 @@ numbered_from f count index s is = subst (λ (k : ℕ). s ≡ f k) (ap (λ (k : 
           | inr last ↦ let at = last.0 in let all = counted c in (last.1 ∙ ap f (omega (arith, at, all)), omega (arith, at, all))
         ]
 
-new_told : (config : Config) (servers clients : ℕ) (index : ℕ) (s : ServerState) → element_at (map (λ n. started_server config n (new_server_disk config.block) 0) (first_numbers servers)) index ≡ Some s → IsToldServer [] index s
+new_told : (config : Config) (servers clients : ℕ) (index : ℕ) (s : ServerState) → element_at (map (λ n. started_server config n (new_server_disk config.chunk config.block config.slots) 0) (first_numbers servers)) index ≡ Some s → IsToldServer [] index s
 new_told config servers clients index s is =
-    subst (λ (t : ServerState). IsToldServer [] index t) (sym (numbered_from (λ n. started_server config n (new_server_disk config.block) 0) servers index s is))
+    subst (λ (t : ServerState). IsToldServer [] index t) (sym (numbered_from (λ n. started_server config n (new_server_disk config.chunk config.block config.slots) 0) servers index s is))
     (record { id = refl; sound = none_under_way _ refl; told = none_told [] (suc index) _ })
 
 pub told_kept : IsKeptByScenes AreTold
@@ -273,11 +283,9 @@ told_kept =
       opens = λ x k moment choice now h index s at. more_told x.sent (stamped k _) index s (h index s at);
       serves = λ x k index moment s i choice now at is up h. one_told x (stamped k _) index _ (step_told x.sent index s moment i choice is up (h index s at)) h;
       restarts = λ x k index moment s choice now at h. one_told x (stamped k _) index _ (restart_told x.sent index s moment choice choice.ending (h index s at)) h;
-      rots = λ x index handle s r at up h other t is.
-          let told : IsToldServer x.sent index s = h index s at in
-          elim (set_cases x.servers index (rotten_server s handle r) other t is) [
-            | inl both ↦ subst (λ (k : ℕ). IsToldServer x.sent k t) (sym both.0)
-                (subst (λ (v : ServerState). IsToldServer x.sent index v) (sym both.1) (record { id = told.id; sound = none_under_way (rotten_server s handle r) (told.sound.idle up); told = all_later x.sent (suc index) s.disk (rotten_server s handle r).disk s.leases (same_later s.disk) told.told }))
+      rots = λ x index c s e of_replica at up h other t is.
+          elim (set_cases x.servers index (after_rot s c e) other t is) [
+            | inl both ↦ subst (λ (k : ℕ). IsToldServer x.sent k t) (sym both.0) (subst (λ (v : ServerState). IsToldServer x.sent index v) (sym both.1) (rot_told x.sent index s c e of_replica up (h index s at)))
             | inr there ↦ h other t there
           ];
     }

@@ -16,6 +16,7 @@ pub mod MasterChunksMoves
 pub mod MasterSteps
 pub mod ServerWalk
 pub mod ServerMoves
+pub mod Rots
 pub mod RisingOrders
 pub mod ClientMoves
 pub mod SentReached

@@ -72,7 +72,7 @@ in_time_kept =
       opens = λ x k moment choice now h. opens_in_time x.config x.greatest x.master moment choice choice.ending now.reached h.0;
       serves = λ x k index moment s i choice now at is up h. h;
       restarts = λ x k index moment s choice now at h. h;
-      rots = λ x index handle s r at up h. h;
+      rots = λ x index c s e is at up h. h;
     }
 
 -- in each reached world the master has the world's settings, and is not past the greatest moment

@@ -61,16 +61,16 @@ module _ (Q : MasterState → Type 0) (k : IsKeptByMaster Q) where
   calls_here w index moment c choice None h = h
   calls_here w index moment c choice (Some s) h = on_cond Here (may_call s) _ (nothing_happens w) (λ _. h) (λ _. h)
 
-  rots_replica_here : (w : WorldState) (index : ℕ) (s : ServerState) (handle place byte : ℕ) (o : Option Replica) → Q w.master
-      → Here (rots_replica w index s handle place byte o)
-  rots_replica_here w index s handle place byte None h = h
-  rots_replica_here w index s handle place byte (Some r) h = h
+  rots_replica_here : (w : WorldState) (index : ℕ) (s : ServerState) (handle place byte : ℕ) (choice : Choice) (o : Option Replica) → Q w.master
+      → Here (rots_replica w index s handle place byte choice o)
+  rots_replica_here w index s handle place byte choice None h = h
+  rots_replica_here w index s handle place byte choice (Some r) h = h
 
-  rots_here : (w : WorldState) (index handle place byte : ℕ) (o : Option ServerState) → Q w.master → Here (rots_on w index handle place byte o)
-  rots_here w index handle place byte None h = h
-  rots_here w index handle place byte (Some s) h =
-      on_cond Here (s.up && nat_lt place w.config.chunk) (rots_replica w index s handle place byte (replica_of s.disk handle)) (nothing_happens w)
-      (λ _. rots_replica_here w index s handle place byte (replica_of s.disk handle) h) (λ _. h)
+  rots_here : (w : WorldState) (index handle place byte : ℕ) (choice : Choice) (o : Option ServerState) → Q w.master → Here (rots_on w index handle place byte choice o)
+  rots_here w index handle place byte choice None h = h
+  rots_here w index handle place byte choice (Some s) h =
+      on_cond Here (s.up && nat_lt place w.config.chunk) (rots_replica w index s handle place byte choice (replica_of s.disk handle)) (nothing_happens w)
+      (λ _. rots_replica_here w index s handle place byte choice (replica_of s.disk handle) h) (λ _. h)
 
   at_moment_here : (w : WorldState) (moment : ℕ) (x : Happened) → Q w.master → Here x → Here (at_moment w moment x)
   at_moment_here w moment x h g = on_cond Here (nat_le moment moment_limit) x (nothing_happens w) (λ _. g) (λ _. h)
@@ -82,7 +82,7 @@ module _ (Q : MasterState → Type 0) (k : IsKeptByMaster Q) where
       at_moment_here w now.0 (delivered w now.0 choice (numbered_from_1 w.sent number)) h (delivered_here w now.0 choice (numbered_from_1 w.sent number) h)
   happens_here w (event.Tick n now) choice h = at_moment_here w now.0 (moves w n now.0 input.Tick choice) h (moves_here w n now.0 input.Tick choice h)
   happens_here w (event.Restart n now) choice h = at_moment_here w now.0 (restarts w n now.0 choice) h (restarts_here w n now.0 choice h)
-  happens_here w (event.Rot server handle place byte) choice h = rots_here w (server.0 - 1) handle.0 place byte (numbered_from_1 w.servers server.0) h
+  happens_here w (event.Rot server handle place byte) choice h = rots_here w (server.0 - 1) handle.0 place byte choice (numbered_from_1 w.servers server.0) h
   happens_here w (event.Fuse n count torn) choice h = h
 
   events_here : (w : WorldState) (steps : List (Event × Choice)) → Q w.master → Q (after_events w steps).master

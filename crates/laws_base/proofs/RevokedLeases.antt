@@ -1,7 +1,6 @@
 -- A server that said that a lease is revoked has no such lease, and refuses its Grant for good.
 use Rattle.std.proofs.Common.{◌≡◌, ◌⊎◌, ℕ, zero, suc, true, false, Bool, cond, List, [], ◌∷◌, ◌++◌, Some, refl, sym, ap, subst, ◌∙◌, inl, inr, arith}
 use Rattle.std.specs.Prelude.{IsTrue, ◌&&◌}
-use Rattle.std.specs.Ordering.{nat_cmp}
 use Rattle.std.specs.FinMap as table
 use Rattle.gfs_types.specs.declared.config.Config.{Config}
 use Rattle.gfs_types.specs.declared.ids.OrderNo.{OrderNo}
@@ -19,24 +18,26 @@ use Rattle.protocol.specs.Seen.{Taken, no_step}
 use Rattle.protocol.specs.Sending.{message, the_server, handle_of, version_of, order_number}
 use Rattle.leases.specs.LeaseHeld.{LeaseHeld}
 use Rattle.primary_order.specs.SerialOrder.{SerialOrder}
+use Rattle.replica_store.specs.declared.change.StoreChange.{StoreChange}
 use Rattle.replica_store.specs.declared.change.StoreChange.TheVariants.{SetOrder}
-use Rattle.replica_store.specs.Replicas.{Replica, ServerDisk, disk_changed, is_new_order}
+use Rattle.replica_store.specs.Replicas.{ServerDisk, disk_changed, is_new_order}
 use Rattle.protocol.specs.Server.{ServerState, ServerDoing}
 use Rattle.protocol.specs.ServerStep.{server_goes, server_ends, server_step, server_restarts, server_restart}
 use Rattle.protocol.specs.Master.{MasterState, MasterDoing}
 use Rattle.protocol.specs.MasterStep.{master_goes, master_ends, master_bounded, master_step, master_restart, is_within_limits, may_end, found_log, started_master, opening, has_opened, opens_as}
-use Rattle.protocol.specs.World.{WorldState, stamped, IsReached}
+use Rattle.protocol.specs.World.{WorldState, stamped, after_rot, IsReached}
 use Rattle.laws_base.proofs.LeaseOrders.{SaysRevoke, moved_revoke, named_revoke}
 use Rattle.laws_base.proofs.Steps.{on_cond, none_some, same_some, put_cases}
 use Rattle.laws_base.proofs.Words.{is_of_lease, true_false}
 use Rattle.laws_base.proofs.Entries.{AllOf, all_joined}
 use Rattle.laws_base.proofs.MasterMoves.{Nothing, NoneEnded, Keeps}
 use Rattle.laws_base.proofs.MasterSteps.{goes_keeps}
-use Rattle.laws_base.proofs.ServerMoves.{ServerCore, server_core, AreHeldFrom, HasNoLease, lease_of, until_moment, same_held, KeepsServer, server_goes_holds}
-use Rattle.laws_base.proofs.RisingOrders.{Later, same_later, then_later, risen_later, HasOneRisingChange, step_goes_on, restarts_as}
+use Rattle.laws_base.proofs.Rots.{none_held, rot_held}
+use Rattle.laws_base.proofs.ServerMoves.{ServerCore, server_core, IsOfReplica, AreHeldFrom, HasNoLease, lease_of, until_moment, same_held, KeepsServer, server_goes_holds}
+use Rattle.laws_base.proofs.RisingOrders.{Later, same_later, then_later, risen_later, HasOneRisingChange, step_goes_on, rot_goes_on, restarts_as}
 use Rattle.laws_base.proofs.MembersRecorded.{all_at, all_in_order}
 use Rattle.laws_base.proofs.MessagesSent.{IsSent, sent_before, sent_cases, none_sent, sent_last, numbered_sent, ordered_sent}
-use Rattle.laws_base.proofs.ScenesReached.{Scene, scene_of, IsSentTo, rotten_server, IsKeptByScenes, lifted, scene_reached}
+use Rattle.laws_base.proofs.ScenesReached.{Scene, scene_of, IsSentTo, IsKeptByScenes, lifted, scene_reached}
 use Rattle.laws_base.proofs.LeasesTold.{IsStaleAt, stale_later, new_not_stale, replica_later, CameTo, came_in, GrantCameTo, grant_came, IsToldServer, AreTold, told_kept}
 use Rattle.laws_base.proofs.RevokesNumbered.{ArePaired, IsOfRevokes, revokes_kept, paired}
 
@@ -60,9 +61,6 @@ over_from sent n d e before after handle version order later from h =
       taken = stale_later d e order later h.taken;
       none = λ p at same. let was = from handle p at in h.none was.0 was.1 (ap (λ (held : LeaseHeld). held.version) was.2 ∙ same);
     }
-
-none_held : (before : Table SerialOrder) → AreHeldFrom before table.empty
-none_held before handle p is = none_some p (sym (table.get-empty nat_cmp handle) ∙ is)
 
 -- a step of a server
 
@@ -284,8 +282,8 @@ restart_over sent n s moment choice (Stops made) sound = record { stays = none_o
 restart_over sent n s moment choice Goes sound = record { stays = none_over sent n s (server_restarts s moment choice Goes).state (restarts_as s moment choice Goes sound).later refl; said = λ m is. none_sent m is }
 
 -- a server's disk that rots keeps its order's number
-rotten_over : (sent : List Message) (n handle : ℕ) (s : ServerState) (r : Replica) → StaysOver sent n s (rotten_server s handle r)
-rotten_over sent n handle s r q v o h = over_from sent n s.disk (rotten_server s handle r).disk s.leases s.leases q v o (same_later s.disk) (same_held s.leases) h
+rotten_over : (sent : List Message) (n : ℕ) (s : ServerState) (c : StoreChange) (e : Ending) → IsOfReplica c → HasOneRisingChange s → IsTrue s.up → StaysOver sent n s (after_rot s c e)
+rotten_over sent n s c e is sound up q v o h = over_from sent n s.disk (after_rot s c e).disk s.leases (after_rot s c e).leases q v o (rot_goes_on s c e is sound up).later (rot_held s c e) h
 
 rots_revoked : (x : Scene) (index : ℕ) (s t : ServerState) → element_at x.servers index ≡ Some s → StaysOver x.sent (suc index) s t → AreRevoked x → AreRevoked (record x { servers = with_at x.servers index t })
 rots_revoked x index s t at stays h m is handle version says = revoked_set x.sent x.servers index s t handle.0 version.0 at stays (h m is handle version says)
@@ -398,11 +396,11 @@ revoked_kept =
             told = told_kept.restarts x k index moment s choice now at h.told;
             revoked = served x k index s (server_restart s moment choice).state (server_restart s moment choice).out.sent at comes.stays comes.said h.revoked;
           };
-      rots = λ x index handle s r at up h.
+      rots = λ x index c s e is at up h.
           record {
-            sent = base.rots x index handle s r at up h.sent;
-            told = told_kept.rots x index handle s r at up h.told;
-            revoked = rots_revoked x index s (rotten_server s handle r) at (rotten_over x.sent (suc index) handle s r) h.revoked;
+            sent = base.rots x index c s e is at up h.sent;
+            told = told_kept.rots x index c s e is at up h.told;
+            revoked = rots_revoked x index s (after_rot s c e) at (rotten_over x.sent (suc index) s c e is (h.told index s at).sound up) h.revoked;
           };
     }
 

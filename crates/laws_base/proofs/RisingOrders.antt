@@ -13,18 +13,20 @@ use Rattle.messages.specs.declared.event.Event.TheVariants as event
 use Rattle.messages.specs.declared.event.NodeInput.{NodeInput}
 use Rattle.messages.specs.declared.event.NodeInput.TheVariants as input
 use Rattle.protocol.specs.Tables.{element_at, with_at, first_numbers, moment_limit}
+use Rattle.protocol.specs.Sending.{handle_of}
 use Rattle.protocol.specs.Choice.{Choice, Ending, Goes, Lost, Stops, decided_changes}
 use Rattle.protocol.specs.Seen.{Taken, no_step}
 use Rattle.replica_store.specs.declared.change.StoreChange.{StoreChange}
-use Rattle.replica_store.specs.declared.change.StoreChange.TheVariants.{SetOrder, Put, Write, Zero, Raise, Copy, Remove}
-use Rattle.replica_store.specs.Replicas.{Replica, ServerDisk, disk_changed, disk_changed_by_all, is_new_order, replica_of, replica_becomes, new_server_disk, with_replica, rotten_replica}
+use Rattle.replica_store.specs.declared.change.StoreChange.TheVariants.{SetOrder, Put, Write, Zero, Raise, Copy, Remove, Rot}
+use Rattle.replica_store.specs.Replicas.{Replica, ServerDisk, disk_changed, disk_changed_by_all, is_new_order, replica_of, replica_becomes, new_server_disk}
 use Rattle.protocol.specs.Server.{ServerState, ServerDoing, started_server}
 use Rattle.protocol.specs.ServerStep.{server_goes, server_ends, server_step, server_restarts, server_restart}
 use Rattle.protocol.specs.ClientStep.{may_call}
 use Rattle.protocol.specs.Client.{ClientState}
-use Rattle.protocol.specs.World.{WorldState, Happened, new_world, nothing_happens, numbered_from_1, after_server, server_moves, client_moves, moves, delivered, server_restarts_at, restarts, call_moves, rots_replica, rots_on, at_moment, happens, after_events, IsReached}
+use Rattle.protocol.specs.World.{WorldState, Happened, new_world, nothing_happens, numbered_from_1, after_server, server_moves, client_moves, moves, delivered, server_restarts_at, restarts, call_moves, after_rot, rots_replica, rots_on, at_moment, happens, after_events, IsReached}
 use Rattle.laws_base.specs.Laws.{IsSameOrLater, OrderNumbersNeverFall}
 use Rattle.laws_base.proofs.Steps.{on_cond, none_some, same_some}
+use Rattle.laws_base.proofs.Rots.{rotting, ends_by, after_rot_by, rot_holds}
 use Rattle.laws_base.proofs.ServerMoves.{ServerCore, server_core, store_changed, IsOfReplica, all-push, KeepsServer, IsCameIn, server_goes_holds}
 
 -- the order's number of one disk is that of another, or later
@@ -50,6 +52,7 @@ IsRisen d (Zero handle serial offset count) = Unit {0}
 IsRisen d (Raise handle version) = Unit {0}
 IsRisen d (Copy handle copy version) = Unit {0}
 IsRisen d (Remove handle) = Unit {0}
+IsRisen d (Rot handle place byte) = Unit {0}
 
 pub newer : (a b c : Bool) → a || (b && c) ≡ true → (a ≡ true) ⊎ ((b ≡ true) × (c ≡ true))
 newer true b c h = inl refl
@@ -74,6 +77,7 @@ risen_later d (Zero handle serial offset count) h = becomes_later _ d handle.0 (
 risen_later d (Raise handle version) h = becomes_later _ d handle.0 (replica_of d handle.0)
 risen_later d (Copy handle copy version) h = becomes_later _ d copy.0 (replica_of d handle.0)
 risen_later d (Remove handle) h = same_later d
+risen_later d (Rot handle place byte) h = becomes_later _ d handle.0 (replica_of d handle.0)
 
 -- each change, after those before it
 abbrev pub AreRisen : ServerDisk → List StoreChange → Type 0
@@ -157,6 +161,7 @@ from_keeps s =
     no_order d (Raise handle version) is = tt
     no_order d (Copy handle copy version) is = tt
     no_order d (Remove handle) is = tt
+    no_order d (Rot handle place byte) is = tt
 
 all_of : (d : ServerDisk) (xs : List StoreChange) → AreRisen d xs → Later d (disk_changed_by_all d xs)
 all_of d [] h = same_later d
@@ -191,6 +196,11 @@ step_goes_on s moment i choice is =
     on_cond (λ (t : Taken ServerState). Follows s t.state) s.up (server_ends s (server_goes s moment i) choice choice.ending) (no_step s)
     (λ up. ends_as s (server_goes s moment i) choice choice.ending (is.idle up) (server_goes_holds (λ b. Unit {0}) (From s) (from_keeps s) s moment i (all_came i) (tt, refl, refl)))
     (λ _. same_goes_on s is)
+
+-- a byte rots on it
+pub rot_goes_on : (s : ServerState) (x : StoreChange) (e : Ending) → IsOfReplica x → HasOneRisingChange s → IsTrue s.up → Follows s (after_rot s x e)
+rot_goes_on s x e is sound up =
+    after_rot_by (λ t. Follows s t) s x e (ends_as s (rotting s x) (ends_by e) e (sound.idle up) (rot_holds (λ b. Unit {0}) (From s) (from_keeps s) s x is (tt, refl, refl)))
 
 pub restarts_as : (s : ServerState) (moment : ℕ) (choice : Choice) (e : Ending) → HasOneRisingChange s → Follows s (server_restarts s moment choice e).state
 restarts_as s moment choice Lost is = record { sound = record { risen = is.risen; few = is.few; idle = λ up. absurd (let both : false ≡ true = up in cc) }; later = same_later s.disk }
@@ -272,17 +282,13 @@ calls_on : (w : WorldState) (index moment : ℕ) (c : Call) (choice : Choice) (o
 calls_on w index moment c choice None h = same_servers w h
 calls_on w index moment c choice (Some s) h = on_cond (λ (x : Happened). AreGoingOn w x.world) (may_call s) _ (nothing_happens w) (λ _. same_servers w h) (λ _. same_servers w h)
 
-rots_replica_on : (w : WorldState) (index : ℕ) (s : ServerState) (handle place byte : ℕ) (o : Option Replica) → HaveOneRisingChange w → element_at w.servers index ≡ Some s → IsTrue s.up
-    → AreGoingOn w (rots_replica w index s handle place byte o).world
-rots_replica_on w index s handle place byte None h at up = same_servers w h
-rots_replica_on w index s handle place byte (Some r) h at up = λ other t is.
-    let rotten : ServerState = record s { disk = with_replica s.disk handle (rotten_replica r place byte) } in
-    elim (set_cases w.servers index rotten other t is) [
-      | inl both ↦ (
-        s,
-        ap (λ (k : ℕ). element_at w.servers k) both.0 ∙ at,
-        subst (λ (u : ServerState). Follows s u) (sym both.1) (record { sound = none_under_way rotten ((h index s at).idle up); later = same_later s.disk }),
-      )
+rots_replica_on : (w : WorldState) (index : ℕ) (s : ServerState) (handle place byte : ℕ) (choice : Choice) (o : Option Replica) → HaveOneRisingChange w → element_at w.servers index ≡ Some s → IsTrue s.up
+    → AreGoingOn w (rots_replica w index s handle place byte choice o).world
+rots_replica_on w index s handle place byte choice None h at up = same_servers w h
+rots_replica_on w index s handle place byte choice (Some r) h at up = λ other t is.
+    let rot : StoreChange = Rot (handle_of handle) place byte in
+    elim (set_cases w.servers index (after_rot s rot choice.ending) other t is) [
+      | inl both ↦ (s, ap (λ (k : ℕ). element_at w.servers k) both.0 ∙ at, subst (λ (u : ServerState). Follows s u) (sym both.1) (rot_goes_on s rot choice.ending tt (h index s at) up))
       | inr there ↦ same_servers w h other t there
     ]
 
@@ -290,12 +296,12 @@ first_of_and : (a b : Bool) → a && b ≡ true → a ≡ true
 first_of_and true b h = refl
 first_of_and false b h = absurd (let both : false ≡ true = h in cc)
 
-rots_on_on : (w : WorldState) (n handle place byte : ℕ) (o : Option ServerState) → numbered_from_1 w.servers n ≡ o → HaveOneRisingChange w
-    → AreGoingOn w (rots_on w (n - 1) handle place byte o).world
-rots_on_on w n handle place byte None e h = same_servers w h
-rots_on_on w n handle place byte (Some s) e h =
-    on_cond (λ (x : Happened). AreGoingOn w x.world) (s.up && nat_lt place w.config.chunk) (rots_replica w (n - 1) s handle place byte (replica_of s.disk handle)) (nothing_happens w)
-    (λ t. rots_replica_on w (n - 1) s handle place byte (replica_of s.disk handle) h (element_numbered w.servers n s e) (first_of_and s.up (nat_lt place w.config.chunk) t))
+rots_on_on : (w : WorldState) (n handle place byte : ℕ) (choice : Choice) (o : Option ServerState) → numbered_from_1 w.servers n ≡ o → HaveOneRisingChange w
+    → AreGoingOn w (rots_on w (n - 1) handle place byte choice o).world
+rots_on_on w n handle place byte choice None e h = same_servers w h
+rots_on_on w n handle place byte choice (Some s) e h =
+    on_cond (λ (x : Happened). AreGoingOn w x.world) (s.up && nat_lt place w.config.chunk) (rots_replica w (n - 1) s handle place byte choice (replica_of s.disk handle)) (nothing_happens w)
+    (λ t. rots_replica_on w (n - 1) s handle place byte choice (replica_of s.disk handle) h (element_numbered w.servers n s e) (first_of_and s.up (nat_lt place w.config.chunk) t))
     (λ _. same_servers w h)
 
 at_moment_on : (w : WorldState) (moment : ℕ) (x : Happened) → HaveOneRisingChange w → AreGoingOn w x.world → AreGoingOn w (at_moment w moment x).world
@@ -308,7 +314,7 @@ happens_on w (event.Deliver number now) choice h =
     at_moment_on w now.0 (delivered w now.0 choice (numbered_from_1 w.sent number)) h (delivered_on w now.0 choice (numbered_from_1 w.sent number) h)
 happens_on w (event.Tick n now) choice h = at_moment_on w now.0 (moves w n now.0 input.Tick choice) h (moves_on w n now.0 input.Tick choice h)
 happens_on w (event.Restart n now) choice h = at_moment_on w now.0 (restarts w n now.0 choice) h (restarts_on w n now.0 choice h)
-happens_on w (event.Rot server handle place byte) choice h = rots_on_on w server.0 handle.0 place byte (numbered_from_1 w.servers server.0) refl h
+happens_on w (event.Rot server handle place byte) choice h = rots_on_on w server.0 handle.0 place byte choice (numbered_from_1 w.servers server.0) refl h
 happens_on w (event.Fuse n count torn) choice h = same_servers w h
 
 still_sound : (w v : WorldState) → AreGoingOn w v → HaveOneRisingChange v
@@ -330,7 +336,7 @@ element_map f (x ∷ xs) (suc n) y h = element_map f xs n y h
 
 new_sound : (config : Config) (servers clients : ℕ) → HaveOneRisingChange (new_world config servers clients)
 new_sound config servers clients index s is =
-    let found = element_map (λ n. started_server config n (new_server_disk config.block) 0) (first_numbers servers) index s is in
+    let found = element_map (λ n. started_server config n (new_server_disk config.chunk config.block config.slots) 0) (first_numbers servers) index s is in
     subst (λ (t : ServerState). HasOneRisingChange t) found.1 (record { risen = tt; few = omega arith; idle = λ up. refl })
 
 reached_sound : (config : Config) (servers clients : ℕ) (w : WorldState) → IsReached config servers clients w → HaveOneRisingChange w

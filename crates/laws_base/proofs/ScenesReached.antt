@@ -14,10 +14,12 @@ use Rattle.messages.specs.declared.event.Event.TheVariants as event
 use Rattle.messages.specs.declared.event.NodeInput.{NodeInput}
 use Rattle.messages.specs.declared.event.NodeInput.TheVariants as input
 use Rattle.protocol.specs.Tables.{moment_limit, element_at, with_at}
-use Rattle.protocol.specs.Sending.{the_server}
-use Rattle.protocol.specs.Choice.{Choice}
+use Rattle.protocol.specs.Sending.{the_server, handle_of}
+use Rattle.protocol.specs.Choice.{Choice, Ending}
 use Rattle.protocol.specs.Seen.{Taken}
-use Rattle.replica_store.specs.Replicas.{Replica, replica_of, with_replica, rotten_replica}
+use Rattle.replica_store.specs.declared.change.StoreChange.{StoreChange}
+use Rattle.replica_store.specs.declared.change.StoreChange.TheVariants.{Rot}
+use Rattle.replica_store.specs.Replicas.{Replica, replica_of}
 use Rattle.protocol.specs.Observer.{Observer, observed_moment, observed_call, observed_answer}
 use Rattle.protocol.specs.Server.{ServerState}
 use Rattle.protocol.specs.ServerStep.{server_step, server_restart}
@@ -25,9 +27,10 @@ use Rattle.protocol.specs.Master.{MasterState}
 use Rattle.protocol.specs.MasterStep.{master_step, master_restart}
 use Rattle.protocol.specs.Client.{ClientState}
 use Rattle.protocol.specs.ClientStep.{may_call, client_step, client_call}
-use Rattle.protocol.specs.World.{WorldState, Happened, new_world, nothing_happens, numbered_from_1, stamped, with_sent, after_master, after_server, after_client, master_moves, server_moves, client_moves, moves, delivered, server_restarts_at, restarts, call_moves, rots_replica, rots_on, at_moment, happens, after_events, IsReached}
+use Rattle.protocol.specs.World.{WorldState, Happened, new_world, nothing_happens, numbered_from_1, stamped, with_sent, after_master, after_server, after_client, master_moves, server_moves, client_moves, moves, delivered, server_restarts_at, restarts, call_moves, after_rot, rots_replica, rots_on, at_moment, happens, after_events, IsReached}
 use Rattle.laws_base.proofs.Steps.{on_cond, none_some}
 use Rattle.laws_base.proofs.Words.{AreQuiet}
+use Rattle.laws_base.proofs.ServerMoves.{IsOfReplica}
 use Rattle.laws_base.proofs.ClientMoves.{quiet_orders, client_quiet, call_quiet}
 use Rattle.laws_base.proofs.SentReached.{IsInputSent, IsKeptBySent, server_quiet, server_restarts_quiet}
 use Rattle.laws_base.proofs.RisingOrders.{element_numbered}
@@ -74,9 +77,6 @@ after_server_step x k index t = record (more_sent x k t.out.sent) { servers = wi
 abbrev pub after_master_step : Scene → ℕ → Taken MasterState → Scene
 after_master_step x k t = record (more_sent x k t.out.sent) { master = t.state }
 
-abbrev pub rotten_server : ServerState → ℕ → Replica → ServerState
-rotten_server s handle r = record s { disk = with_replica s.disk handle r }
-
 -- What is kept by each moment that passes and each step of a node, from some world on.
 pub record IsKeptOn (Q : Scene → Type 0) : Type 0 where
   pub passes : (x : Scene) (moment : ℕ) → Q x → Q (passed x moment)
@@ -87,7 +87,7 @@ pub record IsKeptOn (Q : Scene → Type 0) : Type 0 where
   pub serves : (x : Scene) (k index moment : ℕ) (s : ServerState) (i : NodeInput) (choice : Choice) → IsNow x moment → element_at x.servers index ≡ Some s → IsSentTo x.sent (the_server (suc index)) i → IsTrue s.up → Q x
       → Q (after_server_step x k index (server_step s moment i choice))
   pub restarts : (x : Scene) (k index moment : ℕ) (s : ServerState) (choice : Choice) → IsNow x moment → element_at x.servers index ≡ Some s → Q x → Q (after_server_step x k index (server_restart s moment choice))
-  pub rots : (x : Scene) (index handle : ℕ) (s : ServerState) (r : Replica) → element_at x.servers index ≡ Some s → IsTrue s.up → Q x → Q (record x { servers = with_at x.servers index (rotten_server s handle r) })
+  pub rots : (x : Scene) (index : ℕ) (c : StoreChange) (s : ServerState) (e : Ending) → IsOfReplica c → element_at x.servers index ≡ Some s → IsTrue s.up → Q x → Q (record x { servers = with_at x.servers index (after_rot s c e) })
 
 -- What is kept so, and holds of a new world.
 pub record IsKeptByScenes (Q : Scene → Type 0) : Type 0 where
@@ -100,7 +100,7 @@ pub record IsKeptByScenes (Q : Scene → Type 0) : Type 0 where
   pub serves : (x : Scene) (k index moment : ℕ) (s : ServerState) (i : NodeInput) (choice : Choice) → IsNow x moment → element_at x.servers index ≡ Some s → IsSentTo x.sent (the_server (suc index)) i → IsTrue s.up → Q x
       → Q (after_server_step x k index (server_step s moment i choice))
   pub restarts : (x : Scene) (k index moment : ℕ) (s : ServerState) (choice : Choice) → IsNow x moment → element_at x.servers index ≡ Some s → Q x → Q (after_server_step x k index (server_restart s moment choice))
-  pub rots : (x : Scene) (index handle : ℕ) (s : ServerState) (r : Replica) → element_at x.servers index ≡ Some s → IsTrue s.up → Q x → Q (record x { servers = with_at x.servers index (rotten_server s handle r) })
+  pub rots : (x : Scene) (index : ℕ) (c : StoreChange) (s : ServerState) (e : Ending) → IsOfReplica c → element_at x.servers index ≡ Some s → IsTrue s.up → Q x → Q (record x { servers = with_at x.servers index (after_rot s c e) })
 
 -- what is kept from a new world on is kept from any world on
 pub kept_on : (Q : Scene → Type 0) → IsKeptByScenes Q → IsKeptOn Q
@@ -167,16 +167,16 @@ module _ (Q : Scene → Type 0) (k : IsKeptOn Q) where
       on_cond Here (may_call s) (after_client seen index moment (client_call s moment c choice)) (nothing_happens w)
       (λ _. after_client_here seen index moment (client_call s moment c choice) (call_quiet s moment c choice) (k.passes (scene_of w) moment h)) (λ _. h)
 
-  rots_replica_here : (w : WorldState) (index : ℕ) (s : ServerState) (handle place byte : ℕ) (o : Option Replica) → element_at w.servers index ≡ Some s → IsTrue s.up → Q (scene_of w)
-      → Here (rots_replica w index s handle place byte o)
-  rots_replica_here w index s handle place byte None at up h = h
-  rots_replica_here w index s handle place byte (Some r) at up h = k.rots (scene_of w) index handle s (rotten_replica r place byte) at up h
+  rots_replica_here : (w : WorldState) (index : ℕ) (s : ServerState) (handle place byte : ℕ) (choice : Choice) (o : Option Replica) → element_at w.servers index ≡ Some s → IsTrue s.up → Q (scene_of w)
+      → Here (rots_replica w index s handle place byte choice o)
+  rots_replica_here w index s handle place byte choice None at up h = h
+  rots_replica_here w index s handle place byte choice (Some r) at up h = k.rots (scene_of w) index (Rot (handle_of handle) place byte) s choice.ending tt at up h
 
-  rots_here : (w : WorldState) (n handle place byte : ℕ) (o : Option ServerState) → numbered_from_1 w.servers n ≡ o → Q (scene_of w) → Here (rots_on w (n - 1) handle place byte o)
-  rots_here w n handle place byte None at h = h
-  rots_here w n handle place byte (Some s) at h =
-      on_cond Here (s.up && nat_lt place w.config.chunk) (rots_replica w (n - 1) s handle place byte (replica_of s.disk handle)) (nothing_happens w)
-      (λ both. rots_replica_here w (n - 1) s handle place byte (replica_of s.disk handle) (element_numbered w.servers n s at) (and_parts s.up (nat_lt place w.config.chunk) both).0 h) (λ _. h)
+  rots_here : (w : WorldState) (n handle place byte : ℕ) (choice : Choice) (o : Option ServerState) → numbered_from_1 w.servers n ≡ o → Q (scene_of w) → Here (rots_on w (n - 1) handle place byte choice o)
+  rots_here w n handle place byte choice None at h = h
+  rots_here w n handle place byte choice (Some s) at h =
+      on_cond Here (s.up && nat_lt place w.config.chunk) (rots_replica w (n - 1) s handle place byte choice (replica_of s.disk handle)) (nothing_happens w)
+      (λ both. rots_replica_here w (n - 1) s handle place byte choice (replica_of s.disk handle) (element_numbered w.servers n s at) (and_parts s.up (nat_lt place w.config.chunk) both).0 h) (λ _. h)
 
   at_moment_here : (w : WorldState) (moment : ℕ) (x : Happened) → Q (scene_of w) → Here x → Here (at_moment w moment x)
   at_moment_here w moment x h g = on_cond Here (nat_le moment moment_limit) x (nothing_happens w) (λ _. g) (λ _. h)
@@ -188,7 +188,7 @@ module _ (Q : Scene → Type 0) (k : IsKeptOn Q) where
       at_moment_here w now.0 (delivered w now.0 choice (numbered_from_1 w.sent number)) h (delivered_here w number now.0 choice (numbered_from_1 w.sent number) refl h)
   happens_here w (event.Tick n now) choice h = at_moment_here w now.0 (moves w n now.0 input.Tick choice) h (moves_here w n now.0 input.Tick choice tt h)
   happens_here w (event.Restart n now) choice h = at_moment_here w now.0 (restarts w n now.0 choice) h (restarts_here w n now.0 choice h)
-  happens_here w (event.Rot server handle place byte) choice h = rots_here w server.0 handle.0 place byte (numbered_from_1 w.servers server.0) refl h
+  happens_here w (event.Rot server handle place byte) choice h = rots_here w server.0 handle.0 place byte choice (numbered_from_1 w.servers server.0) refl h
   happens_here w (event.Fuse n count torn) choice h = h
 
   pub goes_on : (w : WorldState) (steps : List (Event × Choice)) → Q (scene_of w) → Q (scene_of (after_events w steps))
@@ -214,5 +214,5 @@ lifted R b =
       opens = λ x k moment choice now h. b.restarts x.sent k x.master moment choice h;
       serves = λ x k index moment s i choice now at is up h. b.quiet x.sent (server_step s moment i choice).out.sent k x.master (server_quiet s moment i choice) h;
       restarts = λ x k index moment s choice now at h. b.quiet x.sent (server_restart s moment choice).out.sent k x.master (server_restarts_quiet s moment choice choice.ending) h;
-      rots = λ x index handle s r at up h. h;
+      rots = λ x index c s e is at up h. h;
     }

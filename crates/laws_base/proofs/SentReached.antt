@@ -174,16 +174,16 @@ module _ (Q : List Message → MasterState → Type 0) (k : IsKeptBySent Q) wher
       on_cond Here (may_call s) _ (nothing_happens w)
       (λ _. k.quiet w.sent (client_call s moment c choice).out.sent (suc (length w.sent)) w.master (quiet_orders (client_call s moment c choice).out.sent (call_quiet s moment c choice)) h) (λ _. h)
 
-  rots_replica_kept : (w : WorldState) (index : ℕ) (s : ServerState) (handle place byte : ℕ) (o : Option Replica) → IsSo w
-      → Here (rots_replica w index s handle place byte o)
-  rots_replica_kept w index s handle place byte None h = h
-  rots_replica_kept w index s handle place byte (Some r) h = h
+  rots_replica_kept : (w : WorldState) (index : ℕ) (s : ServerState) (handle place byte : ℕ) (choice : Choice) (o : Option Replica) → IsSo w
+      → Here (rots_replica w index s handle place byte choice o)
+  rots_replica_kept w index s handle place byte choice None h = h
+  rots_replica_kept w index s handle place byte choice (Some r) h = h
 
-  rots_kept : (w : WorldState) (index handle place byte : ℕ) (o : Option ServerState) → IsSo w → Here (rots_on w index handle place byte o)
-  rots_kept w index handle place byte None h = h
-  rots_kept w index handle place byte (Some s) h =
-      on_cond Here (s.up && nat_lt place w.config.chunk) (rots_replica w index s handle place byte (replica_of s.disk handle)) (nothing_happens w)
-      (λ _. rots_replica_kept w index s handle place byte (replica_of s.disk handle) h) (λ _. h)
+  rots_kept : (w : WorldState) (index handle place byte : ℕ) (choice : Choice) (o : Option ServerState) → IsSo w → Here (rots_on w index handle place byte choice o)
+  rots_kept w index handle place byte choice None h = h
+  rots_kept w index handle place byte choice (Some s) h =
+      on_cond Here (s.up && nat_lt place w.config.chunk) (rots_replica w index s handle place byte choice (replica_of s.disk handle)) (nothing_happens w)
+      (λ _. rots_replica_kept w index s handle place byte choice (replica_of s.disk handle) h) (λ _. h)
 
   at_moment_kept : (w : WorldState) (moment : ℕ) (x : Happened) → IsSo w → Here x → Here (at_moment w moment x)
   at_moment_kept w moment x h g = on_cond Here (nat_le moment moment_limit) x (nothing_happens w) (λ _. g) (λ _. h)
@@ -195,7 +195,7 @@ module _ (Q : List Message → MasterState → Type 0) (k : IsKeptBySent Q) wher
       at_moment_kept w now.0 (delivered w now.0 choice (numbered_from_1 w.sent number)) h (delivered_kept w number now.0 choice (numbered_from_1 w.sent number) refl h)
   happens_kept w (event.Tick n now) choice h = at_moment_kept w now.0 (moves w n now.0 input.Tick choice) h (moves_kept w n now.0 input.Tick choice tt h)
   happens_kept w (event.Restart n now) choice h = at_moment_kept w now.0 (restarts w n now.0 choice) h (restarts_kept w n now.0 choice h)
-  happens_kept w (event.Rot server handle place byte) choice h = rots_kept w (server.0 - 1) handle.0 place byte (numbered_from_1 w.servers server.0) h
+  happens_kept w (event.Rot server handle place byte) choice h = rots_kept w (server.0 - 1) handle.0 place byte choice (numbered_from_1 w.servers server.0) h
   happens_kept w (event.Fuse n count torn) choice h = h
 
   events_kept : (w : WorldState) (steps : List (Event × Choice)) → IsSo w → IsSo (after_events w steps)

@@ -21,7 +21,7 @@ use Rattle.messages.specs.declared.event.NodeInput.TheVariants as input
 use Rattle.protocol.specs.Tables.{Table, without, map_values}
 use Rattle.protocol.specs.Sending.{message, the_server, the_client, handle_of, version_of, serial_of, server_number}
 use Rattle.replica_store.specs.declared.change.StoreChange.{StoreChange}
-use Rattle.replica_store.specs.declared.change.StoreChange.TheVariants.{SetOrder, Put, Write, Zero, Raise, Copy, Remove}
+use Rattle.replica_store.specs.declared.change.StoreChange.TheVariants.{SetOrder, Put, Write, Zero, Raise, Copy, Remove, Rot}
 use Rattle.replica_store.specs.Replicas.{ServerDisk, disk_changed, disk_changed_by_all, is_new_order}
 use Rattle.data_push.specs.Buffers.{data_of}
 use Rattle.protocol.specs.PushBuffer.{hops_after}
@@ -76,6 +76,7 @@ IsOfReplica (Zero handle serial offset count) = Unit {0}
 IsOfReplica (Raise handle version) = Unit {0}
 IsOfReplica (Copy handle copy version) = Unit {0}
 IsOfReplica (Remove handle) = Unit {0}
+IsOfReplica (Rot handle place byte) = Unit {0}
 
 abbrev pub store_changed : ServerCore → StoreChange → ServerCore
 store_changed c x = record c { disk = disk_changed c.disk x; changes = c.changes ++ x ∷ [] }

@@ -9,7 +9,9 @@ use Rattle.protocol.specs.Seen.{Taken, no_step}
 use Rattle.replica_store.specs.Replicas.{new_server_disk}
 use Rattle.protocol.specs.Server.{ServerState, ServerDoing, started_server}
 use Rattle.protocol.specs.ServerStep.{server_goes, server_ends, server_step, server_restarts}
+use Rattle.protocol.specs.World.{after_rot}
 use Rattle.laws_base.proofs.Steps.{on_cond}
+use Rattle.laws_base.proofs.Rots.{rot_config}
 use Rattle.laws_base.proofs.ServerMoves.{KeepsServer, IsCameIn, server_goes_holds}
 use Rattle.laws_base.proofs.RisingOrders.{set_cases}
 use Rattle.laws_base.proofs.LeasesTold.{numbered_from}
@@ -52,7 +54,7 @@ AreSet x = (index : ℕ) (s : ServerState) → element_at x.servers index ≡ So
 pub settings_kept : IsKeptByScenes AreSet
 settings_kept =
     record {
-      new = λ config servers clients index s is. ap (λ (t : ServerState). t.config) (numbered_from (λ n. started_server config n (new_server_disk config.block) 0) servers index s is);
+      new = λ config servers clients index s is. ap (λ (t : ServerState). t.config) (numbered_from (λ n. started_server config n (new_server_disk config.chunk config.block config.slots) 0) servers index s is);
       passes = λ x moment h. h;
       says = λ x k ms quiet h. h;
       masters = λ x k moment i choice now is up h. h;
@@ -67,9 +69,9 @@ settings_kept =
             | inl both ↦ ap (λ (v : ServerState). v.config) both.1 ∙ restart_set x.config s moment choice choice.ending (h index s at)
             | inr old ↦ h other t old
           ];
-      rots = λ x index handle s r at up h other t there.
-          elim (set_cases x.servers index _ other t there) [
-            | inl both ↦ ap (λ (v : ServerState). v.config) both.1 ∙ h index s at
+      rots = λ x index c s e is at up h other t there.
+          elim (set_cases x.servers index (after_rot s c e) other t there) [
+            | inl both ↦ ap (λ (v : ServerState). v.config) both.1 ∙ (rot_config s c e ∙ h index s at)
             | inr old ↦ h other t old
           ];
     }

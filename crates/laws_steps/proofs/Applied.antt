@@ -23,6 +23,7 @@ use Rattle.protocol.specs.ServerStep.{server_goes, server_ends, server_step}
 use Rattle.laws_base.proofs.Steps.{on_cond, none_some, put_there, gone_there}
 use Rattle.laws_base.proofs.Entries.{AllOf, all_joined}
 use Rattle.laws_base.proofs.MembersRecorded.{all_at}
+use Rattle.laws_steps.proofs.Disks.{all_block}
 use Rattle.laws_steps.specs.Replicas.{applied, IsApplied, PrimariesApplyWhatTheyNumber}
 use Rattle.laws_steps.proofs.ServerActs.{Acting, acting, with_change, AreFrom, IsNumbering, shown_as, numbers_on, KeepsActs, goes_fine}
 use Rattle.laws_steps.proofs.HeldReplicas.{IsNumber, numbers_quiet, changed_last}
@@ -44,10 +45,10 @@ row_replica d handle row there = by_replica (replica_of d handle) refl there
 becomes_there : (f : Replica → Replica) (d : ServerDisk) (handle : ℕ) (r : Replica) → replica_of d handle ≡ Some r → replica_of (replica_becomes f d handle (replica_of d handle)) handle ≡ Some (f r)
 becomes_there f d handle r is = subst (λ (o : Option Replica). replica_of (replica_becomes f d handle o) handle ≡ Some (f r)) (sym is) (put_there d.replicas handle (f r) handle refl)
 
-stored_applied : (d : ServerDisk) (handle serial : ℕ) (m : Mutation) (r : Replica) → replica_of d handle ≡ Some r → replica_of (disk_changed d (stored_as handle serial m)) handle ≡ Some (applied serial m r)
-stored_applied d handle serial (mutation.Write offset bytes) r is = becomes_there (λ x. written_replica x serial offset bytes) d handle r is
-stored_applied d handle serial (mutation.Append offset bytes) r is = becomes_there (λ x. written_replica x serial offset bytes) d handle r is
-stored_applied d handle serial (mutation.Pad offset end) r is = becomes_there (λ x. written_replica x serial offset (replicate (end - offset) 0)) d handle r is
+stored_applied : (d : ServerDisk) (handle serial : ℕ) (m : Mutation) (r : Replica) → replica_of d handle ≡ Some r → replica_of (disk_changed d (stored_as handle serial m)) handle ≡ Some (applied d.block serial m r)
+stored_applied d handle serial (mutation.Write offset bytes) r is = becomes_there (λ x. written_replica d.block x serial offset bytes) d handle r is
+stored_applied d handle serial (mutation.Append offset bytes) r is = becomes_there (λ x. written_replica d.block x serial offset bytes) d handle r is
+stored_applied d handle serial (mutation.Pad offset end) r is = becomes_there (λ x. written_replica d.block x serial offset (replicate (end - offset) 0)) d handle r is
 
 module _ (s : ServerState) where
   -- after these changes the replica is what the mutation makes of it, or there is no lease
@@ -86,10 +87,11 @@ module _ (s : ServerState) where
       let r = row_replica c.disk handle n.row n.there in
       let d : ServerDisk = disk_changed_by_all c.disk c.changes in
       let here : replica_of d handle ≡ Some r.0 = ap (λ (t : Table Replica). table.get t handle) (numbers_quiet c.disk c.changes h.2) ∙ r.1 in
-      let made : replica_of (disk_changed d (stored_as handle (p.serial + 1) m)) handle ≡ Some (applied (p.serial + 1) m r.0) = stored_applied d handle (p.serial + 1) m r.0 here in (
+      let made : replica_of (disk_changed d (stored_as handle (p.serial + 1) m)) handle ≡ Some (applied d.block (p.serial + 1) m r.0) = stored_applied d handle (p.serial + 1) m r.0 here in
+      let block : d.block ≡ s.disk.block = all_block c.disk c.changes ∙ ap (λ (e : ServerDisk). e.block) h.1 in (
         r.0,
         subst (λ (e : ServerDisk). replica_of e handle ≡ Some r.0) h.1 r.1,
-        ap (λ (e : ServerDisk). replica_of e handle) (changed_last c.disk c.changes (stored_as handle (p.serial + 1) m)) ∙ made,
+        ap (λ (e : ServerDisk). replica_of e handle) (changed_last c.disk c.changes (stored_as handle (p.serial + 1) m)) ∙ (made ∙ ap (λ (k : ℕ). Some (applied k (p.serial + 1) m r.0)) block),
       )
 
   acts_made : KeepsActs s.pushed Before After

@@ -1,6 +1,7 @@
 -- How a step changes a replica that stays: no bytes are lost, and it is written to in the order of serials.
-use Rattle.std.proofs.Common.{◌≡◌, ◌⊎◌, ℕ, zero, suc, ◌+◌, ◌-◌, ◌≤◌, ◌<◌, List, [], ◌∷◌, ◌++◌, length, take, drop, replicate, Option, Some, None, refl, sym, ap, subst, ◌∙◌, inl, inr, arith}
+use Rattle.std.proofs.Common.{◌≡◌, ◌⊎◌, ℕ, zero, suc, ◌+◌, ◌-◌, ◌<◌, List, [], ◌∷◌, ◌++◌, length, take, replicate, Option, Some, None, refl, sym, ap, subst, ◌∙◌, inl, inr, arith}
 use Rattle.std.specs.Prelude.{filter}
+use Rattle.std.proofs.Math.Nat.{le-max_left}
 use Rattle.std.specs.FinMap as table
 use Rattle.gfs_types.specs.declared.ids.DataId.{DataId}
 use Rattle.gfs_types.specs.declared.mutation.Mutation.{Mutation}
@@ -8,8 +9,8 @@ use Rattle.gfs_types.specs.declared.mutation.Mutation.TheVariants as mutation
 use Rattle.messages.specs.declared.event.NodeInput.{NodeInput}
 use Rattle.replica_store.specs.declared.row.Row.{Row}
 use Rattle.replica_store.specs.declared.change.StoreChange.{StoreChange}
-use Rattle.replica_store.specs.declared.change.StoreChange.TheVariants.{SetOrder, Put, Write, Zero, Raise, Copy, Remove}
-use Rattle.replica_store.specs.Replicas.{Replica, ServerDisk, replica_of, with_replica, replica_becomes, stored_replica, written_replica, raised_replica, bytes_on_disk, with_bytes, disk_changed, disk_changed_by_all, row_of, row_at}
+use Rattle.replica_store.specs.declared.change.StoreChange.TheVariants.{SetOrder, Put, Write, Zero, Raise, Copy, Remove, Rot}
+use Rattle.replica_store.specs.Replicas.{Replica, ServerDisk, replica_of, with_replica, replica_becomes, stored_replica, written_replica, raised_replica, own_bytes, disk_changed, disk_changed_by_all, row_of, row_at}
 use Rattle.primary_order.specs.SerialOrder.{SerialOrder, new_order}
 use Rattle.protocol.specs.Tables.{Table}
 use Rattle.protocol.specs.Sending.{handle_of, version_of, serial_of}
@@ -24,31 +25,10 @@ use Rattle.laws_base.proofs.Steps.{on_cond, none_some, same_some, put_there, put
 use Rattle.laws_base.proofs.Entries.{AllOf, all_joined}
 use Rattle.laws_steps.specs.ReplicaChanges.{IsNumberedIn, IsChangedBy, ReplicasChangeInSerialOrder}
 use Rattle.laws_steps.proofs.ServerActs.{Acting, acting, with_change, IsWriting, shown_as, numbers_on, KeepsActs, goes_fine}
-use Rattle.laws_steps.proofs.Lengths.{all_taken, length-joined, length-alike, length-left}
+use Rattle.laws_steps.proofs.Lengths.{all_taken}
 use Rattle.laws_steps.proofs.HeldReplicas.{IsNumber, numbers_quiet, changed_last, other_same, no_row}
 
 -- lists
-
-length-first : (n : ℕ) (xs : List ℕ) → (length (take n xs) ≡ n) ⊎ (length (take n xs) ≡ length xs)
-length-first zero xs = inl (omega arith)
-length-first (suc n) [] = inr (omega arith)
-length-first (suc n) (x ∷ xs) = elim (length-first n xs) [ inl all ↦ inl (omega (arith, all)) | inr less ↦ inr (omega (arith, less)) ]
-
--- what is written over takes no bytes away
-written_long : (old : List ℕ) (offset : ℕ) (new : List ℕ) → length old ≤ length (with_bytes old offset new)
-written_long old offset new =
-    let first : List ℕ = take offset old in
-    let hole : List ℕ = replicate (offset - length old) 0 in
-    let rest : List ℕ = drop (offset + length new) old in
-    let whole : length (with_bytes old offset new) ≡ length (first ++ hole ++ new) + length rest = length-joined (first ++ hole ++ new) rest in
-    let front : length (first ++ hole ++ new) ≡ length (first ++ hole) + length new = length-joined (first ++ hole) new in
-    let begin : length (first ++ hole) ≡ length first + length hole = length-joined first hole in
-    let filled = length-alike (offset - length old) 0 in
-    let left = length-left (offset + length new) old in
-    elim (length-first offset old) [
-      | inl all ↦ omega (arith, whole, front, begin, filled, left, all)
-      | inr less ↦ omega (arith, whole, front, begin, filled, left, less)
-    ]
 
 taken_cases : (made : ℕ) (xs : List StoreChange) (x : StoreChange) → (take made (xs ++ x ∷ []) ≡ take made xs) ⊎ (take made (xs ++ x ∷ []) ≡ xs ++ x ∷ [])
 taken_cases zero xs x = inl refl
@@ -92,7 +72,7 @@ changed_more seen more go handle r now h = (
 )
 
 stays : (seen : List Seen) (handle : ℕ) (r now : Replica) → now ≡ r → IsChangedBy seen handle r now
-stays seen handle r now same = (let long = ap (λ (x : Replica). length x.bytes) same in omega (arith, long), inl same)
+stays seen handle r now same = (let long = ap (λ (x : Replica). x.count) same in omega (arith, long), inl same)
 
 -- disks
 
@@ -126,19 +106,19 @@ module _ (seen : List Seen) (before d : ServerDisk) (same : d.replicas ≡ befor
         | inr apart ↦ stays seen q r now (same_some now r (sym then_ ∙ put_other d.replicas handle new q apart ∙ same_at q ∙ is))
       ]
 
-  copied_changed : (copy version : ℕ) (o : Option Replica) → replica_of before copy ≡ None → Changed seen before (replica_becomes (λ r. stored_replica version 0 (bytes_on_disk r)) d copy o)
+  copied_changed : (copy version : ℕ) (o : Option Replica) → replica_of before copy ≡ None → Changed seen before (replica_becomes (λ r. stored_replica d.chunk d.block version 0 (own_bytes r)) d copy o)
   copied_changed copy version None none = unchanged seen before d same
-  copied_changed copy version (Some r) none = put_changed copy (stored_replica version 0 (bytes_on_disk r)) none
+  copied_changed copy version (Some r) none = put_changed copy (stored_replica d.chunk d.block version 0 (own_bytes r)) none
 
   removed_changed : (handle : ℕ) → Changed seen before (disk_changed d (Remove (handle_of handle)))
   removed_changed handle q r now is then_ = let left = gone_split d.replicas handle q now then_ in stays seen q r now (same_some now r (sym left.1 ∙ same_at q ∙ is))
 
   raised_changed : (handle version : ℕ) → Changed seen before (disk_changed d (Raise (handle_of handle) (version_of version)))
-  raised_changed handle version = becomes_changed (λ r. raised_replica r version) handle (λ r is. (omega arith, inr (inl (refl, refl))))
+  raised_changed handle version = becomes_changed (λ r. raised_replica r version) handle (λ r is. (omega arith, inr (inl (refl, refl, refl))))
 
   written_changed : (handle serial offset : ℕ) (bytes : List ℕ) → ((r : Replica) → replica_of before handle ≡ Some r → (r.serial < serial) ⊎ IsNumberedIn seen handle serial)
-      → Changed seen before (replica_becomes (λ r. written_replica r serial offset bytes) d handle (replica_of d handle))
-  written_changed handle serial offset bytes go = becomes_changed (λ r. written_replica r serial offset bytes) handle (λ r is. (written_long r.bytes offset bytes, inr (inr (refl, go r is))))
+      → Changed seen before (replica_becomes (λ r. written_replica d.block r serial offset bytes) d handle (replica_of d handle))
+  written_changed handle serial offset bytes go = becomes_changed (λ r. written_replica d.block r serial offset bytes) handle (λ r is. (le-max_left r.count (offset + length bytes), inr (inr (refl, go r is))))
 
   numbered_changed : (handle serial : ℕ) (m : Mutation) → IsNumberedIn seen handle serial → Changed seen before (disk_changed d (stored_as handle serial m))
   numbered_changed handle serial (mutation.Write offset bytes) is = written_changed handle serial offset bytes (λ r at. inr is)
@@ -161,6 +141,7 @@ module _ (seen : List Seen) (before d : ServerDisk) (same : d.replicas ≡ befor
   applied_changed size handle serial (Raise h version) less is = absurd is
   applied_changed size handle serial (Copy h copy version) less is = absurd is
   applied_changed size handle serial (Remove h) less is = absurd is
+  applied_changed size handle serial (Rot h place byte) less is = absurd is
 
 -- the row that a step found says the replica's serial
 row_serial : (d : ServerDisk) (handle : ℕ) (row : Row) (serial : ℕ) → row_at d handle ≡ Some row → row.serial.0 < serial → (r : Replica) → replica_of d handle ≡ Some r → r.serial < serial
@@ -206,7 +187,7 @@ module _ (s : ServerState) where
         orders = λ c order h. (h.0, all_joined IsNumber c.changes (SetOrder order ∷ []) h.1 (tt, tt));
         drops = λ c handle h. after_one c (Remove (handle_of handle)) (table.remove c.leases handle) c.seen h (λ d same. removed_changed c.seen c.disk d same handle);
         puts = λ c handle version serial bytes none short h.
-            after_one c (Put (handle_of handle) (version_of version) (serial_of serial) bytes) c.leases c.seen h (λ d same. put_changed c.seen c.disk d same handle (stored_replica version serial bytes) (no_row c.disk handle none));
+            after_one c (Put (handle_of handle) (version_of version) (serial_of serial) bytes) c.leases c.seen h (λ d same. put_changed c.seen c.disk d same handle (stored_replica d.chunk d.block version serial bytes) (no_row c.disk handle none));
         raises = λ c handle version r there h. after_one c (Raise (handle_of handle) (version_of version)) (table.remove c.leases handle) c.seen h (λ d same. raised_changed c.seen c.disk d same handle version);
         copies = λ c handle copy version none h.
             after_one c (Copy (handle_of handle) (handle_of copy) (version_of version)) c.leases c.seen h (λ d same. copied_changed c.seen c.disk d same copy version (replica_of d handle) (no_row c.disk copy none));

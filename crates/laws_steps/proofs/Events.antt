@@ -1,6 +1,6 @@
 -- What holds after each event by cases: the master, a server or a client takes a step, the master or a server starts again, a client is called, or a byte rots.
 use Rattle.std.proofs.Common.{◌≡◌, ℕ, zero, suc, ◌-◌, Bool, List, [], ◌∷◌, Option, Some, None, refl, subst, arith}
-use Rattle.std.specs.Prelude.{nat_lt, nat_le, ◌&&◌, not, IsTrue}
+use Rattle.std.specs.Prelude.{nat_lt, nat_le, ◌&&◌, IsTrue}
 use Rattle.std.proofs.lemmas.Bool.{and_parts}
 use Rattle.gfs_types.specs.declared.config.Config.{Config}
 use Rattle.gfs_types.specs.declared.ids.Node.{Node}
@@ -11,18 +11,20 @@ use Rattle.messages.specs.declared.event.Event.{Event}
 use Rattle.messages.specs.declared.event.Event.TheVariants as event
 use Rattle.messages.specs.declared.event.NodeInput.{NodeInput}
 use Rattle.messages.specs.declared.event.NodeInput.TheVariants as input
-use Rattle.protocol.specs.Tables.{moment_limit, element_at}
-use Rattle.protocol.specs.Sending.{the_server, the_client}
-use Rattle.protocol.specs.Choice.{Choice}
-use Rattle.protocol.specs.Seen.{no_output}
+use Rattle.protocol.specs.Tables.{moment_limit, element_at, with_at}
+use Rattle.protocol.specs.Sending.{the_server, the_client, handle_of}
+use Rattle.protocol.specs.Choice.{Choice, Ending}
+use Rattle.replica_store.specs.declared.change.StoreChange.{StoreChange}
+use Rattle.replica_store.specs.declared.change.StoreChange.TheVariants.{Rot}
 use Rattle.replica_store.specs.Replicas.{Replica, replica_of, rotten_replica}
-use Rattle.protocol.specs.Observer.{observed_moment, observed_call}
+use Rattle.protocol.specs.Observer.{IntactChunk, Observer, observed_moment, observed_call}
+use Rattle.protocol.specs.StoredBytes.{observed_rot}
 use Rattle.protocol.specs.Server.{ServerState}
 use Rattle.protocol.specs.ServerStep.{server_step, server_restart}
 use Rattle.protocol.specs.MasterStep.{master_step, master_restart}
 use Rattle.protocol.specs.Client.{ClientState}
 use Rattle.protocol.specs.ClientStep.{may_call, client_step, client_call}
-use Rattle.protocol.specs.World.{WorldState, Happened, new_world, nothing_happens, numbered_from_1, after_master, after_server, after_client, master_moves, server_moves, client_moves, moves, delivered, server_restarts_at, restarts, call_moves, with_server_disk, hides_change, rots_replica, rots_on, at_moment, happens, after_events, IsReached}
+use Rattle.protocol.specs.World.{WorldState, Happened, new_world, nothing_happens, numbered_from_1, after_master, after_server, after_client, master_moves, server_moves, client_moves, moves, delivered, server_restarts_at, restarts, call_moves, after_rot, puts_down, rots_replica, rots_on, at_moment, happens, after_events, IsReached}
 use Rattle.laws_base.proofs.Steps.{on_cond, none_some}
 use Rattle.laws_base.proofs.RisingOrders.{element_numbered}
 
@@ -36,12 +38,27 @@ IsGiven w e n moment i = ⊥
 abbrev pub with_call : WorldState → ℕ → ℕ → Call → WorldState
 with_call w index moment c = record w { observer = observed_call (observed_moment w.config.skew_ms w.observer moment) (suc index) c }
 
-abbrev pub with_rot : WorldState → ℕ → ℕ → ServerState → Replica → Bool → Happened
-with_rot w index handle s r is_kept = record { out = no_output; world = record (with_server_disk w index s handle r) { observer = record w.observer { are_disks_kept = is_kept } } }
+-- a byte of a replica becomes another
+abbrev pub rot_of : (handle place byte : ℕ) → StoreChange
+rot_of handle place byte = Rot (handle_of handle) place byte
 
--- whether disks are kept once this place of a replica became so
-abbrev pub is_kept_after : WorldState → ServerState → Replica → ℕ → Bool
-is_kept_after w s r place = w.observer.are_disks_kept && not (hides_change s.disk.block r place)
+-- what an observer knows of disks: what was stored as bytes rotted, and whether disks are kept
+abbrev pub OfDisks : Type 0
+OfDisks = List IntactChunk × Bool
+
+-- the world after that, with what is known of disks
+abbrev pub with_rot : WorldState → ℕ → ServerState → StoreChange → Ending → OfDisks → Happened
+with_rot w index s rot ending known =
+    record {
+      out = record { sent = []; answer = None; down = puts_down ending };
+      world = record w { servers = with_at w.servers index (after_rot s rot ending); observer = record w.observer { intact = known.0; are_disks_kept = known.1 } };
+    }
+
+-- what is known of disks once this byte of a replica rots
+abbrev pub known_after : WorldState → (index handle : ℕ) → ServerState → Replica → (place byte : ℕ) → OfDisks
+known_after w index handle s r place byte =
+    let seen : Observer = observed_rot w.observer index handle s.disk.block r (rotten_replica r place byte) in
+    (seen.intact, seen.are_disks_kept)
 
 -- what holds after each kind of event, with what rot says of kept disks: they are kept while each block that changed has another digest
 pub record HoldsExactly (w : WorldState) (Q : Event → Happened → Type 0) : Type 0 where
@@ -55,8 +72,8 @@ pub record HoldsExactly (w : WorldState) (Q : Event → Happened → Type 0) : T
       → Q e (after_client w index moment (client_step s moment i choice))
   pub calls : (e : Event) (index moment : ℕ) (s : ClientState) (c : Call) (choice : Choice) → element_at w.clients index ≡ Some s → IsTrue (may_call s)
       → Q e (after_client (with_call w index moment c) index moment (client_call s moment c choice))
-  pub rots : (e : Event) (index handle : ℕ) (s : ServerState) (r : Replica) (place byte : ℕ) → element_at w.servers index ≡ Some s → replica_of s.disk handle ≡ Some r → IsTrue s.up
-      → Q e (with_rot w index handle s (rotten_replica r place byte) (is_kept_after w s (rotten_replica r place byte) place))
+  pub rots : (e : Event) (index handle : ℕ) (s : ServerState) (r : Replica) (place byte : ℕ) (ending : Ending) → element_at w.servers index ≡ Some s → replica_of s.disk handle ≡ Some r → IsTrue s.up
+      → Q e (with_rot w index s (rot_of handle place byte) ending (known_after w index handle s r place byte))
 
 -- what holds after each kind of event, whatever rot says of kept disks
 pub record HoldsAfter (w : WorldState) (Q : Event → Happened → Type 0) : Type 0 where
@@ -70,8 +87,8 @@ pub record HoldsAfter (w : WorldState) (Q : Event → Happened → Type 0) : Typ
       → Q e (after_client w index moment (client_step s moment i choice))
   pub calls : (e : Event) (index moment : ℕ) (s : ClientState) (c : Call) (choice : Choice) → element_at w.clients index ≡ Some s → IsTrue (may_call s)
       → Q e (after_client (with_call w index moment c) index moment (client_call s moment c choice))
-  pub rots : (e : Event) (index handle : ℕ) (s : ServerState) (r : Replica) (place byte : ℕ) (is_kept : Bool) → element_at w.servers index ≡ Some s → replica_of s.disk handle ≡ Some r → IsTrue s.up
-      → Q e (with_rot w index handle s (rotten_replica r place byte) is_kept)
+  pub rots : (e : Event) (index handle : ℕ) (s : ServerState) (r : Replica) (place byte : ℕ) (ending : Ending) (known : OfDisks) → element_at w.servers index ≡ Some s → replica_of s.disk handle ≡ Some r → IsTrue s.up
+      → Q e (with_rot w index s (rot_of handle place byte) ending known)
 
 holds_exactly_too : (w : WorldState) (Q : Event → Happened → Type 0) → HoldsAfter w Q → HoldsExactly w Q
 holds_exactly_too w Q k =
@@ -83,7 +100,7 @@ holds_exactly_too w Q k =
       restarts = k.restarts;
       steps = k.steps;
       calls = k.calls;
-      rots = λ e index handle s r place byte at there up. k.rots e index handle s r place byte (is_kept_after w s (rotten_replica r place byte) place) at there up;
+      rots = λ e index handle s r place byte ending at there up. k.rots e index handle s r place byte ending (known_after w index handle s r place byte) at there up;
     }
 
 module _ (w : WorldState) (Q : Event → Happened → Type 0) (k : HoldsExactly w Q) where
@@ -129,16 +146,16 @@ module _ (w : WorldState) (Q : Event → Happened → Type 0) (k : HoldsExactly 
       on_cond (Q e) (may_call s) (after_client (with_call w (n - 1) moment c) (n - 1) moment (client_call s moment c choice)) (nothing_happens w)
       (λ may. k.calls e (n - 1) moment s c choice (element_numbered w.clients n s at) may) (λ _. k.nothing e)
 
-  after_rots_replica : (e : Event) (index : ℕ) (s : ServerState) (handle place byte : ℕ) (o : Option Replica) → element_at w.servers index ≡ Some s → replica_of s.disk handle ≡ o → IsTrue s.up → Q e (rots_replica w index s handle place byte o)
-  after_rots_replica e index s handle place byte None at there up = k.nothing e
-  after_rots_replica e index s handle place byte (Some r) at there up =
-      k.rots e index handle s r place byte at there up
+  after_rots_replica : (e : Event) (index : ℕ) (s : ServerState) (handle place byte : ℕ) (choice : Choice) (o : Option Replica) → element_at w.servers index ≡ Some s → replica_of s.disk handle ≡ o → IsTrue s.up
+      → Q e (rots_replica w index s handle place byte choice o)
+  after_rots_replica e index s handle place byte choice None at there up = k.nothing e
+  after_rots_replica e index s handle place byte choice (Some r) at there up = k.rots e index handle s r place byte choice.ending at there up
 
-  after_rots : (e : Event) (n handle place byte : ℕ) (o : Option ServerState) → numbered_from_1 w.servers n ≡ o → Q e (rots_on w (n - 1) handle place byte o)
-  after_rots e n handle place byte None at = k.nothing e
-  after_rots e n handle place byte (Some s) at =
-      on_cond (Q e) (s.up && nat_lt place w.config.chunk) (rots_replica w (n - 1) s handle place byte (replica_of s.disk handle)) (nothing_happens w)
-      (λ both. after_rots_replica e (n - 1) s handle place byte (replica_of s.disk handle) (element_numbered w.servers n s at) refl (and_parts s.up (nat_lt place w.config.chunk) both).0) (λ _. k.nothing e)
+  after_rots : (e : Event) (n handle place byte : ℕ) (choice : Choice) (o : Option ServerState) → numbered_from_1 w.servers n ≡ o → Q e (rots_on w (n - 1) handle place byte choice o)
+  after_rots e n handle place byte choice None at = k.nothing e
+  after_rots e n handle place byte choice (Some s) at =
+      on_cond (Q e) (s.up && nat_lt place w.config.chunk) (rots_replica w (n - 1) s handle place byte choice (replica_of s.disk handle)) (nothing_happens w)
+      (λ both. after_rots_replica e (n - 1) s handle place byte choice (replica_of s.disk handle) (element_numbered w.servers n s at) refl (and_parts s.up (nat_lt place w.config.chunk) both).0) (λ _. k.nothing e)
 
   after_at_moment : (e : Event) (moment : ℕ) (x : Happened) → Q e x → Q e (at_moment w moment x)
   after_at_moment e moment x h = on_cond (Q e) (nat_le moment moment_limit) x (nothing_happens w) (λ _. h) (λ _. k.nothing e)
@@ -152,7 +169,7 @@ module _ (w : WorldState) (Q : Event → Happened → Type 0) (k : HoldsExactly 
       (after_delivery (event.Deliver number now) now.0 choice (numbered_from_1 w.sent number) (λ m is. (is, refl, refl)))
   holds_exactly (event.Tick n now) choice = after_at_moment (event.Tick n now) now.0 (moves w n now.0 input.Tick choice) (after_moves (event.Tick n now) n now.0 input.Tick choice (refl, refl))
   holds_exactly (event.Restart n now) choice = after_at_moment (event.Restart n now) now.0 (restarts w n now.0 choice) (after_restarts (event.Restart n now) n now.0 choice)
-  holds_exactly (event.Rot server handle place byte) choice = after_rots (event.Rot server handle place byte) server.0 handle.0 place byte (numbered_from_1 w.servers server.0) refl
+  holds_exactly (event.Rot server handle place byte) choice = after_rots (event.Rot server handle place byte) server.0 handle.0 place byte choice (numbered_from_1 w.servers server.0) refl
   holds_exactly (event.Fuse n count torn) choice = k.nothing (event.Fuse n count torn)
 
 pub holds_after : (w : WorldState) (Q : Event → Happened → Type 0) → HoldsAfter w Q → (e : Event) (choice : Choice) → Q e (happens w e choice)

@@ -27,7 +27,6 @@ use Rattle.protocol.specs.Client.{ClientState, ClientDoing, new_client, client_b
 use Rattle.protocol.specs.ClientAttempts.{mutate_planned}
 use Rattle.protocol.specs.ClientStep.{may_call, client_at, client_goes, client_call_goes, may_step, has_room_to_count, client_ends, client_step, client_call}
 use Rattle.protocol.specs.MasterSnapshots.{first_is_true}
-use Rattle.replica_store.specs.Replicas.{rotten_replica}
 use Rattle.protocol.specs.ServerStep.{server_step, server_restart}
 use Rattle.protocol.specs.MasterStep.{master_step, master_restart}
 use Rattle.protocol.specs.World.{WorldState, Happened, new_world, stamped, nothing_happens, after_master, after_server, after_client, happens, after_events}
@@ -37,7 +36,7 @@ use Rattle.laws_base.proofs.ServerMoves.{IsCameIn}
 use Rattle.laws_base.proofs.RisingOrders.{set_cases, element_numbered}
 use Rattle.laws_base.proofs.MembersRecorded.{kept_place, all_at}
 use Rattle.laws_steps.specs.Attempts.{is_from_client}
-use Rattle.laws_steps.proofs.Events.{IsGiven, with_call, with_rot, HoldsAfter, holds_after}
+use Rattle.laws_steps.proofs.Events.{IsGiven, with_call, with_rot, rot_of, HoldsAfter, holds_after}
 use Rattle.laws_steps.proofs.ClientNumbers.{IsStepOf, of_step, of_call}
 use Rattle.laws_steps.proofs.Senders.{one_client, server_sends, server_restart_sends, master_sends, master_restart_sends}
 use Rattle.laws_steps.proofs.RequestsOnce.{AreNumbered, each_event, numbered_reached, from_itself, not_other, own_sender, at_numbered, first_and}
@@ -423,8 +422,8 @@ module _ (config : Config) (index : ℕ) where
               (passed_calls w.config.skew_ms w.observer moment (suc index)) (λ s at. at);
           steps = λ e other moment s i choice at is up. few_steps e other moment s i choice at is up;
           calls = λ e other moment s c choice at may. few_calls other moment s c choice at may;
-          rots = λ e other handle s r place byte is_kept at there up.
-              let x : Happened = with_rot w other handle s (rotten_replica r place byte) is_kept in
+          rots = λ e other handle s r place byte ending is_kept at there up.
+              let x : Happened = with_rot w other s (rot_of handle place byte) ending is_kept in
               others_few T w g.few x (others_silent w x tt) [] x.world (sym (append-[] w.sent)) refl (λ s at. at);
         }
 

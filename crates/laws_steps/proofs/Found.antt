@@ -4,20 +4,21 @@ use Rattle.std.specs.Prelude.{filter}
 use Rattle.std.proofs.lemmas.Bool.{true≢false}
 use Rattle.gfs_types.specs.declared.config.Config.{Config}
 use Rattle.messages.specs.declared.event.NodeInput.{NodeInput}
+use Rattle.laws_base.proofs.Rots.{rot_idle}
 use Rattle.data_push.specs.Buffers.{PushBuffer}
 use Rattle.replica_store.specs.declared.change.StoreChange.{StoreChange}
-use Rattle.replica_store.specs.Replicas.{ServerDisk, new_server_disk, with_replica, rotten_replica, disk_changed, disk_changed_by_all}
+use Rattle.replica_store.specs.Replicas.{ServerDisk, new_server_disk, disk_changed, disk_changed_by_all}
 use Rattle.protocol.specs.Tables.{element_at, with_at}
 use Rattle.protocol.specs.Choice.{Choice, Ending, Goes, Lost, Stops, decided_changes}
 use Rattle.protocol.specs.Seen.{is_numbering, Taken, no_step}
 use Rattle.protocol.specs.declared.seen.Seen.{Seen}
 use Rattle.protocol.specs.Server.{ServerState, ServerDoing, started_server}
 use Rattle.protocol.specs.ServerStep.{found_disk, server_goes, server_ends, server_step, server_restarts, server_restart}
-use Rattle.protocol.specs.World.{WorldState, new_world}
+use Rattle.protocol.specs.World.{WorldState, new_world, after_rot}
 use Rattle.laws_base.proofs.Steps.{on_cond}
 use Rattle.laws_base.proofs.RisingOrders.{set_cases}
 use Rattle.laws_base.proofs.LeasesTold.{numbered_from}
-use Rattle.laws_steps.proofs.Events.{HoldsAfter, world_reached}
+use Rattle.laws_steps.proofs.Events.{HoldsAfter, world_reached, rot_of}
 use Rattle.laws_steps.proofs.ServerActs.{Acting, acting, KeepsActs, goes_fine}
 use Rattle.laws_steps.specs.ReplicaChanges.{ReplicasAreFoundInSerialOrder}
 use Rattle.laws_steps.proofs.Changes.{Changed, changed_on, unchanged, filtered_numbered, Before, After, acts_changed}
@@ -83,12 +84,12 @@ each_event w h =
       restarts = λ e index moment s choice at. one_idle w.servers index (server_restart s moment choice).state (restart_idle s moment choice choice.ending) h;
       steps = λ e index moment s i choice at is up. h;
       calls = λ e index moment s c choice at may. h;
-      rots = λ e index handle s r place byte is_kept at there up. one_idle w.servers index (record s { disk = with_replica s.disk handle (rotten_replica r place byte) }) (h index s at) h;
+      rots = λ e index handle s r place byte ending is_kept at there up. one_idle w.servers index (after_rot s (rot_of handle place byte) ending) (rot_idle s (rot_of handle place byte) ending (h index s at)) h;
     }
 
 new_idle : (config : Config) (servers clients : ℕ) → AllIdle (new_world config servers clients)
 new_idle config servers clients index s at =
-    subst (λ (t : ServerState). IsUpIdle t) (sym (numbered_from (λ n. started_server config n (new_server_disk config.block) 0) servers index s at)) (λ up. refl)
+    subst (λ (t : ServerState). IsUpIdle t) (sym (numbered_from (λ n. started_server config n (new_server_disk config.chunk config.block config.slots) 0) servers index s at)) (λ up. refl)
 
 -- what is decided of the change under way is that one change more was made, or none
 

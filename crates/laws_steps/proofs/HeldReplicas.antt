@@ -9,8 +9,8 @@ use Rattle.gfs_types.specs.declared.mutation.Mutation.TheVariants as mutation
 use Rattle.messages.specs.declared.event.NodeInput.{NodeInput}
 use Rattle.data_push.specs.Buffers.{PushBuffer}
 use Rattle.replica_store.specs.declared.change.StoreChange.{StoreChange}
-use Rattle.replica_store.specs.declared.change.StoreChange.TheVariants.{SetOrder, Put, Write, Zero, Raise, Copy, Remove}
-use Rattle.replica_store.specs.Replicas.{Replica, ServerDisk, new_server_disk, replica_of, with_replica, replica_becomes, stored_replica, written_replica, raised_replica, rotten_replica, bytes_on_disk, disk_changed, disk_changed_by_all, row_of, row_at}
+use Rattle.replica_store.specs.declared.change.StoreChange.TheVariants.{SetOrder, Put, Write, Zero, Raise, Copy, Remove, Rot}
+use Rattle.replica_store.specs.Replicas.{Replica, ServerDisk, new_server_disk, replica_of, with_replica, replica_becomes, stored_replica, written_replica, raised_replica, rotten_replica, own_bytes, disk_changed, disk_changed_by_all, row_of, row_at}
 use Rattle.primary_order.specs.PrimaryOrder.{place_of}
 use Rattle.primary_order.specs.SerialOrder.{SerialOrder, new_order, numbered}
 use Rattle.protocol.specs.Tables.{Table, element_at, with_at}
@@ -21,12 +21,12 @@ use Rattle.protocol.specs.Server.{ServerState, ServerDoing, started_server}
 use Rattle.protocol.specs.ServerWrites.{stored_as}
 use Rattle.protocol.specs.ServerOrders.{holds_version}
 use Rattle.protocol.specs.ServerStep.{found_disk, server_goes, server_ends, server_step, server_restarts, server_restart}
-use Rattle.protocol.specs.World.{WorldState, new_world}
+use Rattle.protocol.specs.World.{WorldState, new_world, after_rot}
 use Rattle.laws_base.proofs.Steps.{on_cond, none_some, same_some, put_cases, put_there, put_other, same_or_not, gone_split, gone_other}
 use Rattle.laws_base.proofs.Entries.{AllOf, all_joined}
 use Rattle.laws_base.proofs.RisingOrders.{set_cases}
 use Rattle.laws_base.proofs.LeasesTold.{numbered_from}
-use Rattle.laws_steps.proofs.Events.{HoldsAfter, world_reached}
+use Rattle.laws_steps.proofs.Events.{HoldsAfter, world_reached, rot_of}
 use Rattle.laws_steps.specs.Replicas.{HasReplicaOf, LeasesHaveTheirReplica}
 use Rattle.laws_steps.proofs.ServerActs.{Acting, acting, IsWriting, KeepsActs, goes_fine}
 
@@ -48,6 +48,7 @@ numbers_quiet d (Zero handle serial offset count ∷ xs) all = absurd all.0
 numbers_quiet d (Raise handle version ∷ xs) all = absurd all.0
 numbers_quiet d (Copy handle copy version ∷ xs) all = absurd all.0
 numbers_quiet d (Remove handle ∷ xs) all = absurd all.0
+numbers_quiet d (Rot handle place byte ∷ xs) all = absurd all.0
 
 pub changed_last : (d : ServerDisk) (xs : List StoreChange) (x : StoreChange) → disk_changed_by_all d (xs ++ x ∷ []) ≡ disk_changed (disk_changed_by_all d xs) x
 changed_last d [] x = refl
@@ -127,20 +128,21 @@ after_one : (c : Acting) (x : StoreChange) (leases : Table SerialOrder) → AllO
 after_one c x leases idle change = subst (λ (d : ServerDisk). AreTied leases d) (sym (changed_last c.disk c.changes x)) (change (disk_changed_by_all c.disk c.changes) (numbers_quiet c.disk c.changes idle))
 
 written_tied : (leases : Table SerialOrder) (d : ServerDisk) (handle serial : ℕ) (m : Mutation) → AreTied leases d → AreTied leases (disk_changed d (stored_as handle serial m))
-written_tied leases d handle serial (mutation.Write offset bytes) h = same_version leases (λ r. written_replica r serial offset bytes) d handle (λ r. refl) h
-written_tied leases d handle serial (mutation.Append offset bytes) h = same_version leases (λ r. written_replica r serial offset bytes) d handle (λ r. refl) h
-written_tied leases d handle serial (mutation.Pad offset end) h = same_version leases (λ r. written_replica r serial offset (replicate (end - offset) 0)) d handle (λ r. refl) h
+written_tied leases d handle serial (mutation.Write offset bytes) h = same_version leases (λ r. written_replica d.block r serial offset bytes) d handle (λ r. refl) h
+written_tied leases d handle serial (mutation.Append offset bytes) h = same_version leases (λ r. written_replica d.block r serial offset bytes) d handle (λ r. refl) h
+written_tied leases d handle serial (mutation.Pad offset end) h = same_version leases (λ r. written_replica d.block r serial offset (replicate (end - offset) 0)) d handle (λ r. refl) h
 
 applied_tied : (leases : Table SerialOrder) (d : ServerDisk) (size handle serial : ℕ) (x : StoreChange) → IsWriting size handle serial x → AreTied leases d → AreTied leases (disk_changed d x)
-applied_tied leases d size handle serial (Write h n offset bytes) is tied = same_version leases (λ r. written_replica r n.0 offset bytes) d h.0 (λ r. refl) tied
-applied_tied leases d size handle serial (Zero h n offset count) is tied = same_version leases (λ r. written_replica r n.0 offset (replicate count 0)) d h.0 (λ r. refl) tied
+applied_tied leases d size handle serial (Write h n offset bytes) is tied = same_version leases (λ r. written_replica d.block r n.0 offset bytes) d h.0 (λ r. refl) tied
+applied_tied leases d size handle serial (Zero h n offset count) is tied = same_version leases (λ r. written_replica d.block r n.0 offset (replicate count 0)) d h.0 (λ r. refl) tied
 applied_tied leases d size handle serial (SetOrder order) is tied = absurd is
 applied_tied leases d size handle serial (Put h version n bytes) is tied = absurd is
 applied_tied leases d size handle serial (Raise h version) is tied = absurd is
 applied_tied leases d size handle serial (Copy h copy version) is tied = absurd is
 applied_tied leases d size handle serial (Remove h) is tied = absurd is
+applied_tied leases d size handle serial (Rot h place byte) is tied = absurd is
 
-copied_tied : (leases : Table SerialOrder) (d : ServerDisk) (copy version : ℕ) (o : Option Replica) → replica_of d copy ≡ None → AreTied leases d → AreTied leases (replica_becomes (λ r. stored_replica version 0 (bytes_on_disk r)) d copy o)
+copied_tied : (leases : Table SerialOrder) (d : ServerDisk) (copy version : ℕ) (o : Option Replica) → replica_of d copy ≡ None → AreTied leases d → AreTied leases (replica_becomes (λ r. stored_replica d.chunk d.block version 0 (own_bytes r)) d copy o)
 copied_tied leases d copy version None none h = h
 copied_tied leases d copy version (Some r) none h = put_apart leases d copy _ none h
 
@@ -214,9 +216,10 @@ one_tied servers index t new h other u is =
       | inr there ↦ h other u there
     ]
 
-rotten_tied : (s : ServerState) (handle : ℕ) (r : Replica) (place byte : ℕ) → replica_of s.disk handle ≡ Some r → IsTied s → IsTied (record s { disk = with_replica s.disk handle (rotten_replica r place byte) })
-rotten_tied s handle r place byte there h =
-    subst (λ (o : Option Replica). AreTied s.leases (replica_becomes (λ x. rotten_replica x place byte) s.disk handle o)) there (same_version s.leases (λ x. rotten_replica x place byte) s.disk handle (λ x. refl) h)
+rotten_tied : (s : ServerState) (handle place byte : ℕ) (e : Ending) → IsTied s → IsTied (after_rot s (rot_of handle place byte) e)
+rotten_tied s handle place byte Goes h = same_version s.leases (λ x. rotten_replica x place byte) s.disk handle (λ x. refl) h
+rotten_tied s handle place byte Lost h = none_tied s.disk
+rotten_tied s handle place byte (Stops made) h = none_tied (after_rot s (rot_of handle place byte) (Stops made)).disk
 
 each_event : (w : WorldState) → AllTied w → HoldsAfter w (λ e h. AllTied h.world)
 each_event w h =
@@ -228,11 +231,11 @@ each_event w h =
       restarts = λ e index moment s choice at. one_tied w.servers index (server_restart s moment choice).state (restart_tied s moment choice choice.ending) h;
       steps = λ e index moment s i choice at is up. h;
       calls = λ e index moment s c choice at may. h;
-      rots = λ e index handle s r place byte is_kept at there up. one_tied w.servers index _ (rotten_tied s handle r place byte there (h index s at)) h;
+      rots = λ e index handle s r place byte ending is_kept at there up. one_tied w.servers index _ (rotten_tied s handle place byte ending (h index s at)) h;
     }
 
 new_tied : (config : Config) (servers clients : ℕ) → AllTied (new_world config servers clients)
-new_tied config servers clients index s at = subst (λ (t : ServerState). IsTied t) (sym (numbered_from (λ n. started_server config n (new_server_disk config.block) 0) servers index s at)) (none_tied (new_server_disk config.block))
+new_tied config servers clients index s at = subst (λ (t : ServerState). IsTied t) (sym (numbered_from (λ n. started_server config n (new_server_disk config.chunk config.block config.slots) 0) servers index s at)) (none_tied (new_server_disk config.chunk config.block config.slots))
 
 pub leases_have_their_replica : LeasesHaveTheirReplica
 leases_have_their_replica config servers clients w r index s at handle p there = world_reached AllTied each_event new_tied config servers clients w r index s at handle p there

@@ -38,7 +38,7 @@ each_grown w =
       restarts = λ e index moment s choice at. (stamped (suc (length w.sent)) (server_restart s moment choice).out.sent, refl);
       steps = λ e index moment s i choice at is up. (stamped (suc (length w.sent)) (client_step s moment i choice).out.sent, refl);
       calls = λ e index moment s c choice at may. (stamped (suc (length w.sent)) (client_call s moment c choice).out.sent, refl);
-      rots = λ e index handle s r place byte is_kept at there up. same_grown w.sent;
+      rots = λ e index handle s r place byte ending is_kept at there up. same_grown w.sent;
     }
 
 pub step_grown : (w : WorldState) (e : Event) (choice : Choice) → IsGrown w.sent (happens w e choice).world.sent

@@ -125,7 +125,7 @@ each_known w h =
           let ms : List Message = (client_call s moment c choice).out.sent in
           let left = call_leaves w h index s at up moment c choice in
           (record { numbered = numbered.calls e index moment s c choice at may; known = all_known w h index s at up t ms left }, all_continue w h index s at up t ms left);
-      rots = λ e index handle s r place byte is_kept at there up. (record { numbered = h.numbered; known = h.known }, same_calls w);
+      rots = λ e index handle s r place byte ending is_kept at there up. (record { numbered = h.numbered; known = h.known }, same_calls w);
     }
 
 pub step_known : (w : WorldState) (e : Event) (choice : Choice) → AreKnown w → GoesOn w (happens w e choice).world
@@ -162,7 +162,7 @@ step_config w e choice =
       restarts = λ f index moment s c at. refl;
       steps = λ f index moment s i c at is up. refl;
       calls = λ f index moment s asked c at may. refl;
-      rots = λ f index handle s r place byte is_kept at there up. refl;
+      rots = λ f index handle s r place byte ending is_kept at there up. refl;
     }) e choice
 
 pub same_config : (w : WorldState) (steps : List (Event × Choice)) → (after_events w steps).config ≡ w.config

@@ -28,17 +28,18 @@ use Rattle.protocol.specs.Server.{ServerState, ServerDoing, server_begins, with_
 use Rattle.protocol.specs.ServerOrders.{extends_held}
 use Rattle.protocol.specs.ServerStep.{server_at, server_takes, server_goes, server_ends, server_step, server_restarts, server_restart}
 use Rattle.protocol.specs.MasterStep.{master_step, master_restart}
-use Rattle.protocol.specs.World.{WorldState, new_world, stamped, happens, after_events, IsReached}
+use Rattle.protocol.specs.World.{WorldState, new_world, stamped, after_rot, happens, after_events, IsReached}
 use Rattle.laws_base.proofs.LeaseOrders.{SaysGrant, says_grant, named_grant, stated_grant}
 use Rattle.laws_base.specs.Laws.{is_grant, grants_of}
 use Rattle.laws_base.proofs.Steps.{on_cond, none_some, same_some, tally, put_cases, count-cons, count-append}
 use Rattle.laws_base.proofs.ServerMoves.{server_core, AreHeldFrom, lease_of, KeepsServer, same_held, server_goes_holds}
-use Rattle.laws_base.proofs.RisingOrders.{Later, same_later, risen_later, HasOneRisingChange, step_goes_on, restarts_as, set_cases}
+use Rattle.laws_base.proofs.RisingOrders.{Later, same_later, risen_later, HasOneRisingChange, step_goes_on, rot_goes_on, restarts_as, set_cases}
+use Rattle.laws_base.proofs.Rots.{rot_held}
 use Rattle.laws_base.proofs.MessagesSent.{IsSent, sent_cases}
 use Rattle.laws_base.proofs.LeasesTold.{IsStaleAt, stale_later, new_not_stale, replica_later, CameTo, came_in, GrantCameTo, grant_came, AreTold, told_kept, granting}
 use Rattle.laws_base.proofs.ServerSettings.{AreSet, settings_kept}
 use Rattle.laws_base.proofs.GrantsOnce.{versions_are_granted_once}
-use Rattle.laws_base.proofs.ScenesReached.{Scene, scene_of, IsNow, IsSentTo, rotten_server, scene_reached, IsKeptOn, goes_on, kept_on}
+use Rattle.laws_base.proofs.ScenesReached.{Scene, scene_of, IsNow, IsSentTo, scene_reached, IsKeptOn, goes_on, kept_on}
 use Rattle.laws_steps.specs.Versions.{IsLeaseOver, LeasesStayOver}
 
 -- counts of messages
@@ -308,15 +309,15 @@ module _ (handle version count : ℕ) where
                   let new = restart_over x.sent x.greatest (suc index) handle version s moment choice choice.ending (h.told index s at).sound (old index s at) in
                   λ other u there. over_sent x.sent ms x.greatest (suc other) u.disk u.leases h.some few (set_over x.sent x.greatest x.servers index t.state new old other u there);
             };
-        rots = λ x index q s r at up h.
+        rots = λ x index c s e is at up h.
             record {
-              told = tells.rots x index q s r at up h.told;
-              set = sets.rots x index q s r at up h.set;
+              told = tells.rots x index c s e is at up h.told;
+              set = sets.rots x index c s e is at up h.set;
               some = h.some;
               over = λ clocks few.
                   let old = h.over clocks few in
-                  set_over x.sent x.greatest x.servers index (rotten_server s q r)
-                  (over_from x.sent x.greatest (suc index) handle version s.disk (rotten_server s q r).disk s.leases s.leases (same_later s.disk) (same_held s.leases) (old index s at)) old;
+                  set_over x.sent x.greatest x.servers index (after_rot s c e)
+                  (over_from x.sent x.greatest (suc index) handle version s.disk (after_rot s c e).disk s.leases (after_rot s c e).leases (rot_goes_on s c e is (h.told index s at).sound up).later (rot_held s c e) (old index s at)) old;
             };
       }
 

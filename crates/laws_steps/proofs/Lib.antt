@@ -1,4 +1,5 @@
 pub mod Events
+pub mod Disks
 pub mod ClientWalk
 pub mod ClientNumbers
 pub mod Senders

@@ -120,7 +120,7 @@ each_located w h =
         located = more_located w.sent (client_call s moment c choice).out.sent k
             (of_call (λ t ms. AllOf IsLocated ms) s moment c choice (h.numbered.each index s at).named (λ d step. said_located (client_at s moment) d d.sent step refl) tt) h.located;
       };
-      rots = λ e index handle s r place byte is_kept at there up. record { numbered = h.numbered; located = h.located };
+      rots = λ e index handle s r place byte ending is_kept at there up. record { numbered = h.numbered; located = h.located };
     }
 
 new_worded : (config : Config) (servers clients : ℕ) → AreWorded (new_world config servers clients)

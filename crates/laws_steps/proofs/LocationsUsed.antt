@@ -27,14 +27,13 @@ use Rattle.protocol.specs.ClientTakes.{opens}
 use Rattle.protocol.specs.ClientStep.{client_at, client_goes, client_call_goes, client_step, client_call}
 use Rattle.protocol.specs.MasterStep.{master_step, master_restart}
 use Rattle.protocol.specs.ServerStep.{server_step, server_restart}
-use Rattle.replica_store.specs.Replicas.{rotten_replica}
 use Rattle.protocol.specs.World.{WorldState, Happened, new_world, numbered_from_1, after_master, after_server, after_client, happens, after_events}
 use Rattle.laws_base.proofs.Steps.{none_some, same_some, put_there}
 use Rattle.laws_base.proofs.RisingOrders.{set_cases}
 use Rattle.laws_base.proofs.Entries.{AllOf}
 use Rattle.laws_base.proofs.MembersRecorded.{all_at}
 use Rattle.laws_base.proofs.ServerMoves.{IsCameIn}
-use Rattle.laws_steps.proofs.Events.{IsGiven, with_call, with_rot, HoldsAfter, holds_after}
+use Rattle.laws_steps.proofs.Events.{IsGiven, with_call, with_rot, rot_of, HoldsAfter, holds_after}
 use Rattle.laws_steps.proofs.ClientReads.{stepped, called}
 use Rattle.laws_steps.proofs.ClientNumbers.{IsStepOf, of_step, of_call}
 use Rattle.laws_steps.proofs.Histories.{after_both}
@@ -200,7 +199,7 @@ each_kept config w T h =
       restarts = λ e server moment x choice there index s is. others_kept config w T h e (after_server w server moment (server_restart x moment choice)).world index s is is;
       steps = λ e index moment s i choice at is up. all_kept config w T h e index s at (client_step s moment i choice).state (after_client w index moment (client_step s moment i choice)).world refl (step_leaves config w T h e index s at moment i choice is);
       calls = λ e index moment s c choice at may. all_kept config w T h e index s at (client_call s moment c choice).state (after_client (with_call w index moment c) index moment (client_call s moment c choice)).world refl (call_leaves config w T h e index s at moment c choice);
-      rots = λ e server handle x r place byte is_kept there found up index s is. others_kept config w T h e (with_rot w server handle x (rotten_replica r place byte) is_kept).world index s is is;
+      rots = λ e server handle x r place byte ending is_kept there found up index s is. others_kept config w T h e (with_rot w server x (rot_of handle place byte) ending is_kept).world index s is is;
     }
 
 -- after a list of steps: told before and not opened since, or told in one of them
@@ -307,7 +306,7 @@ each_in_time config w T h numbered =
           own_in_time config w (Next w e x.world T) client x (client_call s moment c choice).state (client_call s moment c choice).out.sent refl refl
           (of_call (λ t ms. AllOf (λ m. m.sender ≡ the_client (suc client)) ms) s moment c choice (numbered.each client s at).named (λ d step. said_by client (client_at s moment) (numbered.each client s at).id d d.sent refl step) tt)
           (call_says config w T h e client s at moment c choice x.world);
-      rots = λ e server handle s r spot byte is_kept there found up index t is place m none from it. none_some m none;
+      rots = λ e server handle s r spot byte ending is_kept there found up index t is place m none from it. none_some m none;
     }
 
 -- what was told in a list of steps was told in it and one more

@@ -93,9 +93,9 @@ module _ (s : ServerState) where
       on_cond (λ (t : Taken ServerState). AllOf IsShown t.seen) s.up (server_ends s (server_goes s moment i) choice choice.ending) (no_step s)
       (λ _. ends_shown (server_goes s moment i) choice choice.ending (goes_fine s Before After acts_shown moment i (refl, refl, refl, tt))) (λ _. tt)
 
-row_count : (o : Option Replica) (r : Replica) (row : Row) → o ≡ Some r → row_of o ≡ Some row → length r.bytes ≡ row.count
+row_count : (o : Option Replica) (r : Replica) (row : Row) → o ≡ Some r → row_of o ≡ Some row → r.count ≡ row.count
 row_count None r row is there = none_some r is
-row_count (Some x) r row is there = ap (λ (y : Replica). length y.bytes) (sym (same_some x r is)) ∙ ap (λ (y : Row). y.count) (same_some _ row there)
+row_count (Some x) r row is there = ap (λ (y : Replica). y.count) (sym (same_some x r is)) ∙ ap (λ (y : Row). y.count) (same_some _ row there)
 
 placed_behind : (size count : ℕ) (bytes : List ℕ) (m : Mutation) → IsPlacedAt size count bytes m → IsPlacedBehind size count bytes m
 placed_behind size count bytes (mutation.Write offset written) h = h

@@ -161,7 +161,7 @@ on_event w h =
         numbered = n.calls e index moment s c choice at may;
         asking = left_calls w.sent k index w.clients s (first_and s.up (is_none s.current && has_room_to_count s) may) at (h.numbered.each index s at) h.asking moment c choice;
       };
-      rots = λ e index handle s r place byte is_kept at there up. record { numbered = h.numbered; asking = h.asking };
+      rots = λ e index handle s r place byte ending is_kept at there up. record { numbered = h.numbered; asking = h.asking };
     }
 
 idle_first : (config : Config) (xs : List ℕ) (index : ℕ) (s : ClientState) → element_at (map (new_client config) xs) index ≡ Some s → s.current ≡ None

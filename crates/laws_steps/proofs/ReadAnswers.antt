@@ -173,7 +173,7 @@ answers_here w h =
           (of_step (λ t ms. AllOf (λ m. AnswersNone m.body) ms) s moment i choice (h.each index s at).named (λ d step. client_silent (client_at s moment) d d.sent step refl) tt tt);
       calls = λ e index moment s c choice at may. others_silent w (client_call s moment c choice).out.sent
           (of_call (λ t ms. AllOf (λ m. AnswersNone m.body) ms) s moment c choice (h.each index s at).named (λ d step. client_silent (client_at s moment) d d.sent step refl) tt);
-      rots = λ e index handle s r place byte is_kept at there up. none_new w;
+      rots = λ e index handle s r place byte ending is_kept at there up. none_new w;
     }
 
 -- one message at most passes a test that is counted once

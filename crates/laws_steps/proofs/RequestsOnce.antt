@@ -335,7 +335,7 @@ each_event w h =
           let up : IsTrue s.up = first_and s.up (is_none s.current && has_room_to_count s) may in
           of_call (Left w.sent (suc (length w.sent)) index w.clients s up at h) s moment c choice (h.each index s at).named
           (left_goes w.sent (suc (length w.sent)) index w.clients s up at h moment) (left_stopped w.sent (suc (length w.sent)) index w.clients s up at h);
-      rots = λ e index handle s r place byte is_kept at there up. h;
+      rots = λ e index handle s r place byte ending is_kept at there up. h;
     }
 
 -- clients of a new world stand by their numbers

@@ -1,5 +1,5 @@
 -- Laws on how a server's step changes its replicas, that public functions of this crate state.
-use Rattle.std.specs.Prelude.{◌≡◌, ◌⊎◌, ◌≤◌, ◌<◌, ℕ, List, [], ◌∷◌, length, Some, IsTrue}
+use Rattle.std.specs.Prelude.{◌≡◌, ◌⊎◌, ◌≤◌, ◌<◌, ℕ, List, [], ◌∷◌, Some, IsTrue}
 use Rattle.gfs_types.specs.declared.config.Config.{Config}
 use Rattle.messages.specs.declared.event.NodeInput.{NodeInput}
 use Rattle.replica_store.specs.Replicas.{Replica, replica_of}
@@ -21,8 +21,8 @@ IsNumberedIn (CopyStarted h copy ∷ rest) handle serial = IsNumberedIn rest han
 -- How a replica that stays is changed by a step that showed this: it has no fewer bytes, and is the same, or raised to a version with serial 0, or written to under a later serial, or under one that was given just now.
 abbrev pub IsChangedBy : List Seen → ℕ → Replica → Replica → Type 0
 IsChangedBy seen handle r now =
-    (length r.bytes ≤ length now.bytes)
-    × ((now ≡ r) ⊎ (((now.bytes ≡ r.bytes) × (now.serial ≡ 0)) ⊎ ((now.version ≡ r.version) × ((r.serial < now.serial) ⊎ IsNumberedIn seen handle now.serial))))
+    (r.count ≤ now.count)
+    × ((now ≡ r) ⊎ (((now.bytes ≡ r.bytes) × (now.count ≡ r.count) × (now.serial ≡ 0)) ⊎ ((now.version ≡ r.version) × ((r.serial < now.serial) ⊎ IsNumberedIn seen handle now.serial))))
 
 -- So is each replica changed that a server has before a step and after it, also where the step stops (sections 3.1 and 5.2).
 abbrev pub ReplicasChangeInSerialOrder : Type 0

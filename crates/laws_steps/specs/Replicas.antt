@@ -19,9 +19,12 @@ use Rattle.protocol.specs.Server.{chunk_limit, ServerState}
 use Rattle.protocol.specs.ServerStep.{found_disk, server_step}
 use Rattle.protocol.specs.World.{WorldState, IsReached}
 
--- each replica has at most so many bytes
+-- each replica has at most so many bytes, in a chunk that has all of its own
+abbrev pub IsWithinChunk : ℕ → Replica → Type 0
+IsWithinChunk size r = (r.count ≤ size) × (length r.bytes ≡ size)
+
 abbrev pub AreWithin : ℕ → ServerDisk → Type 0
-AreWithin size d = (handle : ℕ) (r : Replica) → replica_of d handle ≡ Some r → length r.bytes ≤ size
+AreWithin size d = (d.chunk ≡ size) × ((handle : ℕ) (r : Replica) → replica_of d handle ≡ Some r → IsWithinChunk size r)
 
 -- Each replica lies within the chunk, on the disk and on what a restart finds there, however the change under way is decided (sections 2.3 and 5.2).
 abbrev pub ReplicasLieWithinTheChunk : Type 0
@@ -57,7 +60,7 @@ pub record IsPlacedByReplica (s : ServerState) (handle version serial : ℕ) (id
   pub bytes : List ℕ
   pub pushed : data_of s.pushed id ≡ Some bytes
   -- within the size that came with the lease, and within a slot
-  pub placed : IsPlacedBehind (chunk_limit s lease.chunk) (length replica.bytes) bytes m
+  pub placed : IsPlacedBehind (chunk_limit s lease.chunk) replica.count bytes m
 
 -- Each mutation is numbered so: within the chunk, a record or a pad just behind what the primary's replica has (sections 3.1 and 3.3).
 abbrev pub MutationsArePlacedByReplicas : Type 0
@@ -68,14 +71,14 @@ MutationsArePlacedByReplicas =
     → IsPlacedByReplica s handle.0 version.0 serial.0 id m
 
 -- what a mutation makes of a replica
-abbrev pub applied : (serial : ℕ) → Mutation → Replica → Replica
-applied serial (Write offset bytes) r = written_replica r serial offset bytes
-applied serial (Append offset bytes) r = written_replica r serial offset bytes
-applied serial (Pad offset end) r = written_replica r serial offset (replicate (end - offset) 0)
+abbrev pub applied : (block serial : ℕ) → Mutation → Replica → Replica
+applied block serial (Write offset bytes) r = written_replica block r serial offset bytes
+applied block serial (Append offset bytes) r = written_replica block r serial offset bytes
+applied block serial (Pad offset end) r = written_replica block r serial offset (replicate (end - offset) 0)
 
 -- the replica became so between these states of a disk
 abbrev pub IsApplied : ServerDisk → ServerDisk → (handle serial : ℕ) → Mutation → Type 0
-IsApplied before after handle serial m = (r : Replica) × (replica_of before handle ≡ Some r) × (replica_of after handle ≡ Some (applied serial m r))
+IsApplied before after handle serial m = (r : Replica) × (replica_of before handle ≡ Some r) × (replica_of after handle ≡ Some (applied before.block serial m r))
 
 -- A server that numbers a mutation applies it in the same step, or holds no lease of the chunk after it (section 3.1).
 abbrev pub PrimariesApplyWhatTheyNumber : Type 0
