@@ -330,7 +330,7 @@ on_event config servers clients w r h =
             (call_left w.sent (suc index) s (first_and s.up (is_none s.current && has_room_to_count s) may) index refl (h.numbered.each index s at) (h.fine index s at) moment c choice
             (no_call s.current (first_and (is_none s.current) (has_room_to_count s) (and_parts s.up (is_none s.current && has_room_to_count s) may).1))) h.fine;
       };
-      rots = λ e index handle s r place byte is_kept at there up. record { numbered = h.numbered; fine = h.fine };
+      rots = λ e index handle s r place byte ending is_kept at there up. record { numbered = h.numbered; fine = h.fine };
     }
 
 new_clients : (config : Config) (ns : List ℕ) (index : ℕ) (s : ClientState) → element_at (map (new_client config) ns) index ≡ Some s → s.current ≡ None

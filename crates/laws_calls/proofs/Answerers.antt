@@ -175,7 +175,7 @@ each_fine w h =
             answered = more_answered w.sent k (client_call s moment c choice).out.sent h.answered
                 (of_call (λ t ms. AllOf (Answers w.sent) ms) s moment c choice ((h.numbered).each index s at).named (λ d step. client_sends w.sent (client_at s moment) d d.sent step refl) tt);
           };
-      rots = λ e index handle s r place byte is_kept at there up. record { numbered = h.numbered; answered = h.answered };
+      rots = λ e index handle s r place byte ending is_kept at there up. record { numbered = h.numbered; answered = h.answered };
     }
 
 new_fine : (config : Config) (servers clients : ℕ) → IsFine (new_world config servers clients)

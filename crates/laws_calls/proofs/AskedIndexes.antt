@@ -104,7 +104,7 @@ each_known w h =
           record { numbered = numbered.steps e index moment s i choice at is up; known = all_known w h index s at (client_step s moment i choice).state (client_step s moment i choice).out.sent (step_leaves w h index s at moment i choice) };
       calls = λ e index moment s c choice at may.
           record { numbered = numbered.calls e index moment s c choice at may; known = all_known w h index s at (client_call s moment c choice).state (client_call s moment c choice).out.sent (call_leaves w h index s at moment c choice) };
-      rots = λ e index handle s r place byte is_kept at there up. record { numbered = h.numbered; known = h.known };
+      rots = λ e index handle s r place byte ending is_kept at there up. record { numbered = h.numbered; known = h.known };
     }
 
 new_mapped : (config : Config) (ns : List ℕ) (index : ℕ) (s : ClientState) → element_at (map (new_client config) ns) index ≡ Some s → (n : ℕ) × (new_client config n ≡ s)

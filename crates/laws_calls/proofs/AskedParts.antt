@@ -131,7 +131,7 @@ module _ (config : Config) (servers clients : ℕ) (steps : List (Event × Choic
             own other s at (after_client (with_call w other moment c) other moment (client_call s moment c choice)) k (client_call s moment c choice).out.sent refl refl
             (of_call (λ t ms. AllOf (λ m. m.sender ≡ the_client (suc other)) ms) s moment c choice (numbered.each other s at).named (λ d step. said_by other s (numbered.each other s at).id (client_at s moment) refl d d.sent refl step) tt)
             (call_asks config servers clients w reached other s at moment c choice (no_call s may));
-        rots = λ e other handle s d spot byte is_kept at there up place m none from. none_some m none;
+        rots = λ e other handle s d spot byte ending is_kept at there up place m none from. none_some m none;
       }
 
   -- what was asked now

@@ -251,7 +251,7 @@ each_sound config servers clients w r h =
             asked = more_asked w.sent k ms h.asked (own_ask w.sent ms index
                 (of_call (λ t xs. AllOf (λ m. m.sender ≡ the_client (suc index)) xs) s moment c choice own.named (λ d step. said_by index s own.id (client_at s moment) refl d d.sent refl step) tt) left.1);
           };
-      rots = λ e index handle s d place byte is_kept at there up. record { numbered = h.numbered; fitting = h.fitting; asked = h.asked };
+      rots = λ e index handle s d place byte ending is_kept at there up. record { numbered = h.numbered; fitting = h.fitting; asked = h.asked };
     }
 
 sound_on : (config : Config) (servers clients : ℕ) (w : WorldState) (steps : List (Event × Choice)) → IsReached config servers clients w → HasFittingAsks w → HasFittingAsks (after_events w steps)

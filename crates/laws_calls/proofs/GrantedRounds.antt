@@ -135,7 +135,7 @@ grants_kept =
             base = revoked_kept.restarts x k index moment s choice now at h.base;
             all = one_later k x.sent (server_restart s moment choice).out.sent (untold_all (server_restart s moment choice).out.sent (restarts_tell s moment choice choice.ending)) h.all;
           };
-      rots = λ x index handle s r at up h. record { base = revoked_kept.rots x index handle s r at up h.base; all = h.all };
+      rots = λ x index c s e is at up h. record { base = revoked_kept.rots x index c s e is at up h.base; all = h.all };
     }
 
 from_one : (handle version : ℕ) (b : Body) → is_grant handle version b ≡ true → IsFromOne b → 1 ≤ version

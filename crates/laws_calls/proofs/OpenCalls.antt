@@ -667,7 +667,7 @@ module _ (config : Config) (index : ℕ) where
               (waits_passed w.config.skew_ms w.observer moment (suc index)) (le-max_left w.observer.greatest moment) (λ s at. at));
           steps = λ e other moment s i choice at is up. on_steps e other moment s i choice at is up;
           calls = λ e other moment s c choice at may. on_calls other moment s c choice at may;
-          rots = λ e other handle s d place byte is_kept at there up. all_more _ (record { asked = h.asked; stands = λ v there. let old = h.stands v there in record { config_is = old.config_is; known = old.known; call = old.call; is_open = old.is_open } });
+          rots = λ e other handle s d place byte ending is_kept at there up. all_more _ (record { asked = h.asked; stands = λ v there. let old = h.stands v there in record { config_is = old.config_is; known = old.known; call = old.call; is_open = old.is_open } });
         }
 
   -- all events

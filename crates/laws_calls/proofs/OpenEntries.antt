@@ -64,7 +64,7 @@ config_stays config =
       restarts = λ e index moment s choice at. h;
       steps = λ e index moment s i choice at is up. h;
       calls = λ e index moment s c choice at may. h;
-      rots = λ e index handle s r place byte is_kept at there up. h;
+      rots = λ e index handle s r place byte ending is_kept at there up. h;
     })
 
 -- of a version of which a lease was granted

@@ -226,7 +226,7 @@ module _ (config : Config) (servers clients file index first version : ℕ) wher
           restarts = λ e at moment s choice there. places;
           steps = λ e at moment s i choice there is up. places;
           calls = λ e at moment s c choice there may. places;
-          rots = λ e at q s x place byte is_kept there held up. places;
+          rots = λ e at q s x place byte ending is_kept there held up. places;
         }
 
   standing_next : (w : WorldState) → IsReached config servers clients w → (step : Event × Choice) → IsStanding file index first version w → IsStanding file index first version (happens w step.0 step.1).world

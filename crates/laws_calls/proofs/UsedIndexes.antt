@@ -242,7 +242,7 @@ each_fits config servers clients w r h =
       restarts = λ e index moment s choice at. h;
       steps = λ e index moment s i choice at is up. one_fits w.clients index (client_step s moment i choice).state h (step_fits config servers clients w r index s at moment (h index s at) i choice (came_in w e (suc index) moment i is));
       calls = λ e index moment s c choice at may. one_fits w.clients index (client_call s moment c choice).state h (call_fits config servers clients w r index s at moment c choice (no_call s may));
-      rots = λ e index handle s d place byte is_kept at there up. h;
+      rots = λ e index handle s d place byte ending is_kept at there up. h;
     }
 
 fits_on : (config : Config) (servers clients : ℕ) (w : WorldState) (steps : List (Event × Choice)) → IsReached config servers clients w → AreFitting w → AreFitting (after_events w steps)

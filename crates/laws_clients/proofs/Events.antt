@@ -139,15 +139,15 @@ restarts_counted w client node.Master moment choice = same _
 restarts_counted w client (node.Server server) moment choice = server_restarted w client server moment choice (numbered_from_1 w.servers server.0)
 restarts_counted w client (node.Client c) moment choice = same _
 
-replica_rotted : (w : WorldState) (client : ℕ) (server : ServerId) (s : ServerState) (handle place byte : ℕ) (o : Option Replica) → After w client (node.Server server) false (rots_replica w (server.0 - 1) s handle place byte o)
-replica_rotted w client server s handle place byte None = same _
-replica_rotted w client server s handle place byte (Some r) = same _
+replica_rotted : (w : WorldState) (client : ℕ) (server : ServerId) (s : ServerState) (handle place byte : ℕ) (choice : Choice) (o : Option Replica) → After w client (node.Server server) false (rots_replica w (server.0 - 1) s handle place byte choice o)
+replica_rotted w client server s handle place byte choice None = same _
+replica_rotted w client server s handle place byte choice (Some r) = same _
 
-rotted : (w : WorldState) (client : ℕ) (server : ServerId) (handle place byte : ℕ) (o : Option ServerState) → After w client (node.Server server) false (rots_on w (server.0 - 1) handle place byte o)
-rotted w client server handle place byte None = same _
-rotted w client server handle place byte (Some s) =
-    on_cond (After w client (node.Server server) false) (s.up && nat_lt place w.config.chunk) (rots_replica w (server.0 - 1) s handle place byte (replica_of s.disk handle)) (nothing_happens w)
-    (λ _. replica_rotted w client server s handle place byte (replica_of s.disk handle)) (λ _. same _)
+rotted : (w : WorldState) (client : ℕ) (server : ServerId) (handle place byte : ℕ) (choice : Choice) (o : Option ServerState) → After w client (node.Server server) false (rots_on w (server.0 - 1) handle place byte choice o)
+rotted w client server handle place byte choice None = same _
+rotted w client server handle place byte choice (Some s) =
+    on_cond (After w client (node.Server server) false) (s.up && nat_lt place w.config.chunk) (rots_replica w (server.0 - 1) s handle place byte choice (replica_of s.disk handle)) (nothing_happens w)
+    (λ _. replica_rotted w client server s handle place byte choice (replica_of s.disk handle)) (λ _. same _)
 
 -- a call, by the client that takes it
 called : (w : WorldState) (client : ℕ) (c : ClientId) (asked : Call) (moment : ℕ) (choice : Choice) (o : Option ClientState) → numbered_from_1 w.clients c.0 ≡ o
@@ -189,5 +189,5 @@ counted w (event.Tick m now) choice n client is =
 counted w (event.Restart m now) choice n client is =
     subst (λ (x : Node). After w client x false (happens w (event.Restart m now) choice)) (same_node m n is) (timely w client m now.0 (restarts w m now.0 choice) (restarts_counted w client m now.0 choice))
 counted w (event.Rot server handle place byte) choice n client is =
-    subst (λ (x : Node). After w client x false (happens w (event.Rot server handle place byte) choice)) (same_node (node.Server server) n is) (rotted w client server handle.0 place byte (numbered_from_1 w.servers server.0))
+    subst (λ (x : Node). After w client x false (happens w (event.Rot server handle place byte) choice)) (same_node (node.Server server) n is) (rotted w client server handle.0 place byte choice (numbered_from_1 w.servers server.0))
 counted w (event.Fuse m count torn) choice n client is = nothing w client n false refl

@@ -162,7 +162,7 @@ module _ (count index : ℕ) (s : ClientState) where
             let left = of_call (Left w.sent k other w.clients t up at own h.here h.later) t moment c choice own.named
             (left_goes w.sent k other w.clients t up at own h.here h.later moment) (left_stopped w.sent k other w.clients t up at own h.here h.later) in
             record { numbered = numbered.calls e other moment t c choice at may; here = left.0; later = left.1 };
-        rots = λ e other handle t r place byte is_kept at there up. record { numbered = h.numbered; here = h.here; later = h.later };
+        rots = λ e other handle t r place byte ending is_kept at there up. record { numbered = h.numbered; here = h.here; later = h.later };
       }
 
 same_after : (s : ClientState) → IsAfter s s

@@ -19,7 +19,8 @@ use Rattle.messages.specs.declared.message.Body.{Body}
 use Rattle.messages.specs.declared.message.Body.TheVariants as body
 use Rattle.messages.specs.declared.message.Message.{Message}
 use Rattle.messages.specs.declared.message.Target.{Target}
-use Rattle.replica_store.specs.Replicas.{is_new_order, new_server_disk, with_replica, rotten_replica}
+use Rattle.replica_store.specs.Replicas.{is_new_order, new_server_disk}
+use Rattle.laws_base.proofs.Rots.{rot_leases}
 use Rattle.primary_order.specs.declared.kept.Kept.{Kept}
 use Rattle.primary_order.specs.declared.kept.Standing.TheVariants.{IsPending, IsRefused}
 use Rattle.primary_order.specs.SerialOrder.{SerialOrder, IsNew, IsRepeat, IsOld, attempted, attempted_by, denied}
@@ -34,14 +35,14 @@ use Rattle.protocol.specs.Server.{ServerState, ServerDoing, started_server, serv
 use Rattle.protocol.specs.ServerWrites.{mutates_under}
 use Rattle.protocol.specs.ServerStep.{server_at, server_takes, server_goes, server_ends, server_step, server_restart}
 use Rattle.protocol.specs.MasterStep.{master_step, master_restart}
-use Rattle.protocol.specs.World.{WorldState, Happened, new_world, stamped, after_master, after_server, after_client, happens, after_events, IsReached}
+use Rattle.protocol.specs.World.{WorldState, Happened, new_world, stamped, after_master, after_server, after_client, happens, after_events, IsReached, after_rot}
 use Rattle.laws_base.proofs.LeaseOrders.{SaysGrant, moved_grant, not_said}
 use Rattle.laws_base.proofs.Steps.{on_cond, none_some, same_some}
 use Rattle.laws_base.proofs.Entries.{AllOf, same_number}
 use Rattle.laws_base.proofs.RisingOrders.{set_cases}
 use Rattle.laws_base.proofs.MembersRecorded.{kept_place, all_at}
 use Rattle.laws_steps.specs.Attempts.{is_from_client, is_request}
-use Rattle.laws_steps.proofs.Events.{with_call, with_rot, HoldsAfter, holds_after}
+use Rattle.laws_steps.proofs.Events.{with_call, with_rot, rot_of, HoldsAfter, holds_after}
 use Rattle.laws_steps.proofs.ClientNumbers.{IsStepOf, of_step, of_call}
 use Rattle.laws_steps.proofs.RequestsOnce.{AreNumbered, from_itself, each_event, numbered_reached, later_cases, requests_are_numbered_once}
 use Rattle.laws_steps.proofs.MasterTalks.{MasterTalks, master_said, restart_said}
@@ -117,7 +118,7 @@ module _ (config : Config) (servers clients : ℕ) (w : WorldState) (r : IsReach
           restarts = λ e index moment s choice at. used_in _ (among.restarts e index moment s choice at) (spent_later.restarts e index moment s choice at);
           steps = λ e index moment s i choice at is up. used_in _ (among.steps e index moment s i choice at is up) (spent_later.steps e index moment s i choice at is up);
           calls = λ e index moment s c choice at may. used_in _ (among.calls e index moment s c choice at may) (spent_later.calls e index moment s c choice at may);
-          rots = λ e index handle s d place byte is_kept at there up. used_in _ (among.rots e index handle s d place byte is_kept at there up) (spent_later.rots e index handle s d place byte is_kept at there up);
+          rots = λ e index handle s d place byte ending is_kept at there up. used_in _ (among.rots e index handle s d place byte ending is_kept at there up) (spent_later.rots e index handle s d place byte ending is_kept at there up);
         }
 
 -- It is used up, or too late.
@@ -134,7 +135,7 @@ also_after w Q R go q =
       restarts = λ e index moment s choice at. go _ (q.restarts e index moment s choice at);
       steps = λ e index moment s i choice at is up. go _ (q.steps e index moment s i choice at is up);
       calls = λ e index moment s c choice at may. go _ (q.calls e index moment s c choice at may);
-      rots = λ e index handle s d place byte is_kept at there up. go _ (q.rots e index handle s d place byte is_kept at there up);
+      rots = λ e index handle s d place byte ending is_kept at there up. go _ (q.rots e index handle s d place byte ending is_kept at there up);
     }
 
 each_spent_up : (config : Config) (servers clients : ℕ) (w : WorldState) → IsReached config servers clients w → (id : DataId) → IsSpentUp w id → HoldsAfter w (λ e x. IsSpentUp x.world id)
@@ -377,13 +378,13 @@ module _ (config : Config) (servers clients : ℕ) (w : WorldState) (r : IsReach
               leases = leases_on w h (IsSpentUp x.world) (Reads x.world.sent) go (more_reads ms);
               told = silent x ms go (of_call (λ t xs. AllOf NoServers xs) s moment c choice ((h.numbered).each index s at).named (λ d step. client_silent (client_at s moment) d d.sent step refl) tt);
             };
-        rots = λ e index handle s d place byte is_kept at there up.
-            let x : Happened = with_rot w index handle s (rotten_replica d place byte) is_kept in
-            let go : Stays x = λ id f. (used id f).rots e index handle s d place byte is_kept at there up in
+        rots = λ e index handle s d place byte ending is_kept at there up.
+            let x : Happened = with_rot w index s (rot_of handle place byte) ending is_kept in
+            let go : Stays x = λ id f. (used id f).rots e index handle s d place byte ending is_kept at there up in
             record {
               numbered = h.numbered;
-              leases = one_server w h (IsSpentUp x.world) (Reads x.world.sent) go (λ c n reads. reads) index (record s { disk = with_replica s.disk handle (rotten_replica d place byte) })
-                  (leases_on w h (IsSpentUp x.world) (Reads x.world.sent) go (λ c n reads. reads) index s at);
+              leases = one_server w h (IsSpentUp x.world) (Reads x.world.sent) go (λ c n reads. reads) index (after_rot s (rot_of handle place byte) ending)
+                  (rot_leases (λ ls. AreRight (IsSpentUp x.world) ls) s (rot_of handle place byte) ending (leases_on w h (IsSpentUp x.world) (Reads x.world.sent) go (λ c n reads. reads) index s at) (none_right (IsSpentUp x.world) (λ c k. ⊥) 0));
               told = told_on w h (IsSpentUp x.world) (Reads x.world.sent) go (λ c n reads. reads);
             };
       }
@@ -393,9 +394,9 @@ sound_on config servers clients w [] r h = h
 sound_on config servers clients w (step ∷ rest) r h =
     sound_on config servers clients (happens w step.0 step.1).world rest (reached_later config servers clients w (step ∷ []) r) (holds_after w (λ e x. IsToldTruly x.world) (each_sound config servers clients w r h) step.0 step.1)
 
-new_servers : (F : DataId → Type 0) (config : Config) (ns : List ℕ) (index : ℕ) (s : ServerState) → element_at (map (λ n. started_server config n (new_server_disk config.block) 0) ns) index ≡ Some s → AreRight F s.leases
+new_servers : (F : DataId → Type 0) (config : Config) (ns : List ℕ) (index : ℕ) (s : ServerState) → element_at (map (λ n. started_server config n (new_server_disk config.chunk config.block config.slots) 0) ns) index ≡ Some s → AreRight F s.leases
 new_servers F config [] index s is = none_some s is
-new_servers F config (n ∷ ns) zero s is = subst (λ (x : ServerState). AreRight F x.leases) (same_some (started_server config n (new_server_disk config.block) 0) s is) (none_right F (λ c k. ⊥) 0)
+new_servers F config (n ∷ ns) zero s is = subst (λ (x : ServerState). AreRight F x.leases) (same_some (started_server config n (new_server_disk config.chunk config.block config.slots) 0) s is) (none_right F (λ c k. ⊥) 0)
 new_servers F config (n ∷ ns) (suc index) s is = new_servers F config ns index s is
 
 new_sound : (config : Config) (servers clients : ℕ) → IsToldTruly (new_world config servers clients)

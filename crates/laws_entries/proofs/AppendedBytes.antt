@@ -283,7 +283,7 @@ on_event w h =
         fine = one_left w.sent (stamped k (client_call s moment c choice).out.sent) w.clients index (client_call s moment c choice).state
             (call_left w.sent k (suc index) s (h.numbered.each index s at).id (h.fine index s at) moment c choice) h.fine;
       };
-      rots = λ e index handle s r place byte is_kept at there up. record { numbered = h.numbered; fine = h.fine };
+      rots = λ e index handle s r place byte ending is_kept at there up. record { numbered = h.numbered; fine = h.fine };
     }
 
 -- a new world

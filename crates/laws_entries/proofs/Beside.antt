@@ -35,7 +35,7 @@ three_after w Q R S q r s =
       restarts = λ e index moment t choice at. (q.restarts e index moment t choice at, r.restarts e index moment t choice at, s.restarts e index moment t choice at);
       steps = λ e index moment t i choice at is up. (q.steps e index moment t i choice at is up, r.steps e index moment t i choice at is up, s.steps e index moment t i choice at is up);
       calls = λ e index moment t c choice at may. (q.calls e index moment t c choice at may, r.calls e index moment t c choice at may, s.calls e index moment t c choice at may);
-      rots = λ e index handle t d place byte is_kept at there up. (q.rots e index handle t d place byte is_kept at there up, r.rots e index handle t d place byte is_kept at there up, s.rots e index handle t d place byte is_kept at there up);
+      rots = λ e index handle t d place byte ending is_kept at there up. (q.rots e index handle t d place byte ending is_kept at there up, r.rots e index handle t d place byte ending is_kept at there up, s.rots e index handle t d place byte ending is_kept at there up);
     }
 
 pub each_among : (w : WorldState) (m : Message) → IsAmong w.sent m → HoldsAfter w (λ e x. IsAmong x.world.sent m)
@@ -48,7 +48,7 @@ each_among w m h =
       restarts = λ e index moment s choice at. later (server_restart s moment choice).out.sent;
       steps = λ e index moment s i choice at is up. later (client_step s moment i choice).out.sent;
       calls = λ e index moment s c choice at may. later (client_call s moment c choice).out.sent;
-      rots = λ e index handle s r place byte is_kept at there up. h;
+      rots = λ e index handle s r place byte ending is_kept at there up. h;
     }
   where
     later : (ms : List Message) → IsAmong (w.sent ++ stamped (suc (length w.sent)) ms) m
@@ -95,5 +95,5 @@ module _ (client number : ℕ) (R : Mutation → Type 0) where
             subst (λ (orders : Table (List Placed)). AreAll Of orders) (sym (same_orders _ (suc index) (client_step s moment i choice).out.answer)) h;
         calls = λ e index moment s c choice at may.
             subst (λ (orders : Table (List Placed)). AreAll Of orders) (sym (same_orders _ (suc index) (client_call s moment c choice).out.answer)) h;
-        rots = λ e index handle s r place byte is_kept at there up. h;
+        rots = λ e index handle s r place byte ending is_kept at there up. h;
       }

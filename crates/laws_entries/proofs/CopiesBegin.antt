@@ -161,7 +161,7 @@ module _ (first : List Placed) (copy : ℕ) where
             above = λ place p at. above_more copy p.entry.round (suc (length w.sent)) w.sent (client_call s moment c choice).out.sent
                 (quiet_above copy p.entry.round (client_call s moment c choice).out.sent (quiet_orders (client_call s moment c choice).out.sent (call_quiet s moment c choice))) (h.above place p at);
           };
-          rots = λ e index handle s x place byte is_kept at there up. record { begins = h.begins; passed = h.passed; above = h.above };
+          rots = λ e index handle s x place byte ending is_kept at there up. record { begins = h.begins; passed = h.passed; above = h.above };
         }
 
   begun_on : (config : Config) (servers clients : ℕ) (w : WorldState) (steps : List (Event × Choice)) → IsReached config servers clients w → HasBegun w → HasBegun (after_events w steps)

@@ -24,13 +24,13 @@ use Rattle.protocol.specs.Server.{ServerState}
 use Rattle.protocol.specs.ServerStep.{server_step, server_restarts, server_restart}
 use Rattle.protocol.specs.MasterStep.{master_step, master_restart}
 use Rattle.protocol.specs.ClientStep.{client_step, client_call}
-use Rattle.protocol.specs.World.{WorldState, stamped, new_world, IsReached}
+use Rattle.protocol.specs.World.{WorldState, stamped, new_world, IsReached, after_rot}
 use Rattle.laws_base.specs.Laws.{is_grant, grants_of}
 use Rattle.laws_base.proofs.Steps.{none_some, same_some, same_or_not, put_there, put_other}
 use Rattle.laws_base.proofs.Entries.{AllOf}
 use Rattle.laws_base.proofs.MembersRecorded.{kept_place, all_at}
 use Rattle.laws_base.proofs.MessagesSent.{sent_cases, numbered_sent}
-use Rattle.laws_base.proofs.RisingOrders.{Later, element_numbered, step_goes_on, restarts_as}
+use Rattle.laws_base.proofs.RisingOrders.{Later, element_numbered, step_goes_on, restarts_as, rot_goes_on}
 use Rattle.laws_base.proofs.GrantsOnce.{versions_are_granted_once}
 use Rattle.laws_base.proofs.ScenesReached.{scene_reached}
 use Rattle.laws_base.proofs.SentReached.{server_quiet, server_restarts_quiet, sent_reached}
@@ -39,7 +39,7 @@ use Rattle.laws_base.proofs.LeasesTold.{AreTold, IsStaleAt, stale_later, new_not
 use Rattle.protocol.specs.Server.{started_server}
 use Rattle.laws_base.proofs.LeaseOrders.{SaysGrant, named_grant, grant_number}
 use Rattle.replica_store.specs.Replicas.{new_server_disk}
-use Rattle.laws_steps.proofs.Events.{IsGiven, HoldsAfter}
+use Rattle.laws_steps.proofs.Events.{IsGiven, HoldsAfter, rot_of}
 use Rattle.laws_steps.proofs.MasterTalks.{restart_shown}
 use Rattle.laws_entries.proofs.Placing.{same_orders}
 use Rattle.laws_entries.proofs.Numbering.{restarted_shown}
@@ -56,6 +56,7 @@ use Rattle.laws_entries.proofs.CopiesBegin.{first_begun}
 use Rattle.laws_entries.specs.CountedSerials.{serials_of, SerialsOfRoundsAreCounted, LeasesCountTheirSerials, SerialsHaveOneEntry, NumberedSerialsFollow}
 use Rattle.laws_entries.proofs.LeaseSerials.{numbered_in, HaveSerial, step_counts}
 use Rattle.laws_entries.proofs.RoundSerials.{append-[], shown_serials, NoSerial, OneSerial, none_or_one, some_entry, one_place}
+use Rattle.laws_base.proofs.Rots.{rot_leases}
 
 -- the element that was put in, or another one
 pub set_split : {X : Type 0} (xs : List X) (at : ℕ) (y : X) (n : ℕ) (x : X) → element_at (with_at xs at y) n ≡ Some x → ((n ≡ at) × (x ≡ y)) ⊎ ((n ≡ at → ⊥) × (element_at xs n ≡ Some x))
@@ -396,8 +397,9 @@ module _ (config : Config) (servers clients : ℕ) (w : WorldState) (r : IsReach
         calls = λ e index moment s c choice at may handle version.
             quiet_counted handle version _ (client_call s moment c choice).out.sent (same_orders _ (suc index) (client_call s moment c choice).out.answer)
             (quiet_above handle version (client_call s moment c choice).out.sent (quiet_orders (client_call s moment c choice).out.sent (call_quiet s moment c choice)));
-        rots = λ e index q s x place byte is_kept at there up handle version.
-            counted_server handle version w.sent w.servers (placed_in w.observer.orders handle) index s _ at (inr (refl, omega arith)) (h handle version) ((h handle version).leased index s at);
+        rots = λ e index q s x place byte ending is_kept at there up handle version.
+            counted_server handle version w.sent w.servers (placed_in w.observer.orders handle) index s (after_rot s (rot_of q place byte) ending) at (rot_goes_on s (rot_of q place byte) ending tt (told_server index s at).sound up).later (h handle version)
+            (rot_leases (λ ls. HaveSerial handle version (h handle version).count ls) s (rot_of q place byte) ending ((h handle version).leased index s at) (none_have handle version (h handle version).count));
       }
 
 new_counted : (config : Config) (servers clients : ℕ) → AllCounted (new_world config servers clients)
@@ -406,7 +408,7 @@ new_counted config servers clients handle version =
       count = 0;
       serials = ap (λ (o : Option (List Placed)). serials_of version (unwrap_or o [])) (table.get-empty nat_cmp handle);
       leased = λ index s at.
-          subst (λ (t : ServerState). HaveSerial handle version 0 t.leases) (sym (numbered_from (λ n. started_server config n (new_server_disk config.block) 0) servers index s at)) (none_have handle version 0);
+          subst (λ (t : ServerState). HaveSerial handle version 0 t.leases) (sym (numbered_from (λ n. started_server config n (new_server_disk config.chunk config.block config.slots) 0) servers index s at)) (none_have handle version 0);
       taken = λ some granted. absurd (omega (arith, some));
     }
 

@@ -17,7 +17,7 @@ use Rattle.messages.specs.declared.message.Change.{Change}
 use Rattle.messages.specs.declared.message.Message.{Message}
 use Rattle.replica_store.specs.Replicas.{ServerDisk, Replica, replica_becomes, replica_of, row_of, row_at, read_at, written_replica, disk_changed, disk_changed_by_all}
 use Rattle.replica_store.specs.declared.change.StoreChange.{StoreChange}
-use Rattle.replica_store.specs.declared.change.StoreChange.TheVariants.{SetOrder, Put, Write, Zero, Raise, Copy, Remove}
+use Rattle.replica_store.specs.declared.change.StoreChange.TheVariants.{SetOrder, Put, Write, Zero, Raise, Copy, Remove, Rot}
 use Rattle.replica_store.specs.declared.row.Row.{Row}
 use Rattle.relaxed_file.specs.Run.{Visible}
 use Rattle.protocol.specs.Tables.{Table, element_at}
@@ -239,7 +239,7 @@ module _ (config : Config) (servers clients : ℕ) (w : WorldState) (r : IsReach
             subst (λ (orders : Table (List Placed)). (m : Message) → IsSent (w.sent ++ stamped (suc (length w.sent)) (client_call s moment c choice).out.sent) m → Names orders m.body)
             (sym (same_orders _ (suc index) (client_call s moment c choice).out.answer))
             (sent_named w.observer.orders (client_call s moment c choice).out.sent (λ b n. n) (none_named w.observer.orders (client_call s moment c choice).out.sent (calls_silent index moment s c choice at)));
-        rots = λ e index handle s x place byte is_kept at there up. h;
+        rots = λ e index handle s x place byte ending is_kept at there up. h;
       }
 
 pub forwards_name_entries : ForwardsNameEntries
@@ -249,10 +249,10 @@ forwards_name_entries config servers clients w r place m at handle version seria
 -- a step alone
 
 -- a row is of a replica
-row_replica : (d : ServerDisk) (handle : ℕ) (row : Row) → row_at d handle ≡ Some row → (r : Replica) × (replica_of d handle ≡ Some r) × (r.version ≡ row.version.0) × (r.serial ≡ row.serial.0) × (length r.bytes ≡ row.count)
+row_replica : (d : ServerDisk) (handle : ℕ) (row : Row) → row_at d handle ≡ Some row → (r : Replica) × (replica_of d handle ≡ Some r) × (r.version ≡ row.version.0) × (r.serial ≡ row.serial.0) × (r.count ≡ row.count)
 row_replica d handle row is = by_replica (replica_of d handle) refl is
   where
-    by_replica : (o : Option Replica) → replica_of d handle ≡ o → row_of o ≡ Some row → (r : Replica) × (replica_of d handle ≡ Some r) × (r.version ≡ row.version.0) × (r.serial ≡ row.serial.0) × (length r.bytes ≡ row.count)
+    by_replica : (o : Option Replica) → replica_of d handle ≡ o → row_of o ≡ Some row → (r : Replica) × (replica_of d handle ≡ Some r) × (r.version ≡ row.version.0) × (r.serial ≡ row.serial.0) × (r.count ≡ row.count)
     by_replica None at g = none_some row g
     by_replica (Some r) at g =
         let one = same_some _ row g in
@@ -261,18 +261,18 @@ row_replica d handle row is = by_replica (replica_of d handle) refl is
 written_there : (d : ServerDisk) (handle : Handle) (serial : Serial) (x : StoreChange) (r : Replica) → IsWritten handle serial x → replica_of d handle.0 ≡ Some r
     → (now : Replica) × (replica_of (disk_changed d x) handle.0 ≡ Some now) × (now.version ≡ r.version) × (now.serial ≡ serial.0)
 written_there d handle serial (Write h n offset bytes) r is there =
-    let new : Replica = written_replica r n.0 offset bytes in (
+    let new : Replica = written_replica d.block r n.0 offset bytes in (
       new,
       ap (λ (k : Handle). replica_of (disk_changed d (Write k n offset bytes)) handle.0) is.0
-          ∙ (ap (λ (o : Option Replica). replica_of (replica_becomes (λ y. written_replica y n.0 offset bytes) d handle.0 o) handle.0) there ∙ put_there d.replicas handle.0 new handle.0 refl),
+          ∙ (ap (λ (o : Option Replica). replica_of (replica_becomes (λ y. written_replica d.block y n.0 offset bytes) d handle.0 o) handle.0) there ∙ put_there d.replicas handle.0 new handle.0 refl),
       refl,
       ap (λ (k : Serial). k.0) is.1,
     )
 written_there d handle serial (Zero h n offset count) r is there =
-    let new : Replica = written_replica r n.0 offset (replicate count 0) in (
+    let new : Replica = written_replica d.block r n.0 offset (replicate count 0) in (
       new,
       ap (λ (k : Handle). replica_of (disk_changed d (Zero k n offset count)) handle.0) is.0
-          ∙ (ap (λ (o : Option Replica). replica_of (replica_becomes (λ y. written_replica y n.0 offset (replicate count 0)) d handle.0 o) handle.0) there ∙ put_there d.replicas handle.0 new handle.0 refl),
+          ∙ (ap (λ (o : Option Replica). replica_of (replica_becomes (λ y. written_replica d.block y n.0 offset (replicate count 0)) d handle.0 o) handle.0) there ∙ put_there d.replicas handle.0 new handle.0 refl),
       refl,
       ap (λ (k : Serial). k.0) is.1,
     )
@@ -281,6 +281,7 @@ written_there d handle serial (Put h version n bytes) r is there = absurd is
 written_there d handle serial (Raise h version) r is there = absurd is
 written_there d handle serial (Copy h copy version) r is there = absurd is
 written_there d handle serial (Remove h) r is there = absurd is
+written_there d handle serial (Rot h place byte) r is there = absurd is
 
 -- the cause of a word that was sent
 cause_of : (s : ServerState) (moment : ℕ) (i : NodeInput) (choice : Choice) (place : ℕ) (m : Message) → element_at (server_step s moment i choice).out.sent place ≡ Some m

@@ -20,7 +20,8 @@ use Rattle.messages.specs.declared.message.Body.{Body}
 use Rattle.messages.specs.declared.message.Body.TheVariants as body
 use Rattle.messages.specs.declared.message.Message.{Message}
 use Rattle.messages.specs.declared.message.Target.{Target}
-use Rattle.replica_store.specs.Replicas.{new_server_disk, with_replica, rotten_replica, is_writable_at}
+use Rattle.replica_store.specs.Replicas.{new_server_disk, is_writable_at}
+use Rattle.laws_base.proofs.Rots.{rot_leases}
 use Rattle.primary_order.specs.declared.answer.Settled.{Settled}
 use Rattle.primary_order.specs.declared.kept.Standing.TheVariants.{IsPending, IsRefused}
 use Rattle.primary_order.specs.PrimaryOrder.{place_of}
@@ -39,12 +40,12 @@ use Rattle.protocol.specs.Server.{ServerState, ServerDoing, started_server, serv
 use Rattle.protocol.specs.ServerWrites.{refuses_attempt, answers_settled, forwards, settles, change_of, stored_as, primary_applies, places, mutates_under}
 use Rattle.protocol.specs.ServerStep.{server_at, server_takes, server_goes, server_ends, server_step, server_restart}
 use Rattle.protocol.specs.MasterStep.{master_step, master_restart}
-use Rattle.protocol.specs.World.{WorldState, Happened, new_world, stamped, after_master, after_server, after_client, happens, after_events, IsReached}
+use Rattle.protocol.specs.World.{WorldState, Happened, new_world, stamped, after_master, after_server, after_client, happens, after_events, IsReached, after_rot}
 use Rattle.laws_base.proofs.Steps.{on_cond, none_some, same_some}
 use Rattle.laws_base.proofs.Entries.{AllOf, all_joined, all_filtered}
 use Rattle.laws_base.proofs.RisingOrders.{set_cases}
 use Rattle.laws_base.proofs.MembersRecorded.{kept_place, all_at}
-use Rattle.laws_steps.proofs.Events.{with_call, with_rot, HoldsAfter, holds_after}
+use Rattle.laws_steps.proofs.Events.{with_call, with_rot, rot_of, HoldsAfter, holds_after}
 use Rattle.laws_steps.proofs.ClientNumbers.{IsSaid, IsStepOf, of_step, of_call}
 use Rattle.laws_steps.proofs.RequestsOnce.{AreNumbered, each_event, numbered_reached, later_cases}
 use Rattle.laws_steps.proofs.MasterTalks.{is_masters, MasterTalks, master_said, restart_said}
@@ -117,7 +118,7 @@ module _ (config : Config) (servers clients : ℕ) (w : WorldState) (r : IsReach
         restarts = λ e index moment t choice at. whole _ (parts_after.restarts e index moment t choice at);
         steps = λ e index moment t i choice at is up. whole _ (parts_after.steps e index moment t i choice at is up);
         calls = λ e index moment t c choice at may. whole _ (parts_after.calls e index moment t c choice at may);
-        rots = λ e index handle t d place byte is_kept at there up. whole _ (parts_after.rots e index handle t d place byte is_kept at there up);
+        rots = λ e index handle t d place byte ending is_kept at there up. whole _ (parts_after.rots e index handle t d place byte ending is_kept at there up);
       }
 
 -- a new attempt that is refused since the chunk is full, or is a pad
@@ -362,12 +363,13 @@ module _ (config : Config) (servers clients : ℕ) (w : WorldState) (r : IsReach
               told = more_told (IsFull x.world) w.sent (suc (length w.sent)) (client_call s moment c choice).out.sent (told_on w h (IsFull x.world) go)
                   (of_call (λ t ms. AllOf (Causes (IsFull x.world)) ms) s moment c choice ((h.numbered).each index s at).named (λ d step. client_causes (IsFull x.world) (client_at s moment) d d.sent step refl) tt);
             };
-        rots = λ e index handle s d place byte is_kept at there up.
-            let x : Happened = with_rot w index handle s (rotten_replica d place byte) is_kept in
-            let go : Full x = λ id f. (full id f).rots e index handle s d place byte is_kept at there up in
+        rots = λ e index handle s d place byte ending is_kept at there up.
+            let x : Happened = with_rot w index s (rot_of handle place byte) ending is_kept in
+            let go : Full x = λ id f. (full id f).rots e index handle s d place byte ending is_kept at there up in
             record {
               numbered = h.numbered;
-              leases = one_server w h (IsFull x.world) go index (record s { disk = with_replica s.disk handle (rotten_replica d place byte) }) (leases_on w h (IsFull x.world) go index s at);
+              leases = one_server w h (IsFull x.world) go index (after_rot s (rot_of handle place byte) ending)
+                  (rot_leases (λ ls. AreRight (IsFull x.world) ls) s (rot_of handle place byte) ending (leases_on w h (IsFull x.world) go index s at) (none_right (IsFull x.world)));
               told = told_on w h (IsFull x.world) go;
             };
       }
@@ -379,9 +381,9 @@ sound_on config servers clients w [] r h = h
 sound_on config servers clients w (step ∷ rest) r h =
     sound_on config servers clients (happens w step.0 step.1).world rest (reached_later config servers clients w (step ∷ []) r) (holds_after w (λ e x. IsToldTruly x.world) (each_sound config servers clients w r h) step.0 step.1)
 
-new_servers : (F : DataId → Type 0) (config : Config) (ns : List ℕ) (index : ℕ) (s : ServerState) → element_at (map (λ n. started_server config n (new_server_disk config.block) 0) ns) index ≡ Some s → AreRight F s.leases
+new_servers : (F : DataId → Type 0) (config : Config) (ns : List ℕ) (index : ℕ) (s : ServerState) → element_at (map (λ n. started_server config n (new_server_disk config.chunk config.block config.slots) 0) ns) index ≡ Some s → AreRight F s.leases
 new_servers F config [] index s is = none_some s is
-new_servers F config (n ∷ ns) zero s is = subst (λ (x : ServerState). AreRight F x.leases) (same_some (started_server config n (new_server_disk config.block) 0) s is) (none_right F)
+new_servers F config (n ∷ ns) zero s is = subst (λ (x : ServerState). AreRight F x.leases) (same_some (started_server config n (new_server_disk config.chunk config.block config.slots) 0) s is) (none_right F)
 new_servers F config (n ∷ ns) (suc index) s is = new_servers F config ns index s is
 
 new_sound : (config : Config) (servers clients : ℕ) → IsToldTruly (new_world config servers clients)

@@ -62,7 +62,7 @@ map_after w Q R go q =
       restarts = λ e index moment s choice at. go e _ (q.restarts e index moment s choice at);
       steps = λ e index moment s i choice at is up. go e _ (q.steps e index moment s i choice at is up);
       calls = λ e index moment s c choice at may. go e _ (q.calls e index moment s c choice at may);
-      rots = λ e index handle s d place byte is_kept at there up. go e _ (q.rots e index handle s d place byte is_kept at there up);
+      rots = λ e index handle s d place byte ending is_kept at there up. go e _ (q.rots e index handle s d place byte ending is_kept at there up);
     }
 
 -- what holds of one chunk's order goes on to hold
@@ -82,7 +82,7 @@ each_good w handle Good h masters servers =
           subst (λ (orders : Table (List Placed)). Good (placed_in orders handle)) (sym (same_orders _ (suc index) (client_step s moment i choice).out.answer)) h;
       calls = λ e index moment s c choice at may.
           subst (λ (orders : Table (List Placed)). Good (placed_in orders handle)) (sym (same_orders _ (suc index) (client_call s moment c choice).out.answer)) h;
-      rots = λ e index q s d place byte is_kept at there up. h;
+      rots = λ e index q s d place byte ending is_kept at there up. h;
     }
   where
     shown : (moment : ℕ) (seen : List Seen) → AllOf (IsKept (observed_moment w.config.skew_ms w.observer moment).trace handle Good) seen
@@ -174,5 +174,5 @@ module _ (config : Config) (servers clients : ℕ) (w : WorldState) (r : IsReach
         restarts = λ e index moment s choice at. tt;
         steps = λ e index moment s i choice at is up. tt;
         calls = λ e index moment s c choice at may. tt;
-        rots = λ e index handle s d place byte is_kept at there up. tt;
+        rots = λ e index handle s d place byte ending is_kept at there up. tt;
       }

@@ -17,7 +17,9 @@ use Rattle.messages.specs.declared.event.NodeInput.TheVariants as input
 use Rattle.messages.specs.declared.message.Body.TheVariants as body
 use Rattle.messages.specs.declared.message.Message.{Message}
 use Rattle.messages.specs.declared.message.Target.{Target}
-use Rattle.replica_store.specs.Replicas.{is_new_order, with_replica, rotten_replica}
+use Rattle.replica_store.specs.Replicas.{is_new_order}
+use Rattle.replica_store.specs.declared.change.StoreChange.{StoreChange}
+use Rattle.laws_base.proofs.Rots.{rot_by}
 use Rattle.primary_order.specs.SerialOrder.{SerialOrder}
 use Rattle.protocol.specs.Tables.{element_at, with_at}
 use Rattle.protocol.specs.Sending.{the_server, the_client, handle_of, version_of, order_number}
@@ -25,14 +27,14 @@ use Rattle.protocol.specs.Choice.{Choice, Ending, Goes, Lost, Stops}
 use Rattle.protocol.specs.Seen.{Taken, no_step}
 use Rattle.protocol.specs.Server.{ServerState, ServerDoing}
 use Rattle.protocol.specs.ServerStep.{server_at, server_goes, server_ends, server_step, server_restarts, server_restart}
-use Rattle.protocol.specs.World.{WorldState, stamped, after_server, IsReached}
+use Rattle.protocol.specs.World.{WorldState, stamped, after_server, IsReached, after_rot}
 use Rattle.laws_base.proofs.LeaseOrders.{SaysGrant, named_grant, grant_number}
 use Rattle.laws_base.proofs.Steps.{on_cond, none_some, same_some, same_or_not}
 use Rattle.laws_base.proofs.GrantsOnce.{versions_are_granted_once}
 use Rattle.laws_base.proofs.LeasesTold.{IsStaleAt, new_not_stale, same_grant, granting, server_numbers, versions_have_one_primary}
 use Rattle.laws_base.proofs.MembersRecorded.{kept_place}
 use Rattle.laws_base.proofs.RisingOrders.{element_numbered, set_cases}
-use Rattle.laws_steps.proofs.Events.{IsGiven, HoldsAfter}
+use Rattle.laws_steps.proofs.Events.{IsGiven, HoldsAfter, rot_of}
 use Rattle.laws_entries.specs.Entries.{IsAmong}
 use Rattle.laws_entries.proofs.OrderWalk.{KeepsOrders, AreFit, does_fit}
 use Rattle.laws_entries.proofs.SpentVersions.{IsSpent, none_fit, each_spent, first_spent}
@@ -95,6 +97,9 @@ module _ (handle version deadline : ℕ) (s : ServerState) (moment : ℕ) where
   restarts_past choice Goes = λ p at same. absurd (none_fit (Always ⊥) handle version p at same)
   restarts_past choice Lost = λ p at same. absurd (none_fit (Always ⊥) handle version p at same)
   restarts_past choice (Stops made) = λ p at same. absurd (none_fit (Always ⊥) handle version p at same)
+
+rots_past : (handle version deadline : ℕ) (s : ServerState) (x : StoreChange) (e : Ending) → IsPast handle version deadline s → IsPast handle version deadline (after_rot s x e)
+rots_past handle version deadline s x e h = rot_by (λ t. IsPast handle version deadline t) s x e h (λ d xs p at same. absurd (none_fit (Always ⊥) handle version p at same))
 
 -- the version of a late attempt is granted to no server anew
 module _ (config : Config) (servers clients : ℕ) (w : WorldState) (r : IsReached config servers clients w) (id : DataId) (h : IsLate w id) where
@@ -170,9 +175,9 @@ module _ (config : Config) (servers clients : ℕ) (w : WorldState) (r : IsReach
             (one_past index (server_restart s moment choice).state (restarts_past h.handle.0 h.version.0 h.deadline.0 s moment choice choice.ending));
         steps = λ e index moment s i choice at is up. late_in _ (among.steps e index moment s i choice at is up) (spent.steps e index moment s i choice at is up) h.past;
         calls = λ e index moment s c choice at may. late_in _ (among.calls e index moment s c choice at may) (spent.calls e index moment s c choice at may) h.past;
-        rots = λ e index handle s d place byte is_kept at there up.
-            late_in _ (among.rots e index handle s d place byte is_kept at there up) (spent.rots e index handle s d place byte is_kept at there up)
-            (one_past index (record s { disk = with_replica s.disk handle (rotten_replica d place byte) }) (h.past index s at));
+        rots = λ e index handle s d place byte ending is_kept at there up.
+            late_in _ (among.rots e index handle s d place byte ending is_kept at there up) (spent.rots e index handle s d place byte ending is_kept at there up)
+            (one_past index (after_rot s (rot_of handle place byte) ending) (rots_past h.handle.0 h.version.0 h.deadline.0 s (rot_of handle place byte) ending (h.past index s at)));
       }
 
 put_one : (xs : List ServerState) (index : ℕ) (t s : ServerState) → element_at (with_at xs index t) index ≡ Some s → s ≡ t

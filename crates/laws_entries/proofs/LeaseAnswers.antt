@@ -252,7 +252,7 @@ module _ (K : Seen → Type 0) where
   abbrev pub Leaves : Taken ServerState → Type 0
   Leaves t = AreRight (Since K t.seen) t.state.leases × AllOf (λ m. IsCaused (Since K t.seen) m.body) t.out.sent
 
-  none_right : (L : Seen → Type 0) → AreRight L table.empty
+  pub none_right : (L : Seen → Type 0) → AreRight L table.empty
   none_right L q p at = none_some p (sym (table.get-empty nat_cmp q) ∙ at)
 
   ends_fine : (s : ServerState) (d : ServerDoing) (choice : Choice) (e : Ending) → Fine d → Leaves (server_ends s d choice e)

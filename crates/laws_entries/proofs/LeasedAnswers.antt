@@ -8,7 +8,7 @@ use Rattle.messages.specs.declared.event.Event.{Event}
 use Rattle.messages.specs.declared.message.Body.{Body}
 use Rattle.messages.specs.declared.message.Body.TheVariants as body
 use Rattle.messages.specs.declared.message.Message.{Message}
-use Rattle.replica_store.specs.Replicas.{new_server_disk, with_replica, rotten_replica}
+use Rattle.replica_store.specs.Replicas.{new_server_disk}
 use Rattle.protocol.specs.Tables.{element_at, with_at, first_numbers}
 use Rattle.protocol.specs.Sending.{the_server, the_client}
 use Rattle.protocol.specs.Choice.{Choice}
@@ -17,12 +17,12 @@ use Rattle.protocol.specs.ClientStep.{client_at, client_step, client_call}
 use Rattle.protocol.specs.Server.{ServerState, started_server}
 use Rattle.protocol.specs.ServerStep.{server_at, server_step, server_restart}
 use Rattle.protocol.specs.MasterStep.{master_step, master_restart}
-use Rattle.protocol.specs.World.{WorldState, Happened, new_world, nothing_happens, stamped, after_master, after_server, after_client, happens, after_events, IsReached}
+use Rattle.protocol.specs.World.{WorldState, Happened, new_world, nothing_happens, stamped, after_master, after_server, after_client, happens, after_events, IsReached, after_rot}
 use Rattle.laws_base.proofs.Steps.{none_some, same_some}
 use Rattle.laws_base.proofs.Entries.{AllOf}
 use Rattle.laws_base.proofs.RisingOrders.{set_cases}
 use Rattle.laws_base.proofs.MembersRecorded.{kept_place, all_at}
-use Rattle.laws_steps.proofs.Events.{with_call, with_rot, HoldsAfter, holds_after}
+use Rattle.laws_steps.proofs.Events.{with_call, with_rot, rot_of, HoldsAfter, holds_after}
 use Rattle.laws_steps.proofs.ClientNumbers.{IsStepOf, of_step, of_call}
 use Rattle.laws_steps.proofs.RequestsOnce.{AreNumbered, numbered_reached, later_cases}
 use Rattle.laws_steps.proofs.LeasesStayOver.{reached_later}
@@ -33,6 +33,7 @@ use Rattle.laws_entries.proofs.UsedOrders.{IsCaused, Causes, right_on, caused_on
 use Rattle.laws_entries.proofs.UsedAnswers.{AreRight, step_leaves, none_right, restart_leaves}
 use Rattle.laws_entries.proofs.AnsweredAttempts.{Reads, not_both}
 use Rattle.laws_entries.specs.LeasedAnswers.{IsTakenNow, WasTaken, AnswersAreGivenUnderLeases}
+use Rattle.laws_base.proofs.Rots.{rot_leases}
 
 reads_later : (sent more : List Message) (client number : ℕ) → Reads sent client number → Reads (sent ++ more) client number
 reads_later sent more client number h = record { asked = h.asked; sent_is = ((h.sent_is).0, kept_place sent more (h.sent_is).0 h.asked (h.sent_is).1); sender_is = h.sender_is; reads = h.reads }
@@ -170,10 +171,11 @@ module _ (config : Config) (servers clients : ℕ) (w : WorldState) (r : IsReach
               leases = leases_on T (Next T w x) (before x) w h;
               told = silent T (Next T w x) (before x) w h (client_call s moment c choice).out.sent (of_call (λ t xs. AllOf NoServers xs) s moment c choice (numbered.each index s at).named (λ d step. client_silent (client_at s moment) d d.sent step refl) tt);
             };
-        rots = λ e index handle s d place byte is_kept at there up.
-            let x : Happened = with_rot w index handle s (rotten_replica d place byte) is_kept in
+        rots = λ e index handle s d place byte ending is_kept at there up.
+            let x : Happened = with_rot w index s (rot_of handle place byte) ending is_kept in
             record {
-              leases = one_server T (Next T w x) (before x) w h index (record s { disk = with_replica s.disk handle (rotten_replica d place byte) }) (leases_on T (Next T w x) (before x) w h index s at);
+              leases = one_server T (Next T w x) (before x) w h index (after_rot s (rot_of handle place byte) ending)
+                  (rot_leases (λ ls. AreRight (Next T w x) ls) s (rot_of handle place byte) ending (leases_on T (Next T w x) (before x) w h index s at) (none_right (Next T w x) (λ c k. ⊥) 0));
               told = told_on T (Next T w x) (before x) w h (Reads w.sent) (λ c n reads. reads);
             };
       }
@@ -200,9 +202,9 @@ sound_since config servers clients w (step ∷ rest) T r h =
 abbrev Never : DataId → Type 0
 Never id = ⊥
 
-new_servers : (config : Config) (ns : List ℕ) (index : ℕ) (s : ServerState) → element_at (map (λ n. started_server config n (new_server_disk config.block) 0) ns) index ≡ Some s → AreRight Never s.leases
+new_servers : (config : Config) (ns : List ℕ) (index : ℕ) (s : ServerState) → element_at (map (λ n. started_server config n (new_server_disk config.chunk config.block config.slots) 0) ns) index ≡ Some s → AreRight Never s.leases
 new_servers config [] index s is = none_some s is
-new_servers config (n ∷ ns) zero s is = subst (λ (x : ServerState). AreRight Never x.leases) (same_some (started_server config n (new_server_disk config.block) 0) s is) (none_right Never (λ c k. ⊥) 0)
+new_servers config (n ∷ ns) zero s is = subst (λ (x : ServerState). AreRight Never x.leases) (same_some (started_server config n (new_server_disk config.chunk config.block config.slots) 0) s is) (none_right Never (λ c k. ⊥) 0)
 new_servers config (n ∷ ns) (suc index) s is = new_servers config ns index s is
 
 new_sound : (config : Config) (servers clients : ℕ) → IsToldTruly Never (new_world config servers clients)

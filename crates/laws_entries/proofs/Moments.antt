@@ -30,7 +30,7 @@ each_later w =
           let once = le-max_left w.observer.greatest moment in
           let twice = le-max_left (max w.observer.greatest moment) moment in
           answered _ (suc index) w.observer.greatest (client_call s moment c choice).out.answer (omega (arith, once, twice));
-      rots = λ e index handle s r place byte is_kept at there up. omega arith;
+      rots = λ e index handle s r place byte ending is_kept at there up. omega arith;
     }
 
 pub greatest_rises : (w : WorldState) (steps : List (Event × Choice)) → w.observer.greatest ≤ (after_events w steps).observer.greatest

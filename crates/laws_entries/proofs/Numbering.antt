@@ -20,11 +20,10 @@ use Rattle.protocol.specs.Server.{ServerState}
 use Rattle.protocol.specs.ServerStep.{server_at, server_step, server_restarts, server_restart}
 use Rattle.protocol.specs.MasterStep.{master_step, master_restart}
 use Rattle.protocol.specs.ClientStep.{client_step, client_call}
-use Rattle.replica_store.specs.Replicas.{rotten_replica}
 use Rattle.protocol.specs.World.{WorldState, Happened, new_world, nothing_happens, after_master, after_server, after_client, happens, after_events}
 use Rattle.laws_base.proofs.Entries.{AllOf}
 use Rattle.laws_base.proofs.MembersRecorded.{kept_place, all_at}
-use Rattle.laws_steps.proofs.Events.{with_call, with_rot, HoldsAfter, holds_after}
+use Rattle.laws_steps.proofs.Events.{with_call, with_rot, rot_of, HoldsAfter, holds_after}
 use Rattle.laws_steps.proofs.Histories.{IsGrown, steps_grown, after_both}
 use Rattle.laws_steps.proofs.MasterTalks.{IsCopying, master_shown, restart_shown}
 use Rattle.laws_steps.proofs.ServerTalks.{step_said}
@@ -159,7 +158,7 @@ each_placed w T h =
       calls = λ e index moment s c choice at may.
           let x : Happened = after_client (with_call w index moment c) index moment (client_call s moment c choice) in
           subst (λ (orders : Table (List Placed)). AreAll (Next w x T) orders) (sym (same_orders _ (suc index) (client_call s moment c choice).out.answer)) (stays w x T w.observer.orders h);
-      rots = λ e index handle s r place byte is_kept at there up. stays w (with_rot w index handle s (rotten_replica r place byte) is_kept) T w.observer.orders h;
+      rots = λ e index handle s r place byte ending is_kept at there up. stays w (with_rot w index s (rot_of handle place byte) ending is_kept) T w.observer.orders h;
     }
 
 -- a list of events

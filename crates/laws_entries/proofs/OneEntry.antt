@@ -168,7 +168,7 @@ module _ (config : Config) (servers clients : ℕ) (steps : List (Event × Choic
             subst (λ (xs : List Seen). AreUnique (orders_after_all (observed_moment Now.config.skew_ms Now.observer moment).trace Now.observer.orders xs)) (sym (restarted_shown s moment choice choice.ending)) h;
         steps = λ e index moment s i choice at is up. subst AreUnique (sym (same_orders _ (suc index) (client_step s moment i choice).out.answer)) h;
         calls = λ e index moment s c choice at may. subst AreUnique (sym (same_orders _ (suc index) (client_call s moment c choice).out.answer)) h;
-        rots = λ e index handle s r place byte is_kept at there up. h;
+        rots = λ e index handle s r place byte ending is_kept at there up. h;
       }
 
 unique_after : (config : Config) (servers clients : ℕ) (before rest : List (Event × Choice)) → AreUnique (after_events (new_world config servers clients) before).observer.orders

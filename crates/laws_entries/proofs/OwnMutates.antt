@@ -124,7 +124,7 @@ each_owned w h =
             own = more_own w.sent k (client_call s moment c choice).out.sent h.own
                 (of_call (λ t ms. AllOf Owns ms) s moment c choice ((h.numbered).each index s at).named (λ d step. client_owns (client_at s moment) d d.sent step refl) tt);
           };
-      rots = λ e index handle s r place byte is_kept at there up. record { numbered = h.numbered; own = h.own };
+      rots = λ e index handle s r place byte ending is_kept at there up. record { numbered = h.numbered; own = h.own };
     }
 
 new_owned : (config : Config) (servers clients : ℕ) → IsOwned (new_world config servers clients)

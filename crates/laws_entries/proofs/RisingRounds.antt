@@ -234,7 +234,7 @@ module _ (Above : ℕ → ℕ → Message → Type 0) (AreAllAbove : ℕ → ℕ
             calls = λ e index moment s c choice at may.
                 subst (λ (orders : Table (List Placed)). AreAll (IsOfRound (w.sent ++ stamped (suc (length w.sent)) (client_call s moment c choice).out.sent)) orders) (sym (same_orders _ (suc index) (client_call s moment c choice).out.answer))
                 (stays (client_call s moment c choice).out.sent (λ handle place p at. premises.quiet handle p.entry.round (client_call s moment c choice).out.sent (quiet_orders (client_call s moment c choice).out.sent (call_quiet s moment c choice))));
-            rots = λ e index handle s x place byte is_kept at there up. h;
+            rots = λ e index handle s x place byte ending is_kept at there up. h;
           }
 
   abbrev AreRound : WorldState → Type 0
@@ -347,7 +347,7 @@ module _ (config : Config) (servers clients : ℕ) (w : WorldState) (r : IsReach
         calls = λ e index moment s c choice at may clocks.
             answered (observed_moment w.config.skew_ms (with_call w index moment c).observer moment) (suc index) (client_call s moment c choice).out.answer
             (λ both. h (clocks_were moment (and_parts (observed_moment w.config.skew_ms w.observer moment).are_clocks_kept (nat_le (observed_moment w.config.skew_ms w.observer moment).greatest (moment + w.config.skew_ms)) both).0)) clocks;
-        rots = λ e index handle s x place byte is_kept at there up. h;
+        rots = λ e index handle s x place byte ending is_kept at there up. h;
       }
 
 pub rounds_of_orders_rise : RoundsOfOrdersRise

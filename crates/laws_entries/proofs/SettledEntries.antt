@@ -21,12 +21,13 @@ use Rattle.messages.specs.declared.message.Body.TheVariants as body
 use Rattle.messages.specs.declared.message.Message.{Message}
 use Rattle.messages.specs.declared.message.Target.{Target}
 use Rattle.messages.specs.declared.message.Target.TheVariants as target
+use Rattle.laws_base.proofs.Rots.{rot_leases}
 use Rattle.record_append.specs.declared.placing.Placing.{Placing}
 use Rattle.record_append.specs.declared.placing.Placing.TheVariants.{At, Pad, Full, TooLong}
 use Rattle.record_append.specs.Placing.{placing}
 use Rattle.data_push.specs.Buffers.{data_of}
 use Rattle.replica_store.specs.declared.row.Row.{Row}
-use Rattle.replica_store.specs.Replicas.{new_server_disk, with_replica, rotten_replica, row_at}
+use Rattle.replica_store.specs.Replicas.{new_server_disk, row_at}
 use Rattle.primary_order.specs.PrimaryOrder.{place_of}
 use Rattle.primary_order.specs.SerialOrder.{SerialOrder, Attempted, IsNew, attempted, numbered, attempt_of}
 use Rattle.gfs_types.specs.Counters.{counter_limit}
@@ -43,12 +44,12 @@ use Rattle.protocol.specs.Server.{ServerState, ServerDoing, started_server, serv
 use Rattle.protocol.specs.ServerWrites.{refuses_attempt, places, appends_as, mutates_with, mutates_new, mutates_as, mutates_under}
 use Rattle.protocol.specs.ServerStep.{server_at, server_takes, server_goes, server_ends, server_step, server_restarts, server_restart}
 use Rattle.protocol.specs.MasterStep.{master_step, master_restart}
-use Rattle.protocol.specs.World.{WorldState, Happened, new_world, stamped, after_master, after_server, after_client, happens, after_events, IsReached}
+use Rattle.protocol.specs.World.{WorldState, Happened, new_world, stamped, after_master, after_server, after_client, happens, after_events, IsReached, after_rot}
 use Rattle.laws_base.proofs.Steps.{on_cond, none_some, same_some}
 use Rattle.laws_base.proofs.Entries.{AllOf}
 use Rattle.laws_base.proofs.RisingOrders.{set_cases}
 use Rattle.laws_base.proofs.MembersRecorded.{kept_place, all_at}
-use Rattle.laws_steps.proofs.Events.{IsGiven, with_call, with_rot, HoldsAfter, holds_after}
+use Rattle.laws_steps.proofs.Events.{IsGiven, with_call, with_rot, rot_of, HoldsAfter, holds_after}
 use Rattle.laws_steps.proofs.ClientNumbers.{IsSaid, IsStepOf, of_step, of_call}
 use Rattle.laws_steps.proofs.RequestsOnce.{AreNumbered, each_event, numbered_reached, later_cases}
 use Rattle.laws_steps.proofs.MasterTalks.{is_masters, MasterTalks, master_said, restart_said}
@@ -62,7 +63,7 @@ use Rattle.laws_entries.specs.WaitedRounds.{IsMutateOf, HasAskedFor}
 use Rattle.laws_entries.proofs.WaitedMutates.{waited_mutates_were_sent}
 use Rattle.laws_entries.specs.Successes.{IsNumberedAs, IsSettledAs}
 use Rattle.laws_entries.proofs.RightLeases.{IsCaused, right_on, caused_on}
-use Rattle.laws_entries.proofs.LeaseAnswers.{Since, AreRight, step_leaves, restart_right}
+use Rattle.laws_entries.proofs.LeaseAnswers.{Since, AreRight, step_leaves, restart_right, none_right}
 use Rattle.laws_entries.proofs.OrderWalk.{KeepsOrders, AreFit}
 use Rattle.laws_entries.proofs.SpentVersions.{IsSpent, none_fit, places_fit, each_spent, first_spent}
 use Rattle.laws_entries.proofs.SerialsOnce.{HasGiven, given_keeps, given_spent}
@@ -342,12 +343,13 @@ module _ (config : Config) (servers clients : ℕ) (w : WorldState) (r : IsReach
               told = more_told (K x.world) w.sent (suc (length w.sent)) (client_call s moment c choice).out.sent (told_on w h (K x.world) go)
                   (of_call (λ t ms. AllOf (λ m. IsCaused (K x.world) m.body) ms) s moment c choice ((h.numbered).each index s at).named (λ d step. client_causes (K x.world) (client_at s moment) d d.sent step refl) tt);
             };
-        rots = λ e index handle s d place byte is_kept at there up.
-            let x : Happened = with_rot w index handle s (rotten_replica d place byte) is_kept in
-            let go : GoesOn x = λ y f. (known y f).rots e index handle s d place byte is_kept at there up in
+        rots = λ e index handle s d place byte ending is_kept at there up.
+            let x : Happened = with_rot w index s (rot_of handle place byte) ending is_kept in
+            let go : GoesOn x = λ y f. (known y f).rots e index handle s d place byte ending is_kept at there up in
             record {
               numbered = h.numbered;
-              leases = one_server w h (K x.world) go index (record s { disk = with_replica s.disk handle (rotten_replica d place byte) }) (leases_on w h (K x.world) go index s at);
+              leases = one_server w h (K x.world) go index (after_rot s (rot_of handle place byte) ending)
+                  (rot_leases (λ ls. AreRight (K x.world) ls) s (rot_of handle place byte) ending (leases_on w h (K x.world) go index s at) (none_right (K x.world) (K x.world)));
               told = told_on w h (K x.world) go;
             };
       }
@@ -357,9 +359,9 @@ sound_on config servers clients w [] r h = h
 sound_on config servers clients w (step ∷ rest) r h =
     sound_on config servers clients (happens w step.0 step.1).world rest (reached_later config servers clients w (step ∷ []) r) (holds_after w (λ e x. IsToldTruly x.world) (each_sound config servers clients w r h) step.0 step.1)
 
-new_servers : (L : Seen → Type 0) (config : Config) (ns : List ℕ) (index : ℕ) (s : ServerState) → element_at (map (λ n. started_server config n (new_server_disk config.block) 0) ns) index ≡ Some s → AreRight L s.leases
+new_servers : (L : Seen → Type 0) (config : Config) (ns : List ℕ) (index : ℕ) (s : ServerState) → element_at (map (λ n. started_server config n (new_server_disk config.chunk config.block config.slots) 0) ns) index ≡ Some s → AreRight L s.leases
 new_servers L config [] index s is = none_some s is
-new_servers L config (n ∷ ns) zero s is = subst (λ (x : ServerState). AreRight L x.leases) (same_some (started_server config n (new_server_disk config.block) 0) s is) (λ q p at. none_some p (sym (table.get-empty nat_cmp q) ∙ at))
+new_servers L config (n ∷ ns) zero s is = subst (λ (x : ServerState). AreRight L x.leases) (same_some (started_server config n (new_server_disk config.chunk config.block config.slots) 0) s is) (λ q p at. none_some p (sym (table.get-empty nat_cmp q) ∙ at))
 new_servers L config (n ∷ ns) (suc index) s is = new_servers L config ns index s is
 
 new_sound : (config : Config) (servers clients : ℕ) → IsToldTruly (new_world config servers clients)

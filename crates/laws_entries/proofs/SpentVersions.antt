@@ -23,6 +23,7 @@ use Rattle.messages.specs.declared.event.Event.{Event}
 use Rattle.messages.specs.declared.event.Event.TheVariants as event
 use Rattle.messages.specs.declared.event.NodeInput.{NodeInput}
 use Rattle.messages.specs.declared.event.NodeInput.TheVariants as input
+use Rattle.laws_base.proofs.Rots.{rot_leases}
 use Rattle.record_append.specs.declared.placing.Placing.{Placing}
 use Rattle.record_append.specs.declared.placing.Placing.TheVariants.{At, Pad, Full, TooLong}
 use Rattle.record_append.specs.Placing.{placing}
@@ -43,15 +44,15 @@ use Rattle.protocol.specs.ServerWrites.{refuses_attempt, forwards, change_of, st
 use Rattle.protocol.specs.ServerStep.{server_at, server_takes, server_goes, server_ends, server_step, server_restarts, server_restart}
 use Rattle.protocol.specs.MasterStep.{master_step, master_restart}
 use Rattle.protocol.specs.ClientStep.{client_step, client_call}
-use Rattle.protocol.specs.World.{WorldState, stamped, after_server, happens, after_events, IsReached}
+use Rattle.protocol.specs.World.{WorldState, stamped, after_server, happens, after_events, IsReached, after_rot}
 use Rattle.laws_base.proofs.LeaseOrders.{SaysGrant, named_grant, grant_number}
 use Rattle.laws_base.proofs.Steps.{on_cond, none_some, same_some, gone_there}
 use Rattle.laws_base.proofs.MembersRecorded.{kept_place}
-use Rattle.laws_base.proofs.RisingOrders.{Later, element_numbered, step_goes_on, restarts_as}
+use Rattle.laws_base.proofs.RisingOrders.{Later, element_numbered, step_goes_on, restarts_as, rot_goes_on}
 use Rattle.laws_base.proofs.GrantsOnce.{versions_are_granted_once}
 use Rattle.laws_base.proofs.ScenesReached.{scene_reached}
 use Rattle.laws_base.proofs.LeasesTold.{IsStaleAt, stale_later, new_not_stale, IsToldLease, IsToldServer, AreTold, told_kept, same_grant, granting, server_numbers, versions_have_one_primary}
-use Rattle.laws_steps.proofs.Events.{IsGiven, HoldsAfter, holds_after}
+use Rattle.laws_steps.proofs.Events.{IsGiven, HoldsAfter, holds_after, rot_of}
 use Rattle.laws_steps.proofs.LeasesStayOver.{reached_later}
 use Rattle.laws_entries.specs.Entries.{IsAskedFor}
 use Rattle.laws_entries.proofs.KnownNumbers.{primary_there}
@@ -290,7 +291,7 @@ module _ (P : SerialOrder → Type 0) (k : KeepsOrders P) (config : Config) (ser
               (restarts_on s moment choice choice.ending) h;
           steps = λ e index moment s i choice at is up. sent_more w _ (stamped (suc (length w.sent)) (client_step s moment i choice).out.sent) refl refl h;
           calls = λ e index moment s c choice at may. sent_more w _ (stamped (suc (length w.sent)) (client_call s moment c choice).out.sent) refl refl h;
-          rots = λ e index q s x place byte is_kept at there up. record {
+          rots = λ e index q s x place byte ending is_kept at there up. record {
             server = h.server;
             place = h.place;
             grant = h.grant;
@@ -300,12 +301,13 @@ module _ (P : SerialOrder → Type 0) (k : KeepsOrders P) (config : Config) (ser
             at = h.at;
             receiver = h.receiver;
             is = h.is;
-            taken = λ y is. elim (set_split w.servers index _ h.server y is) [
-              | inl both ↦ subst (λ (z : ServerState). IsStaleAt z.disk h.order) (sym both.1) (h.taken s (ap (λ (n : ℕ). element_at w.servers n) both.0 ∙ at))
+            taken = λ y is. elim (set_split w.servers index (after_rot s (rot_of q place byte) ending) h.server y is) [
+              | inl both ↦ subst (λ (z : ServerState). IsStaleAt z.disk h.order) (sym both.1)
+                  (stale_later s.disk (after_rot s (rot_of q place byte) ending).disk h.order (rot_goes_on s (rot_of q place byte) ending tt (told_server index s at).sound up).later (h.taken s (ap (λ (n : ℕ). element_at w.servers n) both.0 ∙ at)))
               | inr before ↦ h.taken y before.1
             ];
-            fit = λ other y is. elim (set_split w.servers index _ other y is) [
-              | inl both ↦ subst (λ (z : ServerState). AreFit P handle version z.leases) (sym both.1) (h.fit index s at)
+            fit = λ other y is. elim (set_split w.servers index (after_rot s (rot_of q place byte) ending) other y is) [
+              | inl both ↦ subst (λ (z : ServerState). AreFit P handle version z.leases) (sym both.1) (rot_leases (λ ls. AreFit P handle version ls) s (rot_of q place byte) ending (h.fit index s at) (none_fit P handle version))
               | inr before ↦ h.fit other y before.1
             ];
           };

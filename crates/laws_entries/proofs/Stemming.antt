@@ -20,6 +20,7 @@ use Rattle.messages.specs.declared.event.Event.{Event}
 use Rattle.messages.specs.declared.event.Event.TheVariants as event
 use Rattle.messages.specs.declared.event.NodeInput.{NodeInput}
 use Rattle.messages.specs.declared.event.NodeInput.TheVariants as input
+use Rattle.laws_base.proofs.Rots.{rot_by}
 use Rattle.data_push.specs.Buffers.{same_id}
 use Rattle.leases.specs.LeaseHeld.{counts_at}
 use Rattle.primary_order.specs.SerialOrder.{SerialOrder}
@@ -28,19 +29,19 @@ use Rattle.protocol.specs.Sending.{data_id, version_of, the_server, the_client}
 use Rattle.protocol.specs.Choice.{Choice, Ending, Goes, Lost, Stops}
 use Rattle.protocol.specs.declared.seen.Seen.{Seen}
 use Rattle.protocol.specs.declared.seen.Seen.TheVariants.{Numbered}
-use Rattle.replica_store.specs.Replicas.{new_server_disk, with_replica}
+use Rattle.replica_store.specs.Replicas.{new_server_disk}
 use Rattle.protocol.specs.Client.{ClientState, ClientDoing}
 use Rattle.protocol.specs.ClientStep.{client_at, client_step, client_call}
 use Rattle.protocol.specs.Server.{ServerState, started_server, counting_primary, primary_of}
 use Rattle.protocol.specs.ServerStep.{server_at, server_step, server_restarts, server_restart}
 use Rattle.protocol.specs.MasterStep.{master_step, master_restart}
-use Rattle.protocol.specs.World.{WorldState, stamped, new_world}
+use Rattle.protocol.specs.World.{WorldState, stamped, new_world, after_rot}
 use Rattle.laws_base.proofs.Steps.{none_some, same_some}
 use Rattle.laws_base.proofs.Entries.{AllOf}
 use Rattle.laws_base.proofs.RisingOrders.{set_cases, element_numbered}
 use Rattle.laws_base.proofs.MembersRecorded.{all_at}
 use Rattle.laws_base.proofs.MessagesSent.{IsSent, sent_before, sent_after}
-use Rattle.laws_steps.proofs.Events.{IsGiven, HoldsAfter, world_reached}
+use Rattle.laws_steps.proofs.Events.{IsGiven, HoldsAfter, world_reached, rot_of}
 use Rattle.laws_steps.proofs.ClientNumbers.{IsSaid, IsStepOf, of_step, of_call}
 use Rattle.laws_steps.proofs.RequestsOnce.{AreNumbered, each_event, numbered_reached, later_cases}
 use Rattle.laws_steps.proofs.MasterTalks.{is_masters, MasterTalks, master_said, restart_said}
@@ -273,20 +274,20 @@ each_stemmed w h =
                 (of_call (λ t xs. AllOf (λ m. IsStemmed (w.sent ++ stamped k xs) m.sender m.body) xs) s moment c choice (h.numbered.each index s at).named (λ d step. client_stems w.sent k (client_at s moment) d d.sent step refl) tt);
             kept = others_keep w (stamped k ms) h;
           };
-      rots = λ e index handle s r place byte is_kept at there up. record {
+      rots = λ e index handle s r place byte ending is_kept at there up. record {
         numbered = h.numbered;
         stems = h.stems;
         kept = λ other u is.
-            elim (set_cases w.servers index (record s { disk = with_replica s.disk handle _ }) other u is) [
-              | inl both ↦ subst (λ (x : ServerState). AllOf (IsPair w.sent) x.pushed.entries) (sym both.1) (h.kept index s at)
+            elim (set_cases w.servers index (after_rot s (rot_of handle place byte) ending) other u is) [
+              | inl both ↦ subst (λ (x : ServerState). AllOf (IsPair w.sent) x.pushed.entries) (sym both.1) (rot_by (λ t. AllOf (IsPair w.sent) t.pushed.entries) s (rot_of handle place byte) ending (h.kept index s at) (λ d xs. tt))
               | inr before ↦ h.kept other u before
             ];
       };
     }
 
-new_servers : (config : Config) (ns : List ℕ) (index : ℕ) (s : ServerState) → element_at (map (λ n. started_server config n (new_server_disk config.block) 0) ns) index ≡ Some s → AllOf (IsPair []) s.pushed.entries
+new_servers : (config : Config) (ns : List ℕ) (index : ℕ) (s : ServerState) → element_at (map (λ n. started_server config n (new_server_disk config.chunk config.block config.slots) 0) ns) index ≡ Some s → AllOf (IsPair []) s.pushed.entries
 new_servers config [] index s is = none_some s is
-new_servers config (n ∷ ns) zero s is = subst (λ (x : ServerState). AllOf (IsPair []) x.pushed.entries) (same_some (started_server config n (new_server_disk config.block) 0) s is) tt
+new_servers config (n ∷ ns) zero s is = subst (λ (x : ServerState). AllOf (IsPair []) x.pushed.entries) (same_some (started_server config n (new_server_disk config.chunk config.block config.slots) 0) s is) tt
 new_servers config (n ∷ ns) (suc index) s is = new_servers config ns index s is
 
 new_stemmed : (config : Config) (servers clients : ℕ) → AreStemmed (new_world config servers clients)

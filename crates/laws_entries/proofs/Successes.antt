@@ -13,18 +13,18 @@ use Rattle.messages.specs.declared.message.Message.{Message}
 use Rattle.protocol.specs.Tables.{element_at, with_at, first_numbers}
 use Rattle.protocol.specs.Choice.{Choice, Ending, Goes, Lost, Stops}
 use Rattle.protocol.specs.declared.seen.Seen.{Seen}
-use Rattle.replica_store.specs.Replicas.{new_server_disk, with_replica, rotten_replica}
+use Rattle.replica_store.specs.Replicas.{new_server_disk}
 use Rattle.protocol.specs.Client.{ClientState, ClientDoing}
 use Rattle.protocol.specs.ClientStep.{client_at, client_step, client_call}
 use Rattle.protocol.specs.Server.{ServerState, started_server}
 use Rattle.protocol.specs.ServerStep.{server_step, server_restarts, server_restart}
 use Rattle.protocol.specs.MasterStep.{master_step, master_restart}
-use Rattle.protocol.specs.World.{WorldState, Happened, new_world, stamped, nothing_happens, after_master, after_server, after_client, happens, after_events}
+use Rattle.protocol.specs.World.{WorldState, Happened, new_world, stamped, nothing_happens, after_master, after_server, after_client, happens, after_events, after_rot}
 use Rattle.laws_base.proofs.Steps.{none_some, same_some}
 use Rattle.laws_base.proofs.Entries.{AllOf}
 use Rattle.laws_base.proofs.RisingOrders.{set_cases}
 use Rattle.laws_base.proofs.MembersRecorded.{all_at}
-use Rattle.laws_steps.proofs.Events.{with_call, with_rot, HoldsAfter, holds_after}
+use Rattle.laws_steps.proofs.Events.{with_call, with_rot, rot_of, HoldsAfter, holds_after}
 use Rattle.laws_steps.proofs.ClientNumbers.{IsSaid, IsStepOf, of_step, of_call}
 use Rattle.laws_steps.proofs.RequestsOnce.{AreNumbered, each_event, numbered_reached, later_cases}
 use Rattle.laws_steps.proofs.MasterTalks.{is_masters, MasterTalks, master_said, restart_said}
@@ -32,7 +32,8 @@ use Rattle.laws_entries.proofs.Stemming.{came_in}
 use Rattle.laws_entries.proofs.Numbering.{came_first, came_later}
 use Rattle.laws_entries.specs.Successes.{IsShownNow, WasShown, SuccessesWereSettled}
 use Rattle.laws_entries.proofs.RightLeases.{IsCaused, right_on, caused_on, settled_on}
-use Rattle.laws_entries.proofs.LeaseAnswers.{Since, AreRight, step_leaves, restart_right}
+use Rattle.laws_entries.proofs.LeaseAnswers.{Since, AreRight, step_leaves, restart_right, none_right}
+use Rattle.laws_base.proofs.Rots.{rot_leases}
 
 all_on : (P Q : Message → Type 0) → ((m : Message) → P m → Q m) → (ms : List Message) → AllOf P ms → AllOf Q ms
 all_on P Q go [] h = tt
@@ -169,11 +170,11 @@ each_sound w K h =
             told = more_told (Next w x K) w.sent k (client_call s moment c choice).out.sent (told_on w K h x)
                 (of_call (λ t ms. AllOf (λ m. IsCaused (Next w x K) m.body) ms) s moment c choice ((h.numbered).each index s at).named (λ d step. client_causes (Next w x K) (client_at s moment) d d.sent step refl) tt);
           };
-      rots = λ e index handle s r place byte is_kept at there up.
-          let x : Happened = with_rot w index handle s (rotten_replica r place byte) is_kept in
+      rots = λ e index handle s r place byte ending is_kept at there up.
+          let x : Happened = with_rot w index s (rot_of handle place byte) ending is_kept in
           record {
             numbered = h.numbered;
-            leases = one_server w K h x index (record s { disk = with_replica s.disk handle (rotten_replica r place byte) }) (leases_on w K h x index s at);
+            leases = one_server w K h x index (after_rot s (rot_of handle place byte) ending) (rot_leases (λ ls. AreRight (Next w x K) ls) s (rot_of handle place byte) ending (leases_on w K h x index s at) (none_right (Next w x K) (Next w x K)));
             told = told_on w K h x;
           };
     }
@@ -207,10 +208,10 @@ all_later w (step ∷ rest) K h =
 abbrev Never : Seen → Type 0
 Never y = ⊥
 
-new_servers : (config : Config) (ns : List ℕ) (index : ℕ) (s : ServerState) → element_at (map (λ n. started_server config n (new_server_disk config.block) 0) ns) index ≡ Some s → AreRight Never s.leases
+new_servers : (config : Config) (ns : List ℕ) (index : ℕ) (s : ServerState) → element_at (map (λ n. started_server config n (new_server_disk config.chunk config.block config.slots) 0) ns) index ≡ Some s → AreRight Never s.leases
 new_servers config [] index s is = none_some s is
 new_servers config (n ∷ ns) zero s is =
-    subst (λ (x : ServerState). AreRight Never x.leases) (same_some (started_server config n (new_server_disk config.block) 0) s is) (λ q p at. none_some p (sym (table.get-empty nat_cmp q) ∙ at))
+    subst (λ (x : ServerState). AreRight Never x.leases) (same_some (started_server config n (new_server_disk config.chunk config.block config.slots) 0) s is) (λ q p at. none_some p (sym (table.get-empty nat_cmp q) ∙ at))
 new_servers config (n ∷ ns) (suc index) s is = new_servers config ns index s is
 
 new_sound : (config : Config) (servers clients : ℕ) → IsToldTruly Never (new_world config servers clients)

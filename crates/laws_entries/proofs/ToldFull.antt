@@ -17,8 +17,9 @@ use Rattle.messages.specs.declared.message.Body.{Body}
 use Rattle.messages.specs.declared.message.Body.TheVariants as body
 use Rattle.messages.specs.declared.message.Message.{Message}
 use Rattle.messages.specs.declared.message.Target.{Target}
+use Rattle.laws_base.proofs.Rots.{rot_leases}
 use Rattle.primary_order.specs.SerialOrder.{SerialOrder, IsNew, attempted}
-use Rattle.replica_store.specs.Replicas.{new_server_disk, with_replica, rotten_replica}
+use Rattle.replica_store.specs.Replicas.{new_server_disk}
 use Rattle.protocol.specs.Tables.{element_at, with_at, first_numbers}
 use Rattle.protocol.specs.Sending.{version_of, serial_of}
 use Rattle.protocol.specs.Choice.{Choice}
@@ -28,12 +29,12 @@ use Rattle.protocol.specs.Server.{ServerState, ServerDoing, started_server, serv
 use Rattle.protocol.specs.ServerWrites.{mutates_under}
 use Rattle.protocol.specs.ServerStep.{server_at, server_takes, server_goes, server_step, server_restart}
 use Rattle.protocol.specs.MasterStep.{master_step, master_restart}
-use Rattle.protocol.specs.World.{WorldState, Happened, new_world, stamped, after_master, after_server, after_client, happens, after_events, IsReached}
+use Rattle.protocol.specs.World.{WorldState, Happened, new_world, stamped, after_master, after_server, after_client, happens, after_events, IsReached, after_rot}
 use Rattle.laws_base.proofs.Steps.{none_some, same_some}
 use Rattle.laws_base.proofs.Entries.{AllOf}
 use Rattle.laws_base.proofs.RisingOrders.{set_cases}
 use Rattle.laws_base.proofs.MembersRecorded.{all_at}
-use Rattle.laws_steps.proofs.Events.{HoldsAfter, holds_after, with_call, with_rot}
+use Rattle.laws_steps.proofs.Events.{HoldsAfter, holds_after, with_call, with_rot, rot_of}
 use Rattle.laws_steps.proofs.ClientNumbers.{IsSaid, IsStepOf, of_step, of_call}
 use Rattle.laws_steps.proofs.RequestsOnce.{AreNumbered, numbered_reached, later_cases}
 use Rattle.laws_steps.proofs.MasterTalks.{is_masters, MasterTalks, master_said, restart_said}
@@ -187,9 +188,9 @@ module _ (config : Config) (servers clients : ℕ) (F : DataId → Type 0) (w : 
               told = more_told (Then x) w.sent k (client_call s moment c choice).out.sent (told_then x)
                   (of_call (λ t ms. AllOf (Causes (Then x)) ms) s moment c choice (numbered.each index s at).named (λ d step. client_causes (Then x) (client_at s moment) d d.sent step refl) tt);
             };
-        rots = λ e index handle s d place byte is_kept at there up.
-            let x : Happened = with_rot w index handle s (rotten_replica d place byte) is_kept in
-            record { leases = one_server x index (record s { disk = with_replica s.disk handle (rotten_replica d place byte) }) (leases_then x index s at); told = told_then x };
+        rots = λ e index handle s d place byte ending is_kept at there up.
+            let x : Happened = with_rot w index s (rot_of handle place byte) ending is_kept in
+            record { leases = one_server x index (after_rot s (rot_of handle place byte) ending) (rot_leases (λ ls. AreRight (Then x) ls) s (rot_of handle place byte) ending (leases_then x index s at) (none_right (Then x))); told = told_then x };
       }
 
 -- a list of events
@@ -209,9 +210,9 @@ all_since config servers clients F w (step ∷ rest) r h =
     (all_since config servers clients (λ id. F id ⊎ IsFullNow w x id) x.world rest (reached_later config servers clients w (step ∷ []) r)
     (holds_after w (λ e y. IsToldTruly (λ id. F id ⊎ IsFullNow w y id) y.world) (each_sound config servers clients F w r h) step.0 step.1))
 
-new_servers : (F : DataId → Type 0) (config : Config) (ns : List ℕ) (index : ℕ) (s : ServerState) → element_at (map (λ n. started_server config n (new_server_disk config.block) 0) ns) index ≡ Some s → AreRight F s.leases
+new_servers : (F : DataId → Type 0) (config : Config) (ns : List ℕ) (index : ℕ) (s : ServerState) → element_at (map (λ n. started_server config n (new_server_disk config.chunk config.block config.slots) 0) ns) index ≡ Some s → AreRight F s.leases
 new_servers F config [] index s is = none_some s is
-new_servers F config (n ∷ ns) zero s is = subst (λ (x : ServerState). AreRight F x.leases) (same_some (started_server config n (new_server_disk config.block) 0) s is) (none_right F)
+new_servers F config (n ∷ ns) zero s is = subst (λ (x : ServerState). AreRight F x.leases) (same_some (started_server config n (new_server_disk config.chunk config.block config.slots) 0) s is) (none_right F)
 new_servers F config (n ∷ ns) (suc index) s is = new_servers F config ns index s is
 
 abbrev Never : DataId → Type 0

@@ -205,7 +205,7 @@ on_event w h =
       restarts = λ e index moment s choice at. record { numbered = n.restarts e index moment s choice at; asked = more_sent w.sent (stamped k (server_restart s moment choice).out.sent) w.clients h.asked };
       steps = λ e index moment s i choice at is up. record { numbered = n.steps e index moment s i choice at is up; asked = step_left w.sent k index w.clients s at (h.numbered.each index s at).id h.asked moment i choice };
       calls = λ e index moment s c choice at may. record { numbered = n.calls e index moment s c choice at may; asked = call_left w.sent k index w.clients s at (h.numbered.each index s at).id h.asked moment c choice };
-      rots = λ e index handle s r place byte is_kept at there up. record { numbered = h.numbered; asked = h.asked };
+      rots = λ e index handle s r place byte ending is_kept at there up. record { numbered = h.numbered; asked = h.asked };
     }
 
 -- a new world

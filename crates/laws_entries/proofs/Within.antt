@@ -1,5 +1,5 @@
 -- Each entry was numbered in a step, by a replica within the chunk.
-use Rattle.std.proofs.Common.{◌≡◌, ℕ, min, List, ◌∷◌, length, Some, refl, sym, ap, subst, ◌∙◌}
+use Rattle.std.proofs.Common.{◌≡◌, ℕ, min, List, ◌∷◌, Some, refl, sym, ap, subst, ◌∙◌}
 use Rattle.gfs_types.specs.declared.mutation.Mutation.{Mutation}
 use Rattle.gfs_types.specs.declared.mutation.Mutation.TheVariants.{Write, Append, Pad}
 use Rattle.messages.specs.declared.event.Event.{Event}
@@ -37,7 +37,7 @@ entry_sized config servers clients steps handle place p at = (
   granted,
   subst (λ (m : Mutation). LiesWithin (min by.lease.chunk config.chunk) m) (sym (ap (λ (q : Placed). q.entry.mutation) now.entry_is))
       (within (min by.lease.chunk config.chunk) _ by.bytes (now.numbers).placed
-      (subst (λ (c : Config). IsPlacedBehind (min by.lease.chunk c.chunk) (length by.replica.bytes) by.bytes (now.numbers).placed) (servers_within config servers clients v (before, refl) now.index now.server (now.numbers).is).set by.placed)),
+      (subst (λ (c : Config). IsPlacedBehind (min by.lease.chunk c.chunk) by.replica.count by.bytes (now.numbers).placed) (servers_within config servers clients v (before, refl) now.index now.server (now.numbers).is).set by.placed)),
   subst (λ (q : ℕ). IsSource (WasCopied (new_world config servers clients) steps) q handle) (sym now.handle_is) was.2,
 )
   where

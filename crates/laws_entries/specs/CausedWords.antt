@@ -1,5 +1,5 @@
 -- Laws of every lawful list of events on what servers say of mutations, that public functions of this crate state.
-use Rattle.std.specs.Prelude.{◌≡◌, ℕ, List, length, Some}
+use Rattle.std.specs.Prelude.{◌≡◌, ℕ, List, Some}
 use Rattle.gfs_types.specs.declared.config.Config.{Config}
 use Rattle.gfs_types.specs.declared.ids.DataId.{DataId}
 use Rattle.gfs_types.specs.declared.ids.Handle.{Handle}
@@ -48,4 +48,4 @@ abbrev pub ImagesAreOfReplicas : Type 0
 ImagesAreOfReplicas =
     (s : ServerState) (moment : ℕ) (i : NodeInput) (choice : Choice) (place : ℕ) (m : Message) → element_at (server_step s moment i choice).out.sent place ≡ Some m
     → (handle : Handle) (version : Version) (serial : Serial) (bytes : List ℕ) → m.body ≡ body.Image handle version serial bytes
-    → (r : Replica) × (replica_of s.disk handle.0 ≡ Some r) × (r.version ≡ version.0) × (r.serial ≡ serial.0) × (read_at s.disk handle.0 0 (length r.bytes) ≡ Some bytes)
+    → (r : Replica) × (replica_of s.disk handle.0 ≡ Some r) × (r.version ≡ version.0) × (r.serial ≡ serial.0) × (read_at s.disk handle.0 0 r.count ≡ Some bytes)

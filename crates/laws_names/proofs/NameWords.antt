@@ -185,7 +185,7 @@ words_reached config servers clients =
       calls = λ e index moment s c choice at may.
           more_words w.sent k (client_call s moment c choice).out.sent h
           (of_call (Says config servers clients w r) s moment c choice (numbered.each index s at).named (λ d step. client_words config servers clients w r (client_at s moment) d step) (λ place x none. none_some x none));
-      rots = λ e index handle s r place byte is_kept at there up. h;
+      rots = λ e index handle s r place byte ending is_kept at there up. h;
     })
     (λ place x none. none_some x none)
 

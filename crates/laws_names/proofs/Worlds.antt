@@ -253,7 +253,7 @@ module _ (config : Config) (servers clients : ℕ) where
           calls = λ e index moment s c choice at may.
               let both = first_of s.up (is_none s.current) (has_room_to_count s) may in
               call_on index s both.0 at moment c choice (none_current s.current both.1);
-          rots = λ e index handle s q place byte is_kept at there up. on;
+          rots = λ e index handle s q place byte ending is_kept at there up. on;
         }
 
   pub beside_reached : (w : WorldState) → IsReached config servers clients w → IsOn w

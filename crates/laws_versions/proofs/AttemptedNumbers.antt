@@ -465,7 +465,7 @@ module _ (config : Config) (servers clients : ℕ) (w : WorldState) (r : IsReach
         restarts = λ e index moment s choice at. h;
         steps = λ e index moment s i choice at is up. h;
         calls = λ e index moment s c choice at may. h;
-        rots = λ e index handle s x place byte is_kept at there up. h;
+        rots = λ e index handle s x place byte ending is_kept at there up. h;
       }
 
 pub attempts_are_of_the_last_version : AttemptsAreOfTheLastVersion

@@ -288,7 +288,7 @@ module _ (handle version : ℕ) where
             record { base = base.serves x k index moment s i choice now at is up h.base; shut = quiet_shut count x.sent (server_step s moment i choice).out.sent k x.master (server_quiet s moment i choice) h.shut };
         restarts = λ x k index moment s choice now at h.
             record { base = base.restarts x k index moment s choice now at h.base; shut = quiet_shut count x.sent (server_restart s moment choice).out.sent k x.master (server_restarts_quiet s moment choice choice.ending) h.shut };
-        rots = λ x index q s r at up h. record { base = h.base; shut = h.shut };
+        rots = λ x index c s e is at up h. record { base = h.base; shut = h.shut };
       }
 
   -- the log of a master that is up says the same of the chunk
@@ -312,7 +312,7 @@ clocks_before w steps clocks = goes_on (λ x. IsTrue x.are_clocks_kept → IsTru
       opens = λ x k moment choice now h. h;
       serves = λ x k index moment s i choice now at is up h. h;
       restarts = λ x k index moment s choice now at h. h;
-      rots = λ x index q s r at up h. h;
+      rots = λ x index c s e is at up h. h;
     }) w steps (λ h. h) clocks
 
 pub closed_versions_stay_closed : ClosedVersionsStayClosed

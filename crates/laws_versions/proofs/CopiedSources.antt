@@ -212,7 +212,7 @@ module _ (config : Config) (servers clients : ℕ) (w : WorldState) (r : IsReach
         restarts = λ e index moment s choice at. h;
         steps = λ e index moment s i choice at is up. h;
         calls = λ e index moment s c choice at may. h;
-        rots = λ e index handle s x place byte is_kept at there up. h;
+        rots = λ e index handle s x place byte ending is_kept at there up. h;
       }
 
 free_on : (config : Config) (servers clients : ℕ) (w : WorldState) → IsReached config servers clients w → (IsTrue w.observer.are_clocks_kept → IsFreeHere w.master) → (steps : List (Event × Choice)) → IsTrue (after_events w steps).observer.are_clocks_kept

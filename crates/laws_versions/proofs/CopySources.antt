@@ -207,7 +207,7 @@ copies_known w =
           inl (quiet_known w.sent k (client_step s moment i choice).out.sent handle version (quiet_orders (client_step s moment i choice).out.sent (client_quiet s moment i choice)) g);
       calls = λ e index moment s c choice at may handle version g.
           inl (quiet_known w.sent k (client_call s moment c choice).out.sent handle version (quiet_orders (client_call s moment c choice).out.sent (call_quiet s moment c choice)) g);
-      rots = λ e index handle s x place byte is_kept at there up q v g. inl g;
+      rots = λ e index handle s x place byte ending is_kept at there up q v g. inl g;
     }
 
 -- a source is closed: it was issued, and its chunk has no attempt and no lease

@@ -163,7 +163,7 @@ each_due config servers clients u r =
           none_new u.sent (client_step s moment i choice).out.sent k place m (quiet_ends (client_step s moment i choice).out.sent (client_quiet s moment i choice)) from at handle version is;
       calls = λ e index moment s c choice there may place m from at handle version is.
           none_new u.sent (client_call s moment c choice).out.sent k place m (quiet_ends (client_call s moment c choice).out.sent (call_quiet s moment c choice)) from at handle version is;
-      rots = λ e index q s x at_place byte is_kept there held up place m from at handle version is. none_before u.sent place m from at;
+      rots = λ e index q s x at_place byte ending is_kept there held up place m from at handle version is. none_before u.sent place m from at;
     }
 
 -- the step of the list in which an Extend was sent

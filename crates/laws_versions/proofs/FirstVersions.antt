@@ -217,7 +217,7 @@ module _ (config : Config) (servers clients : ℕ) where
             none_new u.sent (client_step s moment i choice).out.sent k place m (quiet_orders (client_step s moment i choice).out.sent (client_quiet s moment i choice)) from at handle version is;
         calls = λ e index moment s c choice there may later place m from at handle version is.
             none_new u.sent (client_call s moment c choice).out.sent k place m (quiet_orders (client_call s moment c choice).out.sent (call_quiet s moment c choice)) from at handle version is;
-        rots = λ e index q s x at_place byte is_kept there held up later place m from at handle version is. none_before u.sent place m from at;
+        rots = λ e index q s x at_place byte ending is_kept there held up later place m from at handle version is. none_before u.sent place m from at;
       }
 
 never_granted : (config : Config) (servers clients : ℕ) (w : WorldState) → IsReached config servers clients w → (place : ℕ) (m : Message) → element_at w.sent place ≡ Some m → (handle version : ℕ) → version_made m.body ≡ Some (handle, version)

@@ -496,7 +496,7 @@ module _ (S L : Logged → Type 0) (keeps : KeepsFiles S L) where
         restarts = λ e at moment s choice there. h;
         steps = λ e at moment s i choice there is up. h;
         calls = λ e at moment s c choice there may. h;
-        rots = λ e at q s x place byte is_kept there held up. h;
+        rots = λ e at q s x place byte ending is_kept there held up. h;
       }
 
   pub filed_on : (config : Config) (servers clients : ℕ) (w : WorldState) (steps : List (Event × Choice)) → IsReached config servers clients w → AreFiled w.master → AreFiled (after_events w steps).master

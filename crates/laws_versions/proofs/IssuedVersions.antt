@@ -253,12 +253,12 @@ issued_kept =
             (λ handle version over. ((stays_over handle version (grants_of handle version x.sent)).restarts x k index moment s choice now at (stay x h.base h.set handle version over)).over clocks
             (quiet_sent x.sent k (server_restart s moment choice).out.sent handle version (server_restarts_quiet s moment choice choice.ending))) (h.over clocks);
       };
-      rots = λ x index q s r at up h. record {
-        base = times_kept.rots x index q s r at up h.base;
-        set = settings_kept.rots x index q s r at up h.set;
-        waits = waiting.rots x index q s r at up h.waits;
+      rots = λ x index c s e is at up h. record {
+        base = times_kept.rots x index c s e is at up h.base;
+        set = settings_kept.rots x index c s e is at up h.set;
+        waits = waiting.rots x index c s e is at up h.waits;
         over = λ clocks. issued_stay (IsOverIn x) _ x.master
-            (λ handle version over. ((stays_over handle version (grants_of handle version x.sent)).rots x index q s r at up (stay x h.base h.set handle version over)).over clocks (omega arith)) (h.over clocks);
+            (λ handle version over. ((stays_over handle version (grants_of handle version x.sent)).rots x index c s e is at up (stay x h.base h.set handle version over)).over clocks (omega arith)) (h.over clocks);
       };
     }
 

@@ -550,7 +550,7 @@ words_kept =
           record { base = revoked_kept.serves x k index moment s i choice now at is up h.base; said = still_said x.sent (server_step s moment i choice).out.sent k x.master (server_tells s moment i choice) h.said };
       restarts = λ x k index moment s choice now at h.
           record { base = revoked_kept.restarts x k index moment s choice now at h.base; said = still_said x.sent (server_restart s moment choice).out.sent k x.master (restarts_tell s moment choice choice.ending) h.said };
-      rots = λ x index handle s r at up h. record { base = revoked_kept.rots x index handle s r at up h.base; said = h.said };
+      rots = λ x index c s e is at up h. record { base = revoked_kept.rots x index c s e is at up h.base; said = h.said };
     }
 
 pub leases_are_said_to_one_server : LeasesAreSaidToOneServer

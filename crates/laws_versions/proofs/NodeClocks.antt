@@ -12,9 +12,10 @@ use Rattle.protocol.specs.Server.{ServerState, started_server}
 use Rattle.protocol.specs.ServerStep.{server_step, server_restarts}
 use Rattle.protocol.specs.Client.{ClientState, new_client}
 use Rattle.protocol.specs.ClientStep.{client_step, client_call}
-use Rattle.protocol.specs.World.{WorldState, new_world}
+use Rattle.protocol.specs.World.{WorldState, new_world, after_rot}
 use Rattle.laws_base.proofs.Steps.{none_some, same_some}
 use Rattle.laws_base.proofs.RisingOrders.{set_cases}
+use Rattle.laws_base.proofs.Rots.{rot_now}
 use Rattle.laws_base.proofs.LeasesTold.{numbered_from}
 use Rattle.laws_base.proofs.MasterClock.{master_in_time}
 use Rattle.laws_base.proofs.ScenesReached.{Scene, IsKeptByScenes, scene_reached}
@@ -41,7 +42,7 @@ servers_kept : IsKeptByScenes AreServersIn
 servers_kept =
     record {
       new = λ config servers clients index s is.
-          at_most s (started_server config (suc index) (new_server_disk config.block) 0) 0 (numbered_from (λ n. started_server config n (new_server_disk config.block) 0) servers index s is) (omega arith);
+          at_most s (started_server config (suc index) (new_server_disk config.chunk config.block config.slots) 0) 0 (numbered_from (λ n. started_server config n (new_server_disk config.chunk config.block config.slots) 0) servers index s is) (omega arith);
       passes = λ x moment h index s is. let early = h index s is in let later = le-max_left x.greatest moment in omega (arith, early, later);
       says = λ x k ms quiet h. h;
       masters = λ x k moment i choice now is up h. h;
@@ -59,9 +60,9 @@ servers_kept =
             | inl both ↦ at_most t (server_restarts s moment choice choice.ending).state x.greatest both.1 (restart_now s moment choice choice.ending x.greatest now.reached)
             | inr old ↦ h other t old
           ];
-      rots = λ x index handle s r at up h other t there.
-          elim (set_cases x.servers index _ other t there) [
-            | inl both ↦ at_most t _ x.greatest both.1 (h index s at)
+      rots = λ x index c s e is at up h other t there.
+          elim (set_cases x.servers index (after_rot s c e) other t there) [
+            | inl both ↦ let early = rot_now s c e in let late = h index s at in at_most t (after_rot s c e) x.greatest both.1 (omega (arith, early, late))
             | inr old ↦ h other t old
           ];
     }
@@ -121,7 +122,7 @@ each_in w h =
             (λ d step. let same = step.now in let early = step_in s moment greatest (h.clients index s at) in let high = le-max_left (max greatest moment) moment in omega (arith, same, early, high)) (omega arith))
             h.clients;
       };
-      rots = λ e index handle s x place byte is_kept at there up. record { numbered = h.numbered; clients = h.clients };
+      rots = λ e index handle s x place byte ending is_kept at there up. record { numbered = h.numbered; clients = h.clients };
     }
 
 new_in : (config : Config) (servers clients : ℕ) → AreIn (new_world config servers clients)

@@ -215,7 +215,7 @@ module _ (w : WorldState) (handle version size place : ℕ) (m : Message) (order
         restarts = λ e index moment s choice there at. quiet (server_restart s moment choice).out.sent (server_restarts_quiet s moment choice choice.ending) at;
         steps = λ e index moment s i choice there given up at. quiet (client_step s moment i choice).out.sent (quiet_orders (client_step s moment i choice).out.sent (client_quiet s moment i choice)) at;
         calls = λ e index moment s c choice there may at. quiet (client_call s moment c choice).out.sent (quiet_orders (client_call s moment c choice).out.sent (call_quiet s moment c choice)) at;
-        rots = λ e index q s x byte_place byte is_kept there held up at. inl at;
+        rots = λ e index q s x byte_place byte ending is_kept there held up at. inl at;
       }
 
 module _ (config : Config) (servers clients : ℕ) where

@@ -69,7 +69,7 @@ each_ordered u =
           none_new u.sent (client_step s moment i choice).out.sent k place m (quiet_orders (client_step s moment i choice).out.sent (client_quiet s moment i choice)) from at order is;
       calls = λ e index moment s c choice there may place m from at order is.
           none_new u.sent (client_call s moment c choice).out.sent k place m (quiet_orders (client_call s moment c choice).out.sent (call_quiet s moment c choice)) from at order is;
-      rots = λ e index q s x at_place byte is_kept there held up place m from at order is. none_before u.sent place m from at;
+      rots = λ e index q s x at_place byte ending is_kept there held up place m from at order is. none_before u.sent place m from at;
     }
 
 -- the step of the list in which an order was sent

@@ -236,7 +236,7 @@ module _ (handle version : ℕ) where
         opens = λ x k moment choice now h. record { base = revoked_kept.opens x k moment choice now h.base; going = opens_going x.master moment choice choice.ending h.base.sent.issued h.base.sent.logged h.going };
         serves = λ x k index moment s i choice now at is up h. record { base = revoked_kept.serves x k index moment s i choice now at is up h.base; going = h.going };
         restarts = λ x k index moment s choice now at h. record { base = revoked_kept.restarts x k index moment s choice now at h.base; going = h.going };
-        rots = λ x index q s r at up h. record { base = revoked_kept.rots x index q s r at up h.base; going = h.going };
+        rots = λ x index c s e is at up h. record { base = revoked_kept.rots x index c s e is at up h.base; going = h.going };
       }
 
   -- a chunk that is gone, or whose granted version is newer, at a master that is up

@@ -115,7 +115,7 @@ each_raised config servers clients u r =
           none_new u.sent (client_step s moment i choice).out.sent k place m (quiet_orders (client_step s moment i choice).out.sent (client_quiet s moment i choice)) from at handle version base h;
       calls = λ e index moment s c choice there may place m from at handle version base h.
           none_new u.sent (client_call s moment c choice).out.sent k place m (quiet_orders (client_call s moment c choice).out.sent (call_quiet s moment c choice)) from at handle version base h;
-      rots = λ e index q s x at_place byte is_kept there held up place m from at handle version base h. none_before u.sent place m from at;
+      rots = λ e index q s x at_place byte ending is_kept there held up place m from at handle version base h. none_before u.sent place m from at;
     }
 
 -- a Grant that is counted

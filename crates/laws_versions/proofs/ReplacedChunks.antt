@@ -88,7 +88,7 @@ module _ (config : Config) (servers clients : ℕ) (w : WorldState) (r : IsReach
           restarts = λ e index moment s choice at. (passed, quiet_more handle version w.sent (server_restart s moment choice).out.sent k (server_restarts_quiet s moment choice choice.ending));
           steps = λ e index moment s i choice at is up. (passed, quiet_more handle version w.sent (client_step s moment i choice).out.sent k (quiet_orders (client_step s moment i choice).out.sent (client_quiet s moment i choice)));
           calls = λ e index moment s c choice at may. (passed, quiet_more handle version w.sent (client_call s moment c choice).out.sent k (quiet_orders (client_call s moment c choice).out.sent (call_quiet s moment c choice)));
-          rots = λ e index q s x place byte is_kept at there up. (passed, omega arith);
+          rots = λ e index q s x place byte ending is_kept at there up. (passed, omega arith);
         }
 
   -- the place stays, or the chunk was being copied, so that its leases are over
@@ -116,7 +116,7 @@ module _ (config : Config) (servers clients : ℕ) (w : WorldState) (r : IsReach
           restarts = λ e at moment s choice there. inl places;
           steps = λ e at moment s i choice there is up. inl places;
           calls = λ e at moment s c choice there may. inl places;
-          rots = λ e at q s x place byte is_kept there held up. inl places;
+          rots = λ e at q s x place byte ending is_kept there held up. inl places;
         }
 
 -- a chunk whose number the master has passed, at its place; or its lease is over

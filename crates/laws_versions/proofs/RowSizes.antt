@@ -99,7 +99,7 @@ module _ (config : Config) (servers clients : ℕ) (w : WorldState) (r : IsReach
           restarts = λ e index moment s choice at g is. quiet (server_restart s moment choice).out.sent (server_restarts_quiet s moment choice choice.ending) g;
           steps = λ e index moment s i choice at given up g is. quiet (client_step s moment i choice).out.sent (quiet_orders (client_step s moment i choice).out.sent (client_quiet s moment i choice)) g;
           calls = λ e index moment s c choice at may g is. quiet (client_call s moment c choice).out.sent (quiet_orders (client_call s moment c choice).out.sent (call_quiet s moment c choice)) g;
-          rots = λ e index q s x place byte is_kept at there up g is. unsent g;
+          rots = λ e index q s x place byte ending is_kept at there up g is. unsent g;
         }
 
 pub grants_tell_their_rows_size : GrantsTellTheirRowsSize

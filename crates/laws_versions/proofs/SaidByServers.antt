@@ -138,7 +138,7 @@ each_said config servers clients u r =
       calls = λ e index moment s c choice there may place m from at none.
           none_new u.sent (client_call s moment c choice).out.sent k place m
           (of_call (λ t ms. AllOf IsPlain ms) s moment c choice ((numbered_reached config servers clients u r).each index s there).named (λ d step. client_plain (client_at s moment) d d.sent step refl) tt) from at none;
-      rots = λ e index handle s x q byte is_kept there held up place m from at none. none_before u.sent place m from at;
+      rots = λ e index handle s x q byte ending is_kept there held up place m from at none. none_before u.sent place m from at;
     }
 
 -- It was said in a step of the list, and the rest of the list led here.

@@ -11,7 +11,7 @@ use Rattle.messages.specs.declared.message.Message.{Message}
 use Rattle.messages.specs.declared.message.Body.{Body}
 use Rattle.messages.specs.declared.message.Body.TheVariants as body
 use Rattle.messages.specs.declared.message.ReplicaLine.{ReplicaLine}
-use Rattle.replica_store.specs.Replicas.{with_replica, rotten_replica}
+use Rattle.replica_store.specs.declared.change.StoreChange.{StoreChange}
 use Rattle.protocol.specs.Tables.{element_at, with_at}
 use Rattle.protocol.specs.Sending.{the_server, handle_of, version_of}
 use Rattle.protocol.specs.Choice.{Choice, Ending, Goes, Lost, Stops}
@@ -20,17 +20,17 @@ use Rattle.protocol.specs.ClientStep.{client_at, client_step, client_call}
 use Rattle.protocol.specs.Server.{ServerState}
 use Rattle.protocol.specs.ServerStep.{server_step, server_restarts, server_restart}
 use Rattle.protocol.specs.MasterStep.{master_step, master_restart}
-use Rattle.protocol.specs.World.{WorldState, stamped, IsReached}
+use Rattle.protocol.specs.World.{WorldState, stamped, IsReached, after_rot}
 use Rattle.laws_base.specs.Laws.{tells_version}
 use Rattle.laws_base.proofs.Steps.{none_some, same_some}
 use Rattle.laws_base.proofs.Entries.{AllOf, same_number}
 use Rattle.laws_base.proofs.Words.{true_false}
 use Rattle.laws_base.proofs.MembersRecorded.{all_at}
 use Rattle.laws_base.proofs.MessagesSent.{IsSent, sent_cases, none_sent, numbered_sent}
-use Rattle.laws_base.proofs.RisingOrders.{Later, same_later, step_goes_on, restarts_as, set_cases}
+use Rattle.laws_base.proofs.RisingOrders.{Later, same_later, step_goes_on, restarts_as, set_cases, rot_goes_on}
 use Rattle.laws_base.proofs.LeasesTold.{AreTold, told_kept}
 use Rattle.laws_base.proofs.ScenesReached.{scene_reached}
-use Rattle.laws_steps.proofs.Events.{HoldsAfter}
+use Rattle.laws_steps.proofs.Events.{HoldsAfter, rot_of}
 use Rattle.laws_steps.proofs.ClientNumbers.{IsSaid, IsStepOf, of_step, of_call}
 use Rattle.laws_steps.proofs.RequestsOnce.{numbered_reached}
 use Rattle.laws_steps.proofs.MasterTalks.{is_masters, MasterTalks, master_said, restart_said}
@@ -189,9 +189,10 @@ each_taken config servers clients w r h =
           grown_taken w.sent k ms w.servers w.servers (same_going w.servers)
           (plain_new w.sent w.servers ms
           (of_call (λ t xs. AllOf IsPlain xs) s moment c choice ((numbered_reached config servers clients w r).each index s at).named (λ d step. client_plain (client_at s moment) d d.sent step refl) tt)) h;
-      rots = λ e index handle s x place byte is_kept at there up m is q v cloned j t from now.
-          let rotten : ServerState = record s { disk = with_replica s.disk handle (rotten_replica x place byte) } in
-          let was = one_going w.servers index s rotten at (same_later s.disk) j t now in
+      rots = λ e index handle s x place byte ending is_kept at there up m is q v cloned j t from now.
+          let rot : StoreChange = rot_of handle place byte in
+          let later = (rot_goes_on s rot ending tt (scene_reached AreTold told_kept config servers clients w r index s at).sound up).later in
+          let was = one_going w.servers index s (after_rot s rot ending) at later j t now in
           ordered_later w.sent (suc j) (was.0).disk t.disk q v was.2 (h m is q v cloned j was.0 from was.1);
     }
 

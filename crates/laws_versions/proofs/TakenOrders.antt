@@ -25,8 +25,9 @@ use Rattle.protocol.specs.Choice.{Choice, Ending, Goes, Lost, Stops, decided_cha
 use Rattle.protocol.specs.Seen.{Taken, no_step}
 use Rattle.protocol.specs.declared.seen.Seen.TheVariants.{BecameSettled}
 use Rattle.replica_store.specs.declared.change.StoreChange.{StoreChange}
-use Rattle.replica_store.specs.declared.change.StoreChange.TheVariants.{SetOrder, Put, Write, Zero, Raise, Copy, Remove}
-use Rattle.replica_store.specs.Replicas.{Replica, ServerDisk, new_server_disk, replica_of, with_replica, replica_becomes, stored_replica, written_replica, raised_replica, rotten_replica, bytes_on_disk, disk_changed, disk_changed_by_all, is_new_order}
+use Rattle.replica_store.specs.declared.change.StoreChange.TheVariants.{SetOrder, Put, Write, Zero, Raise, Copy, Remove, Rot}
+use Rattle.replica_store.specs.Replicas.{Replica, ServerDisk, new_server_disk, replica_of, with_replica, replica_becomes, stored_replica, written_replica, raised_replica, rotten_replica, own_bytes, disk_changed, disk_changed_by_all, is_new_order}
+use Rattle.laws_base.proofs.Rots.{rotting, ends_by, after_rot_by}
 use Rattle.data_push.specs.Buffers.{data_of}
 use Rattle.primary_order.specs.declared.answer.Settled.{Settled}
 use Rattle.primary_order.specs.PrimaryOrder.{place_of}
@@ -35,14 +36,14 @@ use Rattle.protocol.specs.Server.{ServerState, ServerDoing, started_server, serv
 use Rattle.protocol.specs.ServerWrites.{answers_settled, forwards, settles, acknowledges, change_of, stored_as, primary_applies}
 use Rattle.protocol.specs.ServerOrders.{takes_clone}
 use Rattle.protocol.specs.ServerStep.{server_at, server_goes, server_ends, server_step, server_restarts, server_restart}
-use Rattle.protocol.specs.World.{WorldState, new_world, IsReached}
+use Rattle.protocol.specs.World.{WorldState, new_world, IsReached, after_rot}
 use Rattle.laws_base.proofs.ServerWalk.{Imaging, Numbering, Storing, IsStoredAs, IsNewOrder, Outcomes, with_order, number_of, installed, server_comes_to}
 use Rattle.laws_base.proofs.Steps.{on_cond, none_some, put_cases, gone_split}
 use Rattle.laws_base.proofs.ServerMoves.{all-push}
 use Rattle.laws_base.proofs.MembersRecorded.{kept_place}
 use Rattle.laws_base.proofs.RisingOrders.{element_numbered, Later, IsRisen, risen_later, set_cases}
 use Rattle.laws_base.proofs.LeasesTold.{stale_later, numbered_from}
-use Rattle.laws_steps.proofs.Events.{IsGiven, HoldsAfter, world_reached}
+use Rattle.laws_steps.proofs.Events.{IsGiven, HoldsAfter, world_reached, rot_of}
 use Rattle.laws_steps.specs.Given.{version_given}
 use Rattle.laws_versions.specs.HeldVersions.{version_cloned}
 use Rattle.laws_versions.specs.TakenOrders.{IsTaken, ReplicasAreOfTakenOrders, PendingClonesAreOfTakenOrders}
@@ -88,6 +89,7 @@ module _ (sent : List Message) (server : ℕ) where
   IsOfTakenOrder d (Raise handle version) = IsOrdered d handle.0 version.0
   IsOfTakenOrder d (Copy handle copy version) = IsOrdered d copy.0 version.0
   IsOfTakenOrder d (Remove handle) = Unit {0}
+  IsOfTakenOrder d (Rot handle place byte) = Unit {0}
 
   -- each change, after those before it
   abbrev pub AreOfTakenOrders : ServerDisk → List StoreChange → Type 0
@@ -123,6 +125,7 @@ module _ (sent : List Message) (server : ℕ) where
   sound_risen d (Raise handle version) sound = tt
   sound_risen d (Copy handle copy version) sound = tt
   sound_risen d (Remove handle) sound = tt
+  sound_risen d (Rot handle place byte) sound = tt
 
   sound_later : (d : ServerDisk) (x : StoreChange) → IsOfTakenOrder d x → Later d (disk_changed d x)
   sound_later d x sound = risen_later d x (sound_risen d x sound)
@@ -141,12 +144,13 @@ module _ (sent : List Message) (server : ℕ) where
 
   changed_ordered : (d : ServerDisk) (x : StoreChange) → IsOfTakenOrder d x → AreOrdered d → AreOrdered (disk_changed d x)
   changed_ordered d (SetOrder order) sound h = λ handle r is. ordered_later d (disk_changed d (SetOrder order)) handle r.version (sound_later d (SetOrder order) sound) (h handle r is)
-  changed_ordered d (Put handle version serial bytes) sound h = put_ordered d handle.0 (stored_replica version.0 serial.0 bytes) sound h
-  changed_ordered d (Write handle serial offset bytes) sound h = becomes_ordered (λ r. written_replica r serial.0 offset bytes) d handle.0 (replica_of d handle.0) (λ r is. h handle.0 r is) h
+  changed_ordered d (Put handle version serial bytes) sound h = put_ordered d handle.0 (stored_replica d.chunk d.block version.0 serial.0 bytes) sound h
+  changed_ordered d (Write handle serial offset bytes) sound h = becomes_ordered (λ r. written_replica d.block r serial.0 offset bytes) d handle.0 (replica_of d handle.0) (λ r is. h handle.0 r is) h
   changed_ordered d (Zero handle serial offset count) sound h = becomes_ordered _ d handle.0 (replica_of d handle.0) (λ r is. h handle.0 r is) h
   changed_ordered d (Raise handle version) sound h = becomes_ordered (λ r. raised_replica r version.0) d handle.0 (replica_of d handle.0) (λ r is. sound) h
-  changed_ordered d (Copy handle copy version) sound h = becomes_ordered (λ r. stored_replica version.0 0 (bytes_on_disk r)) d copy.0 (replica_of d handle.0) (λ r is. sound) h
+  changed_ordered d (Copy handle copy version) sound h = becomes_ordered (λ r. stored_replica d.chunk d.block version.0 0 (own_bytes r)) d copy.0 (replica_of d handle.0) (λ r is. sound) h
   changed_ordered d (Remove handle) sound h = λ k r is. h k r (gone_split d.replicas handle.0 k r is).1
+  changed_ordered d (Rot handle place byte) sound h = becomes_ordered (λ r. rotten_replica r place byte) d handle.0 (replica_of d handle.0) (λ r is. h handle.0 r is) h
 
   all_ordered : (d : ServerDisk) (xs : List StoreChange) → AreOfTakenOrders d xs → AreOrdered d → AreOrdered (disk_changed_by_all d xs)
   all_ordered d [] sound h = h
@@ -443,16 +447,10 @@ one_faithful sent servers index t new h other u is =
       | inr there ↦ h other u there
     ]
 
-rotten_faithful : (sent : List Message) (server : ℕ) (s : ServerState) (handle : ℕ) (r : Replica) (place byte : ℕ) → replica_of s.disk handle ≡ Some r → IsTrue s.up → IsFaithful sent server s
-    → IsFaithful sent server (record s { disk = with_replica s.disk handle (rotten_replica r place byte) })
-rotten_faithful sent server s handle r place byte there up h =
-    record {
-      disk = put_ordered sent server s.disk handle (rotten_replica r place byte) (h.disk handle r there) h.disk;
-      clones = h.clones;
-      under_way = subst (λ (xs : List StoreChange). AreOfTakenOrders sent server (with_replica s.disk handle (rotten_replica r place byte)) xs) (sym (h.idle up)) tt;
-      few = h.few;
-      idle = h.idle;
-    }
+rotten_faithful : (sent : List Message) (server : ℕ) (s : ServerState) (handle place byte : ℕ) (e : Ending) → IsTrue s.up → IsFaithful sent server s → IsFaithful sent server (after_rot s (rot_of handle place byte) e)
+rotten_faithful sent server s handle place byte e up h =
+    after_rot_by (λ t. IsFaithful sent server t) s (rot_of handle place byte) e
+    (ends_true sent server s (rotting s (rot_of handle place byte)) (ends_by e) e h (stores_holds sent server s.disk (server_begins s) (rot_of handle place byte) tt (record { same = refl; clones = h.clones; changes = tt; idle = h.idle up })))
 
 each_event : (w : WorldState) → AreFaithful w.sent w.servers → HoldsAfter w (λ e h. AreFaithful h.world.sent h.world.servers)
 each_event w h =
@@ -466,13 +464,13 @@ each_event w h =
           all_faithful_more w.sent _ _ (one_faithful w.sent w.servers index (server_restart s moment choice).state (restart_true w.sent (suc index) s moment choice choice.ending (h index s at)) h);
       steps = λ e index moment s i choice at is up. all_faithful_more w.sent _ w.servers h;
       calls = λ e index moment s c choice at may. all_faithful_more w.sent _ w.servers h;
-      rots = λ e index handle s r place byte is_kept at there up. one_faithful w.sent w.servers index _ (rotten_faithful w.sent (suc index) s handle r place byte there up (h index s at)) h;
+      rots = λ e index handle s r place byte ending is_kept at there up. one_faithful w.sent w.servers index _ (rotten_faithful w.sent (suc index) s handle place byte ending up (h index s at)) h;
     }
 
 new_faithful : (config : Config) (servers clients : ℕ) → AreFaithful (new_world config servers clients).sent (new_world config servers clients).servers
 new_faithful config servers clients index s at =
-    subst (λ (t : ServerState). IsFaithful [] (suc index) t) (sym (numbered_from (λ n. started_server config n (new_server_disk config.block) 0) servers index s at))
-    (record { disk = λ handle r is. none_some r (sym (table.get-empty nat_cmp handle) ∙ is); clones = no_clones [] (suc index) (new_server_disk config.block); under_way = tt; few = omega arith; idle = λ _. refl })
+    subst (λ (t : ServerState). IsFaithful [] (suc index) t) (sym (numbered_from (λ n. started_server config n (new_server_disk config.chunk config.block config.slots) 0) servers index s at))
+    (record { disk = λ handle r is. none_some r (sym (table.get-empty nat_cmp handle) ∙ is); clones = no_clones [] (suc index) (new_server_disk config.chunk config.block config.slots); under_way = tt; few = omega arith; idle = λ _. refl })
 
 pub servers_are_faithful : (config : Config) (servers clients : ℕ) (w : WorldState) → IsReached config servers clients w → AreFaithful w.sent w.servers
 servers_are_faithful config servers clients w r = world_reached (λ v. AreFaithful v.sent v.servers) each_event new_faithful config servers clients w r

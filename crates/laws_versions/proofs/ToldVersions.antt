@@ -182,7 +182,7 @@ told_after config servers clients w r h =
                 (λ d step. client_true w.sent (client_at s moment) d step d.sent refl) tt);
             held = λ on. held_more w.sent (stamped k ms) w.master.holders (h.held on);
           };
-      rots = λ e index handle s x place byte is_kept at there up. record { words = h.words; held = h.held };
+      rots = λ e index handle s x place byte ending is_kept at there up. record { words = h.words; held = h.held };
     }
 
 new_told : (config : Config) (servers clients : ℕ) → AreTold (new_world config servers clients)
