@@ -10,7 +10,7 @@ use Rattle.messages.specs.declared.message.Body.{Body}
 use Rattle.messages.specs.declared.message.Body.TheVariants as body
 use Rattle.messages.specs.declared.message.Message.{Message}
 use Rattle.replica_store.specs.declared.change.StoreChange.{StoreChange}
-use Rattle.replica_store.specs.Replicas.{Replica, ServerDisk, replica_of, with_replica, rotten_replica, disk_changed_by_all, is_new_order}
+use Rattle.replica_store.specs.Replicas.{Replica, ServerDisk, replica_of, disk_changed_by_all, is_new_order}
 use Rattle.protocol.specs.Tables.{Table, element_at, with_at}
 use Rattle.protocol.specs.Sending.{handle_of, version_of, serial_of, the_server, server_number, order_number}
 use Rattle.protocol.specs.Choice.{Choice, Ending, Goes, Lost, Stops, decided_changes}
@@ -20,15 +20,15 @@ use Rattle.protocol.specs.ClientStep.{client_at, client_step, client_call}
 use Rattle.protocol.specs.Server.{ServerState}
 use Rattle.protocol.specs.ServerStep.{server_goes, server_ends, server_step, server_restart}
 use Rattle.protocol.specs.MasterStep.{master_step, master_restart}
-use Rattle.protocol.specs.World.{WorldState, new_world, stamped, after_server, happens, after_events, IsReached}
+use Rattle.protocol.specs.World.{WorldState, new_world, stamped, after_server, happens, after_events, IsReached, after_rot}
 use Rattle.laws_base.proofs.Steps.{on_cond, none_some, same_some}
 use Rattle.laws_base.proofs.Entries.{AllOf}
-use Rattle.laws_base.proofs.RisingOrders.{Later, same_later, step_goes_on, restarts_as}
+use Rattle.laws_base.proofs.RisingOrders.{Later, same_later, step_goes_on, restarts_as, rot_goes_on}
 use Rattle.laws_base.proofs.LeasesTold.{AreTold, told_kept}
 use Rattle.laws_base.proofs.ScenesReached.{scene_reached}
 use Rattle.laws_base.proofs.MembersRecorded.{kept_place, all_at}
 use Rattle.laws_base.proofs.MessagesSent.{IsSent, sent_before, sent_cases, none_sent, numbered_sent}
-use Rattle.laws_steps.proofs.Events.{HoldsAfter, holds_after}
+use Rattle.laws_steps.proofs.Events.{HoldsAfter, holds_after, rot_of}
 use Rattle.laws_steps.proofs.ClientNumbers.{of_step, of_call}
 use Rattle.laws_steps.proofs.RequestsOnce.{numbered_reached}
 use Rattle.laws_steps.proofs.LeasesStayOver.{reached_later}
@@ -135,9 +135,9 @@ said_or_idle s moment i choice idle =
 -- replicas that acknowledged in the step have it as their last serial
 module _ (s : ServerState) (moment : ℕ) (i : NodeInput) (choice : Choice) (idle : s.under_way ≡ []) (sent : List Message) (k index : ℕ) (orders : Table (List Placed)) where
   pub said_kept : (handle : ℕ) (x : Replica) (decided : List Bool) → replica_of (disk_changed_by_all (server_step s moment i choice).state.disk (decided_changes decided (server_step s moment i choice).state.under_way)) handle ≡ Some x
-      → (g : IsImageOf (placed_in orders handle) x.version x.serial x.bytes) → Kept sent index handle x.version (marked g.marks (placed_in orders handle))
+      → (bytes : List ℕ) (g : IsImageOf (placed_in orders handle) x.version x.serial bytes) → Kept sent index handle x.version (marked g.marks (placed_in orders handle))
       → Kept (sent ++ stamped k (server_step s moment i choice).out.sent) index handle x.version (marked g.marks (placed_in orders handle))
-  said_kept handle x decided is g = kept_more sent (server_step s moment i choice).out.sent k index handle x.version (marked g.marks (placed_in orders handle)) fresh
+  said_kept handle x decided is bytes g = kept_more sent (server_step s moment i choice).out.sent k index handle x.version (marked g.marks (placed_in orders handle)) fresh
     where
       fresh : (m : Message) → IsSent (server_step s moment i choice).out.sent m → m.sender ≡ the_server (suc index) → (serial : ℕ) → IsAckedAs handle x.version serial m.body → 1 ≤ serial → HasEntry (marked g.marks (placed_in orders handle)) x.version serial
       fresh m there sender serial acked some =
@@ -234,8 +234,10 @@ module _ (config : Config) (servers clients : ℕ) (w : WorldState) (r : IsReach
         calls = λ e index moment s c choice at may later.
             calm (client_call s moment c choice).out.sent
             (of_call (λ t xs. AllOf (λ m. IsNoAcked m.body) xs) s moment c choice ((numbered_reached config servers clients w r).each index s at).named (λ d step. client_none (client_at s moment) d d.sent step refl) tt);
-        rots = λ e index handle s x place byte is_kept at there up later.
-            one_taken w.sent index (record s { disk = with_replica s.disk handle (rotten_replica x place byte) }) (h index s at) (λ other u apart u_there. h other u u_there);
+        rots = λ e index handle s x place byte ending is_kept at there up later.
+            let t : ServerState = after_rot s (rot_of handle place byte) ending in
+            let goes = (rot_goes_on s (rot_of handle place byte) ending tt (scene_reached AreTold told_kept config servers clients w r index s at).sound up).later in
+            one_taken w.sent index t (λ m sent sender q version serial is. ordered_later w.sent (suc index) s.disk t.disk q version goes (h index s at m sent sender q version serial is)) (λ other u apart u_there. h other u u_there);
       }
 
 taken_on : (config : Config) (servers clients : ℕ) (w : WorldState) (steps : List (Event × Choice)) → IsReached config servers clients w → AllTaken w → AllTaken (after_events w steps)

@@ -8,8 +8,9 @@ use Rattle.messages.specs.declared.event.NodeInput.{NodeInput}
 use Rattle.messages.specs.declared.event.NodeInput.TheVariants as input
 use Rattle.messages.specs.declared.message.Body.TheVariants as body
 use Rattle.messages.specs.declared.message.Message.{Message}
+use Rattle.laws_base.proofs.Rots.{rot_leases}
 use Rattle.primary_order.specs.SerialOrder.{SerialOrder}
-use Rattle.replica_store.specs.Replicas.{Replica, new_server_disk, with_replica, rotten_replica}
+use Rattle.replica_store.specs.Replicas.{new_server_disk}
 use Rattle.protocol.specs.Tables.{Table, element_at, with_at}
 use Rattle.protocol.specs.Sending.{the_server, server_number}
 use Rattle.protocol.specs.Choice.{Choice, Ending, Goes, Lost, Stops}
@@ -19,13 +20,13 @@ use Rattle.protocol.specs.Server.{ServerState, started_server}
 use Rattle.protocol.specs.ServerStep.{server_at, server_step, server_restarts, server_restart}
 use Rattle.protocol.specs.MasterStep.{master_step, master_restart}
 use Rattle.messages.specs.declared.event.Event.{Event}
-use Rattle.protocol.specs.World.{WorldState, new_world, stamped, happens, after_events, IsReached}
+use Rattle.protocol.specs.World.{WorldState, new_world, stamped, happens, after_events, IsReached, after_rot}
 use Rattle.laws_base.proofs.Entries.{AllOf}
 use Rattle.laws_base.proofs.LeasesTold.{numbered_from}
 use Rattle.laws_base.proofs.MembersRecorded.{all_at}
 use Rattle.laws_base.proofs.MessagesSent.{IsSent, sent_before, sent_cases, none_sent, numbered_sent}
 use Rattle.laws_base.proofs.RisingOrders.{set_cases}
-use Rattle.laws_steps.proofs.Events.{HoldsAfter, holds_after}
+use Rattle.laws_steps.proofs.Events.{HoldsAfter, holds_after, rot_of}
 use Rattle.laws_steps.proofs.ClientNumbers.{of_step, of_call}
 use Rattle.laws_steps.proofs.RequestsOnce.{numbered_reached}
 use Rattle.laws_steps.proofs.MasterTalks.{master_said, restart_said}
@@ -135,14 +136,15 @@ module _ (config : Config) (servers clients : ℕ) (w : WorldState) (r : IsReach
         calls = λ e index moment s c choice at may.
             calm (client_call s moment c choice).out.sent
             (of_call (λ t xs. AllOf (λ m. IsNoAcked m.body) xs) s moment c choice ((numbered_reached config servers clients w r).each index s at).named (λ d step. client_none (client_at s moment) d d.sent step refl) tt);
-        rots = λ e index q s x place byte is_kept at there up. record { counting = rotten index q s at place byte x; from = h.from };
+        rots = λ e index q s x place byte ending is_kept at there up. record { counting = rotten index q s at place byte ending; from = h.from };
       }
     where
-      rotten : (index q : ℕ) (s : ServerState) → element_at w.servers index ≡ Some s → (place byte : ℕ) → (x : Replica) → (other : ℕ) (u : ServerState)
-          → element_at (with_at w.servers index (record s { disk = with_replica s.disk q (rotten_replica x place byte) })) other ≡ Some u → AreCounting (By w.sent) (suc other) u.leases
-      rotten index q s at place byte x other u there =
-          elim (set_cases w.servers index (record s { disk = with_replica s.disk q (rotten_replica x place byte) }) other u there) [
-            | inl both ↦ subst (λ (n : ℕ). AreCounting (By w.sent) (suc n) u.leases) (sym both.0) (subst (λ (y : ServerState). AreCounting (By w.sent) (suc index) y.leases) (sym both.1) (h.counting index s at))
+      rotten : (index q : ℕ) (s : ServerState) → element_at w.servers index ≡ Some s → (place byte : ℕ) (ending : Ending) → (other : ℕ) (u : ServerState)
+          → element_at (with_at w.servers index (after_rot s (rot_of q place byte) ending)) other ≡ Some u → AreCounting (By w.sent) (suc other) u.leases
+      rotten index q s at place byte ending other u there =
+          elim (set_cases w.servers index (after_rot s (rot_of q place byte) ending) other u there) [
+            | inl both ↦ subst (λ (n : ℕ). AreCounting (By w.sent) (suc n) u.leases) (sym both.0)
+                (subst (λ (y : ServerState). AreCounting (By w.sent) (suc index) y.leases) (sym both.1) (rot_leases (λ ls. AreCounting (By w.sent) (suc index) ls) s (rot_of q place byte) ending (h.counting index s at) (none_counting (By w.sent) (suc index))))
             | inr old ↦ h.counting other u old
           ]
 
@@ -150,7 +152,7 @@ new_acking : (config : Config) (servers clients : ℕ) → Acking (new_world con
 new_acking config servers clients =
     record {
       counting = λ index s at.
-          subst (λ (t : ServerState). AreCounting (By []) (suc index) t.leases) (sym (numbered_from (λ n. started_server config n (new_server_disk config.block) 0) servers index s at)) (none_counting (By []) (suc index));
+          subst (λ (t : ServerState). AreCounting (By []) (suc index) t.leases) (sym (numbered_from (λ n. started_server config n (new_server_disk config.chunk config.block config.slots) 0) servers index s at)) (none_counting (By []) (suc index));
       from = λ m there. none_sent m there;
     }
 

@@ -1,9 +1,10 @@
 -- What is carried along of the entries that replicas have applied, and of those that Images show: one induction over reached worlds with kept clocks and disks, for whatever each event keeps.
 use Rattle.std.proofs.Common.{◌≡◌, ℕ, suc, ◌+◌, ◌≤◌, min, Bool, true, false, List, [], ◌∷◌, ◌++◌, length, Option, Some, None, refl, sym, ap, subst, ◌∙◌, inl, inr}
-use Rattle.std.specs.Prelude.{◌&&◌, nat_le, not, IsTrue}
+use Rattle.std.specs.Prelude.{◌&&◌, nat_le, IsTrue}
 use Rattle.std.specs.Option.{option_to_list}
 use Rattle.std.specs.FinMap as table
 use Rattle.std.specs.Ordering.{nat_cmp}
+use Rattle.std.specs.Str.{bytes_eq}
 use Rattle.std.proofs.lemmas.Bool.{and_parts, true≢false}
 use Rattle.gfs_types.specs.declared.call.Call.{Call}
 use Rattle.gfs_types.specs.declared.config.Config.{Config}
@@ -19,23 +20,25 @@ use Rattle.messages.specs.declared.message.Body.{Body}
 use Rattle.messages.specs.declared.message.Body.TheVariants as body
 use Rattle.messages.specs.declared.message.Message.{Message}
 use Rattle.replica_store.specs.declared.change.StoreChange.{StoreChange}
-use Rattle.replica_store.specs.Replicas.{Replica, ServerDisk, new_server_disk, replica_of, with_replica, rotten_replica, disk_changed_by_all}
+use Rattle.replica_store.specs.Replicas.{Replica, ServerDisk, new_server_disk, replica_of, rotten_replica, disk_changed_by_all}
 use Rattle.protocol.specs.Tables.{Table, element_at, with_at}
 use Rattle.protocol.specs.Sending.{the_server, the_client}
 use Rattle.protocol.specs.Choice.{Choice, Ending, Goes, Lost, Stops, decided_changes}
 use Rattle.protocol.specs.Observer.{Placed, Observer, observed_moment, observed_call, placed_in, order_of}
+use Rattle.protocol.specs.StoredBytes.{stored_chunk, with_intact}
 use Rattle.protocol.specs.Client.{ClientState, ClientDoing}
 use Rattle.protocol.specs.ClientStep.{may_call, client_at, client_step, client_call}
 use Rattle.protocol.specs.Server.{ServerState, started_server}
 use Rattle.protocol.specs.ServerStep.{found_disk, server_step, server_restarts, server_restart}
 use Rattle.protocol.specs.MasterStep.{master_step, master_restart}
-use Rattle.protocol.specs.World.{WorldState, new_world, stamped, after_master, after_server, after_client, happens, after_events, IsReached, is_kept}
-use Rattle.laws_base.proofs.Steps.{none_some, put_cases}
+use Rattle.protocol.specs.World.{WorldState, new_world, stamped, after_master, after_server, after_client, happens, after_events, IsReached, is_kept, after_rot}
+use Rattle.laws_base.proofs.Steps.{none_some, same_some, same_or_not}
 use Rattle.laws_base.proofs.Entries.{AllOf}
 use Rattle.laws_base.proofs.LeasesTold.{numbered_from}
 use Rattle.laws_base.proofs.MembersRecorded.{all_at}
 use Rattle.laws_base.proofs.MessagesSent.{IsSent, sent_cases, none_sent, numbered_sent}
-use Rattle.laws_steps.proofs.Events.{IsGiven, with_call, with_rot, is_kept_after, HoldsExactly, holds_exactly}
+use Rattle.laws_steps.proofs.Events.{IsGiven, with_call, with_rot, rot_of, known_after, HoldsExactly, holds_exactly}
+use Rattle.laws_steps.proofs.Lengths.{servers_within, settings_stay}
 use Rattle.laws_steps.proofs.ClientNumbers.{IsSaid, IsStepOf, of_step, of_call}
 use Rattle.laws_steps.proofs.RequestsOnce.{numbered_reached}
 use Rattle.laws_steps.proofs.LeasesStayOver.{reached_later}
@@ -45,12 +48,13 @@ use Rattle.laws_entries.proofs.Within.{entries_lie_within_the_chunk}
 use Rattle.laws_entries.proofs.RoundsPassed.{server_shown}
 use Rattle.laws_entries.proofs.CountedRounds.{set_split, comes_in}
 use Rattle.laws_entries.proofs.Forwards.{images_are_of_replicas}
-use Rattle.laws_replicas.proofs.KeptDisks.{none_more, replicas_are_read_as_stored}
+use Rattle.laws_replicas.proofs.KeptDisks.{none_more, answered_notes, replicas_are_read_as_stored}
+use Rattle.laws_replicas.proofs.StoredChunks.{own_stored}
 use Rattle.laws_replicas.specs.CopiedEntries.{Follows}
 use Rattle.laws_replicas.proofs.OrdersGrow.{IsAny, same_follows, orders_grow}
 use Rattle.laws_replicas.specs.ReplicaImages.{marked, IsImageOf}
-use Rattle.laws_replicas.proofs.Images.{Carried, Holds, AreIn, holds_grown, IsImageSaid, starts_before_end, Carries}
-use Rattle.laws_replicas.proofs.ImagesReached.{IsGood, step_done, answered_kept}
+use Rattle.laws_replicas.proofs.Images.{Carried, Holds, own_in, AreIn, holds_grown, IsImageSaid, starts_before_end, Carries}
+use Rattle.laws_replicas.proofs.ImagesReached.{IsGood, IsFound, own_noted, rot_other, rot_same, rot_good, step_done, answered_kept}
 
 -- what is said, in a world, of the entries that a server's replica at a version has applied
 abbrev pub AppliedBy : Type 1
@@ -60,16 +64,12 @@ AppliedBy = WorldState → ℕ → Carried
 abbrev pub ShownBy : Type 1
 ShownBy = WorldState → Carried
 
--- a replica on this server's disk, or as a restart finds it, however the change under way is decided
-abbrev pub IsFound : ServerState → ℕ → Replica → Type 0
-IsFound s handle x = (decided : List Bool) × (replica_of (disk_changed_by_all s.disk (decided_changes decided s.under_way)) handle ≡ Some x)
-
-pub record AreAppliedIn (J : Carried) (K : ℕ → Carried) (orders : Table (List Placed)) (servers : List ServerState) (sent : List Message) : Type 0 where
-  pub each : (index : ℕ) (s : ServerState) → element_at servers index ≡ Some s → IsGood (K index) orders s
+pub record AreAppliedIn (J : Carried) (K : ℕ → Carried) (stored : ℕ → ℕ → Replica → List ℕ) (orders : Table (List Placed)) (servers : List ServerState) (sent : List Message) : Type 0 where
+  pub each : (index : ℕ) (s : ServerState) → element_at servers index ≡ Some s → IsGood (K index) (stored index) orders s
   pub said : (m : Message) → IsSent sent m → IsImageSaid J orders m.body
 
 abbrev pub AreApplied : ShownBy → AppliedBy → WorldState → Type 0
-AreApplied J K w = AreAppliedIn (J w) (K w) w.observer.orders w.servers w.sent
+AreApplied J K w = AreAppliedIn (J w) (K w) (own_in w) w.observer.orders w.servers w.sent
 
 -- what is kept of the replicas of some servers, as they were before, and of the Images that were sent
 pub record StaysIn (J L : Carried) (K M : ℕ → Carried) (Other : ℕ → Type 0) (servers : List ServerState) (sent : List Message) : Type 0 where
@@ -92,7 +92,7 @@ pub record Keeps (J : ShownBy) (K : AppliedBy) (config : Config) (servers client
   -- the replicas that a step of a server leaves
   pub served : (e : Event) (index moment : ℕ) (s : ServerState) (i : NodeInput) (choice : Choice) → element_at w.servers index ≡ Some s → IsGiven w e (the_server (suc index)) moment i → IsTrue s.up
       → Later (after_server w index moment (server_step s moment i choice)).world → (handle : ℕ) (x : Replica) → IsFound (server_step s moment i choice).state handle x
-      → (g : IsImageOf (placed_in (after_server w index moment (server_step s moment i choice)).world.observer.orders handle) x.version x.serial x.bytes)
+      → (bytes : List ℕ) (g : IsImageOf (placed_in (after_server w index moment (server_step s moment i choice)).world.observer.orders handle) x.version x.serial bytes)
       → K w index handle x.version (marked g.marks (placed_in (after_server w index moment (server_step s moment i choice)).world.observer.orders handle))
       → K (after_server w index moment (server_step s moment i choice)).world index handle x.version (marked g.marks (placed_in (after_server w index moment (server_step s moment i choice)).world.observer.orders handle))
   -- an Image that it sends
@@ -112,22 +112,24 @@ pub record Keeps (J : ShownBy) (K : AppliedBy) (config : Config) (servers client
       → Later (after_client w index moment (client_step s moment i choice)).world → Stays J K Each w (after_client w index moment (client_step s moment i choice)).world
   pub calls : (e : Event) (index moment : ℕ) (s : ClientState) (c : Call) (choice : Choice) → element_at w.clients index ≡ Some s → IsTrue (may_call s)
       → Later (after_client (with_call w index moment c) index moment (client_call s moment c choice)).world → Stays J K Each w (after_client (with_call w index moment c) index moment (client_call s moment c choice)).world
-  pub rots : (e : Event) (index handle : ℕ) (s : ServerState) (x : Replica) (place byte : ℕ) → element_at w.servers index ≡ Some s → replica_of s.disk handle ≡ Some x → IsTrue s.up
-      → Later (with_rot w index handle s (rotten_replica x place byte) (is_kept_after w s (rotten_replica x place byte) place)).world
-      → Stays J K Each w (with_rot w index handle s (rotten_replica x place byte) (is_kept_after w s (rotten_replica x place byte) place)).world
+  pub rots : (e : Event) (index handle : ℕ) (s : ServerState) (x : Replica) (place byte : ℕ) (ending : Ending) → element_at w.servers index ≡ Some s → replica_of s.disk handle ≡ Some x → IsTrue s.up
+      → Later (with_rot w index s (rot_of handle place byte) ending (known_after w index handle s x place byte)).world
+      → Stays J K Each w (with_rot w index s (rot_of handle place byte) ending (known_after w index handle s x place byte)).world
 
 abbrev pub IsLater : Config → ℕ → ℕ → WorldState → Type 0
 IsLater config servers clients v = IsReached config servers clients v × IsTrue (is_kept v)
 
 -- from orders to others that have grown
 
-good_on : (K M : Carried) (from to : Table (List Placed)) (s : ServerState) → ((handle : ℕ) → Follows IsAny (placed_in from handle) (placed_in to handle))
-    → ((handle : ℕ) (x : Replica) → IsFound s handle x → (ps : List Placed) → K handle x.version ps → M handle x.version ps) → IsGood K from s → IsGood M to s
-good_on K M from to s grown go h =
+good_on : (K M : Carried) (stored now : ℕ → Replica → List ℕ) (from to : Table (List Placed)) (s : ServerState) → ((handle : ℕ) → Follows IsAny (placed_in from handle) (placed_in to handle))
+    → ((handle : ℕ) (x : Replica) → IsFound s handle x → now handle x ≡ stored handle x)
+    → ((handle : ℕ) (x : Replica) → IsFound s handle x → (ps : List Placed) → K handle x.version ps → M handle x.version ps) → IsGood K stored from s → IsGood M now to s
+good_on K M stored now from to s grown same go h =
     record {
       found = λ decided handle x is.
-          let one = holds_grown K (placed_in from handle) (placed_in to handle) handle x.version x.serial x.bytes (grown handle) (h.found decided handle x is) in
-          (one.0, go handle x (decided, is) (marked one.0.marks (placed_in to handle)) one.1);
+          subst (λ (bs : List ℕ). Holds M (placed_in to handle) handle x.version x.serial bs) (sym (same handle x (decided, is)))
+          (let one = holds_grown K (placed_in from handle) (placed_in to handle) handle x.version x.serial (stored handle x) (grown handle) (h.found decided handle x is) in
+          (one.0, go handle x (decided, is) (marked one.0.marks (placed_in to handle)) one.1));
       idle = h.idle;
     }
 
@@ -166,29 +168,12 @@ restarted_none P s moment choice Lost = tt
 restarted_none P s moment choice (Stops made) = tt
 
 -- a restart finds what was carried
-restart_good : (M : Carried) (orders : Table (List Placed)) (s : ServerState) (moment : ℕ) (choice : Choice) (e : Ending) → IsGood M orders s → IsGood M orders (server_restarts s moment choice e).state
-restart_good M orders s moment choice Lost g = record { found = g.found; idle = λ on. absurd (true≢false (sym on)) }
-restart_good M orders s moment choice (Stops made) g = record { found = λ decided. subst (AreIn M orders) (sym (none_more (found_disk s choice) decided)) (g.found choice.decided); idle = λ on. refl }
-restart_good M orders s moment choice Goes g = record { found = λ decided. subst (AreIn M orders) (sym (none_more (found_disk s choice) decided)) (g.found choice.decided); idle = λ on. refl }
-
--- rot changes no byte that was stored
-rotten_good : (M : Carried) (orders : Table (List Placed)) (s : ServerState) (handle : ℕ) (x : Replica) (place byte : ℕ) → replica_of s.disk handle ≡ Some x → IsTrue s.up → IsGood M orders s
-    → IsGood M orders (record s { disk = with_replica s.disk handle (rotten_replica x place byte) })
-rotten_good M orders s handle x place byte there up g =
-    record {
-      found = λ decided.
-          subst (λ (xs : List StoreChange). AreIn M orders (disk_changed_by_all (with_replica s.disk handle (rotten_replica x place byte)) (decided_changes decided xs))) (sym (g.idle up))
-          (subst (AreIn M orders) (sym (none_more (with_replica s.disk handle (rotten_replica x place byte)) decided)) rotten);
-      idle = λ on. g.idle up;
-    }
-  where
-    rotten : AreIn M orders (with_replica s.disk handle (rotten_replica x place byte))
-    rotten q y is =
-        elim (put_cases s.disk.replicas handle (rotten_replica x place byte) q y is) [
-          | inl same ↦ subst (λ (n : ℕ). Holds M (placed_in orders n) n y.version y.serial y.bytes) (sym same.0)
-              (subst (λ (z : Replica). Holds M (placed_in orders handle) handle z.version z.serial z.bytes) same.1 (g.found [] handle x there))
-          | inr old ↦ g.found [] q y old
-        ]
+restart_good : (M : Carried) (stored : ℕ → Replica → List ℕ) (orders : Table (List Placed)) (s : ServerState) (moment : ℕ) (choice : Choice) (e : Ending) → IsGood M stored orders s → IsGood M stored orders (server_restarts s moment choice e).state
+restart_good M stored orders s moment choice Lost g = record { found = g.found; idle = λ on. absurd (true≢false (sym on)) }
+restart_good M stored orders s moment choice (Stops made) g =
+    record { found = λ decided. subst (AreIn M stored orders) (sym (none_more (found_disk s choice) decided)) (g.found choice.decided); idle = λ on. refl }
+restart_good M stored orders s moment choice Goes g =
+    record { found = λ decided. subst (AreIn M stored orders) (sym (none_more (found_disk s choice) decided)) (g.found choice.decided); idle = λ on. refl }
 
 -- what is kept
 
@@ -212,9 +197,11 @@ module _ (J : ShownBy) (K : AppliedBy) (config : Config) (servers clients : ℕ)
     was_kept : (moment : ℕ) → IsTrue ((observed_moment w.config.skew_ms w.observer moment).are_clocks_kept && w.observer.are_disks_kept) → IsTrue (is_kept w)
     was_kept moment is = kept_of w.observer.are_clocks_kept (nat_le w.observer.greatest (moment + w.config.skew_ms)) w.observer.are_disks_kept is
 
-    module _ (L : Carried) (M : ℕ → Carried) (Other : ℕ → Type 0) (stays : StaysIn (J w) L (K w) M Other w.servers w.sent) (orders : Table (List Placed)) (grown : (handle : ℕ) → Follows IsAny (placed_in w.observer.orders handle) (placed_in orders handle)) where
-      stay_good : (index : ℕ) (s : ServerState) → element_at w.servers index ≡ Some s → Other index → IsGood (M index) orders s
-      stay_good index s at other = good_on (K w index) (M index) w.observer.orders orders s grown (stays.each index s at other) (h.each index s at)
+    module _ (L : Carried) (M : ℕ → Carried) (Other : ℕ → Type 0) (stays : StaysIn (J w) L (K w) M Other w.servers w.sent) (stored : ℕ → ℕ → Replica → List ℕ)
+        (same : (index : ℕ) (s : ServerState) → element_at w.servers index ≡ Some s → Other index → (handle : ℕ) (x : Replica) → IsFound s handle x → stored index handle x ≡ own_in w index handle x)
+        (orders : Table (List Placed)) (grown : (handle : ℕ) → Follows IsAny (placed_in w.observer.orders handle) (placed_in orders handle)) where
+      stay_good : (index : ℕ) (s : ServerState) → element_at w.servers index ≡ Some s → Other index → IsGood (M index) (stored index) orders s
+      stay_good index s at other = good_on (K w index) (M index) (own_in w index) (stored index) w.observer.orders orders s grown (same index s at other) (stays.each index s at other) (h.each index s at)
 
       stay_said : (m : Message) → IsSent w.sent m → IsImageSaid L orders m.body
       stay_said m there = said_on (J w) L w.observer.orders orders m.body grown (stays.said m there) (h.said m there)
@@ -230,10 +217,11 @@ module _ (J : ShownBy) (K : AppliedBy) (config : Config) (servers clients : ℕ)
       silent_said k ms none = more_said k ms (λ x there. none_said L orders x.body (all_at (λ (m : Message). IsNoImage m.body) ms there.0 x none there.1))
 
       -- one server is another
-      one_good : (index : ℕ) (t : ServerState) → ((other : ℕ) → Apart index other → Other other) → IsGood (M index) orders t → (other : ℕ) (u : ServerState) → element_at (with_at w.servers index t) other ≡ Some u → IsGood (M other) orders u
+      one_good : (index : ℕ) (t : ServerState) → ((other : ℕ) → Apart index other → Other other) → IsGood (M index) (stored index) orders t → (other : ℕ) (u : ServerState) → element_at (with_at w.servers index t) other ≡ Some u
+          → IsGood (M other) (stored other) orders u
       one_good index t apart new other u there =
           elim (set_split w.servers index t other u there) [
-            | inl both ↦ subst (λ (n : ℕ). IsGood (M n) orders u) (sym both.0) (subst (λ (x : ServerState). IsGood (M index) orders x) (sym both.1) new)
+            | inl both ↦ subst (λ (n : ℕ). IsGood (M n) (stored n) orders u) (sym both.0) (subst (λ (x : ServerState). IsGood (M index) (stored index) orders x) (sym both.1) new)
             | inr old ↦ stay_good other u old.1 (apart other old.0)
           ]
 
@@ -251,6 +239,9 @@ module _ (J : ShownBy) (K : AppliedBy) (config : Config) (servers clients : ℕ)
       grown_on : (handle : ℕ) → Follows IsAny (placed_in w.observer.orders handle) (placed_in v.observer.orders handle)
       grown_on = (orders_grow config servers clients w r).serves e index moment s i choice at given up
 
+      own_block : s.disk.block ≡ w.config.block
+      own_block = (servers_within config servers clients w r index s at).block ∙ sym (ap (λ (c : Config). c.block) (settings_stay config servers clients w r))
+
       came : (m : Message) → i ≡ input.Deliver m → (place : ℕ) × (element_at w.sent place ≡ Some m) × (m.receiver ≡ the_server (suc index))
       came = comes_in w e (suc index) moment i given
 
@@ -263,7 +254,11 @@ module _ (J : ShownBy) (K : AppliedBy) (config : Config) (servers clients : ℕ)
             let lies = entries_lie_within_the_chunk config servers clients later.0.0 handle place p (ap (λ (u : WorldState). element_at (order_of u.observer handle) place) later.0.1 ∙ there) in
             starts_before_end (min lies.1 config.chunk) p.entry.mutation lies.3
 
-        stepped : IsGood (K w index) v.observer.orders t
+        -- as much is stored
+        as_much : (n q : ℕ) (x : Replica) → own_in v n q x ≡ own_in w n q x
+        as_much n q x = own_noted w v refl refl n q x
+
+        stepped : IsGood (K w index) (own_in w index) v.observer.orders t
         stepped =
             step_done (J w) (K w index) config servers clients w r both_kept.0 both_kept.1 h.said index moment s i choice at up ((h.each index s at).found []) ((h.each index s at).idle up) (λ m same. let sent = came m same in (sent.0, sent.1))
             (keeps.carries index s i at up came)
@@ -273,17 +268,19 @@ module _ (J : ShownBy) (K : AppliedBy) (config : Config) (servers clients : ℕ)
               within = λ handle place p p_there. entry_within handle place p p_there;
             })
 
-        here : IsGood (K v index) v.observer.orders t
+        here : IsGood (K v index) (own_in v index) v.observer.orders t
         here =
             record {
-              found = λ decided handle x is. let one = stepped.found decided handle x is in (one.0, keeps.served e index moment s i choice at given up later handle x (decided, is) one.0 one.1);
+              found = λ decided handle x is.
+                  subst (λ (bs : List ℕ). Holds (K v index) (placed_in v.observer.orders handle) handle x.version x.serial bs) (sym (as_much index handle x))
+                  (let one = stepped.found decided handle x is in (one.0, keeps.served e index moment s i choice at given up later handle x (decided, is) (own_in w index handle x) one.0 one.1));
               idle = stepped.idle;
             }
 
         says : (m : Message) → IsSent (server_step s moment i choice).out.sent m → (b : Body) → m.body ≡ b → IsImageSaid (J v) v.observer.orders b
         says m there (body.Image handle version serial bytes) is =
             let of = images_are_of_replicas s moment i choice there.0 m there.1 handle version serial bytes is in
-            let same : bytes ≡ of.0.bytes = (replicas_are_read_as_stored config servers clients w r both_kept.1 index s at handle.0 of.0 of.1).0 bytes of.4 in
+            let same : bytes ≡ own_in w index handle.0 of.0 = (replicas_are_read_as_stored config servers clients w r both_kept.1 index s at handle.0 of.0 of.1).0 bytes of.4 ∙ ap (λ (n : ℕ). own_stored n w.observer index handle.0 of.0) own_block in
             let was : Holds (K w index) (placed_in w.observer.orders handle.0) handle.0 version.0 serial.0 bytes =
             subst (λ (n : ℕ). Holds (K w index) (placed_in w.observer.orders handle.0) handle.0 n serial.0 bytes) of.2
             (subst (λ (n : ℕ). Holds (K w index) (placed_in w.observer.orders handle.0) handle.0 of.0.version n bytes) of.3
@@ -296,9 +293,40 @@ module _ (J : ShownBy) (K : AppliedBy) (config : Config) (servers clients : ℕ)
         served_all =
             let stays = keeps.serves e index moment s i choice at given up later in
             record {
-              each = one_good (J v) (K v) (Apart index) stays v.observer.orders grown_on index t (λ other apart. apart) here;
-              said = more_said (J v) (K v) (Apart index) stays v.observer.orders grown_on (suc (length w.sent)) ms (λ x there. says x there x.body refl);
+              each = one_good (J v) (K v) (Apart index) stays (own_in v) (λ n u there other q x found. as_much n q x) v.observer.orders grown_on index t (λ other apart. apart) here;
+              said = more_said (J v) (K v) (Apart index) stays (own_in v) (λ n u there other q x found. as_much n q x) v.observer.orders grown_on (suc (length w.sent)) ms (λ x there. says x there x.body refl);
             }
+
+    -- a byte rots
+    module _ (index handle : ℕ) (s : ServerState) (x : Replica) (place byte : ℕ) (ending : Ending) (at : element_at w.servers index ≡ Some s) (there : replica_of s.disk handle ≡ Some x)
+        (disks : bytes_eq (stored_chunk (with_intact w.observer index handle s.disk.block x) index handle s.disk.block (rotten_replica x place byte)) (stored_chunk w.observer index handle s.disk.block x) ≡ true) (up : IsTrue s.up) where
+      abbrev rotted_world : WorldState
+      rotted_world = (with_rot w index s (rot_of handle place byte) ending (known_after w index handle s x place byte)).world
+
+      -- nothing is under way where it is up, so what is found is on the disk
+      on_disk : (q : ℕ) (y : Replica) → IsFound s q y → replica_of s.disk q ≡ Some y
+      on_disk q y found =
+          ap (λ (d : ServerDisk). replica_of d q) (sym (ap (λ (xs : List StoreChange). disk_changed_by_all s.disk (decided_changes found.0 xs)) ((h.each index s at).idle up) ∙ none_more s.disk found.0)) ∙ found.1
+
+      rotted_same : (n : ℕ) (u : ServerState) → element_at w.servers n ≡ Some u → Each n → (q : ℕ) (y : Replica) → IsFound u q y → own_in rotted_world n q y ≡ own_in w n q y
+      rotted_same n u u_at each q y found =
+          elim (same_or_not n index) [
+            | inl here ↦
+                let one : u ≡ s = same_some u s (sym u_at ∙ ap (λ (k : ℕ). element_at w.servers k) here ∙ at) in
+                subst (λ (k : ℕ). own_in rotted_world k q y ≡ own_in w k q y) (sym here)
+                (rot_same config servers clients w r index handle s x place byte ending at there disks q y (on_disk q y (subst (λ (z : ServerState). IsFound z q y) one found)))
+            | inr apart ↦ rot_other config servers clients w r index handle s x place byte ending at there disks n apart q y
+          ]
+
+      rotted_all : Stays J K Each w rotted_world → AreApplied J K rotted_world
+      rotted_all stays =
+          let more : (n : ℕ) → Follows IsAny (placed_in w.observer.orders n) (placed_in w.observer.orders n) = λ n. same_follows IsAny (placed_in w.observer.orders n) in
+          record {
+            each = one_good (J rotted_world) (K rotted_world) Each stays (own_in rotted_world) rotted_same w.observer.orders more index (after_rot s (rot_of handle place byte) ending) (λ other apart. tt)
+                (rot_good config servers clients w r index handle s x place byte ending at there disks (K rotted_world index) w.observer.orders up
+                (good_on (K w index) (K rotted_world index) (own_in w index) (own_in w index) w.observer.orders w.observer.orders s more (λ q y found. refl) (stays.each index s at tt) (h.each index s at)));
+            said = stay_said (J rotted_world) (K rotted_world) Each stays (own_in rotted_world) rotted_same w.observer.orders more;
+          }
 
   abbrev Applied : WorldState → Type 0
   Applied w = IsTrue (is_kept w) → AreApplied J K w
@@ -323,8 +351,8 @@ module _ (J : ShownBy) (K : AppliedBy) (config : Config) (servers clients : ℕ)
                 let stays = (on before).masters e moment i choice is up (later, kept) in
                 let more = grow.masters e moment i choice is up in
                 record {
-                  each = λ index s at. stay_good w r (h before) (J v) (K v) Each stays v.observer.orders more index s at tt;
-                  said = silent_said w r (h before) (J v) (K v) Each stays v.observer.orders more k (master_step w.master moment i choice).out.sent
+                  each = λ index s at. stay_good w r (h before) (J v) (K v) Each stays (own_in v) (λ n u there other q x found. own_noted w v refl refl n q x) v.observer.orders more index s at tt;
+                  said = silent_said w r (h before) (J v) (K v) Each stays (own_in v) (λ n u there other q x found. own_noted w v refl refl n q x) v.observer.orders more k (master_step w.master moment i choice).out.sent
                       (master_said (λ m. IsNoImage m.body) (record { plain = λ receiver b is. masters_none b is; locates = λ receiver number l current. tt }) w.master moment i choice);
                 };
             opens = λ e moment choice later kept.
@@ -333,8 +361,8 @@ module _ (J : ShownBy) (K : AppliedBy) (config : Config) (servers clients : ℕ)
                 let stays = (on before).opens e moment choice (later, kept) in
                 let more = grow.opens e moment choice in
                 record {
-                  each = λ index s at. stay_good w r (h before) (J v) (K v) Each stays v.observer.orders more index s at tt;
-                  said = silent_said w r (h before) (J v) (K v) Each stays v.observer.orders more k (master_restart w.master moment choice).out.sent
+                  each = λ index s at. stay_good w r (h before) (J v) (K v) Each stays (own_in v) (λ n u there other q x found. own_noted w v refl refl n q x) v.observer.orders more index s at tt;
+                  said = silent_said w r (h before) (J v) (K v) Each stays (own_in v) (λ n u there other q x found. own_noted w v refl refl n q x) v.observer.orders more k (master_restart w.master moment choice).out.sent
                       (restart_said (λ m. IsNoImage m.body) (record { plain = λ receiver b is. masters_none b is; locates = λ receiver number l current. tt }) w.master moment choice);
                 };
             serves = λ e index moment s i choice at is up later kept.
@@ -346,9 +374,9 @@ module _ (J : ShownBy) (K : AppliedBy) (config : Config) (servers clients : ℕ)
                 let stays = (on before).restarts e index moment s choice at (later, kept) in
                 let more = grow.restarts e index moment s choice at in
                 record {
-                  each = one_good w r (h before) (J v) (K v) Each stays v.observer.orders more index (server_restart s moment choice).state (λ other apart. tt)
-                      (restart_good (K v index) v.observer.orders s moment choice choice.ending (stay_good w r (h before) (J v) (K v) Each stays v.observer.orders more index s at tt));
-                  said = silent_said w r (h before) (J v) (K v) Each stays v.observer.orders more k (server_restart s moment choice).out.sent (restarted_none (λ m. IsNoImage m.body) s moment choice choice.ending);
+                  each = one_good w r (h before) (J v) (K v) Each stays (own_in v) (λ n u there other q x found. own_noted w v refl refl n q x) v.observer.orders more index (server_restart s moment choice).state (λ other apart. tt)
+                      (restart_good (K v index) (own_in v index) v.observer.orders s moment choice choice.ending (stay_good w r (h before) (J v) (K v) Each stays (own_in v) (λ n u there other q x found. own_noted w v refl refl n q x) v.observer.orders more index s at tt));
+                  said = silent_said w r (h before) (J v) (K v) Each stays (own_in v) (λ n u there other q x found. own_noted w v refl refl n q x) v.observer.orders more k (server_restart s moment choice).out.sent (restarted_none (λ m. IsNoImage m.body) s moment choice choice.ending);
                 };
             steps = λ e index moment s i choice at is up later kept.
                 let v : WorldState = (after_client w index moment (client_step s moment i choice)).world in
@@ -358,8 +386,8 @@ module _ (J : ShownBy) (K : AppliedBy) (config : Config) (servers clients : ℕ)
                 let stays = (on before).steps e index moment s i choice at is up (later, kept) in
                 let more = grow.steps e index moment s i choice at is up in
                 record {
-                  each = λ n u there. stay_good w r (h before) (J v) (K v) Each stays v.observer.orders more n u there tt;
-                  said = silent_said w r (h before) (J v) (K v) Each stays v.observer.orders more k (client_step s moment i choice).out.sent
+                  each = λ n u there. stay_good w r (h before) (J v) (K v) Each stays (own_in v) (λ n u there other q x found. own_noted w v refl (answered_notes (observed_moment w.config.skew_ms w.observer moment) (suc index) (client_step s moment i choice).out.answer) n q x) v.observer.orders more n u there tt;
+                  said = silent_said w r (h before) (J v) (K v) Each stays (own_in v) (λ n u there other q x found. own_noted w v refl (answered_notes (observed_moment w.config.skew_ms w.observer moment) (suc index) (client_step s moment i choice).out.answer) n q x) v.observer.orders more k (client_step s moment i choice).out.sent
                       (of_step (λ t xs. AllOf (λ m. IsNoImage m.body) xs) s moment i choice ((numbered_reached config servers clients w r).each index s at).named (λ d step. client_none (client_at s moment) d d.sent step refl) tt tt);
                 };
             calls = λ e index moment s c choice at may later kept.
@@ -372,22 +400,19 @@ module _ (J : ShownBy) (K : AppliedBy) (config : Config) (servers clients : ℕ)
                 let stays = (on before).calls e index moment s c choice at may (later, kept) in
                 let more = grow.calls e index moment s c choice at may in
                 record {
-                  each = λ n u there. stay_good w r (h before) (J v) (K v) Each stays v.observer.orders more n u there tt;
-                  said = silent_said w r (h before) (J v) (K v) Each stays v.observer.orders more k (client_call s moment c choice).out.sent
+                  each = λ n u there. stay_good w r (h before) (J v) (K v) Each stays (own_in v) (λ n u there other q x found. own_noted w v refl (answered_notes (observed_moment w.config.skew_ms seen moment) (suc index) (client_call s moment c choice).out.answer) n q x) v.observer.orders more n u there tt;
+                  said = silent_said w r (h before) (J v) (K v) Each stays (own_in v) (λ n u there other q x found. own_noted w v refl (answered_notes (observed_moment w.config.skew_ms seen moment) (suc index) (client_call s moment c choice).out.answer) n q x) v.observer.orders more k (client_call s moment c choice).out.sent
                       (of_call (λ t xs. AllOf (λ m. IsNoImage m.body) xs) s moment c choice ((numbered_reached config servers clients w r).each index s at).named (λ d step. client_none (client_at s moment) d d.sent step refl) tt);
                 };
-            rots = λ e index handle s x place byte at x_there up later kept.
-                let v : WorldState = (with_rot w index handle s (rotten_replica x place byte) (is_kept_after w s (rotten_replica x place byte) place)).world in
-                let parts = and_parts w.observer.are_clocks_kept (w.observer.are_disks_kept && not _) kept in
-                let disks = (and_parts w.observer.are_disks_kept (not _) parts.1).0 in
-                let before = kept_both w.observer.are_clocks_kept w.observer.are_disks_kept parts.0 disks in
-                let stays = (on before).rots e index handle s x place byte at x_there up (later, kept) in
+            rots = λ e index handle s x place byte ending at x_there up later kept.
+                let v : WorldState = (with_rot w index s (rot_of handle place byte) ending (known_after w index handle s x place byte)).world in
+                let now : List ℕ = stored_chunk (with_intact w.observer index handle s.disk.block x) index handle s.disk.block (rotten_replica x place byte) in
+                let parts = and_parts w.observer.are_clocks_kept (w.observer.are_disks_kept && bytes_eq now (stored_chunk w.observer index handle s.disk.block x)) kept in
+                let disks = and_parts w.observer.are_disks_kept (bytes_eq now (stored_chunk w.observer index handle s.disk.block x)) parts.1 in
+                let before = kept_both w.observer.are_clocks_kept w.observer.are_disks_kept parts.0 disks.0 in
+                let stays = (on before).rots e index handle s x place byte ending at x_there up (later, kept) in
                 let more : (n : ℕ) → Follows IsAny (placed_in w.observer.orders n) (placed_in w.observer.orders n) = λ n. same_follows IsAny (placed_in w.observer.orders n) in
-                record {
-                  each = one_good w r (h before) (J v) (K v) Each stays w.observer.orders more index _ (λ other apart. tt)
-                      (rotten_good (K v index) w.observer.orders s handle x place byte x_there up (stay_good w r (h before) (J v) (K v) Each stays w.observer.orders more index s at tt));
-                  said = stay_said w r (h before) (J v) (K v) Each stays w.observer.orders more;
-                };
+                rotted_all w r (h before) index handle s x place byte ending at x_there disks.1 up stays;
           }
 
     applied_on : (w : WorldState) (steps : List (Event × Choice)) → IsReached config servers clients w → Applied w → Applied (after_events w steps)
@@ -400,8 +425,8 @@ module _ (J : ShownBy) (K : AppliedBy) (config : Config) (servers clients : ℕ)
     new_applied kept =
         record {
           each = λ index s at.
-              subst (IsGood (K (new_world config servers clients) index) table.empty) (sym (numbered_from (λ n. started_server config n (new_server_disk config.block) 0) servers index s at))
-              (record { found = λ decided handle x is. none_some x (sym (table.get-empty nat_cmp handle) ∙ ap (λ (d : ServerDisk). replica_of d handle) (sym (none_more (new_server_disk config.block) decided)) ∙ is); idle = λ on. refl });
+              subst (IsGood (K (new_world config servers clients) index) (own_in (new_world config servers clients) index) table.empty) (sym (numbered_from (λ n. started_server config n (new_server_disk config.chunk config.block config.slots) 0) servers index s at))
+              (record { found = λ decided handle x is. none_some x (sym (table.get-empty nat_cmp handle) ∙ ap (λ (d : ServerDisk). replica_of d handle) (sym (none_more (new_server_disk config.chunk config.block config.slots) decided)) ∙ is); idle = λ on. refl });
           said = λ m there. none_sent m there;
         }
 

@@ -296,7 +296,7 @@ module _ (config : Config) (servers clients : ℕ) (w : WorldState) (r : IsReach
             let v : WorldState = (after_client (with_call w index moment c) index moment (client_call s moment c choice)).world in
             same_known v (same_orders _ (suc index) (client_call s moment c choice).out.answer)
             (quiet_brought w v k (client_call s moment c choice).out.sent (quiet_orders (client_call s moment c choice).out.sent (call_quiet s moment c choice)));
-        rots = λ e index q s x place byte is_kept at there up. same_known _ refl (λ m there. inl there);
+        rots = λ e index q s x place byte ending is_kept at there up. same_known _ refl (λ m there. inl there);
       }
 
 -- what orders of versions say, from the moment they are sent

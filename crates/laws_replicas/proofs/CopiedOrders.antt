@@ -303,7 +303,7 @@ module _ (config : Config) (servers clients : ℕ) (w : WorldState) (r : IsReach
         calls = λ e index moment s c choice at may clocks.
             answered (AreGood w.master) (observed_moment w.config.skew_ms (with_call w index moment c).observer moment) (suc index) (client_call s moment c choice).out.answer
             (λ both. h (clocks_were moment (and_parts (observed_moment w.config.skew_ms w.observer moment).are_clocks_kept (nat_le (observed_moment w.config.skew_ms w.observer moment).greatest (moment + w.config.skew_ms)) both).0)) clocks;
-        rots = λ e index q s x place byte is_kept at there up. h;
+        rots = λ e index q s x place byte ending is_kept at there up. h;
       }
 
 good_reached : (config : Config) (servers clients : ℕ) (w : WorldState) → IsReached config servers clients w → IsTrue w.observer.are_clocks_kept → AreGood w.master w.observer.orders

@@ -15,7 +15,7 @@ use Rattle.messages.specs.declared.message.Body.TheVariants as body
 use Rattle.messages.specs.declared.message.Message.{Message}
 use Rattle.relaxed_file.specs.Run.{Visible}
 use Rattle.replica_store.specs.declared.change.StoreChange.{StoreChange}
-use Rattle.replica_store.specs.Replicas.{Replica, ServerDisk, new_server_disk, replica_of, with_replica, rotten_replica, disk_changed_by_all, read_from}
+use Rattle.replica_store.specs.Replicas.{Replica, ServerDisk, new_server_disk, replica_of, with_replica, disk_changed_by_all, read_from, rotten_replica}
 use Rattle.protocol.specs.Tables.{Table, element_at, with_at}
 use Rattle.protocol.specs.Choice.{Choice, Ending, Goes, Lost, Stops, decided_changes}
 use Rattle.protocol.specs.Seen.{is_numbering, Taken, no_step}
@@ -27,14 +27,14 @@ use Rattle.protocol.specs.ClientStep.{client_at, client_step, client_call}
 use Rattle.protocol.specs.Server.{ServerState, ServerDoing, started_server}
 use Rattle.protocol.specs.ServerStep.{found_disk, server_goes, server_ends, server_step, server_restarts, server_restart}
 use Rattle.protocol.specs.MasterStep.{master_step, master_restart}
-use Rattle.protocol.specs.World.{WorldState, new_world, stamped, after_master, after_server, after_client, happens, after_events, IsReached}
+use Rattle.protocol.specs.World.{WorldState, new_world, stamped, after_master, after_server, after_client, happens, after_events, IsReached, after_rot}
 use Rattle.laws_base.proofs.Steps.{on_cond, none_some, put_cases}
 use Rattle.laws_base.proofs.Entries.{AllOf}
 use Rattle.laws_base.proofs.RisingOrders.{set_cases}
 use Rattle.laws_base.proofs.LeasesTold.{numbered_from}
 use Rattle.laws_base.proofs.MembersRecorded.{all_at}
 use Rattle.laws_base.proofs.MessagesSent.{IsSent, sent_cases, none_sent, numbered_sent}
-use Rattle.laws_steps.proofs.Events.{HoldsAfter, holds_after, with_call}
+use Rattle.laws_steps.proofs.Events.{HoldsAfter, holds_after, with_call, rot_of}
 use Rattle.laws_steps.proofs.ClientNumbers.{IsSaid, IsStepOf, of_step, of_call}
 use Rattle.laws_steps.proofs.RequestsOnce.{numbered_reached}
 use Rattle.laws_steps.proofs.LeasesStayOver.{reached_later}
@@ -52,6 +52,8 @@ use Rattle.laws_replicas.specs.EndedReplicas.{EndsAtEntry, ReplicasEndAtEntries}
 use Rattle.laws_replicas.proofs.Images.{starts_before_end, numbered_there}
 use Rattle.laws_replicas.proofs.ImagesReached.{kept_filtered, restarted_said}
 use Rattle.laws_replicas.proofs.EndedSteps.{AreEndedIn, IsImageEnded, LeavesOrders, ends_grown, read_long, after}
+use Rattle.laws_base.proofs.Rots.{rot_idle, rot_found, rotten_disk}
+use Rattle.laws_steps.proofs.Lengths.{servers_within}
 
 -- these orders have all that those had
 abbrev HaveMore : Table (List Placed) → Table (List Placed) → Type 0
@@ -65,7 +67,7 @@ record IsEndedOn (orders : Table (List Placed)) (s : ServerState) : Type 0 where
 ended_grown : (from to : Table (List Placed)) (s : ServerState) → HaveMore from to → IsEndedOn from s → IsEndedOn to s
 ended_grown from to s grown h =
     record {
-      found = λ decided handle x is. ends_grown (placed_in from handle) (placed_in to handle) x.version (length x.bytes) (grown handle) (h.found decided handle x is);
+      found = λ decided handle x is. ends_grown (placed_in from handle) (placed_in to handle) x.version x.count (grown handle) (h.found decided handle x is);
       idle = h.idle;
     }
 
@@ -167,8 +169,8 @@ module _ (config : Config) (servers clients : ℕ) (w : WorldState) (r : IsReach
         one : (place : ℕ) (m : Message) → element_at (server_step s moment i choice).out.sent place ≡ Some m → (b : Body) → m.body ≡ b → IsImageEnded orders b
         one place m is (body.Image handle version serial bytes) body_is =
             let of = images_are_of_replicas s moment i choice place m is handle version serial bytes body_is in
-            let long : length bytes ≡ length of.0.bytes =
-            read_long s.disk.block handle.0 of.0 bytes (ap (λ (o : Option Replica). read_from s.disk.block 0 (length of.0.bytes) o) (sym of.1) ∙ of.4) in
+            let long : length bytes ≡ of.0.count =
+            read_long config.chunk s.disk.block of.0 ((servers_within config servers clients w r index s at).disk.1 handle.0 of.0 of.1) bytes (ap (λ (o : Option Replica). read_from s.disk.block 0 of.0.count o) (sym of.1) ∙ of.4) in
             ends_grown (placed_in w.observer.orders handle.0) (placed_in orders handle.0) version.0 (length bytes) (more handle.0)
             (subst (λ (n : ℕ). EndsAtEntry (placed_in w.observer.orders handle.0) n (length bytes)) of.2
             (subst (λ (n : ℕ). EndsAtEntry (placed_in w.observer.orders handle.0) of.0.version n) (sym long) (here handle.0 of.0 of.1)))
@@ -206,23 +208,23 @@ module _ (config : Config) (servers clients : ℕ) (w : WorldState) (r : IsReach
       record { found = λ decided. subst (AreEndedIn orders) (sym (none_more (found_disk s choice) decided)) ((kept_servers orders more index s at).found choice.decided); idle = λ on. refl }
 
   -- rot takes and adds no byte
-  rotten_good : (index handle : ℕ) (s : ServerState) (x : Replica) (place byte : ℕ) → element_at w.servers index ≡ Some s → replica_of s.disk handle ≡ Some x → IsTrue s.up
-      → IsEndedOn w.observer.orders (record s { disk = with_replica s.disk handle (rotten_replica x place byte) })
-  rotten_good index handle s x place byte at there up =
+  rotten_good : (index handle : ℕ) (s : ServerState) (x : Replica) (place byte : ℕ) (e : Ending) → element_at w.servers index ≡ Some s → replica_of s.disk handle ≡ Some x → IsTrue s.up
+      → IsEndedOn w.observer.orders (after_rot s (rot_of handle place byte) e)
+  rotten_good index handle s x place byte e at there up =
       let good = h.servers index s at in
-      let none = good.idle up in
       record {
-        found = λ decided.
-            subst (λ (xs : List StoreChange). AreEndedIn w.observer.orders (disk_changed_by_all (with_replica s.disk handle (rotten_replica x place byte)) (decided_changes decided xs))) (sym none)
-            (subst (AreEndedIn w.observer.orders) (sym (none_more (with_replica s.disk handle (rotten_replica x place byte)) decided)) rotten);
-        idle = λ on. none;
+        found = rot_found (AreEndedIn w.observer.orders) s (rot_of handle place byte) e (good.idle up) (good.found []) (subst (AreEndedIn w.observer.orders) (sym (rotten_disk s.disk handle x place byte there)) rotten);
+        idle = rot_idle s (rot_of handle place byte) e (λ on. good.idle up);
       }
     where
-      rotten : AreEndedIn w.observer.orders (with_replica s.disk handle (rotten_replica x place byte))
+      now : Replica
+      now = rotten_replica x place byte
+
+      rotten : AreEndedIn w.observer.orders (with_replica s.disk handle now)
       rotten k y is =
-          elim (put_cases s.disk.replicas handle (rotten_replica x place byte) k y is) [
-            | inl same ↦ subst (λ (n : ℕ). EndsAtEntry (placed_in w.observer.orders n) y.version (length y.bytes)) (sym same.0)
-                (subst (λ (z : Replica). EndsAtEntry (placed_in w.observer.orders handle) z.version (length z.bytes)) same.1 ((h.servers index s at).found [] handle x there))
+          elim (put_cases s.disk.replicas handle now k y is) [
+            | inl same ↦ subst (λ (n : ℕ). EndsAtEntry (placed_in w.observer.orders n) y.version y.count) (sym same.0)
+                (subst (λ (z : Replica). EndsAtEntry (placed_in w.observer.orders handle) z.version z.count) same.1 ((h.servers index s at).found [] handle x there))
             | inr before ↦ (h.servers index s at).found [] k y before
           ]
 
@@ -290,9 +292,9 @@ module _ (config : Config) (servers clients : ℕ) (w : WorldState) (r : IsReach
                   (of_call (λ t xs. AllOf (λ m. IsImageEnded orders m.body) xs) s moment c choice ((numbered_reached config servers clients w r).each index s at).named
                   (λ d step. client_said orders (client_at s moment) d d.sent step refl) tt);
             };
-        rots = λ e index handle s x place byte is_kept at there up later.
+        rots = λ e index handle s x place byte ending is_kept at there up later.
             record {
-              servers = one_server w.observer.orders (λ k. same_follows IsAny (placed_in w.observer.orders k)) index (record s { disk = with_replica s.disk handle (rotten_replica x place byte) }) (rotten_good index handle s x place byte at there up);
+              servers = one_server w.observer.orders (λ k. same_follows IsAny (placed_in w.observer.orders k)) index (after_rot s (rot_of handle place byte) ending) (rotten_good index handle s x place byte ending at there up);
               sent = h.sent;
             };
       }
@@ -312,8 +314,8 @@ new_ended : (config : Config) (servers clients : ℕ) → AreAllEnded (new_world
 new_ended config servers clients =
     record {
       servers = λ index s at.
-          subst (IsEndedOn table.empty) (sym (numbered_from (λ n. started_server config n (new_server_disk config.block) 0) servers index s at))
-          (record { found = λ decided handle x is. none_some x (sym (table.get-empty nat_cmp handle) ∙ ap (λ (d : ServerDisk). replica_of d handle) (sym (none_more (new_server_disk config.block) decided)) ∙ is); idle = λ on. refl });
+          subst (IsEndedOn table.empty) (sym (numbered_from (λ n. started_server config n (new_server_disk config.chunk config.block config.slots) 0) servers index s at))
+          (record { found = λ decided handle x is. none_some x (sym (table.get-empty nat_cmp handle) ∙ ap (λ (d : ServerDisk). replica_of d handle) (sym (none_more (new_server_disk config.chunk config.block config.slots) decided)) ∙ is); idle = λ on. refl });
       sent = λ m there. none_sent m there;
     }
 

@@ -1,8 +1,9 @@
 -- A step of a server with kept clocks: its replicas end where entries do, if they did before.
-use Rattle.std.proofs.Common.{◌≡◌, ◌⊎◌, ℕ, ◌+◌, ◌-◌, ◌≤◌, ◌<◌, Bool, true, false, cond, List, ◌++◌, length, take, drop, replicate, Option, Some, None, refl, sym, ap, subst, ◌∙◌, inl, inr, arith}
+use Rattle.std.proofs.Common.{◌≡◌, ◌⊎◌, ℕ, ◌+◌, ◌-◌, ◌≤◌, ◌<◌, max, Bool, true, false, cond, List, length, take, replicate, Option, Some, None, refl, sym, ap, subst, ◌∙◌, inl, inr, arith}
 use Rattle.std.specs.Prelude.{IsTrue}
 use Rattle.std.specs.FinMap as table
 use Rattle.std.proofs.lemmas.Bool.{cases_lt}
+use Rattle.std.proofs.lemmas.List.{take_all}
 use Rattle.gfs_types.specs.declared.config.Config.{Config}
 use Rattle.gfs_types.specs.declared.ids.DataId.{DataId}
 use Rattle.gfs_types.specs.declared.ids.Handle.{Handle}
@@ -23,8 +24,8 @@ use Rattle.data_push.specs.Buffers.{data_of}
 use Rattle.relaxed_file.specs.Run.{Visible}
 use Rattle.replica_store.specs.declared.row.Row.{Row}
 use Rattle.replica_store.specs.declared.change.StoreChange.{StoreChange}
-use Rattle.replica_store.specs.declared.change.StoreChange.TheVariants.{SetOrder, Put, Write, Zero, Raise, Copy, Remove}
-use Rattle.replica_store.specs.Replicas.{Replica, ServerDisk, replica_of, with_replica, replica_becomes, stored_replica, written_replica, raised_replica, bytes_on_disk, with_bytes, disk_changed, disk_changed_by_all, row_at, read_from, read_bytes, is_readable}
+use Rattle.replica_store.specs.declared.change.StoreChange.TheVariants.{SetOrder, Put, Write, Zero, Raise, Copy, Remove, Rot}
+use Rattle.replica_store.specs.Replicas.{Replica, ServerDisk, replica_of, with_replica, replica_becomes, stored_replica, written_replica, raised_replica, own_bytes, disk_changed, disk_changed_by_all, row_at, read_from, read_bytes, is_readable}
 use Rattle.protocol.specs.Tables.{Table, element_at}
 use Rattle.protocol.specs.Sending.{handle_of, version_of, serial_of}
 use Rattle.protocol.specs.declared.seen.Seen.{Seen}
@@ -38,7 +39,8 @@ use Rattle.laws_base.proofs.Steps.{none_some, same_some, put_cases, gone_split}
 use Rattle.laws_base.proofs.Entries.{AllOf}
 use Rattle.laws_base.proofs.MessagesSent.{IsSent}
 use Rattle.laws_entries.specs.ChunkOrders.{unsettled}
-use Rattle.laws_steps.proofs.Lengths.{all_taken, length-joined, length-alike, length-left}
+use Rattle.laws_steps.specs.Replicas.{IsWithinChunk}
+use Rattle.laws_steps.proofs.Lengths.{all_taken, length-alike, length-own, servers_within}
 use Rattle.laws_steps.proofs.HeldReplicas.{IsNumber, numbers_quiet, changed_last, leases_have_their_replica}
 use Rattle.laws_entries.specs.CausedWords.{IsNamedIn}
 use Rattle.laws_entries.proofs.Forwards.{forwards_name_entries}
@@ -49,36 +51,14 @@ use Rattle.laws_replicas.proofs.OrdersGrow.{IsAny}
 use Rattle.laws_replicas.proofs.CopiedEntries.{raises_go_above_their_base, copies_go_above_their_source, copies_have_their_sources_entries}
 use Rattle.laws_replicas.specs.ReplicaImages.{written_by}
 use Rattle.laws_replicas.specs.EndedReplicas.{EndsAtEntry}
-use Rattle.laws_replicas.proofs.HeldRounds.{length-first}
-use Rattle.laws_replicas.proofs.SoundBlocks.{others_long}
 use Rattle.laws_replicas.proofs.Images.{start_is, written_is, padded_is, row_is}
 use Rattle.laws_replicas.proofs.KeptData.{IsCarried, kept_is_carried}
 
 -- lengths
 
--- bytes that are written somewhere end where they ended, or where these end
-written_ends : (old : List ℕ) (offset : ℕ) (new : List ℕ) → (length (with_bytes old offset new) ≡ length old) ⊎ (length (with_bytes old offset new) ≡ offset + length new)
-written_ends old offset new = elim (cases_lt (length old) (offset + length new)) [ inl short ↦ inr (omega (arith, all, short)) | inr long ↦ inl (omega (arith, all, long)) ]
-  where
-    first : List ℕ
-    first = take offset old
-
-    hole : List ℕ
-    hole = replicate (offset - length old) 0
-
-    rest : List ℕ
-    rest = drop (offset + length new) old
-
-    all : length (with_bytes old offset new) ≡ (offset + length new) + (length old - (offset + length new))
-    all =
-        let whole : length (with_bytes old offset new) ≡ length (take offset old ++ replicate (offset - length old) 0 ++ new) + length (drop (offset + length new) old) =
-        length-joined (take offset old ++ replicate (offset - length old) 0 ++ new) (drop (offset + length new) old) in
-        let front : length (take offset old ++ replicate (offset - length old) 0 ++ new) ≡ length (take offset old ++ replicate (offset - length old) 0) + length new = length-joined (take offset old ++ replicate (offset - length old) 0) new in
-        let begin : length (take offset old ++ replicate (offset - length old) 0) ≡ length (take offset old) + length (replicate (offset - length old) 0) = length-joined (take offset old) (replicate (offset - length old) 0) in
-        let filled = length-alike (offset - length old) 0 in
-        let taken = length-first offset old in
-        let left = length-left (offset + length new) old in
-        omega (arith, whole, front, begin, filled, taken, left)
+-- a replica that is written ends where it ended, or where what is written ends
+written_ends : (count end : ℕ) → (max count end ≡ count) ⊎ (max count end ≡ end)
+written_ends count end = elim (cases_lt count end) [ inl short ↦ inr (omega (arith, short)) | inr long ↦ inl (omega (arith, long)) ]
 
 -- what a mutation writes ends where it ends
 written_end : (m : Mutation) → start_of m ≤ end_of m → start_of m + length (written_by m) ≡ end_of m
@@ -86,18 +66,15 @@ written_end (mutation.Write offset bytes) within = refl
 written_end (mutation.Append offset bytes) within = refl
 written_end (mutation.Pad offset end) within = let filled = length-alike (end - offset) 0 in omega (arith, filled, within)
 
-take_whole : (xs : List ℕ) (n : ℕ) → length xs ≤ n → length (take n xs) ≡ length xs
-take_whole xs n long = let taken = length-first n xs in omega (arith, taken, long)
-
 -- the whole of a replica that is read is as long as the replica
-pub read_long : (block handle : ℕ) (r : Replica) (bytes : List ℕ) → read_from block 0 (length r.bytes) (Some r) ≡ Some bytes → length bytes ≡ length r.bytes
-read_long block handle r bytes is = by_test (is_readable block r 0 (length r.bytes)) is
+pub read_long : (size block : ℕ) (r : Replica) → IsWithinChunk size r → (bytes : List ℕ) → read_from block 0 r.count (Some r) ≡ Some bytes → length bytes ≡ r.count
+read_long size block r within bytes is = by_test (is_readable block r 0 r.count) is
   where
-    long : length (bytes_on_disk r) ≡ length r.bytes
-    long = others_long (table.entries r.changed) r.bytes
+    long : length (own_bytes r) ≡ r.count
+    long = length-own size r within
 
-    by_test : (b : Bool) → cond b (Some (read_bytes r 0 (length r.bytes))) None ≡ Some bytes → length bytes ≡ length r.bytes
-    by_test true g = ap (λ (bs : List ℕ). length bs) (sym (same_some (read_bytes r 0 (length r.bytes)) bytes g)) ∙ (take_whole (bytes_on_disk r) (length r.bytes) (omega (arith, long)) ∙ long)
+    by_test : (b : Bool) → cond b (Some (read_bytes r 0 r.count)) None ≡ Some bytes → length bytes ≡ r.count
+    by_test true g = ap (λ (bs : List ℕ). length bs) (sym (same_some (read_bytes r 0 r.count) bytes g) ∙ take_all r.count (own_bytes r) (omega (arith, long))) ∙ long
     by_test false g = none_some bytes g
 
 -- in orders that have grown, and at later versions
@@ -116,16 +93,16 @@ ends_raised order version later count rises (inr h) = let low = h.3 in inr (h.0,
 
 -- each replica ends so in these orders
 abbrev pub AreEndedIn : Table (List Placed) → ServerDisk → Type 0
-AreEndedIn orders d = (handle : ℕ) (r : Replica) → replica_of d handle ≡ Some r → EndsAtEntry (placed_in orders handle) r.version (length r.bytes)
+AreEndedIn orders d = (handle : ℕ) (r : Replica) → replica_of d handle ≡ Some r → EndsAtEntry (placed_in orders handle) r.version r.count
 
-put_in : (orders : Table (List Placed)) (d : ServerDisk) (k : ℕ) (new : Replica) → EndsAtEntry (placed_in orders k) new.version (length new.bytes) → AreEndedIn orders d → AreEndedIn orders (with_replica d k new)
+put_in : (orders : Table (List Placed)) (d : ServerDisk) (k : ℕ) (new : Replica) → EndsAtEntry (placed_in orders k) new.version new.count → AreEndedIn orders d → AreEndedIn orders (with_replica d k new)
 put_in orders d k new one h handle r is =
     elim (put_cases d.replicas k new handle r is) [
-      | inl same ↦ subst (λ (n : ℕ). EndsAtEntry (placed_in orders n) r.version (length r.bytes)) (sym same.0) (subst (λ (x : Replica). EndsAtEntry (placed_in orders k) x.version (length x.bytes)) same.1 one)
+      | inl same ↦ subst (λ (n : ℕ). EndsAtEntry (placed_in orders n) r.version r.count) (sym same.0) (subst (λ (x : Replica). EndsAtEntry (placed_in orders k) x.version x.count) same.1 one)
       | inr before ↦ h handle r before
     ]
 
-becomes_in : (orders : Table (List Placed)) (f : Replica → Replica) (d : ServerDisk) (k : ℕ) (o : Option Replica) → ((r : Replica) → o ≡ Some r → EndsAtEntry (placed_in orders k) (f r).version (length (f r).bytes)) → AreEndedIn orders d
+becomes_in : (orders : Table (List Placed)) (f : Replica → Replica) (d : ServerDisk) (k : ℕ) (o : Option Replica) → ((r : Replica) → o ≡ Some r → EndsAtEntry (placed_in orders k) (f r).version (f r).count) → AreEndedIn orders d
     → AreEndedIn orders (replica_becomes f d k o)
 becomes_in orders f d k None new h = h
 becomes_in orders f d k (Some r) new h = put_in orders d k (f r) (new r refl) h
@@ -149,16 +126,16 @@ module _ (config : Config) (servers clients : ℕ) (w : WorldState) (r : IsReach
     Good d = AreEndedIn orders d
 
     stays : Good s.disk
-    stays handle x is = ends_grown (placed_in w.observer.orders handle) (placed_in orders handle) x.version (length x.bytes) (l.grown handle) (here handle x is)
+    stays handle x is = ends_grown (placed_in w.observer.orders handle) (placed_in orders handle) x.version x.count (l.grown handle) (here handle x is)
 
     same : (e : ServerDisk) → e.replicas ≡ s.disk.replicas → Good e
     same e is handle x there = stays handle x (ap (λ (t : Table Replica). table.get t handle) (sym is) ∙ there)
 
     -- an entry is applied
     applied : (handle : ℕ) (y : Replica) → replica_of s.disk handle ≡ Some y → (place : ℕ) (p : Placed) → element_at (placed_in orders handle) place ≡ Some p → p.entry.round ≤ y.version
-        → (offset : ℕ) (content : List ℕ) → start_of p.entry.mutation ≡ offset → written_by p.entry.mutation ≡ content → EndsAtEntry (placed_in orders handle) y.version (length (with_bytes y.bytes offset content))
+        → (offset : ℕ) (content : List ℕ) → start_of p.entry.mutation ≡ offset → written_by p.entry.mutation ≡ content → EndsAtEntry (placed_in orders handle) y.version (max y.count (offset + length content))
     applied handle y y_there place p there low offset content start content_is =
-        elim (written_ends y.bytes offset content) [
+        elim (written_ends y.count (offset + length content)) [
           | inl same_long ↦ subst (λ (n : ℕ). EndsAtEntry (placed_in orders handle) y.version n) (sym same_long) (stays handle y y_there)
           | inr end ↦ inr (place, p, there, low, sym (end ∙ ends))
         ]
@@ -169,16 +146,16 @@ module _ (config : Config) (servers clients : ℕ) (w : WorldState) (r : IsReach
             ∙ written_end p.entry.mutation (l.within handle place p there)
 
     written : (e : ServerDisk) → e.replicas ≡ s.disk.replicas → (handle serial offset : ℕ) (content : List ℕ)
-        → ((y : Replica) → replica_of s.disk handle ≡ Some y → EndsAtEntry (placed_in orders handle) y.version (length (with_bytes y.bytes offset content)))
-        → Good (replica_becomes (λ y. written_replica y serial offset content) e handle (replica_of e handle))
+        → ((y : Replica) → replica_of s.disk handle ≡ Some y → EndsAtEntry (placed_in orders handle) y.version (max y.count (offset + length content)))
+        → Good (replica_becomes (λ y. written_replica e.block y serial offset content) e handle (replica_of e handle))
     written e is handle serial offset content new =
-        becomes_in orders (λ y. written_replica y serial offset content) e handle (replica_of e handle) (λ y there. new y (ap (λ (t : Table Replica). table.get t handle) (sym is) ∙ there)) (same e is)
+        becomes_in orders (λ y. written_replica e.block y serial offset content) e handle (replica_of e handle) (λ y there. new y (ap (λ (t : Table Replica). table.get t handle) (sym is) ∙ there)) (same e is)
 
     -- a member, on a Forward
 
     member : (handle : Handle) (version : Version) (serial : Serial) (id : DataId) (c : Change) (named : IsNamedIn (order_of w.observer handle.0) version serial id c) (row : Row) → row_at s.disk handle.0 ≡ Some row → row.version.0 ≡ version.0
         → (offset : ℕ) (content : List ℕ) → change_start c ≡ offset → written_by named.p.entry.mutation ≡ content → (y : Replica) → replica_of s.disk handle.0 ≡ Some y
-        → EndsAtEntry (placed_in orders handle.0) y.version (length (with_bytes y.bytes offset content))
+        → EndsAtEntry (placed_in orders handle.0) y.version (max y.count (offset + length content))
     member handle version serial id c named row row_there version_is offset content start content_is y there =
         let entry = l.grown handle.0 named.place named.p named.at tt in
         let of = row_is s.disk handle.0 row y row_there there in
@@ -212,7 +189,7 @@ module _ (config : Config) (servers clients : ℕ) (w : WorldState) (r : IsReach
     -- the primary
 
     numbered_as : (e : ServerDisk) → e.replicas ≡ s.disk.replicas → (handle serial : ℕ) (m : Mutation)
-        → ((y : Replica) → replica_of s.disk handle ≡ Some y → EndsAtEntry (placed_in orders handle) y.version (length (with_bytes y.bytes (start_of m) (written_by m))))
+        → ((y : Replica) → replica_of s.disk handle ≡ Some y → EndsAtEntry (placed_in orders handle) y.version (max y.count (start_of m + length (written_by m))))
         → Good (disk_changed e (stored_as handle serial m))
     numbered_as e is handle serial (mutation.Write offset bytes) new = written e is handle serial offset bytes new
     numbered_as e is handle serial (mutation.Append offset bytes) new = written e is handle serial offset bytes new
@@ -228,7 +205,7 @@ module _ (config : Config) (servers clients : ℕ) (w : WorldState) (r : IsReach
         there : (k : ℕ) × (p : Placed) × (element_at (placed_in orders n.handle) k ≡ Some p) × (unsettled p ≡ new_entry trace n.lease.held.version (n.lease.serial + 1) n.id n.m)
         there = l.shown n.place (handle_of n.handle) (version_of n.lease.held.version) (serial_of (n.lease.serial + 1)) n.id n.m n.shown
 
-        new : (y : Replica) → replica_of s.disk n.handle ≡ Some y → EndsAtEntry (placed_in orders n.handle) y.version (length (with_bytes y.bytes (start_of n.m) (written_by n.m)))
+        new : (y : Replica) → replica_of s.disk n.handle ≡ Some y → EndsAtEntry (placed_in orders n.handle) y.version (max y.count (start_of n.m + length (written_by n.m)))
         new y y_there =
             let one : held.0 ≡ y = same_some held.0 y (sym held.1 ∙ y_there) in
             let round : there.1.entry.round ≡ y.version = ap (λ (x : Placed). x.entry.round) there.3 ∙ (sym held.2 ∙ ap (λ (x : Replica). x.version) one) in
@@ -240,7 +217,7 @@ module _ (config : Config) (servers clients : ℕ) (w : WorldState) (r : IsReach
     copied : (e : ServerDisk) → e.replicas ≡ s.disk.replicas → (m : Message) → i ≡ input.Deliver m → (order : OrderNo) (handle : Handle) (from : Version) (copy : Handle) (version : Version) (row : Row)
         → m.body ≡ body.CopyLocal order handle from copy version → row_at s.disk handle.0 ≡ Some row → row.version.0 ≡ from.0 → Good (disk_changed e (Copy handle copy version))
     copied e is m taken order handle from copy version row body_is there same_version =
-        becomes_in orders (λ x. stored_replica version.0 0 (bytes_on_disk x)) e copy.0 (replica_of e handle.0) one (same e is)
+        becomes_in orders (λ x. stored_replica e.chunk e.block version.0 0 (own_bytes x)) e copy.0 (replica_of e handle.0) one (same e is)
       where
         sent : IsSent w.sent m
         sent = came m taken
@@ -257,18 +234,19 @@ module _ (config : Config) (servers clients : ℕ) (w : WorldState) (r : IsReach
             let round = ap (λ (x : Placed). x.entry.round) over.2 in
             inr (h.0, over.0, over.1, omega (arith, round, low, version_is, above), ap (λ (x : Placed). end_of x.entry.mutation) over.2 ∙ h.4)
 
-        one : (x : Replica) → replica_of e handle.0 ≡ Some x → EndsAtEntry (placed_in orders copy.0) version.0 (length (bytes_on_disk x))
+        one : (x : Replica) → replica_of e handle.0 ≡ Some x → EndsAtEntry (placed_in orders copy.0) version.0 (length (own_bytes x))
         one x e_there =
             let x_there : replica_of s.disk handle.0 ≡ Some x = ap (λ (t : Table Replica). table.get t handle.0) (sym is) ∙ e_there in
             let version_is : x.version ≡ from.0 = (row_is s.disk handle.0 row x there x_there).0 ∙ same_version in
-            subst (λ (n : ℕ). EndsAtEntry (placed_in orders copy.0) version.0 n) (sym (others_long (table.entries x.changed) x.bytes))
-            (ends_grown (placed_in w.observer.orders copy.0) (placed_in orders copy.0) version.0 (length x.bytes) (l.grown copy.0) (copy_ends x.version (length x.bytes) version_is (here handle.0 x x_there)))
+            subst (λ (n : ℕ). EndsAtEntry (placed_in orders copy.0) version.0 n) (sym (length-own config.chunk x ((servers_within config servers clients w r index s at).disk.1 handle.0 x x_there)))
+            (ends_grown (placed_in w.observer.orders copy.0) (placed_in orders copy.0) version.0 x.count (l.grown copy.0) (copy_ends x.version x.count version_is (here handle.0 x x_there)))
 
     changed : (e : ServerDisk) → e.replicas ≡ s.disk.replicas → (m : Message) → i ≡ input.Deliver m → (x : StoreChange) → IsStoredFor (server_at s moment) m.body (server_goes s moment i).seen x → Good (disk_changed e x)
     changed e is m taken (SetOrder order) cause = absurd cause
     changed e is m taken (Remove handle) cause = λ k x there. same e is k x (gone_split e.replicas handle.0 k x there).1
+    changed e is m taken (Rot handle place byte) cause = absurd cause
     changed e is m taken (Put handle version serial bytes) cause =
-        put_in orders e handle.0 (stored_replica version.0 serial.0 bytes)
+        put_in orders e handle.0 (stored_replica e.chunk e.block version.0 serial.0 bytes)
         (elim (cause.1) [
           | inl made ↦ inl (ap (λ (bs : List ℕ). length bs) made.3)
           | inr image ↦ ends_grown (placed_in w.observer.orders handle.0) (placed_in orders handle.0) version.0 (length bytes) (l.grown handle.0) (subst (λ (b : Body). IsImageEnded w.observer.orders b) image (said m (came m taken)))
@@ -281,7 +259,7 @@ module _ (config : Config) (servers clients : ℕ) (w : WorldState) (r : IsReach
         let x_there : replica_of s.disk handle.0 ≡ Some x = ap (λ (t : Table Replica). table.get t handle.0) (sym is) ∙ e_there in
         let base : x.version ≡ cause.1.0 = (row_is s.disk handle.0 cause.2 x cause.4 x_there).0 ∙ cause.5 in
         let above : cause.1.0 < version.0 = raises_go_above_their_base config servers clients w r sent.0 m sent.1 cause.0 handle version cause.1 cause.3 in
-        ends_raised (placed_in orders handle.0) x.version version.0 (length x.bytes) (omega (arith, base, above)) (stays handle.0 x x_there))
+        ends_raised (placed_in orders handle.0) x.version version.0 x.count (omega (arith, base, above)) (stays handle.0 x x_there))
         (same e is)
     changed e is m taken (Copy handle copy version) cause = copied e is m taken cause.0 handle cause.1 copy version cause.2 cause.3 cause.4 cause.5
     changed e is m taken (Write handle serial offset bytes) cause = elim (cause) [ inl f ↦ forwarded e is m taken (Write handle serial offset bytes) f | inr n ↦ numbered e is (Write handle serial offset bytes) n ]

@@ -23,9 +23,10 @@ use Rattle.messages.specs.declared.message.Body.{Body}
 use Rattle.messages.specs.declared.message.Body.TheVariants as body
 use Rattle.messages.specs.declared.message.Message.{Message}
 use Rattle.messages.specs.declared.message.Target.{Target}
+use Rattle.laws_base.proofs.Rots.{rot_leases}
 use Rattle.primary_order.specs.SerialOrder.{SerialOrder, IsNew, attempted}
 use Rattle.replica_store.specs.declared.row.Row.{Row}
-use Rattle.replica_store.specs.Replicas.{Replica, new_server_disk, replica_of, row_of, row_at, with_replica, rotten_replica}
+use Rattle.replica_store.specs.Replicas.{Replica, new_server_disk, replica_of, row_of, row_at}
 use Rattle.protocol.specs.Tables.{element_at, with_at, first_numbers}
 use Rattle.protocol.specs.Sending.{data_id, version_of, serial_of}
 use Rattle.protocol.specs.Choice.{Choice, Ending, Goes, Lost, Stops}
@@ -38,12 +39,12 @@ use Rattle.protocol.specs.Server.{ServerState, ServerDoing, chunk_limit, started
 use Rattle.protocol.specs.ServerWrites.{mutates_under}
 use Rattle.protocol.specs.ServerStep.{server_at, server_takes, server_goes, server_ends, server_step, server_restart}
 use Rattle.protocol.specs.MasterStep.{master_step, master_restart}
-use Rattle.protocol.specs.World.{WorldState, Happened, new_world, stamped, after_master, after_server, after_client, happens, after_events, IsReached}
+use Rattle.protocol.specs.World.{WorldState, Happened, new_world, stamped, after_master, after_server, after_client, happens, after_events, IsReached, after_rot}
 use Rattle.laws_base.proofs.Steps.{none_some, same_some}
 use Rattle.laws_base.proofs.Entries.{AllOf}
 use Rattle.laws_base.proofs.RisingOrders.{set_cases}
 use Rattle.laws_base.proofs.MembersRecorded.{kept_place, all_at}
-use Rattle.laws_steps.proofs.Events.{HoldsAfter, holds_after, with_call, with_rot}
+use Rattle.laws_steps.proofs.Events.{HoldsAfter, holds_after, with_call, with_rot, rot_of}
 use Rattle.laws_steps.proofs.ClientNumbers.{IsSaid, IsStepOf, of_step, of_call}
 use Rattle.laws_steps.proofs.RequestsOnce.{AreNumbered, numbered_reached, later_cases}
 use Rattle.laws_steps.proofs.MasterTalks.{is_masters, MasterTalks, master_said, restart_said}
@@ -71,7 +72,7 @@ use Rattle.laws_replicas.specs.EndedReplicas.{EndsAtEntry}
 use Rattle.laws_replicas.proofs.EndedReached.{replicas_end_at_entries}
 
 -- a row is of a replica
-row_there : (o : Option Replica) (row : Row) → row_of o ≡ Some row → (r : Replica) × (o ≡ Some r) × (length r.bytes ≡ row.count)
+row_there : (o : Option Replica) (row : Row) → row_of o ≡ Some row → (r : Replica) × (o ≡ Some r) × (r.count ≡ row.count)
 row_there None row is = none_some row is
 row_there (Some r) row is = (r, refl, ap (λ (x : Row). x.count) (same_some _ row is))
 
@@ -205,10 +206,10 @@ module _ (config : Config) (servers clients : ℕ) (some : 1 ≤ config.chunk) w
             → (row : Row) × (row_at s.disk handle.0 ≡ Some row) × (min p.chunk config.chunk ≤ row.count) → HasFullEnd (min p.chunk config.chunk) (order_of w.observer handle.0) version
         by_replica handle version p primary granted found = there ends
           where
-            one : (x : Replica) × (replica_of s.disk handle.0 ≡ Some x) × (length x.bytes ≡ found.0.count)
+            one : (x : Replica) × (replica_of s.disk handle.0 ≡ Some x) × (x.count ≡ found.0.count)
             one = row_there (replica_of s.disk handle.0) found.0 found.1
 
-            ends : EndsAtEntry (order_of w.observer handle.0) one.0.version (length one.0.bytes)
+            ends : EndsAtEntry (order_of w.observer handle.0) one.0.version one.0.count
             ends = (replicas_end_at_entries config servers clients w r kept index s at).0 handle.0 one.0 one.1
 
             -- a chunk has at least one byte
@@ -229,7 +230,7 @@ module _ (config : Config) (servers clients : ℕ) (some : 1 ≤ config.chunk) w
                 let has = leases_have_their_replica config servers clients w r index s at handle.0 p held.0 in
                 ap (λ (x : Replica). x.version) (same_some one.0 has.0 (sym one.1 ∙ has.1)) ∙ (has.2 ∙ held.1)
 
-            there : EndsAtEntry (order_of w.observer handle.0) one.0.version (length one.0.bytes) → HasFullEnd (min p.chunk config.chunk) (order_of w.observer handle.0) version
+            there : EndsAtEntry (order_of w.observer handle.0) one.0.version one.0.count → HasFullEnd (min p.chunk config.chunk) (order_of w.observer handle.0) version
             there (inl none) = absurd (let long = one.2 in let full = found.2 in let low = least in omega (arith, none, long, full, low))
             there (inr entry) = (
               entry.0,
@@ -365,11 +366,12 @@ module _ (config : Config) (servers clients : ℕ) (some : 1 ≤ config.chunk) w
                 told = more_told (Ended v) w.sent k ms (told_then v (stamped k ms) refl grown)
                     (of_call (λ t xs. AllOf (Causes (Ended v)) xs) s moment c choice (numbered.each index s at).named (λ d step. client_causes (Ended v) (client_at s moment) d d.sent step refl) tt);
               };
-          rots = λ e index handle s x place byte is_kept at there up.
-              let v : WorldState = (with_rot w index handle s (rotten_replica x place byte) is_kept).world in
+          rots = λ e index handle s x place byte ending is_kept at there up.
+              let v : WorldState = (with_rot w index s (rot_of handle place byte) ending is_kept).world in
               let grown : HaveGrown w v = λ n. same_follows IsAny (placed_in w.observer.orders n) in
               record {
-                leases = one_server v [] (sym (append-none w.sent)) grown index (record s { disk = with_replica s.disk handle (rotten_replica x place byte) }) (leases_then v [] (sym (append-none w.sent)) grown index s at);
+                leases = one_server v [] (sym (append-none w.sent)) grown index (after_rot s (rot_of handle place byte) ending)
+                    (rot_leases (λ ls. AreRight (Ended v) ls) s (rot_of handle place byte) ending (leases_then v [] (sym (append-none w.sent)) grown index s at) (none_right (Ended v)));
                 told = told_then v [] (sym (append-none w.sent)) grown;
               };
         }
@@ -384,9 +386,9 @@ module _ (config : Config) (servers clients : ℕ) (some : 1 ≤ config.chunk) w
       sound_on (happens w step.0 step.1).world rest (reached_later config servers clients w (step ∷ []) r)
       (λ now. let before = clocks_before w (step ∷ []) now in holds_after w (λ e x. Sound x.world) (each_sound w r before (h before)) step.0 step.1) kept
 
-  new_servers : (F : DataId → Type 0) (ns : List ℕ) (index : ℕ) (s : ServerState) → element_at (map (λ n. started_server config n (new_server_disk config.block) 0) ns) index ≡ Some s → AreRight F s.leases
+  new_servers : (F : DataId → Type 0) (ns : List ℕ) (index : ℕ) (s : ServerState) → element_at (map (λ n. started_server config n (new_server_disk config.chunk config.block config.slots) 0) ns) index ≡ Some s → AreRight F s.leases
   new_servers F [] index s is = none_some s is
-  new_servers F (n ∷ ns) zero s is = subst (λ (x : ServerState). AreRight F x.leases) (same_some (started_server config n (new_server_disk config.block) 0) s is) (none_right F)
+  new_servers F (n ∷ ns) zero s is = subst (λ (x : ServerState). AreRight F x.leases) (same_some (started_server config n (new_server_disk config.chunk config.block config.slots) 0) s is) (none_right F)
   new_servers F (n ∷ ns) (suc index) s is = new_servers F ns index s is
 
   sound_reached : (w : WorldState) → IsReached config servers clients w → IsTrue w.observer.are_clocks_kept → Sound w

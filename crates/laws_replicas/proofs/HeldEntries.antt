@@ -60,7 +60,7 @@ use Rattle.laws_replicas.proofs.Images.{Carried, Carries}
 use Rattle.laws_replicas.proofs.ImagesReached.{Plain}
 use Rattle.laws_replicas.proofs.Acknowledged.{WasCopied}
 use Rattle.laws_replicas.specs.AcknowledgedEntries.{HasRound}
-use Rattle.laws_replicas.proofs.AppliedReached.{IsFound}
+use Rattle.laws_replicas.proofs.ImagesReached.{IsFound}
 
 -- Each entry of the round of a lease of this version that the server holds is among these entries.
 abbrev pub HasRounds : List ServerState → Table (List Placed) → ℕ → Carried
@@ -128,10 +128,10 @@ pub given_on : (sent more : List Message) (index handle version : ℕ) (ps : Lis
 given_on sent more index handle version ps (inl copied) = inl (copied_on sent more handle version copied)
 given_on sent more index handle version ps (inr m) = inr (m.0, sent_before sent more m.0 m.1, m.2, m.3)
 
-applied_serial : (serial : ℕ) (m : Mutation) (r : Replica) → (applied serial m r).serial ≡ serial
-applied_serial serial (Write offset bytes) r = refl
-applied_serial serial (Append offset bytes) r = refl
-applied_serial serial (Pad offset end) r = refl
+applied_serial : (block serial : ℕ) (m : Mutation) (r : Replica) → (applied block serial m r).serial ≡ serial
+applied_serial block serial (Write offset bytes) r = refl
+applied_serial block serial (Append offset bytes) r = refl
+applied_serial block serial (Pad offset end) r = refl
 
 -- what is delivered to a server was sent to it
 sent_to : (w : WorldState) (e : Event) (server moment : ℕ) (i : NodeInput) → IsGiven w e (the_server server) moment i → IsSentTo w.sent (the_server server) i
@@ -236,8 +236,8 @@ module _ (config : Config) (servers clients : ℕ) (w : WorldState) (r : IsReach
             elim (primaries_apply_what_they_number s moment i choice place q v n id m seen) [
               | inl none ↦ none_some p (sym none ∙ (ap (λ (k : ℕ). table.get t.leases k) key ∙ held))
               | inr done ↦
-                  let one : applied n.0 m done.0 ≡ x = same_some (applied n.0 m done.0) x (sym done.2 ∙ (ap (λ (k : ℕ). replica_of t.disk k) key ∙ there_now)) in
-                  let serial : x.serial ≡ n.0 = ap (λ (y : Replica). y.serial) (sym one) ∙ applied_serial n.0 m done.0 in
+                  let one : applied s.disk.block n.0 m done.0 ≡ x = same_some (applied s.disk.block n.0 m done.0) x (sym done.2 ∙ (ap (λ (k : ℕ). replica_of t.disk k) key ∙ there_now)) in
+                  let serial : x.serial ≡ n.0 = ap (λ (y : Replica). y.serial) (sym one) ∙ applied_serial s.disk.block n.0 m done.0 in
                   let some = by.serial_is in
                   elim (last) [
                     | inl none ↦ absurd (omega (arith, none, serial, some))

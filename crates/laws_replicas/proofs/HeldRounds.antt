@@ -1,7 +1,8 @@
 -- In each reached world each entry of the round of a lease that is held ends within the bytes of its server's replica.
-use Rattle.std.proofs.Common.{◌≡◌, ℕ, zero, suc, ◌+◌, ◌-◌, ◌≤◌, List, [], ◌∷◌, ◌++◌, length, take, drop, replicate, Option, Some, None, refl, sym, ap, subst, ◌∙◌, inl, inr, arith}
+use Rattle.std.proofs.Common.{◌≡◌, ℕ, suc, ◌+◌, ◌-◌, ◌≤◌, List, [], length, replicate, Option, Some, None, refl, sym, ap, subst, ◌∙◌, inl, inr, arith}
 use Rattle.std.specs.Prelude.{unwrap_or}
 use Rattle.std.specs.Ordering.{nat_cmp}
+use Rattle.std.proofs.Math.Nat.{le-max_right}
 use Rattle.std.specs.FinMap as table
 use Rattle.gfs_types.specs.declared.config.Config.{Config}
 use Rattle.gfs_types.specs.declared.ids.DataId.{DataId}
@@ -14,8 +15,9 @@ use Rattle.gfs_types.specs.Mutations.{end_of}
 use Rattle.messages.specs.declared.event.Event.{Event}
 use Rattle.messages.specs.declared.event.NodeInput.{NodeInput}
 use Rattle.messages.specs.declared.event.NodeInput.TheVariants as input
+use Rattle.laws_base.proofs.Rots.{rot_held, rot_disk, rotten_disk}
 use Rattle.primary_order.specs.SerialOrder.{SerialOrder}
-use Rattle.replica_store.specs.Replicas.{Replica, replica_of, rotten_replica, with_replica, with_bytes}
+use Rattle.replica_store.specs.Replicas.{Replica, replica_of, rotten_replica, ServerDisk, disk_changed}
 use Rattle.relaxed_file.specs.Run.{Visible}
 use Rattle.protocol.specs.Tables.{Table, element_at, with_at}
 use Rattle.protocol.specs.Sending.{the_server}
@@ -27,20 +29,20 @@ use Rattle.protocol.specs.Server.{chunk_limit, ServerState}
 use Rattle.protocol.specs.ServerStep.{server_step, server_restarts, server_restart}
 use Rattle.protocol.specs.MasterStep.{master_step}
 use Rattle.protocol.specs.ClientStep.{client_step, client_call}
-use Rattle.protocol.specs.World.{WorldState, new_world, IsReached}
+use Rattle.protocol.specs.World.{WorldState, new_world, IsReached, after_rot}
 use Rattle.laws_base.proofs.Steps.{none_some, same_some, put_cases}
 use Rattle.laws_base.proofs.Entries.{AllOf}
 use Rattle.laws_base.proofs.MembersRecorded.{all_at}
 use Rattle.laws_base.proofs.SentReached.{sent_reached}
 use Rattle.laws_base.proofs.ScenesReached.{IsSentTo}
 use Rattle.laws_base.proofs.LeasesTold.{CameTo, came_in, versions_have_one_primary}
-use Rattle.laws_steps.proofs.Events.{IsGiven, HoldsAfter}
+use Rattle.laws_steps.proofs.Events.{IsGiven, HoldsAfter, rot_of}
 use Rattle.laws_steps.proofs.MasterTalks.{restart_shown}
 use Rattle.laws_entries.specs.ChunkOrders.{unsettled}
 use Rattle.laws_entries.proofs.Placing.{all_placed, Holds, AreAll, all_keep, same_orders}
 use Rattle.laws_entries.proofs.Numbering.{restarted_shown}
 use Rattle.laws_steps.specs.Replicas.{IsPlacedBehind, IsPlacedByReplica, applied, IsApplied}
-use Rattle.laws_steps.proofs.Lengths.{length-joined, length-alike}
+use Rattle.laws_steps.proofs.Lengths.{length-alike}
 use Rattle.laws_steps.proofs.HeldReplicas.{leases_have_their_replica}
 use Rattle.laws_steps.proofs.Placings.{mutations_are_placed_by_replicas}
 use Rattle.laws_steps.proofs.Applied.{primaries_apply_what_they_number}
@@ -52,31 +54,14 @@ use Rattle.laws_entries.proofs.RisingRounds.{put_all, held_reached}
 use Rattle.laws_entries.proofs.CountedRounds.{set_split, comes_in}
 use Rattle.laws_replicas.specs.HeldRounds.{ComesBehind, HeldRoundsAreApplied, RecordsComeBehindTheirRound}
 use Rattle.laws_replicas.proofs.HadLeases.{step_known, no_new_grant}
+use Rattle.leases.specs.LeaseHeld.{LeaseHeld}
 
--- bytes that are written end within the bytes
-
-pub length-first : {X : Type 0} (n : ℕ) (xs : List X) → length (take n xs) + (n - length xs) ≡ n
-length-first zero xs = omega arith
-length-first (suc n) [] = omega arith
-length-first (suc n) (x ∷ xs) = let rest = length-first n xs in omega (arith, rest)
-
-written_reach : (old : List ℕ) (offset : ℕ) (new : List ℕ) → offset + length new ≤ length (with_bytes old offset new)
-written_reach old offset new =
-    let first : List ℕ = take offset old in
-    let hole : List ℕ = replicate (offset - length old) 0 in
-    let rest : List ℕ = drop (offset + length new) old in
-    let whole : length (with_bytes old offset new) ≡ length (first ++ hole ++ new) + length rest = length-joined (first ++ hole ++ new) rest in
-    let front : length (first ++ hole ++ new) ≡ length (first ++ hole) + length new = length-joined (first ++ hole) new in
-    let begin : length (first ++ hole) ≡ length first + length hole = length-joined first hole in
-    let filled = length-alike (offset - length old) 0 in
-    let taken = length-first offset old in
-    omega (arith, whole, front, begin, filled, taken)
-
-applied_reach : (serial : ℕ) (m : Mutation) (r : Replica) → end_of m ≤ length (applied serial m r).bytes
-applied_reach serial (Write offset bytes) r = written_reach r.bytes offset bytes
-applied_reach serial (Append offset bytes) r = written_reach r.bytes offset bytes
-applied_reach serial (Pad offset end) r =
-    let reach = written_reach r.bytes offset (replicate (end - offset) 0) in
+-- what is written ends within the replica
+applied_reach : (block serial : ℕ) (m : Mutation) (r : Replica) → end_of m ≤ (applied block serial m r).count
+applied_reach block serial (Write offset bytes) r = le-max_right r.count (offset + length bytes)
+applied_reach block serial (Append offset bytes) r = le-max_right r.count (offset + length bytes)
+applied_reach block serial (Pad offset end) r =
+    let reach = le-max_right r.count (offset + length (replicate (end - offset) 0)) in
     let alike = length-alike (end - offset) 0 in
     omega (arith, reach, alike)
 
@@ -84,7 +69,7 @@ applied_reach serial (Pad offset end) r =
 abbrev IsHeldBy : List ServerState → ℕ → Placed → Type 0
 IsHeldBy servers handle e =
     (index : ℕ) (s : ServerState) → element_at servers index ≡ Some s → (p : SerialOrder) → table.get s.leases handle ≡ Some p → e.entry.round ≡ p.held.version
-    → (r : Replica) → replica_of s.disk handle ≡ Some r → end_of e.entry.mutation ≤ length r.bytes
+    → (r : Replica) → replica_of s.disk handle ≡ Some r → end_of e.entry.mutation ≤ r.count
 
 -- what is delivered to a server was sent to it
 sent_to : (w : WorldState) (e : Event) (server moment : ℕ) (i : NodeInput) → IsGiven w e (the_server server) moment i → IsSentTo w.sent (the_server server) i
@@ -114,7 +99,7 @@ module _ (config : Config) (servers clients : ℕ) (w : WorldState) (r : IsReach
 
     one_server : (index : ℕ) (s t : ServerState) → element_at w.servers index ≡ Some s
         → ((handle place : ℕ) (e : Placed) → element_at (placed_in w.observer.orders handle) place ≡ Some e → (p : SerialOrder) → table.get t.leases handle ≡ Some p → e.entry.round ≡ p.held.version
-        → (x : Replica) → replica_of t.disk handle ≡ Some x → IsHeldBy w.servers handle (unsettled e) → end_of e.entry.mutation ≤ length x.bytes)
+        → (x : Replica) → replica_of t.disk handle ≡ Some x → IsHeldBy w.servers handle (unsettled e) → end_of e.entry.mutation ≤ x.count)
         → AreAll (IsHeldBy (with_at w.servers index t)) w.observer.orders
     one_server index s t at go =
         placed_on (IsHeldBy (with_at w.servers index t))
@@ -143,7 +128,7 @@ module _ (config : Config) (servers clients : ℕ) (w : WorldState) (r : IsReach
       -- what it numbers it applies, or it has no lease
       new_held : (place : ℕ) (handle : Handle) (version : Version) (serial : Serial) (id : DataId) (m : Mutation) → element_at (server_step s moment i choice).seen place ≡ Some (Numbered handle version serial id m)
           → (other : ℕ) (u : ServerState) → element_at (with_at w.servers index (server_step s moment i choice).state) other ≡ Some u → (p : SerialOrder) → table.get u.leases handle.0 ≡ Some p → version.0 ≡ p.held.version
-          → (now : Replica) → replica_of u.disk handle.0 ≡ Some now → end_of m ≤ length now.bytes
+          → (now : Replica) → replica_of u.disk handle.0 ≡ Some now → end_of m ≤ now.count
       new_held place handle version serial id m seen other u is p lease round now replica =
           elim (set_split w.servers index t other u is) [
             | inl both ↦ elim (primaries_apply_what_they_number s moment i choice place handle version serial id m seen) [
@@ -156,15 +141,15 @@ module _ (config : Config) (servers clients : ℕ) (w : WorldState) (r : IsReach
           by : IsPlacedByReplica s handle.0 version.0 serial.0 id m
           by = mutations_are_placed_by_replicas config servers clients w r index s at moment i choice place handle version serial id m seen
 
-          reach : IsApplied s.disk (server_step s moment i choice).state.disk handle.0 serial.0 m → replica_of (server_step s moment i choice).state.disk handle.0 ≡ Some now → end_of m ≤ length now.bytes
+          reach : IsApplied s.disk (server_step s moment i choice).state.disk handle.0 serial.0 m → replica_of (server_step s moment i choice).state.disk handle.0 ≡ Some now → end_of m ≤ now.count
           reach done there =
-              subst (λ (x : Replica). end_of m ≤ length x.bytes) (same_some (applied serial.0 m done.0) now (sym done.2 ∙ there))
-              (applied_reach serial.0 m done.0)
+              subst (λ (x : Replica). end_of m ≤ x.count) (same_some (applied s.disk.block serial.0 m done.0) now (sym done.2 ∙ there))
+              (applied_reach s.disk.block serial.0 m done.0)
 
       abbrev IsSeenNow : Seen → Type 0
       IsSeenNow (Numbered handle version serial id m) =
           (other : ℕ) (u : ServerState) → element_at (with_at w.servers index (server_step s moment i choice).state) other ≡ Some u → (p : SerialOrder) → table.get u.leases handle.0 ≡ Some p → version.0 ≡ p.held.version
-          → (now : Replica) → replica_of u.disk handle.0 ≡ Some now → end_of m ≤ length now.bytes
+          → (now : Replica) → replica_of u.disk handle.0 ≡ Some now → end_of m ≤ now.count
       IsSeenNow (BecameSettled handle version serial) = Unit {0}
       IsSeenNow (CopyStarted handle copy) = ⊥
 
@@ -188,14 +173,26 @@ module _ (config : Config) (servers clients : ℕ) (w : WorldState) (r : IsReach
         by_ending Lost handle = table.get-empty nat_cmp handle
         by_ending (Stops made) handle = table.get-empty nat_cmp handle
 
-    rotten : (index q : ℕ) (s : ServerState) (x : Replica) (place byte : ℕ) → element_at w.servers index ≡ Some s → replica_of s.disk q ≡ Some x
-        → AreAll (IsHeldBy (with_at w.servers index (record s { disk = with_replica s.disk q (rotten_replica x place byte) }))) w.observer.orders
-    rotten index q s x place byte at there =
-        one_server index s (record s { disk = with_replica s.disk q (rotten_replica x place byte) }) at
-        (λ handle n e here p lease round now replica was. elim (put_cases s.disk.replicas q (rotten_replica x place byte) handle now replica) [
-          | inl same ↦ subst (λ (y : Replica). end_of e.entry.mutation ≤ length y.bytes) same.1 (was index s at p lease round x (ap (λ (k : ℕ). replica_of s.disk k) same.0 ∙ there))
-          | inr before ↦ was index s at p lease round now before
+    -- each replica of this handle reaches so far
+    abbrev Reaches : ℕ → ℕ → ServerDisk → Type 0
+    Reaches handle end d = (y : Replica) → replica_of d handle ≡ Some y → end ≤ y.count
+
+    rotten_reach : (d : ServerDisk) (q : ℕ) (x : Replica) (place byte : ℕ) → replica_of d q ≡ Some x → (handle end : ℕ) → Reaches handle end d → Reaches handle end (disk_changed d (rot_of q place byte))
+    rotten_reach d q x place byte there handle end reach =
+        subst (Reaches handle end) (sym (rotten_disk d q x place byte there))
+        (λ y is. elim (put_cases d.replicas q (rotten_replica x place byte) handle y is) [
+          | inl same ↦ subst (λ (z : Replica). end ≤ z.count) same.1 (reach x (ap (λ (k : ℕ). replica_of d k) same.0 ∙ there))
+          | inr before ↦ reach y before
         ])
+
+    rotten : (index q : ℕ) (s : ServerState) (x : Replica) (place byte : ℕ) (ending : Ending) → element_at w.servers index ≡ Some s → replica_of s.disk q ≡ Some x
+        → AreAll (IsHeldBy (with_at w.servers index (after_rot s (rot_of q place byte) ending))) w.observer.orders
+    rotten index q s x place byte ending at there =
+        one_server index s (after_rot s (rot_of q place byte) ending) at
+        (λ handle n e here p lease round now replica was.
+        let held = rot_held s (rot_of q place byte) ending handle p lease in
+        let reach : Reaches handle (end_of e.entry.mutation) s.disk = was index s at held.0 held.1 (round ∙ ap (λ (l : LeaseHeld). l.version) (sym held.2)) in
+        rot_disk (Reaches handle (end_of e.entry.mutation)) s (rot_of q place byte) ending reach (rotten_reach s.disk q x place byte there handle (end_of e.entry.mutation) reach) now replica)
 
     each_held : HoldsAfter w (λ e x. AreAll (IsHeldBy x.world.servers) x.world.observer.orders)
     each_held =
@@ -210,7 +207,7 @@ module _ (config : Config) (servers clients : ℕ) (w : WorldState) (r : IsReach
               (sym (restarted_shown s moment choice choice.ending)) (restarted index moment s choice choice.ending at);
           steps = λ e index moment s i choice at is up. subst (λ (orders : Table (List Placed)). AreAll (IsHeldBy w.servers) orders) (sym (same_orders _ (suc index) (client_step s moment i choice).out.answer)) h;
           calls = λ e index moment s c choice at may. subst (λ (orders : Table (List Placed)). AreAll (IsHeldBy w.servers) orders) (sym (same_orders _ (suc index) (client_call s moment c choice).out.answer)) h;
-          rots = λ e index q s x place byte is_kept at there up. rotten index q s x place byte at there;
+          rots = λ e index q s x place byte ending is_kept at there up. rotten index q s x place byte ending at there;
         }
 
 -- the laws
@@ -238,10 +235,10 @@ records_come_behind_their_round config servers clients w r index s at moment i c
     by : IsPlacedByReplica s handle.0 version.0 serial.0 id m
     by = mutations_are_placed_by_replicas config servers clients w r index s at moment i choice shown handle version serial id m seen
 
-    low : end_of e.entry.mutation ≤ length (by.replica).bytes
+    low : end_of e.entry.mutation ≤ (by.replica).count
     low = ends_within config servers clients w r handle.0 place e there index s at by.lease by.lease_is (round ∙ by.version_is) by.replica by.replica_is
 
-    behind : (x : Mutation) → IsPlacedBehind (chunk_limit s (by.lease).chunk) (length (by.replica).bytes) by.bytes x → ComesBehind (end_of e.entry.mutation) x
+    behind : (x : Mutation) → IsPlacedBehind (chunk_limit s (by.lease).chunk) (by.replica).count by.bytes x → ComesBehind (end_of e.entry.mutation) x
     behind (Write offset bytes) placed = tt
     behind (Append offset bytes) placed = let start = placed.1 in let bound = low in omega (arith, start, bound)
     behind (Pad offset end) placed = let start = placed.0 in let bound = low in omega (arith, start, bound)

@@ -1,8 +1,7 @@
 -- Each replica is the image of some entries of its chunk's order, and so are the bytes of each Image: a server's step, by what it changes.
-use Rattle.std.proofs.Common.{◌≡◌, ◌⊎◌, ℕ, zero, suc, ◌+◌, ◌-◌, ◌≤◌, ◌<◌, true, false, List, [], ◌∷◌, ◌++◌, map, take, replicate, Option, Some, None, refl, sym, ap, subst, ◌∙◌, inl, inr, arith}
+use Rattle.std.proofs.Common.{◌≡◌, ◌⊎◌, ℕ, zero, suc, ◌+◌, ◌-◌, ◌≤◌, ◌<◌, true, false, List, [], ◌∷◌, ◌++◌, map, length, take, replicate, Option, Some, None, refl, sym, ap, subst, ◌∙◌, inl, inr, arith}
 use Rattle.std.specs.Prelude.{◌==◌, IsTrue, filter, unwrap_or}
 use Rattle.std.specs.List.{AllByRecursion}
-use Rattle.std.specs.FinMap as table
 use Rattle.std.proofs.lemmas.Bool.{eq-eqb}
 use Rattle.gfs_types.specs.declared.config.Config.{Config}
 use Rattle.gfs_types.specs.declared.ids.DataId.{DataId}
@@ -24,8 +23,8 @@ use Rattle.data_push.specs.Buffers.{data_of}
 use Rattle.relaxed_file.specs.Run.{Visible}
 use Rattle.replica_store.specs.declared.row.Row.{Row}
 use Rattle.replica_store.specs.declared.change.StoreChange.{StoreChange}
-use Rattle.replica_store.specs.declared.change.StoreChange.TheVariants.{SetOrder, Put, Write, Zero, Raise, Copy, Remove}
-use Rattle.replica_store.specs.Replicas.{Replica, ServerDisk, replica_of, with_replica, replica_becomes, stored_replica, written_replica, raised_replica, bytes_on_disk, with_bytes, disk_changed, disk_changed_by_all, row_of, row_at, is_copyable_at, is_new_order}
+use Rattle.replica_store.specs.declared.change.StoreChange.TheVariants.{SetOrder, Put, Write, Zero, Raise, Copy, Remove, Rot}
+use Rattle.replica_store.specs.Replicas.{Replica, ServerDisk, replica_of, with_replica, replica_becomes, stored_replica, written_replica, raised_replica, own_bytes, is_writable, disk_changed, disk_changed_by_all, row_of, row_at, is_copyable_at, is_new_order}
 use Rattle.protocol.specs.Tables.{Table, element_at, first_numbers}
 use Rattle.protocol.specs.Sending.{handle_of, version_of, serial_of}
 use Rattle.protocol.specs.declared.seen.Seen.{Seen}
@@ -44,16 +43,17 @@ use Rattle.laws_entries.specs.PlacedEntries.{LiesWithin}
 use Rattle.laws_entries.proofs.RoundsPassed.{IsOfServers}
 use Rattle.laws_entries.specs.CountedSerials.{serials_of}
 use Rattle.laws_entries.proofs.CountedRounds.{leases_count_their_serials}
-use Rattle.laws_steps.proofs.Lengths.{all_taken}
-use Rattle.laws_steps.proofs.HeldReplicas.{IsNumber, numbers_quiet, changed_last, leases_have_their_replica}
+use Rattle.laws_steps.proofs.Lengths.{all_taken, IsShort, length-own, servers_within, settings_stay}
+use Rattle.laws_steps.proofs.HeldReplicas.{IsNumber, changed_last, leases_have_their_replica}
 use Rattle.laws_entries.specs.CausedWords.{IsNamedIn}
 use Rattle.laws_entries.proofs.Forwards.{forwards_name_entries}
 use Rattle.laws_replicas.proofs.StoreCauses.{IsMadeOf, change_start, IsForwarded, IsNumbered, IsStoredFor, AreMade, AreMadeOn, step_made}
-use Rattle.laws_replicas.proofs.KeptDisks.{taken_cases, replicas_are_read_as_stored}
+use Rattle.laws_replicas.proofs.KeptDisks.{taken_cases, IsLike, like_quiet, there_like, made_like, IsFit, writable_there, writable_zeros, room_of_zeros, stored_fit, last_short, sound_reached, short_reached, replicas_are_read_as_stored}
+use Rattle.laws_replicas.proofs.StoredChunks.{own_stored, put_stored, written_stored}
 use Rattle.laws_replicas.specs.CopiedEntries.{Follows, IsUpTo}
 use Rattle.laws_replicas.proofs.OrdersGrow.{IsAny, all_grow}
 use Rattle.laws_replicas.proofs.CopiedEntries.{raises_go_above_their_base, copies_go_above_their_source, copies_have_their_sources_entries}
-use Rattle.laws_replicas.specs.ReplicaImages.{written_by, marked, IsWithin, IsImageOf}
+use Rattle.laws_replicas.specs.ReplicaImages.{with_bytes, written_by, marked, IsWithin, IsImageOf}
 use Rattle.laws_replicas.proofs.Marks.{all_elements, all_marked, last_element, none_applied, image_on, image_raised, image_more}
 use Rattle.laws_replicas.proofs.KeptData.{IsCarried, kept_is_carried}
 
@@ -143,9 +143,13 @@ Carried = (handle version : ℕ) → List Placed → Type 0
 abbrev pub Holds : Carried → List Placed → (handle version serial : ℕ) → List ℕ → Type 0
 Holds K order handle version serial bytes = (g : IsImageOf order version serial bytes) × K handle version (marked g.marks order)
 
--- images in these orders
-abbrev pub AreIn : Carried → Table (List Placed) → ServerDisk → Type 0
-AreIn K orders d = (handle : ℕ) (r : Replica) → replica_of d handle ≡ Some r → Holds K (placed_in orders handle) handle r.version r.serial r.bytes
+-- a replica's bytes as they were stored on the disk of the server at an index
+abbrev pub own_in : WorldState → ℕ → ℕ → Replica → List ℕ
+own_in w index handle r = own_stored w.config.block w.observer index handle r
+
+-- images in these orders, by what was stored
+abbrev pub AreIn : Carried → (ℕ → Replica → List ℕ) → Table (List Placed) → ServerDisk → Type 0
+AreIn K stored orders d = (handle : ℕ) (r : Replica) → replica_of d handle ≡ Some r → Holds K (placed_in orders handle) handle r.version r.serial (stored handle r)
 
 -- in orders that have grown
 pub holds_grown : (K : Carried) (from to : List Placed) (handle version serial : ℕ) (bytes : List ℕ) → Follows IsAny from to → Holds K from handle version serial bytes → Holds K to handle version serial bytes
@@ -153,17 +157,17 @@ holds_grown K from to handle version serial bytes f h =
     let now = image_on IsAny from to version serial bytes f (λ p is. tt) h.0 in
     (now.0, subst (K handle version) (sym now.1) h.1)
 
-put_in : (K : Carried) (orders : Table (List Placed)) (d : ServerDisk) (k : ℕ) (new : Replica) → Holds K (placed_in orders k) k new.version new.serial new.bytes → AreIn K orders d → AreIn K orders (with_replica d k new)
-put_in K orders d k new one h handle r is =
+put_in : (K : Carried) (stored : ℕ → Replica → List ℕ) (orders : Table (List Placed)) (d : ServerDisk) (k : ℕ) (new : Replica) → Holds K (placed_in orders k) k new.version new.serial (stored k new) → AreIn K stored orders d → AreIn K stored orders (with_replica d k new)
+put_in K stored orders d k new one h handle r is =
     elim (put_cases d.replicas k new handle r is) [
-      | inl same ↦ subst (λ (n : ℕ). Holds K (placed_in orders n) n r.version r.serial r.bytes) (sym same.0) (subst (λ (x : Replica). Holds K (placed_in orders k) k x.version x.serial x.bytes) same.1 one)
+      | inl same ↦ subst (λ (n : ℕ). Holds K (placed_in orders n) n r.version r.serial (stored n r)) (sym same.0) (subst (λ (x : Replica). Holds K (placed_in orders k) k x.version x.serial (stored k x)) same.1 one)
       | inr before ↦ h handle r before
     ]
 
-becomes_in : (K : Carried) (orders : Table (List Placed)) (f : Replica → Replica) (d : ServerDisk) (k : ℕ) (o : Option Replica)
-    → ((r : Replica) → o ≡ Some r → Holds K (placed_in orders k) k (f r).version (f r).serial (f r).bytes) → AreIn K orders d → AreIn K orders (replica_becomes f d k o)
-becomes_in K orders f d k None new h = h
-becomes_in K orders f d k (Some r) new h = put_in K orders d k (f r) (new r refl) h
+becomes_in : (K : Carried) (stored : ℕ → Replica → List ℕ) (orders : Table (List Placed)) (f : Replica → Replica) (d : ServerDisk) (k : ℕ) (o : Option Replica)
+    → ((r : Replica) → o ≡ Some r → Holds K (placed_in orders k) k (f r).version (f r).serial (stored k (f r))) → AreIn K stored orders d → AreIn K stored orders (replica_becomes f d k o)
+becomes_in K stored orders f d k None new h = h
+becomes_in K stored orders f d k (Some r) new h = put_in K stored orders d k (f r) (new r refl) h
 
 -- what Images say
 abbrev pub IsImageSaid : Carried → Table (List Placed) → Body → Type 0
@@ -189,37 +193,62 @@ pub record Carries (s : ServerState) (i : NodeInput) (J K : Carried) : Type 0 wh
       → (ps : List Placed) → K handle.0 from.0 ps → K copy.0 version.0 ps
 
 module _ (J K : Carried) (config : Config) (servers clients : ℕ) (w : WorldState) (r : IsReached config servers clients w) (clocks : IsTrue w.observer.are_clocks_kept) (disks : IsTrue w.observer.are_disks_kept)
-    (said : (m : Message) → IsSent w.sent m → IsImageSaid J w.observer.orders m.body) (index : ℕ) (s : ServerState) (at : element_at w.servers index ≡ Some s) (here : AreIn K w.observer.orders s.disk)
+    (said : (m : Message) → IsSent w.sent m → IsImageSaid J w.observer.orders m.body) (index : ℕ) (s : ServerState) (at : element_at w.servers index ≡ Some s) (here : AreIn K (own_in w index) w.observer.orders s.disk)
     (moment : ℕ) (i : NodeInput) (came : (m : Message) → i ≡ input.Deliver m → IsSent w.sent m) (k : Carries s i J K) where
   module _ (trace : List Visible) (orders : Table (List Placed)) (l : Leaves w trace (server_goes s moment i).seen orders) where
     abbrev Good : ServerDisk → Type 0
-    Good d = AreIn K orders d
+    Good d = AreIn K (own_in w index) orders d
 
     stays : Good s.disk
-    stays handle x is = holds_grown K (placed_in w.observer.orders handle) (placed_in orders handle) handle x.version x.serial x.bytes (l.grown handle) (here handle x is)
+    stays handle x is = holds_grown K (placed_in w.observer.orders handle) (placed_in orders handle) handle x.version x.serial (own_in w index handle x) (l.grown handle) (here handle x is)
 
-    same : (e : ServerDisk) → e.replicas ≡ s.disk.replicas → Good e
-    same e is handle x there = stays handle x (ap (λ (t : Table Replica). table.get t handle) (sym is) ∙ there)
+    same : (e : ServerDisk) → IsLike e s.disk → Good e
+    same e is handle x there = stays handle x (there_like e s.disk is handle x there)
+
+    -- what was stored, by the disk's own blocks
+
+    block_is : s.disk.block ≡ w.config.block
+    block_is = (servers_within config servers clients w r index s at).block ∙ sym (ap (λ (c : Config). c.block) (settings_stay config servers clients w r))
+
+    own_is : (handle : ℕ) (y : Replica) → own_stored s.disk.block w.observer index handle y ≡ own_in w index handle y
+    own_is handle y = ap (λ (n : ℕ). own_stored n w.observer index handle y) block_is
+
+    put_then : (e : ServerDisk) → IsLike e s.disk → (handle version serial : ℕ) (bytes : List ℕ) → length bytes ≤ s.disk.chunk → own_in w index handle (stored_replica e.chunk e.block version serial bytes) ≡ bytes
+    put_then e is handle version serial bytes few =
+        ap (λ (x : Replica). own_in w index handle x) (made_like e s.disk is version serial bytes)
+        ∙ sym (own_is handle (stored_replica s.disk.chunk s.disk.block version serial bytes)) ∙ put_stored s.disk.chunk s.disk.block w.observer index handle version serial bytes few
+
+    written_then : (handle : ℕ) (y : Replica) → replica_of s.disk handle ≡ Some y → (serial offset : ℕ) (content : List ℕ) → offset + length content ≤ s.disk.chunk → is_writable s.disk.block y offset (offset + length content) ≡ true
+        → own_in w index handle (written_replica s.disk.block y serial offset content) ≡ with_bytes (own_in w index handle y) offset content
+    written_then handle y there serial offset content fits can =
+        sym (own_is handle (written_replica s.disk.block y serial offset content))
+        ∙ written_stored s.disk.chunk s.disk.block w.observer index handle y (sound_reached config servers clients w r disks index s at handle y there) serial offset content fits can
+        ∙ ap (λ (bs : List ℕ). with_bytes bs offset content) (own_is handle y)
 
     -- an entry that comes behind what was applied is applied
-    applied : (handle : ℕ) (y : Replica) (h : Holds K (placed_in orders handle) handle y.version y.serial y.bytes) (place : ℕ) (p : Placed) → element_at (placed_in orders handle) place ≡ Some p → p.entry.round ≡ y.version
+    applied : (handle : ℕ) (y : Replica) (h : Holds K (placed_in orders handle) handle y.version y.serial (own_in w index handle y)) (place : ℕ) (p : Placed) → element_at (placed_in orders handle) place ≡ Some p → p.entry.round ≡ y.version
         → AllByRecursion (λ q. q.entry.round ≡ y.version → q.serial < p.serial) (marked h.0.marks (placed_in orders handle)) → (serial offset : ℕ) (content : List ℕ) → p.serial ≡ serial → start_of p.entry.mutation ≡ offset → written_by p.entry.mutation ≡ content
-        → Holds K (placed_in orders handle) handle y.version serial (with_bytes y.bytes offset content)
+        → Holds K (placed_in orders handle) handle y.version serial (with_bytes (own_in w index handle y) offset content)
     applied handle y h place p there round later serial offset content serial_is start content_is =
-        subst (λ (n : ℕ). Holds K (placed_in orders handle) handle y.version n (with_bytes y.bytes offset content)) serial_is
-        (subst (λ (n : ℕ). Holds K (placed_in orders handle) handle y.version p.serial (with_bytes y.bytes n content)) start
-        (subst (λ (bs : List ℕ). Holds K (placed_in orders handle) handle y.version p.serial (with_bytes y.bytes (start_of p.entry.mutation) bs)) content_is
+        subst (λ (n : ℕ). Holds K (placed_in orders handle) handle y.version n (with_bytes (own_in w index handle y) offset content)) serial_is
+        (subst (λ (n : ℕ). Holds K (placed_in orders handle) handle y.version p.serial (with_bytes (own_in w index handle y) n content)) start
+        (subst (λ (bs : List ℕ). Holds K (placed_in orders handle) handle y.version p.serial (with_bytes (own_in w index handle y) (start_of p.entry.mutation) bs)) content_is
         (one.0, subst (K handle y.version) (sym one.1) (k.more handle y.version (marked h.0.marks (placed_in orders handle)) (unsettled p) h.1))))
       where
-        one : (g : IsImageOf (placed_in orders handle) y.version p.serial (with_bytes y.bytes (start_of p.entry.mutation) (written_by p.entry.mutation)))
+        one : (g : IsImageOf (placed_in orders handle) y.version p.serial (with_bytes (own_in w index handle y) (start_of p.entry.mutation) (written_by p.entry.mutation)))
             × (marked g.marks (placed_in orders handle) ≡ marked h.0.marks (placed_in orders handle) ++ unsettled p ∷ [])
-        one = image_more (placed_in orders handle) y.version y.serial y.bytes h.0 (l.rising handle) place p there round later (l.within handle place p there)
+        one = image_more (placed_in orders handle) y.version y.serial (own_in w index handle y) h.0 (l.rising handle) place p there round later (l.within handle place p there)
 
-    written : (e : ServerDisk) → e.replicas ≡ s.disk.replicas → (handle serial offset : ℕ) (content : List ℕ)
-        → ((y : Replica) → replica_of s.disk handle ≡ Some y → Holds K (placed_in orders handle) handle y.version serial (with_bytes y.bytes offset content))
-        → Good (replica_becomes (λ y. written_replica y serial offset content) e handle (replica_of e handle))
-    written e is handle serial offset content new =
-        becomes_in K orders (λ y. written_replica y serial offset content) e handle (replica_of e handle) (λ y there. new y (ap (λ (t : Table Replica). table.get t handle) (sym is) ∙ there)) (same e is)
+    written : (e : ServerDisk) → IsLike e s.disk → (handle serial offset : ℕ) (content : List ℕ) → offset + length content ≤ s.disk.chunk
+        → ((y : Replica) → replica_of s.disk handle ≡ Some y → is_writable s.disk.block y offset (offset + length content) ≡ true)
+        → ((y : Replica) → replica_of s.disk handle ≡ Some y → Holds K (placed_in orders handle) handle y.version serial (with_bytes (own_in w index handle y) offset content))
+        → Good (replica_becomes (λ y. written_replica e.block y serial offset content) e handle (replica_of e handle))
+    written e is handle serial offset content fits can new =
+        subst (λ (n : ℕ). Good (replica_becomes (λ y. written_replica n y serial offset content) e handle (replica_of e handle))) (sym is.1)
+        (becomes_in K (own_in w index) orders (λ y. written_replica s.disk.block y serial offset content) e handle (replica_of e handle)
+        (λ y e_there.
+        let there = there_like e s.disk is handle y e_there in
+        subst (λ (bs : List ℕ). Holds K (placed_in orders handle) handle y.version serial bs) (sym (written_then handle y there serial offset content fits (can y there))) (new y there)) (same e is))
 
     -- a member, on a Forward
 
@@ -229,7 +258,7 @@ module _ (J K : Carried) (config : Config) (servers clients : ℕ) (w : WorldSta
       entry = l.grown handle.0 named.place named.p named.at tt
 
       member : (offset : ℕ) (content : List ℕ) → change_start c ≡ offset → written_by named.p.entry.mutation ≡ content → (y : Replica) → replica_of s.disk handle.0 ≡ Some y
-          → Holds K (placed_in orders handle.0) handle.0 y.version serial.0 (with_bytes y.bytes offset content)
+          → Holds K (placed_in orders handle.0) handle.0 y.version serial.0 (with_bytes (own_in w index handle.0 y) offset content)
       member offset content start content_is y there =
           let of = row_is s.disk handle.0 row y row_there there in
           let q : Placed = entry.0 in
@@ -244,38 +273,45 @@ module _ (J K : Carried) (config : Config) (servers clients : ℕ) (w : WorldSta
     carried : (handle : Handle) (version : Version) (serial : Serial) (id : DataId) (c : Change) (named : IsNamedIn (order_of w.observer handle.0) version serial id c) (bytes : List ℕ) → data_of s.pushed id ≡ Some bytes → IsCarried bytes named.p.entry.mutation
     carried handle version serial id c named bytes kept = kept_is_carried config servers clients w r index s at id bytes kept handle.0 named.place named.p named.at named.client_is named.seq_is
 
-    forwarded_as : (e : ServerDisk) → e.replicas ≡ s.disk.replicas → (handle : Handle) (version : Version) (serial : Serial) (id : DataId) (c : Change) → IsNamedIn (order_of w.observer handle.0) version serial id c
-        → (row : Row) → row_at s.disk handle.0 ≡ Some row → row.version.0 ≡ version.0 → row.serial.0 < serial.0 → (x : StoreChange) → IsMadeOf handle.0 serial.0 (data_of s.pushed id) c x → Good (disk_changed e x)
-    forwarded_as e is handle version serial id (change.Write offset) named row there version_is later x made =
+    forwarded_as : (e : ServerDisk) → IsLike e s.disk → (handle : Handle) (version : Version) (serial : Serial) (id : DataId) (c : Change) → IsNamedIn (order_of w.observer handle.0) version serial id c
+        → (row : Row) → row_at s.disk handle.0 ≡ Some row → row.version.0 ≡ version.0 → row.serial.0 < serial.0 → (x : StoreChange) → IsMadeOf handle.0 serial.0 (data_of s.pushed id) c x → IsFit s.disk x → Good (disk_changed e x)
+    forwarded_as e is handle version serial id (change.Write offset) named row there version_is later x made fit =
+        let f = subst (IsFit s.disk) made.2 fit in
         subst (λ (y : StoreChange). Good (disk_changed e y)) (sym made.2)
-        (written e is handle.0 serial.0 offset made.0 (member handle version serial id (change.Write offset) named row there version_is later offset made.0 refl
+        (written e is handle.0 serial.0 offset made.0 f.1 (λ y y_there. writable_there s.disk handle.0 offset (offset + length made.0) y y_there f.0)
+        (member handle version serial id (change.Write offset) named row there version_is later offset made.0 refl
         (written_is named.p.entry.mutation offset made.0 (inl named.change_is) (carried handle version serial id (change.Write offset) named made.0 made.1))))
-    forwarded_as e is handle version serial id (change.Append offset) named row there version_is later x made =
+    forwarded_as e is handle version serial id (change.Append offset) named row there version_is later x made fit =
+        let f = subst (IsFit s.disk) made.2 fit in
         subst (λ (y : StoreChange). Good (disk_changed e y)) (sym made.2)
-        (written e is handle.0 serial.0 offset made.0 (member handle version serial id (change.Append offset) named row there version_is later offset made.0 refl
+        (written e is handle.0 serial.0 offset made.0 f.1 (λ y y_there. writable_there s.disk handle.0 offset (offset + length made.0) y y_there f.0)
+        (member handle version serial id (change.Append offset) named row there version_is later offset made.0 refl
         (written_is named.p.entry.mutation offset made.0 (inr named.change_is) (carried handle version serial id (change.Append offset) named made.0 made.1))))
-    forwarded_as e is handle version serial id (change.Pad offset end) named row there version_is later x made =
+    forwarded_as e is handle version serial id (change.Pad offset end) named row there version_is later x made fit =
+        let f = subst (IsFit s.disk) made fit in
         subst (λ (y : StoreChange). Good (disk_changed e y)) (sym made)
-        (written e is handle.0 serial.0 offset (replicate (end - offset) 0) (member handle version serial id (change.Pad offset end) named row there version_is later offset (replicate (end - offset) 0) refl
+        (written e is handle.0 serial.0 offset (replicate (end - offset) 0) (room_of_zeros s.disk.chunk offset (end - offset) f.1) (λ y y_there. writable_zeros s.disk handle.0 offset (end - offset) y y_there f.0)
+        (member handle version serial id (change.Pad offset end) named row there version_is later offset (replicate (end - offset) 0) refl
         (padded_is named.p.entry.mutation offset end named.change_is)))
 
-    forwarded : (e : ServerDisk) → e.replicas ≡ s.disk.replicas → (m : Message) → i ≡ input.Deliver m → (x : StoreChange) → IsForwarded (server_at s moment) m.body x → Good (disk_changed e x)
-    forwarded e is m taken x f =
+    forwarded : (e : ServerDisk) → IsLike e s.disk → (m : Message) → i ≡ input.Deliver m → (x : StoreChange) → IsForwarded (server_at s moment) m.body x → IsFit s.disk x → Good (disk_changed e x)
+    forwarded e is m taken x f fit =
         let sent = came m taken in
-        forwarded_as e is f.handle f.version f.serial f.id f.c (forwards_name_entries config servers clients w r sent.0 m sent.1 f.handle f.version f.serial f.id f.chunk f.c f.body_is) f.row f.there f.version_is f.later x f.made
+        forwarded_as e is f.handle f.version f.serial f.id f.c (forwards_name_entries config servers clients w r sent.0 m sent.1 f.handle f.version f.serial f.id f.chunk f.c f.body_is) f.row f.there f.version_is f.later x f.made fit
 
     -- the primary
 
-    numbered_as : (e : ServerDisk) → e.replicas ≡ s.disk.replicas → (handle serial : ℕ) (m : Mutation)
-        → ((y : Replica) → replica_of s.disk handle ≡ Some y → Holds K (placed_in orders handle) handle y.version serial (with_bytes y.bytes (start_of m) (written_by m)))
+    numbered_as : (e : ServerDisk) → IsLike e s.disk → (handle serial : ℕ) (m : Mutation) → IsFit s.disk (stored_as handle serial m)
+        → ((y : Replica) → replica_of s.disk handle ≡ Some y → Holds K (placed_in orders handle) handle y.version serial (with_bytes (own_in w index handle y) (start_of m) (written_by m)))
         → Good (disk_changed e (stored_as handle serial m))
-    numbered_as e is handle serial (mutation.Write offset bytes) new = written e is handle serial offset bytes new
-    numbered_as e is handle serial (mutation.Append offset bytes) new = written e is handle serial offset bytes new
-    numbered_as e is handle serial (mutation.Pad offset end) new = written e is handle serial offset (replicate (end - offset) 0) new
+    numbered_as e is handle serial (mutation.Write offset bytes) fit new = written e is handle serial offset bytes fit.1 (λ y there. writable_there s.disk handle offset (offset + length bytes) y there fit.0) new
+    numbered_as e is handle serial (mutation.Append offset bytes) fit new = written e is handle serial offset bytes fit.1 (λ y there. writable_there s.disk handle offset (offset + length bytes) y there fit.0) new
+    numbered_as e is handle serial (mutation.Pad offset end) fit new =
+        written e is handle serial offset (replicate (end - offset) 0) (room_of_zeros s.disk.chunk offset (end - offset) fit.1) (λ y there. writable_zeros s.disk handle offset (end - offset) y there fit.0) new
 
-    numbered : (e : ServerDisk) → e.replicas ≡ s.disk.replicas → (x : StoreChange) → IsNumbered (server_at s moment) (server_goes s moment i).seen x → Good (disk_changed e x)
-    numbered e is x n =
-        subst (λ (y : StoreChange). Good (disk_changed e y)) (sym n.change_is) (numbered_as e is n.handle (n.lease.serial + 1) n.m new)
+    numbered : (e : ServerDisk) → IsLike e s.disk → (x : StoreChange) → IsNumbered (server_at s moment) (server_goes s moment i).seen x → IsFit s.disk x → Good (disk_changed e x)
+    numbered e is x n fit =
+        subst (λ (y : StoreChange). Good (disk_changed e y)) (sym n.change_is) (numbered_as e is n.handle (n.lease.serial + 1) n.m (subst (IsFit s.disk) n.change_is fit) new)
       where
         held : (y : Replica) × (replica_of s.disk n.handle ≡ Some y) × (y.version ≡ n.lease.held.version)
         held = leases_have_their_replica config servers clients w r index s at n.handle n.lease n.there
@@ -293,15 +329,15 @@ module _ (J K : Carried) (config : Config) (servers clients : ℕ) (w : WorldSta
             let one = serial_there n.lease.held.version (placed_in w.observer.orders n.handle) place q q_at round in
             number_low n.lease.serial one.0 q.serial (ap (λ (xs : List ℕ). element_at xs one.0) (sym (leases_count_their_serials config servers clients w r index s at n.handle n.lease n.there)) ∙ one.1))
 
-        new : (y : Replica) → replica_of s.disk n.handle ≡ Some y → Holds K (placed_in orders n.handle) n.handle y.version (n.lease.serial + 1) (with_bytes y.bytes (start_of n.m) (written_by n.m))
+        new : (y : Replica) → replica_of s.disk n.handle ≡ Some y → Holds K (placed_in orders n.handle) n.handle y.version (n.lease.serial + 1) (with_bytes (own_in w index n.handle y) (start_of n.m) (written_by n.m))
         new y y_there =
             let one : held.0 ≡ y = same_some held.0 y (sym held.1 ∙ y_there) in
-            subst (λ (z : Replica). Holds K (placed_in orders n.handle) n.handle z.version (n.lease.serial + 1) (with_bytes z.bytes (start_of n.m) (written_by n.m))) one
+            subst (λ (z : Replica). Holds K (placed_in orders n.handle) n.handle z.version (n.lease.serial + 1) (with_bytes (own_in w index n.handle z) (start_of n.m) (written_by n.m))) one
             (applied n.handle held.0 (kept.0, subst (K n.handle held.0.version) (sym kept.1) (here n.handle held.0 held.1).1) there.0 there.1 there.2 (ap (λ (x : Placed). x.entry.round) there.3 ∙ sym held.2) later (n.lease.serial + 1) (start_of n.m) (written_by n.m) serial_is
             (ap (λ (x : Placed). start_of x.entry.mutation) there.3) (ap (λ (x : Placed). written_by x.entry.mutation) there.3))
           where
-            kept : (g : IsImageOf (placed_in orders n.handle) held.0.version held.0.serial held.0.bytes) × (marked g.marks (placed_in orders n.handle) ≡ marked (here n.handle held.0 held.1).0.marks (placed_in w.observer.orders n.handle))
-            kept = image_on IsAny (placed_in w.observer.orders n.handle) (placed_in orders n.handle) held.0.version held.0.serial held.0.bytes (l.grown n.handle) (λ p is. tt) (here n.handle held.0 held.1).0
+            kept : (g : IsImageOf (placed_in orders n.handle) held.0.version held.0.serial (own_in w index n.handle held.0)) × (marked g.marks (placed_in orders n.handle) ≡ marked (here n.handle held.0 held.1).0.marks (placed_in w.observer.orders n.handle))
+            kept = image_on IsAny (placed_in w.observer.orders n.handle) (placed_in orders n.handle) held.0.version held.0.serial (own_in w index n.handle held.0) (l.grown n.handle) (λ p is. tt) (here n.handle held.0 held.1).0
 
             later : AllByRecursion (λ q. q.entry.round ≡ held.0.version → q.serial < there.1.serial) (marked kept.0.marks (placed_in orders n.handle))
             later =
@@ -311,35 +347,45 @@ module _ (J K : Carried) (config : Config) (servers clients : ℕ) (w : WorldSta
 
     -- other changes
 
-    copied : (e : ServerDisk) → e.replicas ≡ s.disk.replicas → (m : Message) → i ≡ input.Deliver m → (order : OrderNo) (handle : Handle) (from : Version) (copy : Handle) (version : Version) (row : Row)
+    copied : (e : ServerDisk) → IsLike e s.disk → (m : Message) → i ≡ input.Deliver m → (order : OrderNo) (handle : Handle) (from : Version) (copy : Handle) (version : Version) (row : Row)
         → m.body ≡ body.CopyLocal order handle from copy version → row_at s.disk handle.0 ≡ Some row → row.version.0 ≡ from.0 → IsTrue (is_copyable_at s.disk handle.0) → is_new_order s.disk order.epoch order.count ≡ true → Good (disk_changed e (Copy handle copy version))
     copied e is m taken order handle from copy version row body_is there same_version copyable new =
-        becomes_in K orders (λ x. stored_replica version.0 0 (bytes_on_disk x)) e copy.0 (replica_of e handle.0) one (same e is)
+        becomes_in K (own_in w index) orders (λ x. stored_replica e.chunk e.block version.0 0 (own_bytes x)) e copy.0 (replica_of e handle.0)
+        (λ x e_there. subst (λ (bs : List ℕ). Holds K (placed_in orders copy.0) copy.0 version.0 0 bs) (sym (put_then e is copy.0 version.0 0 (own_bytes x) (few x e_there))) (one x e_there)) (same e is)
       where
         sent : IsSent w.sent m
         sent = came m taken
 
-        one : (x : Replica) → replica_of e handle.0 ≡ Some x → Holds K (placed_in orders copy.0) copy.0 version.0 0 (bytes_on_disk x)
+        few : (x : Replica) → replica_of e handle.0 ≡ Some x → length (own_bytes x) ≤ s.disk.chunk
+        few x e_there =
+            let within = (sound_reached config servers clients w r disks index s at handle.0 x (there_like e s.disk is handle.0 x e_there)).within in
+            let own = length-own s.disk.chunk x within in
+            let most = within.0 in
+            omega (arith, own, most)
+
+        one : (x : Replica) → replica_of e handle.0 ≡ Some x → Holds K (placed_in orders copy.0) copy.0 version.0 0 (own_bytes x)
         one x e_there =
-            let x_there : replica_of s.disk handle.0 ≡ Some x = ap (λ (t : Table Replica). table.get t handle.0) (sym is) ∙ e_there in
+            let x_there : replica_of s.disk handle.0 ≡ Some x = there_like e s.disk is handle.0 x e_there in
             let version_is : x.version ≡ from.0 = (row_is s.disk handle.0 row x there x_there).0 ∙ same_version in
             let above : from.0 < version.0 = copies_go_above_their_source config servers clients w r sent.0 m sent.1 order handle from copy version body_is in
             let was = here handle.0 x x_there in
-            let over = image_on (IsUpTo from.0) (placed_in w.observer.orders handle.0) (placed_in w.observer.orders copy.0) x.version x.serial x.bytes
+            let over = image_on (IsUpTo from.0) (placed_in w.observer.orders handle.0) (placed_in w.observer.orders copy.0) x.version x.serial (own_in w index handle.0 x)
             (copies_have_their_sources_entries config servers clients w r clocks sent.0 m sent.1 order handle from copy version body_is) (λ p within. let low = within.0 in omega (arith, low, version_is)) was.0 in
-            let raised = image_raised (placed_in w.observer.orders copy.0) x.version x.serial version.0 x.bytes (omega (arith, version_is, above)) over.0 in
-            subst (λ (bs : List ℕ). Holds K (placed_in orders copy.0) copy.0 version.0 0 bs) (sym ((replicas_are_read_as_stored config servers clients w r disks index s at handle.0 x x_there).1 copyable))
-            (holds_grown K (placed_in w.observer.orders copy.0) (placed_in orders copy.0) copy.0 version.0 0 x.bytes (l.grown copy.0) (
+            let raised = image_raised (placed_in w.observer.orders copy.0) x.version x.serial version.0 (own_in w index handle.0 x) (omega (arith, version_is, above)) over.0 in
+            subst (λ (bs : List ℕ). Holds K (placed_in orders copy.0) copy.0 version.0 0 bs) (sym ((replicas_are_read_as_stored config servers clients w r disks index s at handle.0 x x_there).1 copyable ∙ own_is handle.0 x))
+            (holds_grown K (placed_in w.observer.orders copy.0) (placed_in orders copy.0) copy.0 version.0 0 (own_in w index handle.0 x) (l.grown copy.0) (
               raised.0,
               subst (K copy.0 version.0) (sym over.1 ∙ sym raised.1)
                   (k.copied m taken order handle from copy version body_is new (marked was.0.marks (placed_in w.observer.orders handle.0)) (subst (λ (n : ℕ). K handle.0 n (marked was.0.marks (placed_in w.observer.orders handle.0))) version_is was.1)),
             ))
 
-    changed : (e : ServerDisk) → e.replicas ≡ s.disk.replicas → (m : Message) → i ≡ input.Deliver m → (x : StoreChange) → IsStoredFor (server_at s moment) m.body (server_goes s moment i).seen x → Good (disk_changed e x)
-    changed e is m taken (SetOrder order) cause = absurd cause
-    changed e is m taken (Remove handle) cause = λ k x there. same e is k x (gone_split e.replicas handle.0 k x there).1
-    changed e is m taken (Put handle version serial bytes) cause =
-        put_in K orders e handle.0 (stored_replica version.0 serial.0 bytes)
+    changed : (e : ServerDisk) → IsLike e s.disk → (m : Message) → i ≡ input.Deliver m → (x : StoreChange) → IsStoredFor (server_at s moment) m.body (server_goes s moment i).seen x → IsShort s.disk.chunk x → Good (disk_changed e x)
+    changed e is m taken (SetOrder order) cause few = absurd cause
+    changed e is m taken (Remove handle) cause few = λ k x there. same e is k x (gone_split e.replicas handle.0 k x there).1
+    changed e is m taken (Rot handle place byte) cause few = absurd cause
+    changed e is m taken (Put handle version serial bytes) cause few =
+        put_in K (own_in w index) orders e handle.0 (stored_replica e.chunk e.block version.0 serial.0 bytes)
+        (subst (λ (bs : List ℕ). Holds K (placed_in orders handle.0) handle.0 version.0 serial.0 bs) (sym (put_then e is handle.0 version.0 serial.0 bytes few))
         (elim (cause.1) [
           | inl made ↦
               let none = none_applied (placed_in orders handle.0) version.0 serial.0 bytes made.2 made.3 in
@@ -348,40 +394,44 @@ module _ (J K : Carried) (config : Config) (servers clients : ℕ) (w : WorldSta
               let g = subst (λ (b : Body). IsImageSaid J w.observer.orders b) image (said m (came m taken)) in
               holds_grown K (placed_in w.observer.orders handle.0) (placed_in orders handle.0) handle.0 version.0 serial.0 bytes (l.grown handle.0)
               (g.0, k.imaged m taken handle version serial bytes image (marked g.0.marks (placed_in w.observer.orders handle.0)) g.1)
-        ])
+        ]))
         (same e is)
-    changed e is m taken (Raise handle version) cause =
-        becomes_in K orders (λ x. raised_replica x version.0) e handle.0 (replica_of e handle.0)
+    changed e is m taken (Raise handle version) cause few =
+        becomes_in K (own_in w index) orders (λ x. raised_replica x version.0) e handle.0 (replica_of e handle.0)
         (λ x e_there.
         let sent = came m taken in
-        let x_there : replica_of s.disk handle.0 ≡ Some x = ap (λ (t : Table Replica). table.get t handle.0) (sym is) ∙ e_there in
+        let x_there : replica_of s.disk handle.0 ≡ Some x = there_like e s.disk is handle.0 x e_there in
         let base : x.version ≡ cause.1.0 = (row_is s.disk handle.0 cause.2 x cause.4 x_there).0 ∙ cause.5 in
         let above : cause.1.0 < version.0 = raises_go_above_their_base config servers clients w r sent.0 m sent.1 cause.0 handle version cause.1 cause.3 in
         let was = stays handle.0 x x_there in
-        let one = image_raised (placed_in orders handle.0) x.version x.serial version.0 x.bytes (omega (arith, base, above)) was.0 in
+        let one = image_raised (placed_in orders handle.0) x.version x.serial version.0 (own_in w index handle.0 x) (omega (arith, base, above)) was.0 in
         (one.0, subst (K handle.0 version.0) (sym one.1) (k.raised m taken cause.0 handle version cause.1 cause.3 cause.6 (marked was.0.marks (placed_in orders handle.0)) (subst (λ (n : ℕ). K handle.0 n (marked was.0.marks (placed_in orders handle.0))) base was.1))))
         (same e is)
-    changed e is m taken (Copy handle copy version) cause = copied e is m taken cause.0 handle cause.1 copy version cause.2 cause.3 cause.4 cause.5 cause.6 cause.8
-    changed e is m taken (Write handle serial offset bytes) cause = elim (cause) [ inl f ↦ forwarded e is m taken (Write handle serial offset bytes) f | inr n ↦ numbered e is (Write handle serial offset bytes) n ]
-    changed e is m taken (Zero handle serial offset count) cause = elim (cause) [ inl f ↦ forwarded e is m taken (Zero handle serial offset count) f | inr n ↦ numbered e is (Zero handle serial offset count) n ]
+    changed e is m taken (Copy handle copy version) cause few = copied e is m taken cause.0 handle cause.1 copy version cause.2 cause.3 cause.4 cause.5 cause.6 cause.8
+    changed e is m taken (Write handle serial offset bytes) cause few =
+        let fit = stored_fit (server_at s moment) m.body (server_goes s moment i).seen (Write handle serial offset bytes) cause few in
+        elim (cause) [ inl f ↦ forwarded e is m taken (Write handle serial offset bytes) f fit | inr n ↦ numbered e is (Write handle serial offset bytes) n fit ]
+    changed e is m taken (Zero handle serial offset count) cause few =
+        let fit = stored_fit (server_at s moment) m.body (server_goes s moment i).seen (Zero handle serial offset count) cause few in
+        elim (cause) [ inl f ↦ forwarded e is m taken (Zero handle serial offset count) f fit | inr n ↦ numbered e is (Zero handle serial offset count) n fit ]
 
     -- after some of the changes of the step
     taken_quiet : (n : ℕ) (xs : List StoreChange) → AllOf IsNumber xs → Good (disk_changed_by_all s.disk (take n xs))
-    taken_quiet n xs quiet = same (disk_changed_by_all s.disk (take n xs)) (numbers_quiet s.disk (take n xs) (all_taken IsNumber n xs quiet))
+    taken_quiet n xs quiet = same (disk_changed_by_all s.disk (take n xs)) (like_quiet s.disk (take n xs) (all_taken IsNumber n xs quiet))
 
-    made_good : (m : Message) → i ≡ input.Deliver m → (n : ℕ) (xs : List StoreChange) → AreMade (server_at s moment) m.body xs (server_goes s moment i).seen → Good (disk_changed_by_all s.disk (take n xs))
-    made_good m taken n xs (inl quiet) = taken_quiet n xs quiet
-    made_good m taken n xs (inr c) =
+    made_good : (m : Message) → i ≡ input.Deliver m → (n : ℕ) (xs : List StoreChange) → AllOf (IsShort s.disk.chunk) xs → AreMade (server_at s moment) m.body xs (server_goes s moment i).seen → Good (disk_changed_by_all s.disk (take n xs))
+    made_good m taken n xs few (inl quiet) = taken_quiet n xs quiet
+    made_good m taken n xs few (inr c) =
         subst (λ (ys : List StoreChange). Good (disk_changed_by_all s.disk (take n ys))) (sym c.are)
         (elim (taken_cases n c.before c.x) [
           | inl less ↦ subst (λ (ys : List StoreChange). Good (disk_changed_by_all s.disk ys)) (sym less) (taken_quiet n c.before c.quiet)
           | inr all ↦ subst (λ (ys : List StoreChange). Good (disk_changed_by_all s.disk ys)) (sym all)
-              (subst Good (sym (changed_last s.disk c.before c.x)) (changed (disk_changed_by_all s.disk c.before) (numbers_quiet s.disk c.before c.quiet) m taken c.x c.cause))
+              (subst Good (sym (changed_last s.disk c.before c.x)) (changed (disk_changed_by_all s.disk c.before) (like_quiet s.disk c.before c.quiet) m taken c.x c.cause (last_short s.disk.chunk c.before c.x (subst (AllOf (IsShort s.disk.chunk)) c.are few))))
         ])
 
-    goes_good : (j : NodeInput) → i ≡ j → (n : ℕ) (xs : List StoreChange) → AreMadeOn (server_at s moment) j xs (server_goes s moment i).seen → Good (disk_changed_by_all s.disk (take n xs))
-    goes_good (input.Deliver m) is n xs made = made_good m is n xs made
-    goes_good input.Tick is n xs made = taken_quiet n xs made
+    goes_good : (j : NodeInput) → i ≡ j → (n : ℕ) (xs : List StoreChange) → AllOf (IsShort s.disk.chunk) xs → AreMadeOn (server_at s moment) j xs (server_goes s moment i).seen → Good (disk_changed_by_all s.disk (take n xs))
+    goes_good (input.Deliver m) is n xs few made = made_good m is n xs few made
+    goes_good input.Tick is n xs few made = taken_quiet n xs made
 
     pub after : (n : ℕ) → Good (disk_changed_by_all s.disk (take n (server_goes s moment i).changes))
-    after n = goes_good i refl n (server_goes s moment i).changes (step_made s moment i)
+    after n = goes_good i refl n (server_goes s moment i).changes (short_reached config servers clients w r index s at moment i) (step_made s moment i)

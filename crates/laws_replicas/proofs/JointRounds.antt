@@ -8,7 +8,6 @@ use Rattle.gfs_types.specs.declared.config.Config.{Config}
 use Rattle.messages.specs.declared.event.NodeInput.{NodeInput}
 use Rattle.messages.specs.declared.message.Message.{Message}
 use Rattle.relaxed_file.specs.Run.{Visible}
-use Rattle.replica_store.specs.Replicas.{with_replica, rotten_replica}
 use Rattle.protocol.specs.Tables.{Table, element_at, with_at}
 use Rattle.protocol.specs.Sending.{the_server, server_number}
 use Rattle.protocol.specs.Choice.{Choice, Ending, Goes, Lost, Stops}
@@ -18,7 +17,7 @@ use Rattle.protocol.specs.ClientStep.{client_at, client_step, client_call}
 use Rattle.protocol.specs.Server.{ServerState}
 use Rattle.protocol.specs.ServerStep.{server_step, server_restarts, server_restart}
 use Rattle.protocol.specs.MasterStep.{master_step, master_restart}
-use Rattle.protocol.specs.World.{WorldState, stamped, IsReached, is_kept}
+use Rattle.protocol.specs.World.{WorldState, stamped, IsReached, is_kept, after_rot}
 use Rattle.laws_base.proofs.Steps.{none_some}
 use Rattle.laws_base.proofs.Entries.{AllOf}
 use Rattle.laws_base.proofs.MessagesSent.{IsSent}
@@ -38,6 +37,9 @@ use Rattle.laws_replicas.proofs.Acknowledged.{WasCopied, Kept, kept_more, none_m
 use Rattle.laws_replicas.specs.AcknowledgedEntries.{AcknowledgedEntriesAreApplied, PrimariesHaveTheirRound}
 use Rattle.laws_replicas.proofs.AppliedReached.{AppliedBy, ShownBy, AreApplied, Keeps, IsLater, applied_reached}
 use Rattle.laws_replicas.proofs.HeldEntries.{HasRounds, HeldRound, WasGivenTo, rounds_at, held_on, given_on, held_carried, given_carried, master_round, own_round, other_round}
+use Rattle.laws_steps.proofs.Events.{rot_of}
+use Rattle.laws_base.proofs.Rots.{rot_held}
+use Rattle.leases.specs.LeaseHeld.{LeaseHeld}
 
 -- Of what a server acknowledged, of the round of its lease, and of the order that gave it the version.
 abbrev pub JointIn : List Message → List ServerState → Table (List Placed) → ℕ → Carried
@@ -114,11 +116,11 @@ module _ (config : Config) (servers clients : ℕ) (w : WorldState) (r : IsReach
             (both_carried Plain (Kept w.sent index) Plain (HeldRound w.sent w.servers w.observer.orders index) s i (carried config servers clients w r index s at (acknowledged_taken config servers clients w r index s at) i came)
             (held_carried config servers clients w r index s at i came))
             (given_carried config servers clients w r index s at i came));
-        served = λ e index moment s i choice at given up later handle x found g.
+        served = λ e index moment s i choice at given up later handle x found bytes g.
             let t : ServerState = (server_step s moment i choice).state in
             let orders : Table (List Placed) = orders_after_all (trace_at moment) w.observer.orders (server_step s moment i choice).seen in
             let ps : List Placed = marked g.marks (placed_in orders handle) in
-            joint_on (server_step s moment i choice).out.sent (with_at w.servers index t) orders index handle x.version ps (said_kept s moment i choice (idle index s at up) w.sent k index orders handle x found.0 found.1 g)
+            joint_on (server_step s moment i choice).out.sent (with_at w.servers index t) orders index handle x.version ps (said_kept s moment i choice (idle index s at up) w.sent k index orders handle x found.0 found.1 bytes g)
             (λ has. rounds_at w.servers orders index t index handle x.version ps
             (λ here p held same. own_round config servers clients w r index s at i e moment choice given (trace_at moment) (idle index s at up) handle x found ps g.last has p held same) (λ apart. absurd (apart refl)));
         shown = λ e index moment s i choice at given up later m there handle version serial bytes is x x_there version_is ps h. tt;
@@ -180,15 +182,17 @@ module _ (config : Config) (servers clients : ℕ) (w : WorldState) (r : IsReach
                   (of_call (λ t xs. AllOf (λ m. IsNoAcked m.body) xs) s moment c choice ((numbered_reached config servers clients w r).each index s at).named (λ d step. client_none (client_at s moment) d d.sent step refl) tt) other handle x.version ps;
               said = λ m there handle version serial bytes is ps h. tt;
             };
-        rots = λ e index q s y place byte at y_there up later.
+        rots = λ e index q s y place byte ending at y_there up later.
             record {
               each = λ other u there _ handle x found ps h. (
                 (
                   h.0.0,
                   elim (h.0.1) [
                     | inl copied ↦ inl copied
-                    | inr has ↦ inr (rounds_at w.servers w.observer.orders index (record s { disk = with_replica s.disk q (rotten_replica y place byte) }) other handle x.version ps
-                        (λ here p held same. has s (ap (λ (n : ℕ). element_at w.servers n) here ∙ at) p held same) (λ _ v v_there p held same. has v v_there p held same))
+                    | inr has ↦ inr (rounds_at w.servers w.observer.orders index (after_rot s (rot_of q place byte) ending) other handle x.version ps
+                        (λ here p held same.
+                        let was = rot_held s (rot_of q place byte) ending handle p held in
+                        has s (ap (λ (n : ℕ). element_at w.servers n) here ∙ at) was.0 was.1 (ap (λ (l : LeaseHeld). l.version) was.2 ∙ same)) (λ _ v v_there p held same. has v v_there p held same))
                   ],
                 ),
                 h.1,

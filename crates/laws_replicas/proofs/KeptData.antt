@@ -15,18 +15,19 @@ use Rattle.messages.specs.declared.message.Target.{Target}
 use Rattle.messages.specs.declared.message.Target.TheVariants as target
 use Rattle.messages.specs.declared.event.NodeInput.{NodeInput}
 use Rattle.messages.specs.declared.event.NodeInput.TheVariants as input
+use Rattle.laws_base.proofs.Rots.{rot_by}
 use Rattle.data_push.specs.Buffers.{same_id, data_of}
 use Rattle.protocol.specs.Tables.{element_at, with_at}
 use Rattle.protocol.specs.Sending.{data_id, the_client}
 use Rattle.protocol.specs.Choice.{Choice, Ending, Goes, Lost, Stops}
 use Rattle.protocol.specs.Observer.{Placed, order_of}
-use Rattle.replica_store.specs.Replicas.{new_server_disk, with_replica}
+use Rattle.replica_store.specs.Replicas.{new_server_disk}
 use Rattle.protocol.specs.Client.{ClientState, ClientDoing}
 use Rattle.protocol.specs.ClientStep.{client_at, client_step, client_call}
 use Rattle.protocol.specs.Server.{ServerState, started_server}
 use Rattle.protocol.specs.ServerStep.{server_at, server_step, server_restarts, server_restart}
 use Rattle.protocol.specs.MasterStep.{master_step, master_restart}
-use Rattle.protocol.specs.World.{WorldState, stamped, new_world, IsReached}
+use Rattle.protocol.specs.World.{WorldState, stamped, new_world, IsReached, after_rot}
 use Rattle.laws_base.proofs.Steps.{none_some, same_some}
 use Rattle.laws_base.proofs.Entries.{AllOf, same_number}
 use Rattle.laws_base.proofs.RisingOrders.{set_cases}
@@ -34,7 +35,7 @@ use Rattle.laws_base.proofs.LeasesTold.{numbered_from}
 use Rattle.laws_base.proofs.MembersRecorded.{all_at}
 use Rattle.laws_base.proofs.MessagesSent.{IsSent, sent_cases, sent_after, none_sent, numbered_sent}
 use Rattle.laws_steps.specs.Attempts.{is_request}
-use Rattle.laws_steps.proofs.Events.{HoldsAfter, world_reached}
+use Rattle.laws_steps.proofs.Events.{HoldsAfter, world_reached, rot_of}
 use Rattle.laws_steps.proofs.ClientNumbers.{IsSaid, IsStepOf, of_step, of_call}
 use Rattle.laws_steps.proofs.RequestsOnce.{AreNumbered, each_event, numbered_reached, requests_are_numbered_once}
 use Rattle.laws_steps.proofs.MasterTalks.{is_masters, MasterTalks, master_said, restart_said}
@@ -179,12 +180,12 @@ each_kept w h =
                 (of_call (λ t xs. AllOf (λ m. IsStemmed (w.sent ++ stamped k xs) m.body) xs) s moment c choice (h.numbered.each index s at).named (λ d step. client_stems w.sent k (client_at s moment) d d.sent step refl) tt);
             kept = others_keep w (stamped k ms) h;
           };
-      rots = λ e index handle s r place byte is_kept at there up. record {
+      rots = λ e index handle s r place byte ending is_kept at there up. record {
         numbered = h.numbered;
         stems = h.stems;
         kept = λ other u is.
-            elim (set_cases w.servers index (record s { disk = with_replica s.disk handle _ }) other u is) [
-              | inl both ↦ subst (λ (x : ServerState). AllOf (IsPair w.sent) x.pushed.entries) (sym both.1) (h.kept index s at)
+            elim (set_cases w.servers index (after_rot s (rot_of handle place byte) ending) other u is) [
+              | inl both ↦ subst (λ (x : ServerState). AllOf (IsPair w.sent) x.pushed.entries) (sym both.1) (rot_by (λ t. AllOf (IsPair w.sent) t.pushed.entries) s (rot_of handle place byte) ending (h.kept index s at) (λ d xs. tt))
               | inr before ↦ h.kept other u before
             ];
       };
@@ -195,7 +196,7 @@ new_kept config servers clients =
     record {
       numbered = numbered_reached config servers clients (new_world config servers clients) ([], refl);
       stems = λ m there. none_sent m there;
-      kept = λ index s at. subst (λ (t : ServerState). AllOf (IsPair []) t.pushed.entries) (sym (numbered_from (λ n. started_server config n (new_server_disk config.block) 0) servers index s at)) tt;
+      kept = λ index s at. subst (λ (t : ServerState). AllOf (IsPair []) t.pushed.entries) (sym (numbered_from (λ n. started_server config n (new_server_disk config.chunk config.block config.slots) 0) servers index s at)) tt;
     }
 
 -- data under one id are the same

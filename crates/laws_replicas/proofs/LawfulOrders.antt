@@ -318,7 +318,7 @@ module _ (config : Config) (servers clients : ℕ) where
               let twice = answered_kept (observed_moment w.config.skew_ms seen moment) (suc index) (client_call s moment c choice).out.answer kept in
               subst (λ (orders : Table (List Placed)). (handle : ℕ) → AreBehind (placed_in orders handle)) (sym (same_orders (observed_moment w.config.skew_ms seen moment) (suc index) (client_call s moment c choice).out.answer))
               (h (were moment (kept_of seen.are_clocks_kept (nat_le seen.greatest (moment + w.config.skew_ms)) w.observer.are_disks_kept twice)));
-          rots = λ e index handle s x place byte at there up kept.
+          rots = λ e index handle s x place byte ending at there up kept.
               let parts = and_parts w.observer.are_clocks_kept (w.observer.are_disks_kept && not _) kept in
               h (kept_both w.observer.are_clocks_kept w.observer.are_disks_kept parts.0 (and_parts w.observer.are_disks_kept (not _) parts.1).0);
         }

@@ -2,7 +2,7 @@
 use Rattle.std.proofs.Common.{◌≡◌, ◌⊎◌, ℕ, zero, suc, ◌+◌, ◌≤◌, ◌<◌, Bool, true, false, List, [], ◌∷◌, map, length, Some, refl, sym, ap, subst, ◌∙◌, inl, inr, arith}
 use Rattle.std.specs.Prelude.{◌==◌, ◌||◌, max, IsTrue}
 use Rattle.std.specs.List.{AllByRecursion, list_any}
-use Rattle.std.proofs.lemmas.Bool.{cases_lt, true≢false}
+use Rattle.std.proofs.lemmas.Bool.{and_parts, cases_lt, true≢false}
 use Rattle.gfs_types.specs.declared.config.Config.{Config}
 use Rattle.gfs_types.specs.declared.ids.DataId.{DataId}
 use Rattle.gfs_types.specs.declared.ids.Handle.{Handle}
@@ -37,6 +37,7 @@ use Rattle.laws_replicas.specs.LawfulOrders.{MayFollow, IsMadeOf, NumberedMutati
 use Rattle.laws_replicas.proofs.HeldRounds.{records_come_behind_their_round}
 use Rattle.laws_replicas.proofs.KeptData.{kept_was_pushed}
 use Rattle.laws_replicas.proofs.RecordPlaces.{IsShort, numbered_short}
+use Rattle.laws_replicas.proofs.KeptDisks.{stored_as_long}
 use Rattle.laws_replicas.proofs.Selections.{replicas_are_selections}
 use Rattle.laws_replicas.proofs.SettledEnds.{length_from, records_come_behind_settled_entries}
 
@@ -127,11 +128,11 @@ module _ (config : Config) (servers clients : ℕ) (w : WorldState) (r : IsReach
 
   -- of which data it is made
   pub numbered_data : (bytes : List ℕ) × IsPushed w.sent id bytes × IsMadeOf (chunk_limit s (placed.lease).chunk) bytes m
-  numbered_data = (placed.bytes, kept_was_pushed config servers clients w r index s at id placed.bytes placed.pushed, made_of (chunk_limit s (placed.lease).chunk) (length (placed.replica).bytes) placed.bytes m placed.placed short)
+  numbered_data = (placed.bytes, kept_was_pushed config servers clients w r index s at id placed.bytes placed.pushed, made_of (chunk_limit s (placed.lease).chunk) (placed.replica).count placed.bytes m placed.placed short)
 
   -- and that it has room
   pub numbered_room : HasRoom (chunk_limit s (placed.lease).chunk) m
-  numbered_room = room_of (chunk_limit s (placed.lease).chunk) (length (placed.replica).bytes) placed.bytes m placed.placed short
+  numbered_room = room_of (chunk_limit s (placed.lease).chunk) (placed.replica).count placed.bytes m placed.placed short
 
   -- with which size its version was granted
   pub numbered_size : IsSizeGranted w.sent handle.0 version.0 (placed.lease).chunk
@@ -155,13 +156,14 @@ numbered_mutations_may_follow config servers clients w r kept index s at moment 
     order = entries_of w.observer handle.0
 
     count : ℕ
-    count = length (by.replica).bytes
+    count = (by.replica).count
 
     an_end : IsTrue (is_an_end order count)
     an_end =
         let selected = (replicas_are_selections config servers clients w r kept index s at).0 handle.0 by.replica by.replica_is in
         let long : count ≡ image_length (mutations_of selected.0) =
-        ap (λ (bs : List ℕ). length bs) selected.2 ∙ length_from (mutations_of selected.0) 0 (image_length (mutations_of selected.0)) in
+        sym (stored_as_long config servers clients w r (and_parts w.observer.are_clocks_kept w.observer.are_disks_kept kept).1 index s at handle.0 by.replica by.replica_is)
+        ∙ ap (λ (bs : List ℕ). length bs) selected.2 ∙ length_from (mutations_of selected.0) 0 (image_length (mutations_of selected.0)) in
         subst (λ (n : ℕ). IsTrue (is_an_end order n)) (sym long) (ends_at (by.replica).version selected.1)
 
     behind : (place : ℕ) (e : Placed) → element_at (order_of w.observer handle.0) place ≡ Some e → IsTrue e.entry.settled ⊎ (e.entry.round ≡ version.0) → ComesBehind (end_of e.entry.mutation) m

@@ -1,5 +1,5 @@
 pub mod StoreCauses
-pub mod SoundBlocks
+pub mod StoredChunks
 pub mod KeptDisks
 pub mod HadLeases
 pub mod HeldRounds

@@ -5,14 +5,13 @@ use Rattle.std.proofs.lemmas.Bool.{cases_lt}
 use Rattle.gfs_types.specs.declared.mutation.Mutation.{Mutation}
 use Rattle.gfs_types.specs.Mutations.{start_of, end_of}
 use Rattle.gfs_types.specs.Image.{image}
-use Rattle.replica_store.specs.Replicas.{with_bytes}
 use Rattle.protocol.specs.Tables.{element_at}
 use Rattle.protocol.specs.Observer.{Placed}
 use Rattle.laws_base.proofs.Steps.{none_some, same_some}
 use Rattle.protocol_invariant.specs.Versions.{IsBefore, AreRising}
 use Rattle.laws_entries.specs.ChunkOrders.{unsettled}
 use Rattle.laws_replicas.specs.CopiedEntries.{Follows}
-use Rattle.laws_replicas.specs.ReplicaImages.{written_by, marked, mutations_in, IsWithin, HasEntry, IsImageOf}
+use Rattle.laws_replicas.specs.ReplicaImages.{with_bytes, written_by, marked, mutations_in, IsWithin, HasEntry, IsImageOf}
 use Rattle.laws_replicas.proofs.Written.{images_are_written_to}
 
 -- lists

@@ -120,5 +120,5 @@ module _ (config : Config) (servers clients : ℕ) (w : WorldState) (r : IsReach
             subst (λ (orders : Table (List Placed)). Follows IsAny (placed_in w.observer.orders handle) (placed_in orders handle)) (sym (same_orders _ (suc index) (client_step s moment i choice).out.answer)) (stays handle);
         calls = λ e index moment s c choice at may handle.
             subst (λ (orders : Table (List Placed)). Follows IsAny (placed_in w.observer.orders handle) (placed_in orders handle)) (sym (same_orders _ (suc index) (client_call s moment c choice).out.answer)) (stays handle);
-        rots = λ e index q s x place byte is_kept at there up handle. stays handle;
+        rots = λ e index q s x place byte ending is_kept at there up handle. stays handle;
       }

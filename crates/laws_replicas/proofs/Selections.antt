@@ -11,10 +11,11 @@ use Rattle.messages.specs.declared.event.NodeInput.TheVariants as input
 use Rattle.messages.specs.declared.message.Body.{Body}
 use Rattle.messages.specs.declared.message.Message.{Message}
 use Rattle.relaxed_file.specs.Run.{Visible}
-use Rattle.replica_store.specs.Replicas.{ServerDisk}
+use Rattle.replica_store.specs.Replicas.{Replica, ServerDisk}
 use Rattle.protocol.specs.Tables.{Table, element_at}
 use Rattle.protocol.specs.Sending.{handle_of, version_of, serial_of, the_server}
-use Rattle.protocol.specs.Choice.{Choice}
+use Rattle.protocol.specs.Choice.{Choice, decided_changes}
+use Rattle.protocol.specs.StoredBytes.{stored_bytes}
 use Rattle.protocol.specs.declared.seen.Seen.{Seen}
 use Rattle.protocol.specs.declared.seen.Seen.TheVariants.{Numbered, BecameSettled, CopyStarted}
 use Rattle.protocol.specs.Observer.{Placed, observed_moment, observed_call, placed_in, order_of, orders_after_all}
@@ -38,8 +39,11 @@ use Rattle.laws_versions.proofs.LeasesBelow.{leases_below_are_over}
 use Rattle.laws_versions.specs.GivenClones.{IsGivenBySome}
 use Rattle.laws_versions.proofs.GivenClones.{copied_versions_were_given}
 use Rattle.laws_replicas.proofs.Rising.{orders_rise}
-use Rattle.laws_replicas.specs.ReplicaImages.{marked, HasEntry}
-use Rattle.laws_replicas.proofs.Images.{IsImageSaid}
+use Rattle.laws_replicas.specs.ReplicaImages.{marked, HasEntry, IsImageOf}
+use Rattle.laws_replicas.proofs.Images.{own_in, IsImageSaid}
+use Rattle.laws_replicas.proofs.StoredChunks.{own_stored}
+use Rattle.laws_steps.proofs.Disks.{all_block}
+use Rattle.laws_steps.proofs.Lengths.{servers_within, settings_stay}
 use Rattle.laws_replicas.proofs.Acknowledged.{WasCopied}
 use Rattle.laws_replicas.proofs.AppliedReached.{AppliedBy, ShownBy, AreApplied, Keeps, IsLater, applied_reached}
 use Rattle.laws_replicas.proofs.HeldEntries.{WasGivenTo}
@@ -180,9 +184,9 @@ module _ (config : Config) (servers clients : ℕ) (w : WorldState) (r : IsReach
           carries = λ index s i at up came.
               carried_from (λ handle version ps. Nothing w handle version ps × Settled w handle version ps) (Settled w) (Selected w index) s i (λ handle version ps h. (tt, h))
               (both_carried (Nothing w) (Joint w index) (Settled w) (Settled w) s i (joint.carries index s i at up came) (settled_carried config servers clients w r clocks index s at i came));
-          served = λ e index moment s i choice at given up later handle x found g h.
+          served = λ e index moment s i choice at given up later handle x found bytes g h.
               let ps : List Placed = marked g.marks (placed_in (after_server w index moment (server_step s moment i choice)).world.observer.orders handle) in
-              let new = joint.served e index moment s i choice at given up later handle x found g h.0 in
+              let new = joint.served e index moment s i choice at given up later handle x found bytes g h.0 in
               (new, settled_on e index moment s i choice at given up later index handle x.version ps (given_here index handle x.version ps h.0.1) new h.1);
           shown = λ e index moment s i choice at given up later m there handle version serial bytes is x x_there version_is ps h.
               image_on e index moment s i choice at given up later handle.0 version.0 ps (given_here index handle.0 version.0 ps h.0.1) (new_image e index moment s i choice at given up later m there handle.0 version.0 (ap version_copied is)) h.1;
@@ -235,8 +239,8 @@ module _ (config : Config) (servers clients : ℕ) (w : WorldState) (r : IsReach
                 each = λ other u there all handle x found ps h. (stays.each other u there all handle x found ps h.0, still handle x.version ps _ same h.1);
                 said = λ m there handle version serial bytes is ps h. still handle.0 version.0 ps _ same h;
               };
-          rots = λ e index q s y place byte at y_there up later.
-              let stays = joint.rots e index q s y place byte at y_there up later in
+          rots = λ e index q s y place byte ending at y_there up later.
+              let stays = joint.rots e index q s y place byte ending at y_there up later in
               record {
                 each = λ other u there all handle x found ps h. (stays.each other u there all handle x found ps h.0, h.1);
                 said = λ m there handle version serial bytes is ps h. h;
@@ -248,13 +252,23 @@ selected config servers clients =
     applied_reached Shown Selected config servers clients
     (λ w r kept h. selected_keeps config servers clients w r kept (joint_keeps config servers clients w r (λ index s at up. (h.each index s at).idle up)))
 
+-- these bytes are the image of entries of the order up to the version, and each settled one up to it is among them
+abbrev IsSettled : WorldState → ℕ → Replica → List ℕ → Type 0
+IsSettled w handle x bytes = (g : IsImageOf (order_of w.observer handle) x.version x.serial bytes) × HasSettled (order_of w.observer handle) x.version (marked g.marks (order_of w.observer handle))
+
 have_settled : (config : Config) (servers clients : ℕ) (w : WorldState) → IsReached config servers clients w → IsTrue (is_kept w) → (index : ℕ) (s : ServerState) → element_at w.servers index ≡ Some s
-    → HaveSettled w s.disk × ((choice : Choice) → HaveSettled w (found_disk s choice))
+    → HaveSettled w index s.disk × ((choice : Choice) → HaveSettled w index (found_disk s choice))
 have_settled config servers clients w r kept index s at =
     let good = (selected config servers clients w r kept).each index s at in (
-      λ handle x is. let one = good.found [] handle x is in (one.0, one.1.1),
-      λ choice handle x is. let one = good.found choice.decided handle x is in (one.0, one.1.1),
+      λ handle x is. let one = good.found [] handle x is in by_disk s.disk own handle x (one.0, one.1.1),
+      λ choice handle x is. let one = good.found choice.decided handle x is in by_disk (found_disk s choice) (all_block s.disk (decided_changes choice.decided s.under_way) ∙ own) handle x (one.0, one.1.1),
     )
+  where
+    own : s.disk.block ≡ w.config.block
+    own = (servers_within config servers clients w r index s at).block ∙ sym (ap (λ (c : Config). c.block) (settings_stay config servers clients w r))
+
+    by_disk : (d : ServerDisk) → d.block ≡ w.config.block → (handle : ℕ) (x : Replica) → IsSettled w handle x (own_in w index handle x) → IsSettled w handle x (stored_bytes w.observer index handle d x)
+    by_disk d same handle x h = subst (λ (n : ℕ). IsSettled w handle x (own_stored n w.observer index handle x)) (sym same) h
 
 pub replicas_have_settled_entries : ReplicasHaveSettledEntries
 replicas_have_settled_entries = have_settled
@@ -264,8 +278,8 @@ images_have_settled_entries config servers clients w r kept place m at handle ve
     subst (λ (b : Body). IsImageSaid (Shown w) w.observer.orders b) is ((selected config servers clients w r kept).said m (place, at))
 
 -- what is applied is a selection
-as_selections : (config : Config) (servers clients : ℕ) (w : WorldState) → IsReached config servers clients w → IsTrue (is_kept w) → (d : ServerDisk) → HaveSettled w d → AreSelections w d
-as_selections config servers clients w r kept d h handle x is =
+as_selections : (config : Config) (servers clients : ℕ) (w : WorldState) → IsReached config servers clients w → IsTrue (is_kept w) → (index : ℕ) (d : ServerDisk) → HaveSettled w index d → AreSelections w index d
+as_selections config servers clients w r kept index d h handle x is =
     let one = h handle x is in
     let order : List Placed = order_of w.observer handle in
     let rising = orders_rise config servers clients w r (and_parts w.observer.are_clocks_kept w.observer.are_disks_kept kept).0 handle in (
@@ -277,4 +291,4 @@ as_selections config servers clients w r kept d h handle x is =
 pub replicas_are_selections : ReplicasAreSelections
 replicas_are_selections config servers clients w r kept index s at =
     let have = have_settled config servers clients w r kept index s at in
-    (as_selections config servers clients w r kept s.disk have.0, λ choice. as_selections config servers clients w r kept (found_disk s choice) (have.1 choice))
+    (as_selections config servers clients w r kept index s.disk have.0, λ choice. as_selections config servers clients w r kept index (found_disk s choice) (have.1 choice))

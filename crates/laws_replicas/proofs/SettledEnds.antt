@@ -22,6 +22,8 @@ use Rattle.laws_entries.proofs.SentGrants.{counted_one}
 use Rattle.laws_entries.proofs.RisingRounds.{IsUnderLease, leased_granted, under_lease, lower_leases_are_over, entries_are_of_granted_rounds}
 use Rattle.laws_entries.proofs.CountedRounds.{serials_have_one_entry}
 use Rattle.laws_replicas.specs.HeldRounds.{ComesBehind}
+use Rattle.protocol.specs.StoredBytes.{stored_bytes}
+use Rattle.laws_replicas.proofs.KeptDisks.{stored_as_long}
 use Rattle.laws_replicas.specs.ReplicaImages.{marked, mutations_in, HasEntry, IsImageOf}
 use Rattle.laws_replicas.specs.Selections.{HasSettled, RecordsComeBehindSettledEntries}
 use Rattle.laws_replicas.proofs.Selections.{replicas_have_settled_entries}
@@ -91,7 +93,7 @@ records_come_behind_settled_entries config servers clients w r kept index s at m
     by : IsPlacedByReplica s handle.0 version.0 serial.0 id m
     by = mutations_are_placed_by_replicas config servers clients w r index s at moment i choice shown handle version serial id m seen
 
-    have : (g : IsImageOf (order_of w.observer handle.0) (by.replica).version (by.replica).serial (by.replica).bytes) × HasSettled (order_of w.observer handle.0) (by.replica).version (marked g.marks (order_of w.observer handle.0))
+    have : (g : IsImageOf (order_of w.observer handle.0) (by.replica).version (by.replica).serial (stored_bytes w.observer index handle.0 s.disk by.replica)) × HasSettled (order_of w.observer handle.0) (by.replica).version (marked g.marks (order_of w.observer handle.0))
     have = (replicas_have_settled_entries config servers clients w r kept index s at).0 handle.0 by.replica by.replica_is
 
     round : e.entry.round ≤ (by.replica).version
@@ -101,11 +103,12 @@ records_come_behind_settled_entries config servers clients w r kept index s at m
         let same = by.replica_version in
         omega (arith, low, same)
 
-    low : end_of e.entry.mutation ≤ length (by.replica).bytes
+    low : end_of e.entry.mutation ≤ (by.replica).count
     low =
-        subst (λ (bs : List ℕ). end_of e.entry.mutation ≤ length bs) (sym (have.0).bytes_are) (ends_within config servers clients w r handle.0 (have.0).marks place e there (have.1 place e there settled round))
+        subst (λ (n : ℕ). end_of e.entry.mutation ≤ n) (stored_as_long config servers clients w r (and_parts w.observer.are_clocks_kept w.observer.are_disks_kept kept).1 index s at handle.0 by.replica by.replica_is)
+        (subst (λ (bs : List ℕ). end_of e.entry.mutation ≤ length bs) (sym (have.0).bytes_are) (ends_within config servers clients w r handle.0 (have.0).marks place e there (have.1 place e there settled round)))
 
-    behind : (x : Mutation) → IsPlacedBehind (chunk_limit s (by.lease).chunk) (length (by.replica).bytes) by.bytes x → ComesBehind (end_of e.entry.mutation) x
+    behind : (x : Mutation) → IsPlacedBehind (chunk_limit s (by.lease).chunk) (by.replica).count by.bytes x → ComesBehind (end_of e.entry.mutation) x
     behind (Write offset bytes) placed = tt
     behind (Append offset bytes) placed = let start = placed.1 in let bound = low in omega (arith, start, bound)
     behind (Pad offset end) placed = let start = placed.0 in let bound = low in omega (arith, start, bound)

@@ -102,7 +102,7 @@ module _ (config : Config) (servers clients : ℕ) (w : WorldState) (r : IsReach
               ap (λ (xs : List Seen). up_to version (placed_in (orders_after_all (observed_moment w.config.skew_ms w.observer moment).trace w.observer.orders xs) handle)) (restarted_shown s moment choice choice.ending);
           steps = λ e index moment s i choice at is up clocks. ap (λ (orders : Table (List Placed)). up_to version (placed_in orders handle)) (same_orders _ (suc index) (client_step s moment i choice).out.answer);
           calls = λ e index moment s c choice at may clocks. ap (λ (orders : Table (List Placed)). up_to version (placed_in orders handle)) (same_orders _ (suc index) (client_call s moment c choice).out.answer);
-          rots = λ e index q s x place byte is_kept at there up clocks. refl;
+          rots = λ e index q s x place byte ending is_kept at there up clocks. refl;
         }
 
 -- from a world on in which something holds that stays, and that has these leases over

@@ -20,7 +20,7 @@ use Rattle.messages.specs.declared.message.Change.TheVariants as change
 use Rattle.data_push.specs.Buffers.{data_of}
 use Rattle.replica_store.specs.declared.row.Row.{Row}
 use Rattle.replica_store.specs.declared.change.StoreChange.{StoreChange}
-use Rattle.replica_store.specs.declared.change.StoreChange.TheVariants.{SetOrder, Put, Write, Zero, Raise, Copy, Remove}
+use Rattle.replica_store.specs.declared.change.StoreChange.TheVariants.{SetOrder, Put, Write, Zero, Raise, Copy, Remove, Rot}
 use Rattle.replica_store.specs.Replicas.{is_new_order, row_at, is_copyable_at, is_writable_at}
 use Rattle.primary_order.specs.declared.answer.Settled.{Settled}
 use Rattle.primary_order.specs.PrimaryOrder.{place_of}
@@ -87,6 +87,7 @@ pub record IsNumbered (s : ServerState) (seen : List Seen) (x : StoreChange) : T
 abbrev pub IsStoredFor : ServerState → Body → List Seen → StoreChange → Type 0
 IsStoredFor s b seen (SetOrder order) = ⊥
 IsStoredFor s b seen (Remove handle) = Unit {0}
+IsStoredFor s b seen (Rot handle place byte) = ⊥
 IsStoredFor s b seen (Put handle version serial bytes) =
     (row_at s.disk handle.0 ≡ None) × (((order : OrderNo) × (b ≡ body.Create order handle version) × (serial.0 ≡ 0) × (bytes ≡ []) × (is_new_order s.disk order.epoch order.count ≡ true)) ⊎ (b ≡ body.Image handle version serial bytes))
 IsStoredFor s b seen (Raise handle version) =
@@ -111,6 +112,7 @@ AreMade s b changes seen = AllOf IsNumber changes ⊎ IsChanged s b changes seen
 still_stored : (s : ServerState) (b : Body) (seen : List Seen) (new : Seen) (x : StoreChange) → IsStoredFor s b seen x → IsStoredFor s b (seen ++ new ∷ []) x
 still_stored s b seen new (SetOrder order) h = h
 still_stored s b seen new (Remove handle) h = h
+still_stored s b seen new (Rot handle place byte) h = h
 still_stored s b seen new (Put handle version serial bytes) h = h
 still_stored s b seen new (Raise handle version) h = h
 still_stored s b seen new (Copy handle copy version) h = h

@@ -189,7 +189,7 @@ module _ (config : Config) (servers clients : ℕ) (w : WorldState) (r : IsReach
             subst (λ (xs : List Seen). AreAll Was (orders_after_all (observed_moment w.config.skew_ms w.observer moment).trace w.observer.orders xs)) (sym (restarted_shown s moment choice choice.ending)) h;
         steps = λ e index moment s i choice at is up. subst (λ (orders : Table (List Placed)). AreAll Was orders) (sym (same_orders _ (suc index) (client_step s moment i choice).out.answer)) h;
         calls = λ e index moment s c choice at may. subst (λ (orders : Table (List Placed)). AreAll Was orders) (sym (same_orders _ (suc index) (client_call s moment c choice).out.answer)) h;
-        rots = λ e index handle s x place byte is_kept at there up. h;
+        rots = λ e index handle s x place byte ending is_kept at there up. h;
       }
 
 none_placed : (T : ℕ → Placed → Type 0) → AreAll T table.empty

@@ -13,6 +13,7 @@ use Rattle.messages.specs.declared.event.Event.{Event}
 use Rattle.messages.specs.declared.event.NodeInput.{NodeInput}
 use Rattle.messages.specs.declared.event.NodeInput.TheVariants as input
 use Rattle.messages.specs.declared.message.Message.{Message}
+use Rattle.laws_base.proofs.Rots.{rot_leases}
 use Rattle.primary_order.specs.declared.waiting.Waiting.{Waiting}
 use Rattle.primary_order.specs.PrimaryOrder.{is_last, less_member, waiting_by}
 use Rattle.primary_order.specs.SerialOrder.{SerialOrder, refused_by}
@@ -29,7 +30,7 @@ use Rattle.protocol.specs.Server.{ServerState, ServerDoing}
 use Rattle.protocol.specs.ServerStep.{server_at, server_goes, server_ends, server_step, server_restarts, server_restart}
 use Rattle.protocol.specs.MasterStep.{master_step, master_restart}
 use Rattle.protocol.specs.ClientStep.{client_step, client_call}
-use Rattle.protocol.specs.World.{WorldState, new_world, IsReached}
+use Rattle.protocol.specs.World.{WorldState, new_world, IsReached, after_rot}
 use Rattle.laws_base.proofs.LeaseOrders.{SaysGrant, named_grant}
 use Rattle.laws_base.specs.Laws.{is_grant, grants_of}
 use Rattle.laws_base.proofs.Steps.{on_cond, none_some, same_some, put_cases, kept_cases}
@@ -37,7 +38,7 @@ use Rattle.laws_base.proofs.SentReached.{sent_reached}
 use Rattle.laws_base.proofs.RevokesNumbered.{Agrees, IsOfRevokes, revokes_kept}
 use Rattle.laws_base.proofs.ScenesReached.{scene_reached}
 use Rattle.laws_base.proofs.LeasesTold.{AreTold, new_not_stale, IsToldServer, told_kept, granting, versions_have_one_primary}
-use Rattle.laws_steps.proofs.Events.{IsGiven, HoldsAfter}
+use Rattle.laws_steps.proofs.Events.{IsGiven, HoldsAfter, rot_of}
 use Rattle.laws_steps.proofs.MasterTalks.{restart_shown}
 use Rattle.laws_entries.proofs.KnownNumbers.{primary_there}
 use Rattle.laws_entries.proofs.Placing.{same_orders}
@@ -220,7 +221,8 @@ module _ (config : Config) (servers clients : ℕ) (w : WorldState) (r : IsReach
             (restarted index moment s choice choice.ending);
         steps = λ e index moment s i choice at is up. same_unsettled _ (same_orders _ (suc index) (client_step s moment i choice).out.answer);
         calls = λ e index moment s c choice at may. same_unsettled _ (same_orders _ (suc index) (client_call s moment c choice).out.answer);
-        rots = λ e index k s x place byte is_kept at there up. one_unsettled index _ (λ handle other q here settled. h handle other q here settled index s at);
+        rots = λ e index k s x place byte ending is_kept at there up. one_unsettled index (after_rot s (rot_of k place byte) ending)
+            (λ handle other q here settled. rot_leases (λ ls. AreFit (IsOff q.serial) handle q.entry.round ls) s (rot_of k place byte) ending (h handle other q here settled index s at) (none_off q.serial handle q.entry.round));
       }
 
 new_unsettled : (config : Config) (servers clients : ℕ) → Unsettled (new_world config servers clients)

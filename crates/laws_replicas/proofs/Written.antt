@@ -6,8 +6,7 @@ use Rattle.gfs_types.specs.declared.mutation.Mutation.{Mutation}
 use Rattle.gfs_types.specs.declared.mutation.Mutation.TheVariants.{Write, Append, Pad}
 use Rattle.gfs_types.specs.Mutations.{start_of, end_of, covers, byte_of}
 use Rattle.gfs_types.specs.Image.{newer, last_that, image_length, byte_at, bytes_from, image}
-use Rattle.replica_store.specs.Replicas.{with_bytes}
-use Rattle.laws_replicas.specs.ReplicaImages.{written_by, ImagesAreWrittenTo}
+use Rattle.laws_replicas.specs.ReplicaImages.{with_bytes, written_by, ImagesAreWrittenTo}
 
 -- the byte at a place
 

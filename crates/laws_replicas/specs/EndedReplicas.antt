@@ -1,5 +1,5 @@
 -- The law of every lawful list of events on where replicas end, that a public function of this crate states.
-use Rattle.std.specs.Prelude.{◌≡◌, ◌⊎◌, ℕ, ◌≤◌, List, length, Some, IsTrue}
+use Rattle.std.specs.Prelude.{◌≡◌, ◌⊎◌, ℕ, ◌≤◌, List, Some, IsTrue}
 use Rattle.gfs_types.specs.declared.config.Config.{Config}
 use Rattle.gfs_types.specs.Mutations.{end_of}
 use Rattle.replica_store.specs.Replicas.{Replica, ServerDisk, replica_of}
@@ -16,7 +16,7 @@ EndsAtEntry order version count = (count ≡ 0) ⊎ ((place : ℕ) × (p : Place
 
 -- so does each replica
 abbrev pub AreEnded : WorldState → ServerDisk → Type 0
-AreEnded w d = (handle : ℕ) (r : Replica) → replica_of d handle ≡ Some r → EndsAtEntry (order_of w.observer handle) r.version (length r.bytes)
+AreEnded w d = (handle : ℕ) (r : Replica) → replica_of d handle ≡ Some r → EndsAtEntry (order_of w.observer handle) r.version r.count
 
 -- Where clocks are kept, each replica ends where an entry of its chunk's order ends, or has no bytes: on the disk of a server, and on what a restart finds there, however the change under way is decided; also where bytes rot unnoticed (sections 2.7.1 and 3.1).
 abbrev pub ReplicasEndAtEntries : Type 0

@@ -1,5 +1,5 @@
 -- Laws of every lawful list of events on what the replica of a primary has, that public functions of this crate state.
-use Rattle.std.specs.Prelude.{◌≡◌, ℕ, ◌≤◌, length, Some, IsTrue}
+use Rattle.std.specs.Prelude.{◌≡◌, ℕ, ◌≤◌, Some, IsTrue}
 use Rattle.std.specs.FinMap as table
 use Rattle.gfs_types.specs.declared.config.Config.{Config}
 use Rattle.gfs_types.specs.declared.ids.DataId.{DataId}
@@ -27,7 +27,7 @@ HeldRoundsAreApplied =
     (config : Config) (servers clients : ℕ) (w : WorldState) → IsReached config servers clients w → (index : ℕ) (s : ServerState) → element_at w.servers index ≡ Some s
     → (handle : ℕ) (p : SerialOrder) → table.get s.leases handle ≡ Some p
     → (place : ℕ) (e : Placed) → element_at (order_of w.observer handle) place ≡ Some e → e.entry.round ≡ p.held.version
-    → (r : Replica) × (replica_of s.disk handle ≡ Some r) × (r.version ≡ p.held.version) × (end_of e.entry.mutation ≤ length r.bytes)
+    → (r : Replica) × (replica_of s.disk handle ≡ Some r) × (r.version ≡ p.held.version) × (end_of e.entry.mutation ≤ r.count)
 
 -- a record or a pad begins at this place or behind it
 abbrev pub ComesBehind : ℕ → Mutation → Type 0

@@ -1,5 +1,5 @@
 -- Laws of every lawful list of events on the bytes of replicas, that public functions of this crate state.
-use Rattle.std.specs.Prelude.{◌≡◌, ◌⊎◌, ◌≤◌, ◌-◌, ℕ, Bool, if◌then◌else◌, List, [], ◌∷◌, ◌++◌, map, replicate, Some, IsTrue}
+use Rattle.std.specs.Prelude.{◌≡◌, ◌⊎◌, ◌≤◌, ◌+◌, ◌-◌, ℕ, Bool, if◌then◌else◌, List, [], ◌∷◌, ◌++◌, map, length, take, drop, replicate, Some, IsTrue}
 use Rattle.std.specs.List.{AllByRecursion}
 use Rattle.gfs_types.specs.declared.config.Config.{Config}
 use Rattle.gfs_types.specs.declared.ids.Handle.{Handle}
@@ -11,10 +11,11 @@ use Rattle.gfs_types.specs.Mutations.{start_of, end_of}
 use Rattle.gfs_types.specs.Image.{image}
 use Rattle.messages.specs.declared.message.Message.{Message}
 use Rattle.messages.specs.declared.message.Body.TheVariants as body
-use Rattle.replica_store.specs.Replicas.{Replica, ServerDisk, replica_of, with_bytes}
+use Rattle.replica_store.specs.Replicas.{Replica, ServerDisk, replica_of}
 use Rattle.protocol.specs.Tables.{element_at}
 use Rattle.protocol.specs.Choice.{Choice}
 use Rattle.protocol.specs.Observer.{Placed, order_of}
+use Rattle.protocol.specs.StoredBytes.{stored_bytes}
 use Rattle.protocol.specs.Server.{ServerState}
 use Rattle.protocol.specs.ServerStep.{found_disk}
 use Rattle.protocol.specs.World.{WorldState, IsReached, is_kept}
@@ -25,6 +26,10 @@ abbrev pub written_by : Mutation → List ℕ
 written_by (Write offset bytes) = bytes
 written_by (Append offset bytes) = bytes
 written_by (Pad offset end) = replicate (end - offset) 0
+
+-- bytes with others written into them; a hole before those is zeros
+abbrev pub with_bytes : List ℕ → ℕ → List ℕ → List ℕ
+with_bytes old offset new = take offset old ++ replicate (offset - length old) 0 ++ new ++ drop (offset + length new) old
 
 -- The bytes of a chunk after mutations and one more are those after the first ones, with what the last one writes from its place on (section 2.7.1).
 abbrev pub ImagesAreWrittenTo : Type 0
@@ -54,15 +59,15 @@ pub record IsImageOf (order : List Placed) (version serial : ℕ) (bytes : List 
   pub applied : AllByRecursion (IsWithin version serial) (marked marks order)
   pub last : (serial ≡ 0) ⊎ HasEntry (marked marks order) version serial
 
--- so is each replica
-abbrev pub AreImages : WorldState → ServerDisk → Type 0
-AreImages w d = (handle : ℕ) (r : Replica) → replica_of d handle ≡ Some r → IsImageOf (order_of w.observer handle) r.version r.serial r.bytes
+-- so are the bytes of each replica on the disk of the server at an index, as they were stored
+abbrev pub AreImages : WorldState → ℕ → ServerDisk → Type 0
+AreImages w index d = (handle : ℕ) (r : Replica) → replica_of d handle ≡ Some r → IsImageOf (order_of w.observer handle) r.version r.serial (stored_bytes w.observer index handle d r)
 
 -- Where clocks and disks are kept, each replica is the image of some entries of its chunk's order up to its version: on the disk of a server, and on what a restart finds there, however the change under way is decided (sections 2.7.1 and 3.1).
 abbrev pub ReplicasAreImages : Type 0
 ReplicasAreImages =
     (config : Config) (servers clients : ℕ) (w : WorldState) → IsReached config servers clients w → IsTrue (is_kept w)
-    → (index : ℕ) (s : ServerState) → element_at w.servers index ≡ Some s → AreImages w s.disk × ((choice : Choice) → AreImages w (found_disk s choice))
+    → (index : ℕ) (s : ServerState) → element_at w.servers index ≡ Some s → AreImages w index s.disk × ((choice : Choice) → AreImages w index (found_disk s choice))
 
 -- So are the bytes of each Image that was sent (section 4.3).
 abbrev pub SentImagesAreImages : Type 0

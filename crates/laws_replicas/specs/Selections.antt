@@ -18,6 +18,7 @@ use Rattle.protocol.specs.Tables.{element_at}
 use Rattle.protocol.specs.Choice.{Choice}
 use Rattle.protocol.specs.Observer.{Placed, observed_moment, order_of, entries_of}
 use Rattle.protocol.specs.declared.seen.Seen.TheVariants.{Numbered}
+use Rattle.protocol.specs.StoredBytes.{stored_bytes}
 use Rattle.protocol.specs.Server.{ServerState}
 use Rattle.protocol.specs.ServerStep.{found_disk, server_step}
 use Rattle.protocol.specs.World.{WorldState, IsReached, is_kept}
@@ -29,16 +30,16 @@ abbrev pub HasSettled : List Placed → (version : ℕ) → List Placed → Type
 HasSettled order version ps = (place : ℕ) (p : Placed) → element_at order place ≡ Some p → p.entry.settled ≡ true → p.entry.round ≤ version → HasEntry ps p.entry.round p.serial
 
 -- each replica is the image of entries of its chunk's order up to its version, and each settled one up to it is among them
-abbrev pub HaveSettled : WorldState → ServerDisk → Type 0
-HaveSettled w d =
+abbrev pub HaveSettled : WorldState → ℕ → ServerDisk → Type 0
+HaveSettled w index d =
     (handle : ℕ) (r : Replica) → replica_of d handle ≡ Some r
-    → (g : IsImageOf (order_of w.observer handle) r.version r.serial r.bytes) × HasSettled (order_of w.observer handle) r.version (marked g.marks (order_of w.observer handle))
+    → (g : IsImageOf (order_of w.observer handle) r.version r.serial (stored_bytes w.observer index handle d r)) × HasSettled (order_of w.observer handle) r.version (marked g.marks (order_of w.observer handle))
 
 -- Where clocks and disks are kept, so it is on the disk of each server, and on what a restart finds there, however the change under way is decided (sections 2.7.1 and 3.1).
 abbrev pub ReplicasHaveSettledEntries : Type 0
 ReplicasHaveSettledEntries =
     (config : Config) (servers clients : ℕ) (w : WorldState) → IsReached config servers clients w → IsTrue (is_kept w)
-    → (index : ℕ) (s : ServerState) → element_at w.servers index ≡ Some s → HaveSettled w s.disk × ((choice : Choice) → HaveSettled w (found_disk s choice))
+    → (index : ℕ) (s : ServerState) → element_at w.servers index ≡ Some s → HaveSettled w index s.disk × ((choice : Choice) → HaveSettled w index (found_disk s choice))
 
 -- So it is of the bytes of each Image that was sent (section 4.3).
 abbrev pub ImagesHaveSettledEntries : Type 0
@@ -48,15 +49,15 @@ ImagesHaveSettledEntries =
     → (g : IsImageOf (order_of w.observer handle.0) version.0 serial.0 bytes) × HasSettled (order_of w.observer handle.0) version.0 (marked g.marks (order_of w.observer handle.0))
 
 -- each replica is the image of a selection of its chunk's order up to its version: entries of rounds up to it, in order, with no settled one left out
-abbrev pub AreSelections : WorldState → ServerDisk → Type 0
-AreSelections w d =
-    (handle : ℕ) (r : Replica) → replica_of d handle ≡ Some r → (chosen : List Entry) × IsSelection r.version (entries_of w.observer handle) chosen × (r.bytes ≡ image (mutations_of chosen))
+abbrev pub AreSelections : WorldState → ℕ → ServerDisk → Type 0
+AreSelections w index d =
+    (handle : ℕ) (r : Replica) → replica_of d handle ≡ Some r → (chosen : List Entry) × IsSelection r.version (entries_of w.observer handle) chosen × (stored_bytes w.observer index handle d r ≡ image (mutations_of chosen))
 
 -- Where clocks and disks are kept, so it is on the disk of each server, and on what a restart finds there (sections 2.7.1 and 3.1).
 abbrev pub ReplicasAreSelections : Type 0
 ReplicasAreSelections =
     (config : Config) (servers clients : ℕ) (w : WorldState) → IsReached config servers clients w → IsTrue (is_kept w)
-    → (index : ℕ) (s : ServerState) → element_at w.servers index ≡ Some s → AreSelections w s.disk × ((choice : Choice) → AreSelections w (found_disk s choice))
+    → (index : ℕ) (s : ServerState) → element_at w.servers index ≡ Some s → AreSelections w index s.disk × ((choice : Choice) → AreSelections w index (found_disk s choice))
 
 -- Where clocks and disks are kept, as a server numbers a record or a pad, it begins past each settled entry of the chunk (section 3.3).
 abbrev pub RecordsComeBehindSettledEntries : Type 0
