@@ -84,7 +84,7 @@ each_from w h =
       restarts = λ e index moment s choice at. more_from w.sent k (server_restart s moment choice).out.sent h (restarted s moment choice);
       steps = λ e index moment s i choice at is up. more_from w.sent k (client_step s moment i choice).out.sent h (λ place x there. inr (s.id, ((step_left s moment i choice).says place x there).0));
       calls = λ e index moment s c choice at may. more_from w.sent k (client_call s moment c choice).out.sent h (λ place x there. inr (s.id, ((call_left s moment c choice).says place x there).0));
-      rots = λ e index handle s r place byte is_kept at there up. h;
+      rots = λ e index handle s r place byte ending is_kept at there up. h;
     }
 
 pub asks_come_from_clients : AsksComeFromClients

@@ -72,7 +72,7 @@ each_sends w =
       restarts = λ e index moment s choice at. (suc (length w.sent), refl);
       steps = λ e index moment s i choice at is up. (suc (length w.sent), refl);
       calls = λ e index moment s c choice at may. (suc (length w.sent), refl);
-      rots = λ e index handle s r place byte is_kept at there up. (0, sym (append-nil w.sent));
+      rots = λ e index handle s r place byte ending is_kept at there up. (0, sym (append-nil w.sent));
     }
 
 asked_now_in : (index : ℕ) (w : WorldState) (x : Happened) (made : ℕ) (part : Option ℕ) (n : ℕ) → IsAskedNow index w x made part n → 1 ≤ mutates_under (suc index) n x.out.sent

@@ -235,7 +235,7 @@ each_fine w h =
             answered = more_answered w.sent k (client_call s moment c choice).out.sent h.answered
                 (all_telling_none w.sent (client_call s moment c choice).out.sent (call_asks s ((h.numbered).each index s at).named moment c choice));
           };
-      rots = λ e index handle s r place byte is_kept at there up. record { numbered = h.numbered; answered = h.answered };
+      rots = λ e index handle s r place byte ending is_kept at there up. record { numbered = h.numbered; answered = h.answered };
     }
 
 new_fine : (config : Config) (servers clients : ℕ) → IsFine (new_world config servers clients)

@@ -1,13 +1,15 @@
 -- Where disks are kept after an event, they were kept before.
 use Rattle.std.proofs.Common.{ℕ, suc, Option, Some, None}
-use Rattle.std.specs.Prelude.{not, IsTrue}
+use Rattle.std.specs.Prelude.{IsTrue}
+use Rattle.std.specs.Str.{bytes_eq}
 use Rattle.std.proofs.lemmas.Bool.{and_parts}
 use Rattle.gfs_types.specs.declared.answer.Answer.{Answer}
 use Rattle.messages.specs.declared.event.Event.{Event}
 use Rattle.replica_store.specs.Replicas.{rotten_replica}
 use Rattle.protocol.specs.Choice.{Choice}
 use Rattle.protocol.specs.Observer.{Observer, observed_answer}
-use Rattle.protocol.specs.World.{WorldState, hides_change, happens}
+use Rattle.protocol.specs.StoredBytes.{stored_chunk, with_intact}
+use Rattle.protocol.specs.World.{WorldState, happens}
 use Rattle.laws_steps.proofs.Events.{HoldsExactly, holds_exactly}
 
 before_answer : (o : Observer) (client : ℕ) (a : Option Answer) → IsTrue (observed_answer o client a).are_disks_kept → IsTrue o.are_disks_kept
@@ -24,7 +26,7 @@ each_before w =
       restarts = λ e index moment s choice at kept. kept;
       steps = λ e index moment s i choice at is up kept. before_answer _ (suc index) _ kept;
       calls = λ e index moment s c choice at may kept. before_answer _ (suc index) _ kept;
-      rots = λ e index handle s r place byte at there up kept. (and_parts w.observer.are_disks_kept (not (hides_change s.disk.block (rotten_replica r place byte) place)) kept).0;
+      rots = λ e index handle s r place byte ending at there up kept. (and_parts w.observer.are_disks_kept (bytes_eq (stored_chunk (with_intact w.observer index handle s.disk.block r) index handle s.disk.block (rotten_replica r place byte)) (stored_chunk w.observer index handle s.disk.block r)) kept).0;
     }
 
 pub disks_before : (w : WorldState) (e : Event) (choice : Choice) → IsTrue (happens w e choice).world.observer.are_disks_kept → IsTrue w.observer.are_disks_kept

@@ -213,7 +213,7 @@ module _ (config : Config) (servers clients : ℕ) (w : WorldState) (r : IsReach
         restarts = λ e index moment s choice at new. quiet (server_restart s moment choice).out.sent (server_restarts_quiet s moment choice choice.ending) new;
         steps = λ e index moment s i choice at given up new. quiet (client_step s moment i choice).out.sent (quiet_orders (client_step s moment i choice).out.sent (client_quiet s moment i choice)) new;
         calls = λ e index moment s c choice at may new. quiet (client_call s moment c choice).out.sent (quiet_orders (client_call s moment c choice).out.sent (call_quiet s moment c choice)) new;
-        rots = λ e index q s x place byte is_kept at there up new. absurd (omega (arith, new));
+        rots = λ e index q s x place byte ending is_kept at there up new. absurd (omega (arith, new));
       }
 
   pub granting_step : (e : Event) (choice : Choice) → IsNewGrant w (happens w e choice).world handle version → IsGrantingStep w handle version (happens w e choice).world.master

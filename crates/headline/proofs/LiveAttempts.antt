@@ -245,7 +245,7 @@ each_tells config servers clients w r h =
           one_tells w.sent w.clients index (client_step s moment i choice).state h (step_tells config servers clients w r index s at moment (h index s at) i choice (came_in w e (suc index) moment i is));
       calls = λ e index moment s c choice at may.
           one_tells w.sent w.clients index (client_call s moment c choice).state h (call_tells config servers clients w r index s at moment c choice (no_call s may));
-      rots = λ e index handle s d place byte is_kept at there up. h;
+      rots = λ e index handle s d place byte ending is_kept at there up. h;
     }
 
 all_longer : (sent after : List Message) (clients : List ClientState) → IsGrown sent after → AllTell sent clients → AllTell after clients

@@ -116,7 +116,7 @@ module _ (w : WorldState) where
         restarts = λ e index moment s choice at. inl refl;
         steps = λ e index moment s i choice at given up. inl refl;
         calls = λ e index moment s c choice at may. inl refl;
-        rots = λ e index q s x place byte is_kept at there up. inl refl;
+        rots = λ e index q s x place byte ending is_kept at there up. inl refl;
       }
 
   pub master_after : (e : Event) (choice : Choice) → IsMasterAfter w (happens w e choice).world.master
@@ -228,7 +228,7 @@ module _ (file index : ℕ) (R : ℕ → Type 0) (config : Config) (servers clie
           restarts = λ e at moment s c there. places;
           steps = λ e at moment s i c there is up. places;
           calls = λ e at moment s asked c there may. places;
-          rots = λ e at q s x place byte is_kept there held up. places;
+          rots = λ e at q s x place byte ending is_kept there held up. places;
         }
 
     pub taken_after : (e : Event) (choice : Choice) → ArePlacesTaken file index R (happens w e choice).world.master

@@ -161,7 +161,7 @@ module _ (config : Config) (servers clients : ℕ) (w : WorldState) (r : IsReach
         (of_step (λ t ms. AllOf (λ m. IsMadeBy s m.body) ms) s moment i choice (numbered.each index s at).named (λ d step. client_made s moment d d.sent step refl) tt tt);
     calls = λ e index moment s c choice at may. spoken index s at (and_parts s.up _ may).0 (client_call s moment c choice).out.sent
         (of_call (λ t ms. AllOf (λ m. IsMadeBy s m.body) ms) s moment c choice (numbered.each index s at).named (λ d step. client_made s moment d d.sent step refl) tt);
-    rots = λ e index q s x at_place byte is_kept there held up place m from at id handle version aim deadline is. none_before w.sent place m from at;
+    rots = λ e index q s x at_place byte ending is_kept there held up place m from at id handle version aim deadline is. none_before w.sent place m from at;
   }
 
 pub mutates_are_of_pushed_data : MutatesAreOfPushedData

@@ -137,7 +137,7 @@ each_waits w =
                   ∙ calls_passed w.config.skew_ms w.observer moment (suc index);
             })
           ];
-      rots = λ e server handle q r place byte kept there at_disk awake index number s c at up is staged. inl (record { client = s; is = at; up = up; current_is = is; calls = refl });
+      rots = λ e server handle q r place byte ending kept there at_disk awake index number s c at up is staged. inl (record { client = s; is = at; up = up; current_is = is; calls = refl });
     }
 
 -- what the master refuses
@@ -226,5 +226,5 @@ each_refuses w =
       restarts = λ e index moment s choice there. not_masters w (server_restart s moment choice).out.sent (restarted s moment choice choice.ending);
       steps = λ e index moment s i choice there given up place m at from. absurd (client_is_not s.id m ((step_left s moment i choice).says place m at).0 from);
       calls = λ e index moment s c choice there may place m at from. absurd (client_is_not s.id m ((call_left s moment c choice).says place m at).0 from);
-      rots = λ e index handle s r place byte kept there disk up at m none. none_some m none;
+      rots = λ e index handle s r place byte ending kept there disk up at m none. none_some m none;
     }

@@ -210,7 +210,7 @@ each_new config w h =
             own = said.2;
             calls = inl (no_call s may);
           };
-      rots = λ e index handle s r place byte is_kept at there up client where_ m is from. none_some m is;
+      rots = λ e index handle s r place byte ending is_kept at there up client where_ m is from. none_some m is;
     }
 
 -- what a call that is open has done so far, and what it asks for

@@ -133,7 +133,7 @@ so_of disk row size number c chunk holder false (body.Bytes n bytes) asked so = 
 so_of disk row size number c chunk holder true b asked so = absurd so
 so_of disk row size number c chunk holder false b asked so = absurd so
 
-row_within : (d : ServerDisk) (size handle : ℕ) (row : Row) → ((r : Replica) → replica_of d handle ≡ Some r → length r.bytes ≤ size) → row_at d handle ≡ Some row → row.count ≤ size
+row_within : (d : ServerDisk) (size handle : ℕ) (row : Row) → ((r : Replica) → replica_of d handle ≡ Some r → r.count ≤ size) → row_at d handle ≡ Some row → row.count ≤ size
 row_within d size handle row low is = by_replica (replica_of d handle) refl is
   where
     by_replica : (o : Option Replica) → replica_of d handle ≡ o → row_of o ≡ Some row → row.count ≤ size
@@ -325,7 +325,7 @@ module _ (config : Config) (servers clients : ℕ) (w : WorldState) (r : IsReach
 
           row_low : a.row.count ≤ config.chunk
           row_low =
-              (row_within a.server.disk config.chunk chunk.handle.0 a.row (λ x at. (replicas_lie_within_the_chunk config servers clients w r a.index a.server a.server_is).0 chunk.handle.0 x at) so.0)
+              (row_within a.server.disk config.chunk chunk.handle.0 a.row (λ x at. ((replicas_lie_within_the_chunk config servers clients w r a.index a.server a.server_is).0.1 chunk.handle.0 x at).0) so.0)
 
           same_index : IsFalse (is_length x.asked) → chunk.index ≡ x.index
           same_index not = by_call x.asked not alike.done (subst (λ (st : Stage). FitsAt st) stage fits).0 (subst (λ (st : Stage). FitsAt st) stage fits).2

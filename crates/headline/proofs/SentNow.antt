@@ -370,7 +370,7 @@ module _ (config : Config) (w : WorldState) (h : ArePushing config w) where
         calls = λ e index moment s c choice at may.
             let left = one_left (client_call s moment c choice).out.sent index s (client_call s moment c choice).state at (call_left s moment c choice) in
             record { numbered = n.calls e index moment s c choice at may; settings = left.0; pushed = left.1 };
-        rots = λ e index handle s d place byte is_kept at there up. record { numbered = h.numbered; settings = h.settings; pushed = h.pushed };
+        rots = λ e index handle s d place byte ending is_kept at there up. record { numbered = h.numbered; settings = h.settings; pushed = h.pushed };
       }
 
 pub pushing_on : (config : Config) (w : WorldState) (steps : List (Event × Choice)) → ArePushing config w → ArePushing config (after_events w steps)

@@ -3,7 +3,7 @@ use Rattle.std.proofs.Common.{◌≡◌, ℕ, zero, suc, ◌≤◌, ◌<◌, Boo
 use Rattle.std.specs.Prelude.{◌+◌, ◌&&◌, not, nat_le, filter, filter_map, option_and_then, if◌then◌else◌, IsTrue, IsFalse}
 use Rattle.std.specs.List.{cons_option}
 use Rattle.std.specs.FinMap as table
-use Rattle.std.proofs.lemmas.Bool.{le-leb, lt-ltb}
+use Rattle.std.proofs.lemmas.Bool.{and_parts, le-leb, lt-ltb}
 use Rattle.gfs_types.specs.declared.config.Config.{Config}
 use Rattle.replica_store.specs.Replicas.{Replica, replica_of}
 use Rattle.relaxed_file.specs.Order.{Entry, IsSelection, mutations_of}
@@ -19,6 +19,7 @@ use Rattle.protocol.specs.Conforms.{IsSelected}
 use Rattle.protocol.specs.World.{WorldState, new_world, IsReached, is_kept}
 use Rattle.laws_base.proofs.Steps.{none_some, same_some}
 use Rattle.laws_calls.proofs.OpenEntries.{config_stays}
+use Rattle.laws_replicas.proofs.KeptDisks.{stored_as_long}
 use Rattle.laws_replicas.proofs.Selections.{replicas_are_selections}
 use Rattle.protocol.specs.Each.{EachEntry, EachPlace}
 use Rattle.protocol.specs.Explained.{IsShown, Explains}
@@ -71,7 +72,7 @@ files_shown config w k h file handles is = (
 
 -- a replica that is shown
 
-stored_of : (handle server : ℕ) (o : Option Replica) (r : StoredAt) → stored_as server o ≡ Some r → (x : Replica) × (o ≡ Some x) × (r ≡ record { server = server; version = x.version; count = length x.bytes })
+stored_of : (handle server : ℕ) (o : Option Replica) (r : StoredAt) → stored_as server o ≡ Some r → (x : Replica) × (o ≡ Some x) × (r ≡ record { server = server; version = x.version; count = x.count })
 stored_of handle server None r is = none_some r is
 stored_of handle server (Some x) r is = (x, refl, sym (same_some _ r is))
 
@@ -82,7 +83,7 @@ record IsStored (w : WorldState) (handle : ℕ) (r : StoredAt) : Type 0 where
   there : element_at w.servers index ≡ Some server
   replica : Replica
   replica_is : replica_of server.disk handle ≡ Some replica
-  shown : r ≡ record { server = server.id; version = replica.version; count = length replica.bytes }
+  shown : r ≡ record { server = server.id; version = replica.version; count = replica.count }
 
 module _ (w : WorldState) (handle : ℕ) (r : StoredAt) where
   abbrev IsAmongServers : List ServerState → Type 0
@@ -133,6 +134,7 @@ module _ (config : Config) (servers clients : ℕ) (w : WorldState) (r : IsReach
               of_entries.0,
               subst (λ (es : List Entry). IsSelection x.version es of_entries.0) order (subst (λ (n : ℕ). IsSelection n (entries_of w.observer handle) of_entries.0) (sym (ap (λ (y : StoredAt). y.version) s.shown)) of_entries.1),
               sym (length_of (mutations_of of_entries.0)) ∙ ap (λ (bs : List ℕ). length bs) (sym of_entries.2)
+                  ∙ stored_as_long config servers clients w r (and_parts w.observer.are_clocks_kept w.observer.are_disks_kept kept).1 s.index s.server s.there handle s.replica s.replica_is
                   ∙ sym (ap (λ (y : StoredAt). y.count) s.shown),
             )
 

@@ -56,7 +56,7 @@ module _ (config : Config) (servers clients : ℕ) (u : WorldState) (r : IsReach
             (of_step (λ t ms. AllOf (λ x. is_location x.body ≡ false) ms) s moment i choice (numbered.each index s there).named (λ d step. client_tells (client_at s moment) d d.sent step refl) tt tt) from at number l is;
         calls = λ e index moment s c choice there may reached place m from at number l is. none_new u.sent (client_call s moment c choice).out.sent (suc (length u.sent)) place m
             (of_call (λ t ms. AllOf (λ x. is_location x.body ≡ false) ms) s moment c choice (numbered.each index s there).named (λ d step. client_tells (client_at s moment) d d.sent step refl) tt) from at number l is;
-        rots = λ e index q s x at_place byte is_kept there held up reached place m from at number l is. none_before u.sent place m from at;
+        rots = λ e index q s x at_place byte ending is_kept there held up reached place m from at number l is. none_before u.sent place m from at;
       }
 
 pub told_places_are_within : ToldPlacesAreWithin

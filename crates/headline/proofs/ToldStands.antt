@@ -136,7 +136,7 @@ module _ (config : Config) (servers clients : ℕ) (w : WorldState) (r : IsReach
             (of_step (λ t ms. AllOf (λ x. TellsNone x.body) ms) s moment i choice (numbered.each index s there).named (λ d step. client_tells (client_at s moment) d d.sent step refl) tt tt) from at number l is;
         calls = λ e index moment s c choice there may place m from at number l is. none_new w.sent (client_call s moment c choice).out.sent k place m
             (of_call (λ t ms. AllOf (λ x. TellsNone x.body) ms) s moment c choice (numbered.each index s there).named (λ d step. client_tells (client_at s moment) d d.sent step refl) tt) from at number l is;
-        rots = λ e index q s x at_place byte is_kept there held up place m from at number l is. none_before w.sent place m from at;
+        rots = λ e index q s x at_place byte ending is_kept there held up place m from at number l is. none_before w.sent place m from at;
       }
     where
       numbered : AreNumbered w.sent w.clients

@@ -10,7 +10,7 @@ use Rattle.replica_store.specs.Replicas.{Replica, replica_of, row_of}
 use Rattle.protocol.specs.Observer.{entries_of}
 use Rattle.laws_base.proofs.Steps.{on_cond, none_some, same_some}
 use Rattle.laws_replicas.proofs.Selections.{replicas_are_selections}
-use Rattle.laws_replicas.proofs.KeptDisks.{reads_are_as_stored}
+use Rattle.laws_replicas.proofs.KeptDisks.{reads_are_as_stored, stored_as_long}
 use Rattle.laws_machine.specs.ChunkReadings.{SelectionsGoByRounds, IsReadAs, ReadingsAreOfTheChunk}
 
 -- selections
@@ -73,12 +73,12 @@ module _ (ms : List Mutation) where
 pub readings_are_of_the_chunk : ReadingsAreOfTheChunk
 readings_are_of_the_chunk config servers clients w reached kept index s at handle row row_is order agree = by_replica (replica_of s.disk handle) refl row_is
   where
-    of_replica : (r : Replica) → replica_of s.disk handle ≡ Some r → record { version = record { 0 = r.version }; serial = record { 0 = r.serial }; count = length r.bytes } ≡ row
+    of_replica : (r : Replica) → replica_of s.disk handle ≡ Some r → record { version = record { 0 = r.version }; serial = record { 0 = r.serial }; count = r.count } ≡ row
         → (chosen : List Entry) × IsReadAs s handle row order chosen
     of_replica r is same =
         let selected = (replicas_are_selections config servers clients w reached kept index s at).0 handle r is in
         let version_is : r.version ≡ row.version.0 = ap (λ (x : Row). x.version.0) same in
-        let count_is : length r.bytes ≡ row.count = ap (λ (x : Row). x.count) same in
+        let count_is : r.count ≡ row.count = ap (λ (x : Row). x.count) same in
         let disks = (and_parts w.observer.are_clocks_kept w.observer.are_disks_kept kept).1 in (
           selected.0,
           record {
@@ -86,10 +86,10 @@ readings_are_of_the_chunk config servers clients w reached kept index s at handl
             bytes = λ offset count found read.
                 reads_are_as_stored config servers clients w reached disks index s at handle r is offset count found read ∙ ap (λ (bs : List ℕ). take count (drop offset bs)) selected.2
                 ∙ slice_of (mutations_of selected.0) offset count;
-            length = sym count_is ∙ ap (λ (bs : List ℕ). length bs) selected.2 ∙ length_of (mutations_of selected.0);
+            length = sym count_is ∙ sym (stored_as_long config servers clients w reached disks index s at handle r is) ∙ ap (λ (bs : List ℕ). length bs) selected.2 ∙ length_of (mutations_of selected.0);
           },
         )
 
     by_replica : (o : Option Replica) → replica_of s.disk handle ≡ o → row_of o ≡ Some row → (chosen : List Entry) × IsReadAs s handle row order chosen
     by_replica None is at_row = none_some row at_row
-    by_replica (Some r) is at_row = of_replica r is (same_some (record { version = record { 0 = r.version }; serial = record { 0 = r.serial }; count = length r.bytes }) row at_row)
+    by_replica (Some r) is at_row = of_replica r is (same_some (record { version = record { 0 = r.version }; serial = record { 0 = r.serial }; count = r.count }) row at_row)

@@ -86,12 +86,12 @@ module _ (w : WorldState) (moment : ℕ) where
   moment_left : (h : Happened) → IsLeft w h → IsLeft w (at_moment w moment h)
   moment_left h left = on_cond (IsLeft w) (nat_le moment moment_limit) h (nothing_happens w) (λ _. left) (λ _. refl)
 
-rot_left : (w : WorldState) (index handle place byte : ℕ) (o : Option ServerState) → IsLeft w (rots_on w index handle place byte o)
-rot_left w index handle place byte None = refl
-rot_left w index handle place byte (Some s) =
-    on_cond (IsLeft w) (s.up && nat_lt place w.config.chunk) (rots_replica w index s handle place byte (replica_of s.disk handle)) (nothing_happens w) (λ _. by_replica (replica_of s.disk handle)) (λ _. refl)
+rot_left : (w : WorldState) (index handle place byte : ℕ) (choice : Choice) (o : Option ServerState) → IsLeft w (rots_on w index handle place byte choice o)
+rot_left w index handle place byte choice None = refl
+rot_left w index handle place byte choice (Some s) =
+    on_cond (IsLeft w) (s.up && nat_lt place w.config.chunk) (rots_replica w index s handle place byte choice (replica_of s.disk handle)) (nothing_happens w) (λ _. by_replica (replica_of s.disk handle)) (λ _. refl)
   where
-    by_replica : (o : Option Replica) → IsLeft w (rots_replica w index s handle place byte o)
+    by_replica : (o : Option Replica) → IsLeft w (rots_replica w index s handle place byte choice o)
     by_replica None = refl
     by_replica (Some r) = refl
 
@@ -100,7 +100,7 @@ master_left w (event.Call client c now) choice not = moment_left w now.0 _ (call
 master_left w (event.Deliver number now) choice not = moment_left w now.0 _ (delivery_left w now.0 choice (numbered_from_1 w.sent number) (λ m at to. not (m, at, to)))
 master_left w (event.Tick n now) choice not = moment_left w now.0 _ (moves_left w now.0 n input.Tick choice not)
 master_left w (event.Restart n now) choice not = moment_left w now.0 _ (restart_left w now.0 n choice not)
-master_left w (event.Rot server handle place byte) choice not = rot_left w (server.0 - 1) handle.0 place byte (numbered_from_1 w.servers server.0)
+master_left w (event.Rot server handle place byte) choice not = rot_left w (server.0 - 1) handle.0 place byte choice (numbered_from_1 w.servers server.0)
 master_left w (event.Fuse n count torn) choice not = refl
 
 -- a step is an event of the master's

@@ -81,7 +81,7 @@ each_kept w h =
       restarts = λ e server moment x choice there. h;
       steps = λ e index moment s i choice at is up. one_set w.clients index (client_step s moment i choice).state (step_kept s (h index s at) moment i choice) h;
       calls = λ e index moment s c choice at may. one_set w.clients index (client_call s moment c choice).state (call_kept s (h index s at) moment c choice) h;
-      rots = λ e server handle x r place byte is_kept there found up. h;
+      rots = λ e server handle x r place byte ending is_kept there found up. h;
     }
 
 new_kept : (config : Config) (ns : List ℕ) (index : ℕ) (s : ClientState) → element_at (map (new_client config) ns) index ≡ Some s → Kept s

@@ -96,13 +96,13 @@ module _ (w : WorldState) (moment : ℕ) where
       on_cond (λ (x : Happened). x.world.observer.greatest ≤ moment_limit) (nat_le moment moment_limit) h (nothing_happens w)
       (λ early. let most : max w.observer.greatest moment ≤ moment_limit = max-le low (leb-true moment moment_limit early) in omega (arith, up, most)) (λ _. low)
 
-rotten : (w : WorldState) (index handle place byte : ℕ) (o : Option ServerState) → (rots_on w index handle place byte o).world.observer.greatest ≡ w.observer.greatest
-rotten w index handle place byte None = refl
-rotten w index handle place byte (Some s) =
-    on_cond (λ (x : Happened). x.world.observer.greatest ≡ w.observer.greatest) (s.up && nat_lt place w.config.chunk) (rots_replica w index s handle place byte (replica_of s.disk handle)) (nothing_happens w)
+rotten : (w : WorldState) (index handle place byte : ℕ) (choice : Choice) (o : Option ServerState) → (rots_on w index handle place byte choice o).world.observer.greatest ≡ w.observer.greatest
+rotten w index handle place byte choice None = refl
+rotten w index handle place byte choice (Some s) =
+    on_cond (λ (x : Happened). x.world.observer.greatest ≡ w.observer.greatest) (s.up && nat_lt place w.config.chunk) (rots_replica w index s handle place byte choice (replica_of s.disk handle)) (nothing_happens w)
     (λ _. by_replica (replica_of s.disk handle)) (λ _. refl)
   where
-    by_replica : (o : Option Replica) → (rots_replica w index s handle place byte o).world.observer.greatest ≡ w.observer.greatest
+    by_replica : (o : Option Replica) → (rots_replica w index s handle place byte choice o).world.observer.greatest ≡ w.observer.greatest
     by_replica None = refl
     by_replica (Some r) = refl
 
@@ -111,7 +111,7 @@ limited_next w (event.Call client c now) choice low = at_most w now.0 _ low (cal
 limited_next w (event.Deliver number now) choice low = at_most w now.0 _ low (delivery w now.0 choice (numbered_from_1 w.sent number))
 limited_next w (event.Tick n now) choice low = at_most w now.0 _ low (moved w now.0 n input.Tick choice)
 limited_next w (event.Restart n now) choice low = at_most w now.0 _ low (opened w now.0 n choice)
-limited_next w (event.Rot server handle place byte) choice low = let same = rotten w (server.0 - 1) handle.0 place byte (numbered_from_1 w.servers server.0) in omega (arith, same, low)
+limited_next w (event.Rot server handle place byte) choice low = let same = rotten w (server.0 - 1) handle.0 place byte choice (numbered_from_1 w.servers server.0) in omega (arith, same, low)
 limited_next w (event.Fuse n count torn) choice low = low
 
 limited_on : (w : WorldState) (steps : List (Event × Choice)) → w.observer.greatest ≤ moment_limit → (after_events w steps).observer.greatest ≤ moment_limit

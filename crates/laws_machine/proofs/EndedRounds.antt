@@ -203,7 +203,7 @@ module _ (w : WorldState) (handle version : ℕ) where
     restarts = λ e index moment s choice at not. quiet (server_restart s moment choice).out.sent (server_restarts_quiet s moment choice choice.ending);
     steps = λ e index moment s i choice at given up not. quiet (client_step s moment i choice).out.sent (quiet_orders (client_step s moment i choice).out.sent (client_quiet s moment i choice));
     calls = λ e index moment s c choice at may not. quiet (client_call s moment c choice).out.sent (quiet_orders (client_call s moment c choice).out.sent (call_quiet s moment c choice));
-    rots = λ e index q s x place byte is_kept at there up not. omega arith;
+    rots = λ e index q s x place byte ending is_kept at there up not. omega arith;
   }
 
 pub other_events_keep_rounds : OtherEventsKeepRounds

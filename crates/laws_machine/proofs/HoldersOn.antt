@@ -56,7 +56,7 @@ each_silent config servers clients u r =
           (of_step (λ t ms. AllOf (λ x. TellsNone x.body) ms) s moment i choice (numbered.each index s there).named (λ d step. client_tells (client_at s moment) d d.sent step refl) tt tt) from at number l is;
       calls = λ e index moment s c choice there may not place m from at number l is. none_new u.sent (client_call s moment c choice).out.sent k place m
           (of_call (λ t ms. AllOf (λ x. TellsNone x.body) ms) s moment c choice (numbered.each index s there).named (λ d step. client_tells (client_at s moment) d d.sent step refl) tt) from at number l is;
-      rots = λ e index q s x at_place byte is_kept there held up not place m from at number l is. none_before u.sent place m from at;
+      rots = λ e index q s x at_place byte ending is_kept there held up not place m from at number l is. none_before u.sent place m from at;
     }
   where
     k : ℕ

@@ -69,7 +69,7 @@ module _ (config : Config) (servers clients : ℕ) (w : WorldState) (r : IsReach
     restarts = λ e index moment s choice at is. none_shown moment (server_restart s moment choice).seen (restarted_shown s moment choice choice.ending);
     steps = λ e index moment s i choice at given up is. ap (λ (os : Table (List Placed)). placed_in os handle) (same_orders (observed_moment w.config.skew_ms w.observer moment) _ (client_step s moment i choice).out.answer);
     calls = λ e index moment s c choice at may is. ap (λ (os : Table (List Placed)). placed_in os handle) (same_orders _ _ (client_call s moment c choice).out.answer);
-    rots = λ e index q s x place byte is_kept at there up is. refl;
+    rots = λ e index q s x place byte ending is_kept at there up is. refl;
   }
 
 module _ (config : Config) (servers clients : ℕ) (w : WorldState) (r : IsReached config servers clients w) (e : Event) (choice : Choice) (is : IsMastersEvent w e) (k j : ChunkSides) (log : IsLogOf w.master k.log) (before : k.orders ≡ w.observer.orders)

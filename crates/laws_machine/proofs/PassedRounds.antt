@@ -75,7 +75,7 @@ module _ (handle version : ℕ) where
           restarts = λ e index moment s choice at. (passed, quiet_sent w.sent k (server_restart s moment choice).out.sent handle version (server_restarts_quiet s moment choice choice.ending));
           steps = λ e index moment s i choice at is up. (passed, quiet_sent w.sent k (client_step s moment i choice).out.sent handle version (quiet_orders (client_step s moment i choice).out.sent (client_quiet s moment i choice)));
           calls = λ e index moment s c choice at may. (passed, quiet_sent w.sent k (client_call s moment c choice).out.sent handle version (quiet_orders (client_call s moment c choice).out.sent (call_quiet s moment c choice)));
-          rots = λ e index q s x place byte is_kept at there up. (passed, omega arith);
+          rots = λ e index q s x place byte ending is_kept at there up. (passed, omega arith);
         }
 
   pub passed_on : (config : Config) (servers clients : ℕ) (w : WorldState) → IsReached config servers clients w → (steps : List (Event × Choice)) → HasPassed handle version w.master → GoesPassed w (after_events w steps)

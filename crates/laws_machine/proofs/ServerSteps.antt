@@ -363,7 +363,7 @@ module _ (config : Config) (servers clients : ℕ) (w : WorldState) (r : IsReach
       restarts = λ e index moment s choice at reached clocks not. none_shown _ (observed_moment w.config.skew_ms w.observer moment).trace (server_restart s moment choice).seen (restarted_shown s moment choice choice.ending);
       steps = λ e index moment s i choice at given up reached clocks not. same_taken _ _ (same_orders (observed_moment w.config.skew_ms w.observer moment) (suc index) (client_step s moment i choice).out.answer);
       calls = λ e index moment s c choice at may reached clocks not. same_taken _ _ (same_orders _ (suc index) (client_call s moment c choice).out.answer);
-      rots = λ e index q s x place byte is_kept at there up reached clocks not. same_taken _ w.observer.orders refl;
+      rots = λ e index q s x place byte ending is_kept at there up reached clocks not. same_taken _ w.observer.orders refl;
     }
 
 pub other_events_are_taken : OtherEventsAreTaken

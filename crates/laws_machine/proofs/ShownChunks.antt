@@ -57,7 +57,7 @@ seen_on w h =
       restarts = λ e index moment s choice there. h;
       steps = λ e index moment s i choice there given was up. answer_files (observed_moment w.config.skew_ms w.observer moment) (suc index) (client_step s moment i choice).out.answer ∙ h up;
       calls = λ e index moment s c choice there may up. answer_files (observed_moment w.config.skew_ms (with_call w index moment c).observer moment) (suc index) (client_call s moment c choice).out.answer ∙ h up;
-      rots = λ e index q s x place byte is_kept there held was. h;
+      rots = λ e index q s x place byte ending is_kept there held was. h;
     }
 
 pub files_are_seen : (config : Config) (servers clients : ℕ) (w : WorldState) → IsReached config servers clients w → IsTrue w.master.up → w.observer.files ≡ w.master.logged.table.files
@@ -78,7 +78,7 @@ files_left w =
       restarts = λ e index moment s choice there down. refl;
       steps = λ e index moment s i choice there given was down. answer_files (observed_moment w.config.skew_ms w.observer moment) (suc index) (client_step s moment i choice).out.answer;
       calls = λ e index moment s c choice there may down. answer_files (observed_moment w.config.skew_ms (with_call w index moment c).observer moment) (suc index) (client_call s moment c choice).out.answer;
-      rots = λ e index q s x place byte is_kept there held was down. refl;
+      rots = λ e index q s x place byte ending is_kept there held was down. refl;
     }
 
 -- what is shown while the master is up

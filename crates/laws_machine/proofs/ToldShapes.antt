@@ -131,7 +131,7 @@ each_telling config servers clients u r =
           quiet_new u (client_call s moment c choice).out.sent k place m
           (of_call (λ t ms. AllOf (λ x. IsNoReply x.body) ms) s moment c choice (numbered.each index s there).named (λ d step. client_no_reply (client_at s moment) d d.sent step refl) tt)
           (of_call (λ t ms. AllOf (λ x. TellsNone x.body) ms) s moment c choice (numbered.each index s there).named (λ d step. client_tells (client_at s moment) d d.sent step refl) tt) from at;
-      rots = λ e index q s x at_place byte is_kept there held up place m from at. none_before u.sent place m from at;
+      rots = λ e index q s x at_place byte ending is_kept there held up place m from at. none_before u.sent place m from at;
     }
   where
     k : ℕ

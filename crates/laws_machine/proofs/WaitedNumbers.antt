@@ -28,7 +28,6 @@ use Rattle.protocol.specs.MasterStep.{master_step, master_restart}
 use Rattle.protocol.specs.ServerStep.{server_step, server_restart}
 use Rattle.protocol.specs.Observer.{calls_made, observed_moment, observed_call, observed_answer}
 use Rattle.protocol.specs.World.{WorldState, Happened, new_world, nothing_happens, after_master, after_server, after_client, stamped, happens, after_events}
-use Rattle.replica_store.specs.Replicas.{rotten_replica}
 use Rattle.gfs_types.specs.declared.ids.ServerId.{ServerId}
 use Rattle.laws_base.proofs.Steps.{none_some, same_some}
 use Rattle.laws_base.proofs.RisingOrders.{set_cases}
@@ -37,7 +36,7 @@ use Rattle.laws_steps.specs.Attempts.{is_from_client, is_mutate, mutates_under}
 use Rattle.laws_steps.specs.FewAttempts.{IsAskedNow, WasAsked}
 use Rattle.laws_steps.proofs.ClientReads.{stepped, called}
 use Rattle.laws_steps.proofs.ClientWalk.{IsIdle, KeepsClient, HoldsAt, step_kept, call_kept}
-use Rattle.laws_steps.proofs.Events.{HoldsAfter, holds_after, with_call, with_rot}
+use Rattle.laws_steps.proofs.Events.{HoldsAfter, holds_after, with_call, with_rot, rot_of}
 use Rattle.laws_steps.proofs.RequestsOnce.{AreNumbered, each_event, numbered_reached, from_itself}
 use Rattle.laws_entries.specs.WaitedRounds.{waits_at, waited}
 use Rattle.laws_calls.proofs.LaterCalls.{calls_joined, calls_passed, calls_answered, put_at}
@@ -239,7 +238,7 @@ module _ (index : ℕ) (w : WorldState) (numbered : AreNumbered w.sent w.clients
         restarts = λ e j moment s choice at. others (after_server w j moment (server_restart s moment choice)) (k, refl) refl (calls_passed w.config.skew_ms w.observer moment (suc index));
         steps = λ e j moment s i choice at is up. one_stepped j moment s i choice at;
         calls = λ e j moment s c choice at may. one_called j moment s c choice at (idle_then s may);
-        rots = λ e j handle s r place byte is_kept at there up. others (with_rot w j handle s (rotten_replica r place byte) is_kept) (k, sym (append-nil w.sent)) refl refl;
+        rots = λ e j handle s r place byte ending is_kept at there up. others (with_rot w j s (rot_of handle place byte) ending is_kept) (k, sym (append-nil w.sent)) refl refl;
       }
 
 -- along the steps: what was asked was sent, and for what is waited it was in the call that is open

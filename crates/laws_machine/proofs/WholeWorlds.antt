@@ -155,21 +155,21 @@ module _ (w : WorldState) where
   moment_of : (moment : ℕ) (h : Happened) → Of h → Of (at_moment w moment h)
   moment_of moment h of = on_cond Of (nat_le moment moment_limit) h (nothing_happens w) (λ _. of) (λ _. nothing)
 
-  rot_of : (index handle place byte : ℕ) (o : Option ServerState) → Of (rots_on w index handle place byte o)
-  rot_of index handle place byte None = nothing
-  rot_of index handle place byte (Some s) =
-      on_cond Of (s.up && nat_lt place w.config.chunk) (rots_replica w index s handle place byte (replica_of s.disk handle)) (nothing_happens w) (λ _. by_replica (replica_of s.disk handle)) (λ _. nothing)
+  rot_of : (index handle place byte : ℕ) (choice : Choice) (o : Option ServerState) → Of (rots_on w index handle place byte choice o)
+  rot_of index handle place byte choice None = nothing
+  rot_of index handle place byte choice (Some s) =
+      on_cond Of (s.up && nat_lt place w.config.chunk) (rots_replica w index s handle place byte choice (replica_of s.disk handle)) (nothing_happens w) (λ _. by_replica (replica_of s.disk handle)) (λ _. nothing)
     where
-      by_replica : (o : Option Replica) → Of (rots_replica w index s handle place byte o)
+      by_replica : (o : Option Replica) → Of (rots_replica w index s handle place byte choice o)
       by_replica None = nothing
-      by_replica (Some r) = still (rots_replica w index s handle place byte (Some r)).world refl refl refl refl
+      by_replica (Some r) = still (rots_replica w index s handle place byte choice (Some r)).world refl refl refl refl
 
   event_of : (e : Event) (choice : Choice) → IsServersEvent w e → Of (happens w e choice)
   event_of (event.Call client c now) choice is = absurd is
   event_of (event.Deliver number now) choice is = moment_of now.0 _ (delivery_of now.0 choice (numbered_from_1 w.sent number) is)
   event_of (event.Tick n now) choice is = moment_of now.0 _ (moves_of n now.0 input.Tick choice is)
   event_of (event.Restart n now) choice is = moment_of now.0 _ (restart_of n now.0 choice is)
-  event_of (event.Rot server handle place byte) choice is = rot_of (server.0 - 1) handle.0 place byte (numbered_from_1 w.servers server.0)
+  event_of (event.Rot server handle place byte) choice is = rot_of (server.0 - 1) handle.0 place byte choice (numbered_from_1 w.servers server.0)
   event_of (event.Fuse n count torn) choice is = nothing
 
   not_masters : (e : Event) → IsServersEvent w e → IsMastersEvent w e → ⊥

@@ -163,18 +163,18 @@ module _ (earlier : List Message) (w : WorldState) (mine : List Message) (sent_i
       (after_client (record without { observer = seen }) index moment (client_call s moment c choice))
       (client_alike seen index moment (client_call s moment c choice))
 
-  rots_replica_alike : (index : ℕ) (s : ServerState) (handle place byte : ℕ) (o : Option Replica)
-      → GoesAlike earlier (rots_replica w index s handle place byte o) (rots_replica without index s handle place byte o)
-  rots_replica_alike index s handle place byte None = nothing_alike
-  rots_replica_alike index s handle place byte (Some r) = record { out_is = refl; world_is = record { but_sent = refl; sent_is = sent_is } }
+  rots_replica_alike : (index : ℕ) (s : ServerState) (handle place byte : ℕ) (choice : Choice) (o : Option Replica)
+      → GoesAlike earlier (rots_replica w index s handle place byte choice o) (rots_replica without index s handle place byte choice o)
+  rots_replica_alike index s handle place byte choice None = nothing_alike
+  rots_replica_alike index s handle place byte choice (Some r) = record { out_is = refl; world_is = record { but_sent = refl; sent_is = sent_is } }
 
-  rots_alike : (index handle place byte : ℕ) (o : Option ServerState)
-      → GoesAlike earlier (rots_on w index handle place byte o) (rots_on without index handle place byte o)
-  rots_alike index handle place byte None = nothing_alike
-  rots_alike index handle place byte (Some s) =
-      by_test (s.up && nat_lt place w.config.chunk) (rots_replica w index s handle place byte (replica_of s.disk handle))
-      (rots_replica without index s handle place byte (replica_of s.disk handle))
-      (rots_replica_alike index s handle place byte (replica_of s.disk handle))
+  rots_alike : (index handle place byte : ℕ) (choice : Choice) (o : Option ServerState)
+      → GoesAlike earlier (rots_on w index handle place byte choice o) (rots_on without index handle place byte choice o)
+  rots_alike index handle place byte choice None = nothing_alike
+  rots_alike index handle place byte choice (Some s) =
+      by_test (s.up && nat_lt place w.config.chunk) (rots_replica w index s handle place byte choice (replica_of s.disk handle))
+      (rots_replica without index s handle place byte choice (replica_of s.disk handle))
+      (rots_replica_alike index s handle place byte choice (replica_of s.disk handle))
 
   at_moment_alike : (moment : ℕ) (x y : Happened) → GoesAlike earlier x y → GoesAlike earlier (at_moment w moment x) (at_moment without moment y)
   at_moment_alike moment x y alike = by_test (nat_le moment moment_limit) x y alike
@@ -193,7 +193,7 @@ module _ (earlier : List Message) (w : WorldState) (mine : List Message) (sent_i
       at_moment_alike now.0 (moves w n now.0 input.Tick choice) (moves without n now.0 input.Tick choice) (moves_alike n now.0 input.Tick choice)
   event_alike (event.Restart n now) choice =
       at_moment_alike now.0 (restarts w n now.0 choice) (restarts without n now.0 choice) (restarts_alike n now.0 choice)
-  event_alike (event.Rot server handle place byte) choice = rots_alike (server.0 - 1) handle.0 place byte (numbered_from_1 w.servers server.0)
+  event_alike (event.Rot server handle place byte) choice = rots_alike (server.0 - 1) handle.0 place byte choice (numbered_from_1 w.servers server.0)
   event_alike (event.Fuse n count torn) choice = nothing_alike
 
 pub cut_worlds_go_alike : CutWorldsGoAlike
