@@ -2,6 +2,7 @@
 #![tactic(auto)]
 
 mod clients;
+pub mod disk_server;
 mod ended;
 mod mutations;
 mod numberings;
@@ -9,6 +10,7 @@ mod ordered;
 mod orders;
 mod placed;
 mod planned;
+mod rotten;
 pub mod server;
 pub mod server_writes;
 mod servers;

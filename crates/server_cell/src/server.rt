@@ -1,17 +1,17 @@
 //! The chunkserver.
 
-ghost use Rattle.std.specs.Prelude.{◌≡◌, ◌≤◌, [], true, OnOk, OnErr};
+ghost use Rattle.std.specs.Prelude.{◌≡◌, ◌≤◌, [], true};
 ghost use Rattle.std.specs.Option.{option_copied};
 ghost use Rattle.gfs_types.specs.Settings.{largest_chunk};
-ghost use Rattle.protocol.specs.Conforms.{ServerSteps, ServerRestarts};
+ghost use Rattle.protocol.specs.Conforms.{ServerSteps, ServerRestarts, ServerRots};
 ghost use Rattle.protocol.specs.Server.{started_server, stopped_server};
 ghost use Rattle.protocol.specs.Tables.{moment_limit};
 ghost use Rattle.replica_store.specs.Replicas.{row_at};
-ghost use Rattle.server_store.specs.Stores.{disk_rotten};
 ghost use Rattle.server_cell.specs.Inputs.{input_of};
 
 use crate::ended::ends;
 use crate::planned::plan_step;
+use crate::rotten::rots;
 use gfs_types::config::Config;
 use gfs_types::ids::{Handle, Moment, ServerId};
 use gfs_types::lists::Sequence;
@@ -20,7 +20,8 @@ use messages::event::StepOut;
 use messages::message::Message;
 use replica_store::row::Row;
 use server_handlers::server::Server;
-use server_store::fault::ReplicaStoreFault;
+use server_store::armed_store::ArmedStore;
+use server_store::reopened_store::ReopenedStore;
 use server_store::stoppable_store::StoppableStore;
 use server_store::store::ReplicaStore;
 use std::alloc::Global;
@@ -92,14 +93,16 @@ impl<S: ReplicaStore> Chunkserver<S> {
         self.server.stop();
     }
 
-    /// A byte of a replica becomes another on the disk, past its digest; nothing happens where there is no such replica. At an error
-    /// nothing has changed.
-    pub fn rot(&mut self, handle: Handle, place: u64, byte: u8) -> Result<(), ReplicaStoreFault>
+    /// A byte of a replica becomes another on the disk, past its digest; nothing happens where there is no such replica. Where its disk
+    /// fails under that, or memory is refused, it goes down.
+    pub fn rot(&mut self, handle: Handle, place: u64, byte: u8)
         requires { self.old.up ≡ true }
-        ensures ok { OnOk result (self.new ≡ record self.old { disk = disk_rotten self.old.disk handle.0 place byte }) }
-        ensures err { OnErr result (self.new ≡ self.old) }
+        ensures { ServerRots self.old handle.0 place byte self.new }
     {
-        self.server.rot(handle, place, byte)
+        match self.server.row(handle) {
+            None => {}
+            Some(_) => rots(&mut self.server, handle, place, byte),
+        }
     }
 
     /// A step on a message, or on a tick.
@@ -120,6 +123,16 @@ impl<S: ReplicaStore> Chunkserver<S> {
         }
     }
 
+    /// Its store, as it is.
+    pub fn into_store(self) -> S
+        ensures disk { S.disk result ≡ self.disk }
+        ensures under_way { S.under_way result ≡ self.under_way }
+    {
+        self.server.into_store()
+    }
+}
+
+impl<S: ReopenedStore> Chunkserver<S> {
     /// It begins again, whether it was up or down.
     pub fn restart(&mut self, now: Moment) -> StepOut
         requires { now.0 ≤ moment_limit }
@@ -136,6 +149,15 @@ impl<S: ReplicaStore> Chunkserver<S> {
                 down_output(alloc)
             }
         }
+    }
+}
+
+impl<S: ArmedStore> Chunkserver<S> {
+    /// Its disk lets that many calls pass and fails each later one, where it can be told to fail.
+    pub fn arm(&mut self, calls: u64)
+        ensures { self.new ≡ self.old }
+    {
+        self.server.arm(calls);
     }
 }
 

@@ -1,9 +1,10 @@
 //! How a server begins, makes the changes of its disk, stops, and begins again (section 2.6.2).
 
-ghost use Rattle.std.specs.Prelude.{◌≡◌, ◌≤◌, [], OnOk, OnErr};
+ghost use Rattle.std.specs.Prelude.{◌≡◌, ◌≤◌, [], ◌∷◌, OnOk, OnErr};
 ghost use Rattle.gfs_types.specs.Settings.{largest_chunk};
-ghost use Rattle.replica_store.specs.Replicas.{disk_changed_by_all};
-ghost use Rattle.server_store.specs.Stores.{IsFound, MadePart, disk_rotten};
+ghost use Rattle.replica_store.specs.Replicas.{disk_changed, disk_changed_by_all};
+ghost use Rattle.replica_store.specs.declared.change.StoreChange.TheVariants.{Rot};
+ghost use Rattle.server_store.specs.Stores.{IsFound, MadePart};
 ghost use Rattle.protocol.specs.Tables.{moment_limit};
 ghost use Rattle.protocol.specs.Server.{started_server, stopped_server};
 
@@ -13,8 +14,10 @@ use crate::server::Server;
 use gfs_types::config::Config;
 use gfs_types::ids::{Handle, Moment, ServerId};
 use ordered_map::number_map::NumberMap;
-use replica_store::change::ChangeList;
+use replica_store::change::{ChangeList, StoreChange};
+use server_store::armed_store::ArmedStore;
 use server_store::fault::ReplicaStoreFault;
+use server_store::reopened_store::ReopenedStore;
 use server_store::store::{ReplicaStore, commit_all};
 use std::alloc::Global;
 
@@ -81,6 +84,40 @@ impl<S: ReplicaStore> Server<S> {
         commit_all(&mut self.store, changes)
     }
 
+    /// Its store, as it is.
+    pub fn into_store(self) -> S
+        ensures disk { S.disk result ≡ self.disk }
+        ensures under_way { S.under_way result ≡ self.under_way }
+    {
+        let Server {
+            config: _,
+            id: _,
+            up: _,
+            clock: _,
+            store,
+            leases: _leases,
+            pushed: _pushed,
+            clones: _clones,
+            alloc: _,
+        } = self;
+        store
+    }
+
+    /// A byte of a replica becomes another on the disk, past its digest. After an error that is under way.
+    pub fn rot(&mut self, handle: Handle, place: u64, byte: u8) -> Result<(), ReplicaStoreFault>
+        requires { self.old.under_way ≡ [] }
+        ensures ok { OnOk result (self.new ≡ record self.old { disk = disk_changed self.old.disk (Rot handle place byte) }) }
+        ensures err { OnErr result (self.new ≡ record self.old { under_way = Rot handle place byte ∷ [] }) }
+    {
+        self.store.commit(StoreChange::Rot {
+            handle,
+            place,
+            byte,
+        })
+    }
+}
+
+impl<S: ReopenedStore> Server<S> {
     /// The disk is opened again, and what was under way is found made or not. An error leaves all as it was.
     pub fn reopen(&mut self) -> Result<(), ReplicaStoreFault>
         ensures found { OnOk result (IsFound self.old.disk self.old.under_way self.new.disk) }
@@ -91,14 +128,13 @@ impl<S: ReplicaStore> Server<S> {
     {
         self.store.reopen()
     }
+}
 
-    /// A byte of a replica becomes another on the disk, past its digest; nothing happens where there is no such replica. NoRoom: no
-    /// replica of this store can have a byte at that place. At an error nothing has changed.
-    pub fn rot(&mut self, handle: Handle, place: u64, byte: u8) -> Result<(), ReplicaStoreFault>
-        requires { self.old.under_way ≡ [] }
-        ensures ok { OnOk result (self.new ≡ record self.old { disk = disk_rotten self.old.disk handle.0 place byte }) }
-        ensures err { OnErr result (self.new ≡ self.old) }
+impl<S: ArmedStore> Server<S> {
+    /// Its store's disk lets that many calls pass and fails each later one, where it can be told to fail.
+    pub fn arm(&mut self, calls: u64)
+        ensures { self.new ≡ self.old }
     {
-        self.store.rot(handle, place, byte)
+        self.store.arm(calls);
     }
 }

@@ -1,0 +1,11 @@
+use Rattle.std.proofs.Common.{List, sym, subst}
+use Rattle.replica_store.specs.declared.change.StoreChange.{StoreChange}
+use Rattle.replica_store.specs.Replicas.{ServerDisk}
+use Rattle.disk_store.specs.Standing.{LeavesHolding}
+use Rattle.server_cell.proofs.disk_server.Server.into_disk.Goals as goal
+
+pub returns : goal.returns
+returns g c =
+    let left = g.D.Disk.may_leave c.into_disk.result in
+    subst (λ (d : ServerDisk). LeavesHolding left d c.args.self.under_way) c.into_store.ensures.disk
+    (subst (λ (xs : List StoreChange). LeavesHolding left c.into_store.result.disk xs) c.into_store.ensures.under_way c.into_disk.ensures.left)
