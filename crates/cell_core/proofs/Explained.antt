@@ -49,11 +49,9 @@ leads_so config servers clients w earlier e answer new r it =
       explained config servers clients next (reached_on config servers clients w next r ((e, it.choice) ∷ []) refl),
     )
 
-step_explained : {E : Type 0} (old new : HeldCell) (event : Event) (result : Result (Option Answer) E) → IfOk result (λ answer. HasEffect old (λ w choice. happens w event choice) answer new)
-    → IfOk result (λ answer. StepsAsMachine old event answer new)
-step_explained old new event (Ok answer) has = λ config servers clients w earlier r stands.
+step_explained : (old new : HeldCell) (event : Event) (answer : Option Answer) → HasEffect old (λ w choice. happens w event choice) answer new → StepsAsMachine old event answer new
+step_explained old new event answer has = λ config servers clients w earlier r stands.
     leads_so config servers clients w earlier (raised_event (length earlier) event) answer new r (steps_to w earlier old new event answer stands has)
-step_explained old new event (Err e) has = tt
 
 rebase_explained : {V : Type 0} {E : Type 0} (old new : HeldCell) (moment : ℕ) (result : Result V E) → OnOk result (Rebases old moment new) → OnOk result (RebasesAsMachine old moment new)
 rebase_explained old new moment (Ok v) rebases = λ config servers clients w earlier r stands.
@@ -67,10 +65,8 @@ pub runs_of_world : {V : Type 0} {E : Type 0} (inside old new : HeldCell) (event
 runs_of_world {V} inside old new events items result same runs =
     subst (λ (h : HeldCell). IfOk result (λ (v : V). RunsAsMachine h events (items v) new)) same (runs_explained inside new events items result runs)
 
-pub step_of_world : {E : Type 0} (inside old new : HeldCell) (event : Event) (result : Result (Option Answer) E) → inside ≡ old → IfOk result (λ answer. HasEffect inside (λ w choice. happens w event choice) answer new)
-    → IfOk result (λ answer. StepsAsMachine old event answer new)
-step_of_world inside old new event result same has =
-    subst (λ (h : HeldCell). IfOk result (λ (answer : Option Answer). StepsAsMachine h event answer new)) same (step_explained inside new event result has)
+pub step_of_world : (inside old new : HeldCell) (event : Event) (answer : Option Answer) → inside ≡ old → HasEffect inside (λ w choice. happens w event choice) answer new → StepsAsMachine old event answer new
+step_of_world inside old new event answer same has = subst (λ (h : HeldCell). StepsAsMachine h event answer new) same (step_explained inside new event answer has)
 
 pub rebase_of_world : {V : Type 0} {E : Type 0} (inside old new : HeldCell) (moment : ℕ) (result : Result V E) → inside ≡ old → OnOk result (Rebases inside moment new) → OnOk result (RebasesAsMachine old moment new)
 rebase_of_world inside old new moment result same rebases = subst (λ (h : HeldCell). OnOk result (RebasesAsMachine h moment new)) same (rebase_explained inside new moment result rebases)

@@ -6,17 +6,19 @@ use Rattle.replica_store.specs.Replicas.{new_server_disk}
 use Rattle.disk_store.specs.Standing.{DiskStoreView}
 
 -- a new store: a new server's disk, and nothing under way
-abbrev pub IsNewStore : ℕ → DiskStoreView → Type 0
-IsNewStore block s = (s.disk ≡ new_server_disk block) × (s.under_way ≡ [])
+abbrev pub IsNewStore : ℕ → ℕ → ℕ → DiskStoreView → Type 0
+IsNewStore chunk block slots s = (s.disk ≡ new_server_disk chunk block slots) × (s.under_way ≡ [])
 
-pub none_new : (block : ℕ) (all : List DiskStoreView) → all ≡ [] → All (IsNewStore block) all
-none_new block all none = All-same (IsNewStore block) all [] none (All-nil (IsNewStore block))
+module _ (chunk block slots : ℕ) where
+  pub none_new : (all : List DiskStoreView) → all ≡ [] → All (IsNewStore chunk block slots) all
+  none_new all none = All-same (IsNewStore chunk block slots) all [] none (All-nil (IsNewStore chunk block slots))
 
-pub one_more : (block given : ℕ) (store : DiskStoreView) (all after : List DiskStoreView) → given ≡ block → IsNewStore given store → after ≡ all ++ store ∷ [] → All (IsNewStore block) all
-    → All (IsNewStore block) after
-one_more block given store all after is new more were =
-    let disk : store.disk ≡ new_server_disk block = new.0 ∙ ap new_server_disk is in
-    All-same (IsNewStore block) after (all ++ store ∷ []) more (All-push (IsNewStore block) all store were (disk, new.1))
+  pub one_more : (c b n : ℕ) (store : DiskStoreView) (all after : List DiskStoreView) → c ≡ chunk → b ≡ block → n ≡ slots → IsNewStore c b n store → after ≡ all ++ store ∷ []
+      → All (IsNewStore chunk block slots) all → All (IsNewStore chunk block slots) after
+  one_more c b n store all after cs bs ns is more were =
+      let disk : store.disk ≡ new_server_disk chunk block slots =
+      is.0 ∙ (ap (λ (x : ℕ). new_server_disk x b n) cs ∙ (ap (λ (x : ℕ). new_server_disk chunk x n) bs ∙ ap (new_server_disk chunk block) ns)) in
+      All-same (IsNewStore chunk block slots) after (all ++ store ∷ []) more (All-push (IsNewStore chunk block slots) all store were (disk, is.1))
 
 pub count_more : {X : Type 0} (all after : List X) (x : X) (n : ℕ) → length all ≡ n → after ≡ all ++ x ∷ [] → length after ≡ n + 1
 count_more all after x n count more = omega (arith, ap length more, length-append all (x ∷ []), count)

@@ -165,15 +165,15 @@ module _ (w : WorldState) where
       on_cond (Q (event.Call client c now)) (may_call s) (after_client (record w { observer = observed_call (observed_moment w.config.skew_ms w.observer now.0) (suc (suc n - 1)) c }) (suc n - 1) now.0 (client_call s now.0 c choice)) (nothing_happens w)
       (λ _. subst (λ (index : ℕ). Q (event.Call client c now) (after_client (record w { observer = observed_call (observed_moment w.config.skew_ms w.observer now.0) (suc index) c }) index now.0 (client_call s now.0 c choice))) (omega arith) (calls client c now n (client_call s now.0 c choice) is)) (λ _. nothing (event.Call client c now))
 
-  rotted : (e : Event) (index handle place byte : ℕ) (s : ServerState) (o : Option Replica) → Q e (rots_replica w index s handle place byte o)
-  rotted e index handle place byte s None = nothing e
-  rotted e index handle place byte s (Some r) = record { passed = []; called = []; is_passing = inl refl; is_calling = no_call e; trace_is = plain T ∙ sym (append-nil ((T ++ []) ++ [])) }
+  rotted : (e : Event) (index handle place byte : ℕ) (choice : Choice) (s : ServerState) (o : Option Replica) → Q e (rots_replica w index s handle place byte choice o)
+  rotted e index handle place byte choice s None = nothing e
+  rotted e index handle place byte choice s (Some r) = record { passed = []; called = []; is_passing = inl refl; is_calling = no_call e; trace_is = plain T ∙ sym (append-nil ((T ++ []) ++ [])) }
 
-  rots_at : (e : Event) (index handle place byte : ℕ) (o : Option ServerState) → Q e (rots_on w index handle place byte o)
-  rots_at e index handle place byte None = nothing e
-  rots_at e index handle place byte (Some s) =
-      on_cond (Q e) (s.up && nat_lt place w.config.chunk) (rots_replica w index s handle place byte (replica_of s.disk handle)) (nothing_happens w)
-      (λ _. rotted e index handle place byte s (replica_of s.disk handle)) (λ _. nothing e)
+  rots_at : (e : Event) (index handle place byte : ℕ) (choice : Choice) (o : Option ServerState) → Q e (rots_on w index handle place byte choice o)
+  rots_at e index handle place byte choice None = nothing e
+  rots_at e index handle place byte choice (Some s) =
+      on_cond (Q e) (s.up && nat_lt place w.config.chunk) (rots_replica w index s handle place byte choice (replica_of s.disk handle)) (nothing_happens w)
+      (λ _. rotted e index handle place byte choice s (replica_of s.disk handle)) (λ _. nothing e)
 
   timed : (e : Event) (moment : ℕ) (x : Happened) → Q e x → Q e (at_moment w moment x)
   timed e moment x h = on_cond (Q e) (nat_le moment moment_limit) x (nothing_happens w) (λ _. h) (λ _. nothing e)
@@ -185,5 +185,5 @@ module _ (w : WorldState) where
       timed (event.Deliver number now) now.0 (delivered w now.0 choice (numbered_from_1 w.sent number)) (came number now choice (numbered_from_1 w.sent number) refl)
   events_add_to_the_trace (event.Tick n now) choice = timed (event.Tick n now) now.0 (moves w n now.0 input.Tick choice) (moved (event.Tick n now) n now.0 input.Tick choice refl refl)
   events_add_to_the_trace (event.Restart n now) choice = timed (event.Restart n now) now.0 (restarts w n now.0 choice) (began n now choice)
-  events_add_to_the_trace (event.Rot server handle place byte) choice = rots_at (event.Rot server handle place byte) (server.0 - 1) handle.0 place byte (numbered_from_1 w.servers server.0)
+  events_add_to_the_trace (event.Rot server handle place byte) choice = rots_at (event.Rot server handle place byte) (server.0 - 1) handle.0 place byte choice (numbered_from_1 w.servers server.0)
   events_add_to_the_trace (event.Fuse n count torn) choice = nothing (event.Fuse n count torn)

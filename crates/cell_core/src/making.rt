@@ -96,7 +96,7 @@ pub(crate) fn new_master<A: Allocator + Clone>(
 // A store on a new disk.
 fn new_store(alloc: Global, layout: Layout) -> Result<WorldStore, StartFault>
     requires { layout.chunk % layout.block ≡ 0 }
-    ensures new { IfOk result (λ s. (s.disk ≡ new_server_disk layout.block) × (s.under_way ≡ [])) }
+    ensures new { IfOk result (λ s. (s.disk ≡ new_server_disk layout.chunk layout.block layout.slots) × (s.under_way ≡ [])) }
     ensures fault { IfErr result IsOfMemory }
 {
     let Ok(disk) = NodeDisk::new(alloc, layout.disk_size()) else {
@@ -118,7 +118,7 @@ pub(crate) fn new_stores(
     requires block { 16 ≤ config.block }
     requires whole { config.chunk % config.block ≡ 0 }
     requires slots { config.slots ≤ 65536 }
-    ensures new { IfOk result (λ stores. All (λ s. (s.disk ≡ new_server_disk config.block) × (s.under_way ≡ [])) stores.items) }
+    ensures new { IfOk result (λ stores. All (λ s. (s.disk ≡ new_server_disk config.chunk config.block config.slots) × (s.under_way ≡ [])) stores.items) }
     ensures count { IfOk result (λ stores. length stores.items ≡ servers) }
     ensures fault { IfErr result IsOfMemory }
 {

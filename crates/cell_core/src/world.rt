@@ -13,11 +13,10 @@ ghost use Rattle.cell_core.specs.Headline.{RebasesAsMachine, RunsAsMachine, Step
 ghost use Rattle.cell_core.specs.Standing.{DropsAll, IsShown};
 ghost use Rattle.cell_core.specs.Starts.{IsStartFault, bad_start};
 ghost use Rattle.cell_world.specs.AsStored.{as_stored};
-ghost use Rattle.cell_world.specs.Events.{MayBeRefused};
 ghost use Rattle.cell_world.specs.Held.{HasEffect, IsHeldAs};
 ghost use Rattle.cell_world.specs.Looks.{file_held, has_open_call, regions_held, replicas_held, server_count};
 ghost use Rattle.cell_world.specs.Rebasing.{IsBehind, Rebases};
-ghost use Rattle.cell_world.specs.Runs.{Runs, RanUntil};
+ghost use Rattle.cell_world.specs.Runs.{Runs};
 
 use crate::making::{
     WorldMaster, WorldStore, are_fitting, have_room, is_count, new_master, new_stores,
@@ -36,7 +35,6 @@ use messages::event::Event;
 use messages::message::Message;
 use relaxed_file::region::Region;
 use script::stored::StoredReplica;
-use server_store::fault::ReplicaStoreFault;
 use std::alloc::{Allocator, Global};
 use std::marker::Model;
 
@@ -110,7 +108,7 @@ impl<A: Allocator + Clone> World<A> {
         requires least { 64 ≤ config.chunk }
         requires most { config.chunk ≤ largest_chunk }
         requires skew { config.skew_ms ≤ 60000 }
-        requires stores { All (λ s. (s.disk ≡ new_server_disk config.block) × (s.under_way ≡ [])) stores.items }
+        requires stores { All (λ s. (s.disk ≡ new_server_disk config.chunk config.block config.slots) × (s.under_way ≡ [])) stores.items }
         requires count { length stores.items ≤ 65535 }
         requires master { ⟦<WorldMaster<A> as CellMaster>⟧.state master ≡ new_master config (length stores.items) }
         requires files { ⟦<WorldMaster<A> as CellMaster>⟧.files master ≡ table.empty }
@@ -123,13 +121,10 @@ impl<A: Allocator + Clone> World<A> {
 
 impl<A: Allocator + Clone> World<A> {
     /// One event, and what it answers. One that names no such node, message, replica, place or moment, or a node that is down, changes
-    /// nothing. A run of the machine has the calls and answers so far, and led to what the cell shows. An error: a byte didn't
-    /// rot, as the store of its server couldn't take it, and nothing has changed.
-    pub fn step(&mut self, event: Event) -> Result<Option<Answer>, ReplicaStoreFault>
-        ensures ok { IfOk result (λ answer. HasEffect self.old (λ w choice. happens w event choice) answer self.new) }
-        ensures explained { IfOk result (λ answer. StepsAsMachine self.old event answer self.new) }
-        ensures err { OnErr result (self.new ≡ self.old) }
-        ensures refused { OnErr result (MayBeRefused event) }
+    /// nothing. A run of the machine has the calls and answers so far, and led to what the cell shows.
+    pub fn step(&mut self, event: Event) -> Option<Answer>
+        ensures steps { HasEffect self.old (λ w choice. happens w event choice) result self.new }
+        ensures explained { StepsAsMachine self.old event result self.new }
     {
         self.cell.step(event)
     }
@@ -137,11 +132,10 @@ impl<A: Allocator + Clone> World<A> {
     /// The events in order, and their answers: a run of the machine has the calls and answers so far, and led to what the cell shows.
     ///
     /// - `NoMemory`: memory was refused before the first event, and nothing has changed.
-    /// - `Rot`: a byte didn't rot. The events before it happened, as many as it says.
     pub fn run(&mut self, alloc: Global, events: &[Event]) -> Result<Vec<Answer>, RunFault>
         ensures ok { IfOk result (λ answers. Runs self.old events.now answers.items self.new) }
         ensures explained { IfOk result (λ answers. RunsAsMachine self.old events.now answers.items self.new) }
-        ensures err { IfErr result (λ fault. RanUntil self.old events.now fault self.new) }
+        ensures err { OnErr result (self.new ≡ self.old) }
     {
         self.cell.run(alloc, events)
     }

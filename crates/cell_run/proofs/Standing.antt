@@ -28,9 +28,9 @@ master_led config servers n v w held registered unused is =
     (subst (λ (x : MasterState). MasterStands x (MasterIs state)) (sym is) (record { master = state; is = refl; left_as = same_left state }))
 
 pub server_led : (config : Config) (servers : ℕ) (id : ServerId) (n : Node) (v w : View) (held : ServerState) → 0 < id.0 → id.0 ≤ servers → IsRegistered config servers (node.Server id) v n w
-    → own (node.Server id) v.of.base ≡ [] → held ≡ started_server config id.0 (new_server_disk config.block) 0 → IsLedTo w n (ServerStands held)
+    → own (node.Server id) v.of.base ≡ [] → held ≡ started_server config id.0 (new_server_disk config.chunk config.block config.slots) 0 → IsLedTo w n (ServerStands held)
 server_led config servers id n v w held some within registered unused is =
-    let new : ℕ → ServerState = λ s. started_server config s (new_server_disk config.block) 0 in
+    let new : ℕ → ServerState = λ s. started_server config s (new_server_disk config.chunk config.block config.slots) 0 in
     led_new config servers (node.Server id) n v w (ServerStands held) (ServerIs (new id.0)) registered unused
     (ap (option_map (λ (x : ServerState). ServerIs x)) (numbered_is new servers id.0 some within)) (ap (λ (x : ServerState). ServerIs x) (sym is))
 

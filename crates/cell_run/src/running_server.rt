@@ -33,9 +33,9 @@ impl RunningServer {
         requires most { config.chunk ≤ largest_chunk }
         requires block { 1 ≤ config.block }
         requires skew { config.skew_ms ≤ 60000 }
-        ensures { result.node.server ≡ started_server config id.0 (new_server_disk config.block) 0 }
+        ensures { result.node.server ≡ started_server config id.0 (new_server_disk config.chunk config.block config.slots) 0 }
     {
-        let store = MemoryStore::new(alloc, config.block);
+        let store = MemoryStore::new(alloc, config.chunk, config.block, config.slots);
         let server = Chunkserver::new(alloc, config, id, store, Moment(0));
         RunningServer {
             node: ServerNode { server },

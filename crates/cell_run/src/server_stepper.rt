@@ -14,6 +14,7 @@ use gfs_types::call::Call;
 use gfs_types::ids::Moment;
 use messages::event::StepOut;
 use server_cell::server::Chunkserver;
+use server_store::reopened_store::ReopenedStore;
 use server_store::store::ReplicaStore;
 
 /// A server that takes steps.
@@ -22,7 +23,7 @@ pub struct ServerNode<S: ReplicaStore + Drop> {
     pub server: Chunkserver<S>,
 }
 
-impl<S: ReplicaStore + Drop> Stepper for ServerNode<S> {
+impl<S: ReopenedStore + Drop> Stepper for ServerNode<S> {
     ghost stands = { λ n s. ServerStands n.server s };
 
     fn may_take(&self, cause: &StepCause) -> bool {
@@ -43,7 +44,7 @@ impl<S: ReplicaStore + Drop> Stepper for ServerNode<S> {
 }
 
 // A step, which has no answer.
-fn step_server<S: ReplicaStore + Drop>(
+fn step_server<S: ReopenedStore + Drop>(
     server: &mut Chunkserver<S>,
     now: Moment,
     cause: &StepCause,

@@ -14,12 +14,13 @@ use Rattle.messages.specs.declared.event.Event.TheVariants as event
 use Rattle.messages.specs.declared.event.NodeInput.TheVariants as input
 use Rattle.messages.specs.declared.message.Message.{Message}
 use Rattle.gfs_types.specs.declared.torn.Torn.{Torn}
-use Rattle.replica_store.specs.Replicas.{Replica, replica_of, replica_becomes, with_replica, rotten_replica}
+use Rattle.replica_store.specs.Replicas.{Replica, replica_of}
 use Rattle.server_cell.specs.Inputs.{input_of}
 use Rattle.protocol.specs.Tables.{element_at, with_at, moment_limit}
-use Rattle.protocol.specs.Choice.{Choice}
+use Rattle.protocol.specs.Choice.{Choice, Ending}
 use Rattle.protocol.specs.Server.{ServerState}
 use Rattle.protocol.specs.World.{WorldState, Happened, nothing_happens, at_moment, happens, call_moves, delivered, moves, restarts, rots_on, rots_replica, numbered_from_1}
+use Rattle.protocol.specs.Conforms.{rotted}
 use Rattle.cell_world.specs.Batches.{message_named}
 use Rattle.cell_world.specs.Held.{HeldCell, IsHeldAs, HasEffect}
 use Rattle.cell_world.specs.Steps.{IsUpAt, RotsAt}
@@ -89,11 +90,11 @@ message_came h new number moment m answer is d =
 -- a byte that rots
 
 abbrev rots_at : ServerId → Handle → ℕ → ℕ → WorldState → Choice → Happened
-rots_at id handle place byte w choice = rots_on w (id.0 - 1) handle.0 place byte (numbered_from_1 w.servers id.0)
+rots_at id handle place byte w choice = rots_on w (id.0 - 1) handle.0 place byte choice (numbered_from_1 w.servers id.0)
 
 pub no_server_rots : (h : HeldCell) (id : ServerId) (handle : Handle) (place byte : ℕ) → (id.0 ≡ 0) ⊎ (length h.servers < id.0) → HasEffect h (rots_at id handle place byte) None h
 no_server_rots h id handle place byte m = does_nothing h (rots_at id handle place byte) (λ w g choice.
-    ap (rots_on w (id.0 - 1) handle.0 place byte) (ap (λ ss. numbered_from_1 ss id.0) g.servers ∙ missing h.servers id.0 m))
+    ap (rots_on w (id.0 - 1) handle.0 place byte choice) (ap (λ ss. numbered_from_1 ss id.0) g.servers ∙ missing h.servers id.0 m))
 
 down_or_past : (up : Bool) (place chunk : ℕ) → (up ≡ false) ⊎ (chunk ≤ place) → (up && nat_lt place chunk) ≡ false
 down_or_past up place chunk (inl is) = rw is refl
@@ -111,8 +112,8 @@ nothing_rots h id index handle place byte e within why =
       | inl down ↦ inl (down s.0 s.1)
       | inr past ↦ inr (subst (λ c. c.chunk ≤ place) (sym g.config) past)
     ] in
-    ap (rots_on w (id.0 - 1) handle.0 place byte) found
-    ∙ ap (λ (b : Bool). if b then rots_replica w (id.0 - 1) s.0 handle.0 place byte (replica_of s.0.disk handle.0) else nothing_happens w) (down_or_past s.0.up place w.config.chunk so))
+    ap (rots_on w (id.0 - 1) handle.0 place byte choice) found
+    ∙ ap (λ (b : Bool). if b then rots_replica w (id.0 - 1) s.0 handle.0 place byte choice (replica_of s.0.disk handle.0) else nothing_happens w) (down_or_past s.0.up place w.config.chunk so))
 
 some_is : {X : Type 0} (x y : X) → Some y ≡ Some x → x ≡ y
 some_is x y h = cc
@@ -125,31 +126,38 @@ set_itself (y ∷ ys) (suc place) x h = ap (λ zs. y ∷ zs) (set_itself ys plac
 tests : (up : Bool) (place chunk : ℕ) → up ≡ true → place < chunk → (up && nat_lt place chunk) ≡ true
 tests up place chunk is h = grind (arith, nat_tests)
 
-rotted_in : (w : WorldState) (h : HeldCell) (index : ℕ) (s : ServerState) (handle place byte : ℕ) → IsHeldAs w h → element_at h.servers index ≡ Some s → (o : Option Replica)
-    → IsHeldAs (rots_replica w index s handle place byte o).world (record h { servers = with_at h.servers index (record s { disk = replica_becomes (λ r. rotten_replica r place byte) s.disk handle o }) })
-rotted_in w h index s handle place byte g is None =
-    record { config = g.config; master = g.master; files = g.files; servers = g.servers ∙ sym (set_itself h.servers index s is); clients = g.clients; sent = g.sent; orders = g.orders; greatest = g.greatest }
-rotted_in w h index s handle place byte g is (Some r) =
-    record { config = g.config; master = g.master; files = g.files; servers = ap (λ ss. with_at ss index (record s { disk = with_replica s.disk handle (rotten_replica r place byte) })) g.servers; clients = g.clients; sent = g.sent; orders = g.orders; greatest = g.greatest }
+-- a step's choice of which nothing but its ending counts
+abbrev ends_by : Ending → Choice
+ends_by e = record no_choice { ending = e }
 
-unanswered : (w : WorldState) (index : ℕ) (s : ServerState) (handle place byte : ℕ) (o : Option Replica) → (rots_replica w index s handle place byte o).out.answer ≡ None
-unanswered w index s handle place byte None = refl
-unanswered w index s handle place byte (Some r) = refl
+rotted_in : (w : WorldState) (h : HeldCell) (index : ℕ) (s : ServerState) (handle place byte : ℕ) (e : Ending) → IsHeldAs w h → element_at h.servers index ≡ Some s → (o : Option Replica)
+    → IsHeldAs (rots_replica w index s handle place byte (ends_by e) o).world (record h { servers = with_at h.servers index (rotted s handle place byte e o) })
+rotted_in w h index s handle place byte e g is None =
+    record { config = g.config; master = g.master; files = g.files; servers = g.servers ∙ sym (set_itself h.servers index s is); clients = g.clients; sent = g.sent; orders = g.orders; greatest = g.greatest }
+rotted_in w h index s handle place byte e g is (Some r) =
+    record { config = g.config; master = g.master; files = g.files; servers = ap (λ ss. with_at ss index (rotted s handle place byte e (Some r))) g.servers; clients = g.clients; sent = g.sent; orders = g.orders; greatest = g.greatest }
+
+unanswered : (w : WorldState) (index : ℕ) (s : ServerState) (handle place byte : ℕ) (choice : Choice) (o : Option Replica) → (rots_replica w index s handle place byte choice o).out.answer ≡ None
+unanswered w index s handle place byte choice None = refl
+unanswered w index s handle place byte choice (Some r) = refl
 
 pub server_rotted : (h : HeldCell) (id : ServerId) (index : ℕ) (handle : Handle) (place byte : ℕ) (servers : List ServerState) → id.0 ≡ suc index → IsUpAt (λ (s : ServerState). s.up) h.servers index true
     → place < h.config.chunk → RotsAt h.servers index handle.0 place byte servers → HasEffect h (rots_at id handle place byte) None (record h { servers = servers })
 server_rotted h id index handle place byte servers e up within k w g =
     let o = replica_of k.old.disk handle.0 in
+    let choice : Choice = ends_by k.rots.ending in
+    let next : Happened = rots_replica w index k.old handle.0 place byte choice o in
     let found : numbered_from_1 w.servers id.0 ≡ Some k.old = ap (λ ss. numbered_from_1 ss id.0) g.servers ∙ (at_place h.servers id.0 index e ∙ k.is_there) in
     let chunk : place < w.config.chunk = subst (λ c. place < c.chunk) (sym g.config) within in
-    let same : rots_at id handle place byte w no_choice ≡ rots_replica w index k.old handle.0 place byte o =
-    ap (rots_on w (id.0 - 1) handle.0 place byte) found
-    ∙ (ap (λ (b : Bool). if b then rots_replica w (id.0 - 1) k.old handle.0 place byte o else nothing_happens w) (tests k.old.up place w.config.chunk (up k.old k.is_there) chunk)
-    ∙ ap (λ (n : ℕ). rots_replica w n k.old handle.0 place byte o) (place_is id.0 index e)) in (
-      no_choice,
-      ap (λ (x : Happened). x.out.answer) same ∙ unanswered w index k.old handle.0 place byte o,
+    let same : rots_at id handle place byte w choice ≡ next =
+    ap (rots_on w (id.0 - 1) handle.0 place byte choice) found
+    ∙ (ap (λ (b : Bool). if b then rots_replica w (id.0 - 1) k.old handle.0 place byte choice o else nothing_happens w) (tests k.old.up place w.config.chunk (up k.old k.is_there) chunk)
+    ∙ ap (λ (n : ℕ). rots_replica w n k.old handle.0 place byte choice o) (place_is id.0 index e)) in (
+      choice,
+      ap (λ (x : Happened). x.out.answer) same ∙ unanswered w index k.old handle.0 place byte choice o,
       subst (λ (x : Happened). IsHeldAs x.world (record h { servers = servers })) (sym same)
-          (subst (λ (ss : List ServerState). IsHeldAs (rots_replica w index k.old handle.0 place byte o).world (record h { servers = ss })) (sym k.servers_are) (rotted_in w h index k.old handle.0 place byte g k.is_there o)),
+          (subst (λ (ss : List ServerState). IsHeldAs next.world (record h { servers = ss })) (sym k.servers_are)
+          (subst (λ (t : ServerState). IsHeldAs next.world (record h { servers = with_at h.servers index t })) k.rots.state_is (rotted_in w h index k.old handle.0 place byte k.rots.ending g k.is_there o))),
     )
 
 -- an event by what it is

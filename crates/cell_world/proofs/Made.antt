@@ -31,21 +31,23 @@ one_more f n xs after is more =
     back f n = sym (map-append f (first_numbers n) (suc n ∷ []))
 
 -- a new store: a new server's disk, and nothing under way
-abbrev pub IsNewStore : {S : Type 0} (disk : S → ServerDisk) (under_way : S → List StoreChange) (block : ℕ) → S → Type 0
-IsNewStore disk under_way block s = (disk s ≡ new_server_disk block) × (under_way s ≡ [])
+abbrev pub IsNewStore : {S : Type 0} (disk : S → ServerDisk) (under_way : S → List StoreChange) (chunk block slots : ℕ) → S → Type 0
+IsNewStore disk under_way chunk block slots s = (disk s ≡ new_server_disk chunk block slots) × (under_way s ≡ [])
 
 -- of new stores the first is one, and so are the others
-pub first_is_new : {S : Type 0} (disk : S → ServerDisk) (under_way : S → List StoreChange) (block : ℕ) (store : S) (rest items : List S) → items ≡ store ∷ rest → All (IsNewStore disk under_way block) items → IsNewStore disk under_way block store
-first_is_new disk under_way block store rest items steps new = All-head (IsNewStore disk under_way block) store rest (All-same (IsNewStore disk under_way block) (store ∷ rest) items (sym steps) new)
+module _ {S : Type 0} (disk : S → ServerDisk) (under_way : S → List StoreChange) (chunk block slots : ℕ) where
+  pub first_is_new : (store : S) (rest items : List S) → items ≡ store ∷ rest → All (IsNewStore disk under_way chunk block slots) items → IsNewStore disk under_way chunk block slots store
+  first_is_new store rest items steps new =
+      All-head (IsNewStore disk under_way chunk block slots) store rest (All-same (IsNewStore disk under_way chunk block slots) (store ∷ rest) items (sym steps) new)
 
-pub rest_is_new : {S : Type 0} (disk : S → ServerDisk) (under_way : S → List StoreChange) (block : ℕ) (store : S) (rest items : List S) → items ≡ store ∷ rest → All (IsNewStore disk under_way block) items → All (IsNewStore disk under_way block) rest
-rest_is_new disk under_way block store rest items steps new = All-rest (IsNewStore disk under_way block) store rest items steps new
+  pub rest_is_new : (store : S) (rest items : List S) → items ≡ store ∷ rest → All (IsNewStore disk under_way chunk block slots) items → All (IsNewStore disk under_way chunk block slots) rest
+  rest_is_new store rest items steps new = All-rest (IsNewStore disk under_way chunk block slots) store rest items steps new
 
 none_held : AreHeldAs table.empty (orders_seen [])
 none_held q = refl
 
 pub held_new : (config : Config) (servers clients : ℕ) (h : HeldCell) → h.config ≡ config → h.master ≡ new_master config servers → h.files ≡ table.empty
-    → h.servers ≡ map (λ s. started_server config s (new_server_disk config.block) 0) (first_numbers servers) → h.clients ≡ map (new_client config) (first_numbers clients)
+    → h.servers ≡ map (λ s. started_server config s (new_server_disk config.chunk config.block config.slots) 0) (first_numbers servers) → h.clients ≡ map (new_client config) (first_numbers clients)
     → h.sent ≡ [] → h.seen ≡ [] → h.greatest ≡ 0 → IsHeldAs (new_world config servers clients) h
 held_new config servers clients h config_is master_is files_are servers_are clients_are sent_is seen_is greatest_is = record {
   config = sym config_is;

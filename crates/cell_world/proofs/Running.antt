@@ -1,5 +1,5 @@
 -- Runs are put together from the front, an event at a time.
-use Rattle.std.proofs.Common.{◌≡◌, ℕ, zero, suc, List, [], ◌∷◌, ◌++◌, take, drop, length, ◌+◌, Option, refl, sym, subst, ap, ◌∙◌, append_assoc, arith}
+use Rattle.std.proofs.Common.{◌≡◌, List, [], ◌∷◌, ◌++◌, drop, length, Option, refl, sym, ap, ◌∙◌, append_assoc, arith}
 use Rattle.std.specs.Option.{option_to_list}
 use Rattle.std.proofs.lemmas.List.{append-nil, map-append}
 use Rattle.gfs_types.specs.declared.answer.Answer.{Answer}
@@ -43,17 +43,10 @@ runs_more old middle new events answers event answer r d w g =
       k.2,
     )
 
--- the next event of a list
-pub next_taken : (events rest : List Event) (n : ℕ) (event : Event) → event ∷ rest ≡ drop n events → (take (suc n) events ≡ take n events ++ event ∷ []) × (rest ≡ drop (suc n) events)
-next_taken [] rest zero event e = absurd cc
-next_taken [] rest (suc n) event e = absurd cc
-next_taken (x ∷ xs) rest zero event e = (ap (λ es. take 1 es) (sym e), ap (λ es. drop 1 es) e)
-next_taken (x ∷ xs) rest (suc n) event e = let k = next_taken xs rest n event e in (ap (λ es. x ∷ es) k.0, k.1)
-
-pub next_taken_on : (events rest : List Event) (n : ℕ) (event : Event) → event ∷ rest ≡ drop n events → (take (n + 1) events ≡ take n events ++ event ∷ []) × (rest ≡ drop (n + 1) events)
-next_taken_on events rest n event e =
-    let same : suc n ≡ n + 1 = omega arith in
-    subst (λ k. (take k events ≡ take n events ++ event ∷ []) × (rest ≡ drop k events)) same (next_taken events rest n event e)
+-- one event more of a list
+pub one_more_on : (ran rest : List Event) (event : Event) → (ran ++ event ∷ []) ++ rest ≡ ran ++ event ∷ rest
+one_more_on [] rest event = refl
+one_more_on (e ∷ ran) rest event = ap (λ es. e ∷ es) (one_more_on ran rest event)
 
 -- a list whose first element is not there
 pub none_first : (before after : List Event) → before ≡ after → after ≡ drop 1 before → before ≡ []
@@ -61,9 +54,3 @@ none_first [] after same rest = refl
 none_first (e ∷ es) after same rest =
     let longer : length (e ∷ es) ≡ length es = ap (λ (xs : List Event). length xs) (same ∙ rest) in
     absurd (omega (arith, longer))
-
-pub all_taken : (events : List Event) (n : ℕ) → [] ≡ drop n events → take n events ≡ events
-all_taken [] zero e = refl
-all_taken [] (suc n) e = refl
-all_taken (x ∷ xs) zero e = absurd cc
-all_taken (x ∷ xs) (suc n) e = ap (λ es. x ∷ es) (all_taken xs n e)

@@ -2,7 +2,6 @@ pub mod Kept
 pub mod Batches
 pub mod Recording
 pub mod Seeing
-pub mod Events
 pub mod Held
 pub mod Runs
 pub mod FileNames

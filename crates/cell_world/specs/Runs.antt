@@ -1,12 +1,10 @@
 -- What a list of events comes to in a cell.
-use Rattle.std.specs.Prelude.{◌≡◌, ℕ, List, take}
+use Rattle.std.specs.Prelude.{ℕ, List}
 use Rattle.gfs_types.specs.declared.answer.Answer.{Answer}
 use Rattle.messages.specs.declared.event.Event.{Event}
 use Rattle.protocol.specs.World.{WorldState}
 use Rattle.protocol.specs.Conforms.{WorldRuns}
 use Rattle.cell_world.specs.Held.{HeldCell, IsHeldAs}
-use Rattle.cell_world.specs.declared.fault.RunFault.{RunFault}
-use Rattle.cell_world.specs.declared.fault.RunFault.TheVariants.{NoMemory, Rot}
 
 -- answers, with room for so many more
 pub record AnswerList : Type 0 where
@@ -16,8 +14,3 @@ pub record AnswerList : Type 0 where
 -- From each world that the cell stood for, the events lead to one that the new cell stands for, with these answers.
 abbrev pub Runs : HeldCell → List Event → List Answer → HeldCell → Type 0
 Runs old events answers new = (w : WorldState) → IsHeldAs w old → (next : WorldState) × WorldRuns w events answers next × IsHeldAs next new
-
--- where a run was given up: none of the events happened, or those before one at which no byte could rot
-abbrev pub RanUntil : HeldCell → List Event → RunFault → HeldCell → Type 0
-RanUntil old events NoMemory new = new ≡ old
-RanUntil old events (Rot done) new = (answers : List Answer) × Runs old (take done events) answers new

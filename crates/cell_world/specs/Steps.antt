@@ -10,8 +10,7 @@ use Rattle.protocol.specs.Server.{ServerState}
 use Rattle.protocol.specs.Master.{MasterState}
 use Rattle.protocol.specs.Client.{ClientState}
 use Rattle.protocol.specs.World.{stamped}
-use Rattle.protocol.specs.Conforms.{ServerRestarts, MasterSteps, ClientSteps, ClientCalls}
-use Rattle.server_store.specs.Stores.{disk_rotten}
+use Rattle.protocol.specs.Conforms.{ServerRestarts, ServerRots, MasterSteps, ClientSteps, ClientCalls}
 use Rattle.cell_world.specs.Kept.{blank_seen}
 use Rattle.cell_world.specs.declared.record.CellRecord.{CellRecord}
 
@@ -63,5 +62,7 @@ pub record ClientCallsSo (old : ClientState) (moment : ℕ) (c : Call) (out : St
 -- a byte of a replica of a chunkserver rots
 pub record RotsAt (servers : List ServerState) (index : ℕ) (handle place byte : ℕ) (after : List ServerState) : Type 0 where
   pub old : ServerState
+  pub new : ServerState
   pub is_there : element_at servers index ≡ Some old
-  pub servers_are : after ≡ with_at servers index (record old { disk = disk_rotten old.disk handle place byte })
+  pub rots : ServerRots old handle place byte new
+  pub servers_are : after ≡ with_at servers index new

@@ -1,13 +1,12 @@
 //! The nodes, the messages between them, and what an observer sees.
 
-ghost use Rattle.std.specs.Prelude.{◌≡◌, ◌≤◌, ◌-◌, None, IfOk, OnOk, OnErr};
+ghost use Rattle.std.specs.Prelude.{◌≡◌, ◌≤◌, ◌-◌, None};
 ghost use Rattle.gfs_types.specs.declared.ids.Node.TheVariants as node;
 ghost use Rattle.server_cell.specs.Inputs.{input_of};
 ghost use Rattle.cell_world.specs.Batches.{message_named};
 ghost use Rattle.protocol.specs.Tables.{moment_limit};
 ghost use Rattle.protocol.specs.World.{call_moves, delivered, happens, moves, numbered_from_1, restarts, rots_on};
 ghost use Rattle.cell_world.specs.Held.{HasEffect};
-ghost use Rattle.cell_world.specs.Events.{MayBeRefused};
 
 use crate::clients::{client_calls, client_may_call, client_place, client_steps, is_client_up};
 use crate::clock::later;
@@ -25,7 +24,6 @@ use gfs_types::ids::{ClientId, Handle, MAX_MOMENT, Moment, Node, ServerId};
 use gfs_types::torn::Torn;
 use messages::event::Event;
 use server_cell::server::Chunkserver;
-use server_store::fault::ReplicaStoreFault;
 use server_store::stoppable_store::StoppableStore;
 use server_store::store::ReplicaStore;
 use std::marker::Model;
@@ -64,35 +62,32 @@ impl<M: CellMaster, S: ReplicaStore> Model for CellState<M, S> {
 }
 
 impl<M: CellMaster, S: StoppableStore> CellState<M, S> {
-    /// One event. One that names no such node, message, replica, place or moment, or a node that is down, changes nothing. An
-    /// error: a byte didn't rot, as the store of its server couldn't take it, and nothing has changed.
-    pub fn step(&mut self, event: Event) -> Result<Option<Answer>, ReplicaStoreFault>
-        ensures ok { IfOk result (λ answer. HasEffect self.old (λ w choice. happens w event choice) answer self.new) }
-        ensures err { OnErr result (self.new ≡ self.old) }
-        ensures refused { OnErr result (MayBeRefused event) }
+    /// One event. One that names no such node, message, replica, place or moment, or a node that is down, changes nothing.
+    pub fn step(&mut self, event: Event) -> Option<Answer>
+        ensures { HasEffect self.old (λ w choice. happens w event choice) result self.new }
     {
         match event {
             Event::Call { client, call, now } => {
                 if now.0 > MAX_MOMENT {
-                    return Ok(None);
+                    return None;
                 }
-                Ok(self.takes_call(client, call, now))
+                self.takes_call(client, call, now)
             }
             Event::Deliver { number, now } => {
                 if now.0 > MAX_MOMENT {
-                    return Ok(None);
+                    return None;
                 }
-                Ok(self.delivers(number, now))
+                self.delivers(number, now)
             }
             Event::Tick { node, now } => {
                 if now.0 > MAX_MOMENT {
-                    return Ok(None);
+                    return None;
                 }
-                Ok(self.moves(node, None, now))
+                self.moves(node, None, now)
             }
             Event::Restart { node, now } => {
                 self.restart(node, now);
-                Ok(None)
+                None
             }
             Event::Rot {
                 server,
@@ -100,12 +95,12 @@ impl<M: CellMaster, S: StoppableStore> CellState<M, S> {
                 place,
                 byte,
             } => {
-                self.rots(server, handle, place, byte)?;
-                Ok(None)
+                self.rots(server, handle, place, byte);
+                None
             }
             Event::Fuse { node, calls, torn } => {
                 self.fuses(node, calls, torn);
-                Ok(None)
+                None
             }
         }
     }
@@ -241,27 +236,19 @@ impl<M: CellMaster, S: StoppableStore> CellState<M, S> {
         }
     }
 
-    /// A byte rots. An error: the server's store couldn't take it.
-    fn rots(
-        &mut self,
-        id: ServerId,
-        handle: Handle,
-        place: u64,
-        byte: u8,
-    ) -> Result<(), ReplicaStoreFault>
-        ensures ok { OnOk result (HasEffect self.old (λ w choice. rots_on w (id.0 - 1) handle.0 place byte (numbered_from_1 w.servers id.0)) None self.new) }
-        ensures err { OnErr result (self.new ≡ self.old) }
+    /// A byte rots.
+    fn rots(&mut self, id: ServerId, handle: Handle, place: u64, byte: u8)
+        ensures { HasEffect self.old (λ w choice. rots_on w (id.0 - 1) handle.0 place byte choice (numbered_from_1 w.servers id.0)) None self.new }
     {
         let Some(index) = server_place(&self.servers, id) else {
-            return Ok(());
+            return;
         };
         if place >= u64::from(self.config.chunk) {
-            return Ok(());
+            return;
         }
         if !is_server_up(&self.servers, index) {
-            return Ok(());
+            return;
         }
-        server_rots(&mut self.servers, index, handle, place, byte)?;
-        Ok(())
+        server_rots(&mut self.servers, index, handle, place, byte);
     }
 }

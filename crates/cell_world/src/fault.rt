@@ -13,8 +13,6 @@ use std::fmt;
 pub enum RunFault {
     /// An allocator refused the copies that are made before the first event: none of them happened.
     NoMemory,
-    /// After so many events a byte was to rot, which its server's store couldn't take.
-    Rot(usize),
 }
 
 impl fmt::Display for RunFault {
@@ -23,7 +21,6 @@ impl fmt::Display for RunFault {
     fn fmt<W: fmt::Write>(&self, f: &mut fmt::Formatter<W>) -> fmt::Result {
         match self {
             RunFault::NoMemory => write!(f, "no memory"),
-            RunFault::Rot(_) => write!(f, "a byte did not rot"),
         }
     }
 }

@@ -34,7 +34,7 @@ impl<M: CellMaster + Drop, S: ReplicaStore + Drop> CellState<M, S> {
         requires least { 64 ≤ config.chunk }
         requires most { config.chunk ≤ largest_chunk }
         requires skew { config.skew_ms ≤ 60000 }
-        requires stores { All (λ s. (S.disk s ≡ new_server_disk config.block) × (S.under_way s ≡ [])) stores.items }
+        requires stores { All (λ s. (S.disk s ≡ new_server_disk config.chunk config.block config.slots) × (S.under_way s ≡ [])) stores.items }
         requires count { length stores.items ≤ 65535 }
         requires master { M.state master ≡ new_master config (length stores.items) }
         requires files { M.files master ≡ table.empty }
@@ -62,9 +62,9 @@ fn new_servers<S: ReplicaStore + Drop>(
     requires least { 64 ≤ config.chunk }
     requires most { config.chunk ≤ largest_chunk }
     requires skew { config.skew_ms ≤ 60000 }
-    requires stores { All (λ s. (S.disk s ≡ new_server_disk config.block) × (S.under_way s ≡ [])) stores.items }
+    requires stores { All (λ s. (S.disk s ≡ new_server_disk config.chunk config.block config.slots) × (S.under_way s ≡ [])) stores.items }
     requires count { length stores.items ≤ 65535 }
-    ensures { IfOk result (λ all. all.items ≡ map (λ s. started_server config s (new_server_disk config.block) 0) (first_numbers (length stores.items))) }
+    ensures { IfOk result (λ all. all.items ≡ map (λ s. started_server config s (new_server_disk config.chunk config.block config.slots) 0) (first_numbers (length stores.items))) }
 {
     let mut all = Vec::new(alloc);
     let mut before = 0;

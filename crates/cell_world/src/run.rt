@@ -1,7 +1,7 @@
 //! Lists of events.
 
-ghost use Rattle.std.specs.Prelude.{◌≡◌, IfOk, IfErr};
-ghost use Rattle.cell_world.specs.Runs.{Runs, RanUntil};
+ghost use Rattle.std.specs.Prelude.{◌≡◌, IfOk, OnErr};
+ghost use Rattle.cell_world.specs.Runs.{Runs};
 
 use crate::answers::Answers;
 use crate::cell::CellState;
@@ -18,17 +18,12 @@ impl<M: CellMaster, S: StoppableStore> CellState<M, S> {
     /// The events in order, and their answers.
     pub fn run(&mut self, alloc: Global, events: &[Event]) -> Result<Vec<Answer>, RunFault>
         ensures ok { IfOk result (λ answers. Runs self.old events.now answers.items self.new) }
-        ensures err { IfErr result (λ fault. RanUntil self.old events.now fault self.new) }
+        ensures err { OnErr result (self.new ≡ self.old) }
     {
         let mut left = copies(alloc, events)?;
         let mut answers = Answers::with_room(alloc, left.len())?;
-        let mut done = 0;
         while let Some(event) = left.pop_front() {
-            let Ok(answer) = self.step(event) else {
-                return Err(RunFault::Rot(done));
-            };
-            answers.add(answer);
-            done += 1;
+            answers.add(self.step(event));
         }
         Ok(answers.into_vec())
     }

@@ -1,6 +1,6 @@
 //! Steps of the chunkservers.
 
-ghost use Rattle.std.specs.Prelude.{◌≡◌, ◌⊎◌, ◌≤◌, ◌<◌, suc, MatchOption, true, length, OnOk, OnErr};
+ghost use Rattle.std.specs.Prelude.{◌≡◌, ◌⊎◌, ◌≤◌, ◌<◌, suc, MatchOption, true, length};
 ghost use Rattle.std.specs.Option.{option_copied};
 ghost use Rattle.server_cell.specs.Inputs.{input_of};
 ghost use Rattle.protocol.specs.Conforms.{ServerSteps};
@@ -15,7 +15,7 @@ use gfs_types::ids::{Handle, Moment, ServerId};
 use gfs_types::torn::Torn;
 use messages::event::StepOut;
 use server_cell::server::Chunkserver;
-use server_store::fault::ReplicaStoreFault;
+use server_store::reopened_store::ReopenedStore;
 use server_store::stoppable_store::StoppableStore;
 use server_store::store::ReplicaStore;
 use step_outcome::Outcome;
@@ -61,7 +61,7 @@ pub(crate) fn server_steps<S: ReplicaStore>(
 }
 
 /// The chunkserver at a place begins again.
-pub(crate) fn server_restarts<S: ReplicaStore>(
+pub(crate) fn server_restarts<S: ReopenedStore>(
     servers: &mut Vec<Chunkserver<S>>,
     place: usize,
     now: Moment,
@@ -73,21 +73,19 @@ pub(crate) fn server_restarts<S: ReplicaStore>(
     servers[place].restart(now)
 }
 
-/// A byte of a replica of the chunkserver at a place rots. At an error nothing has changed.
+/// A byte of a replica of the chunkserver at a place rots.
 pub(crate) fn server_rots<S: ReplicaStore>(
     servers: &mut Vec<Chunkserver<S>>,
     index: usize,
     handle: Handle,
     place: u64,
     byte: u8,
-) -> Result<(), ReplicaStoreFault>
+)
     requires index { index < length servers.old.items }
     requires up { IsUpAt (λ s. s.up) servers.old.items index true }
-    ensures ok { OnOk result (RotsAt servers.old.items index handle.0 place byte servers.new.items) }
-    ensures err { OnErr result (servers.new.items ≡ servers.old.items) }
+    ensures { RotsAt servers.old.items index handle.0 place byte servers.new.items }
 {
-    servers[index].rot(handle, place, byte)?;
-    Ok(())
+    servers[index].rot(handle, place, byte);
 }
 
 /// The disk of the chunkserver at a place is told to stop.

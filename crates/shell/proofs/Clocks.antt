@@ -104,15 +104,15 @@ module _ (w : WorldState) (from to : ℕ) (le : from ≤ to) (k : AreClocksKept 
 
 -- a byte that rots gives no moment
 module _ (w : WorldState) (moment : ℕ) (k : AreClocksKept w.observer moment) where
-  replica_rotted : (index : ℕ) (s : ServerState) (handle place byte : ℕ) (o : Option Replica) → AreClocksKept (rots_replica w index s handle place byte o).world.observer moment
-  replica_rotted index s handle place byte None = k
-  replica_rotted index s handle place byte (Some r) = record { kept = k.kept; behind = k.behind }
+  replica_rotted : (index : ℕ) (s : ServerState) (handle place byte : ℕ) (choice : Choice) (o : Option Replica) → AreClocksKept (rots_replica w index s handle place byte choice o).world.observer moment
+  replica_rotted index s handle place byte choice None = k
+  replica_rotted index s handle place byte choice (Some r) = record { kept = k.kept; behind = k.behind }
 
-  rotted : (index handle place byte : ℕ) (o : Option ServerState) → AreClocksKept (rots_on w index handle place byte o).world.observer moment
-  rotted index handle place byte None = k
-  rotted index handle place byte (Some s) =
-      cond_both (s.up && nat_lt place w.config.chunk) (rots_replica w index s handle place byte (replica_of s.disk handle)) (nothing_happens w) (λ h. AreClocksKept h.world.observer moment)
-      (λ _. replica_rotted index s handle place byte (replica_of s.disk handle)) (λ _. k)
+  rotted : (index handle place byte : ℕ) (choice : Choice) (o : Option ServerState) → AreClocksKept (rots_on w index handle place byte choice o).world.observer moment
+  rotted index handle place byte choice None = k
+  rotted index handle place byte choice (Some s) =
+      cond_both (s.up && nat_lt place w.config.chunk) (rots_replica w index s handle place byte choice (replica_of s.disk handle)) (nothing_happens w) (λ h. AreClocksKept h.world.observer moment)
+      (λ _. replica_rotted index s handle place byte choice (replica_of s.disk handle)) (λ _. k)
 
 -- one event on
 pub clocks_kept : (w : WorldState) (e : Event) (choice : Choice) (clock : ℕ) → clock ≤ moment_of clock e → AreClocksKept w.observer clock → AreClocksKept (happens w e choice).world.observer (moment_of clock e)
@@ -122,5 +122,5 @@ clocks_kept w (event.Deliver number now) choice clock le k =
     in_time w clock now.0 le k (delivered w now.0 choice (numbered_from_1 w.sent number)) (delivered_so w clock now.0 le k choice (numbered_from_1 w.sent number))
 clocks_kept w (event.Tick n now) choice clock le k = in_time w clock now.0 le k (moves w n now.0 input.Tick choice) (moved w clock now.0 le k n input.Tick choice)
 clocks_kept w (event.Restart n now) choice clock le k = in_time w clock now.0 le k (restarts w n now.0 choice) (restarted w clock now.0 le k n choice)
-clocks_kept w (event.Rot server handle place byte) choice clock le k = rotted w clock k (server.0 - 1) handle.0 place byte (numbered_from_1 w.servers server.0)
+clocks_kept w (event.Rot server handle place byte) choice clock le k = rotted w clock k (server.0 - 1) handle.0 place byte choice (numbered_from_1 w.servers server.0)
 clocks_kept w (event.Fuse n count torn) choice clock le k = k

@@ -12,14 +12,14 @@ use Rattle.protocol.specs.Observer.{new_observer}
 use Rattle.protocol.specs.Client.{ClientState}
 use Rattle.protocol.specs.World.{WorldState, happens, numbered_from_1}
 use Rattle.laws_clients.specs.Answered.{CountsIfUp, is_answer_of, is_open, is_taken, is_up, node_of as node_in}
-use Rattle.laws_clients.proofs.Events.{counted, no_answer, still}
+use Rattle.laws_clients.proofs.Events.{counted}
 use Rattle.cell_world.specs.Seeing.{orders_seen}
 use Rattle.cell_world.specs.Held.{HeldCell, IsHeldAs, HasEffect}
 use Rattle.cell_world.specs.Looks.{waits_at}
 use Rattle.cell_simulator.specs.Cells.{Meaning}
 use Rattle.cell_simulator.specs.Steps.{Step, node_of, is_of_round}
 use Rattle.cell_simulator.specs.Answered.{one_if, is_answered_at, AnswersOnce, IsAlike}
-use Rattle.shell.specs.Worlds.{IsRefused, Steps, meaning_of}
+use Rattle.shell.specs.Worlds.{meaning_of}
 use Rattle.shell.specs.Once.{takes_call, takes_steps}
 
 -- a world that a cell stands for
@@ -87,15 +87,6 @@ done old new e n answer client is does =
     subst (λ cs. CountsIfUp before (numbered_from_1 cs client) (is_answer_of client n answer) taken) k.2.clients
     (subst (λ a. CountsIfUp before (numbered_from_1 after client) (is_answer_of client n a) taken) k.1 (counted (a_world old) e k.0 n client is))
 
-refused : (old new : HeldCell) (e : Event) (n : Node) (answer : Option Answer) (client : ℕ) → IsRefused old e answer new → Comes old e n answer client new
-refused old new (event.Rot server handle place byte) n answer client r =
-    still _ _ _ _ (ap (λ (h : HeldCell). numbered_from_1 h.clients client) r.unchanged) (ap (is_answer_of client n) r.unanswered ∙ no_answer client n) refl
-refused old new other n answer client r = absurd r.may_be
-
-stepped_so : (old new : HeldCell) (e : Event) (n : Node) (answer : Option Answer) (client : ℕ) → node_in old.sent e ≡ Some n → Steps old e answer new → Comes old e n answer client new
-stepped_so old new e n answer client is (inl does) = done old new e n answer client is does
-stepped_so old new e n answer client is (inr r) = refused old new e n answer client r
-
 only_calls_so : (h : HeldCell) (client : ClientId) (e : Event) → IsTrue (is_of_round e) → takes_call h client e ≡ false
 only_calls_so h client (event.Call c asked now) round = absurd (true≢false (sym round))
 only_calls_so h client (event.Deliver number now) round = refl
@@ -110,7 +101,7 @@ answers_once cell_of =
       counts = λ old new s client is steps up.
           let before : Option ClientState = numbered_from_1 (cell_of old).clients client.0 in
           let after : Option ClientState = numbered_from_1 (cell_of new).clients client.0 in
-          let k = stepped_so (cell_of old) (cell_of new) s.event s.node s.answer client.0 (sym (same_node cell_of old s.event) ∙ is) steps up in (
+          let k = done (cell_of old) (cell_of new) s.event s.node s.answer client.0 (sym (same_node cell_of old s.event) ∙ is) steps up in (
             k.was_up,
             ap (λ b. one_if b + one_if (is_answered_at client s.node s.answer)) (same_open after)
                 ∙ (ap (λ b. one_if (is_open after) + one_if b) (same_answer client s.node s.answer)

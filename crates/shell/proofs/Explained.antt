@@ -31,11 +31,11 @@ use Rattle.cell_simulator.specs.Scripts.{ComeTo, RunsOn, StopsWith}
 use Rattle.shell.specs.Worlds.{DropsMessages, Steps}
 use Rattle.cell_core.specs.Starts.{is_count}
 use Rattle.shell.specs.Cells.{IsNew, are_in_range, world_of}
-use Rattle.shell.specs.Explained.{LeadsTo, DoesNotRot, MayDrop, LeadTo, LineLeads, raised_step, IsRunOfMachine, AreRunsOfMachine, AreExplained, IsEndlessExplained, AreExplainedUntil}
+use Rattle.shell.specs.Explained.{LeadsTo, MayDrop, LeadTo, LineLeads, raised_step, IsRunOfMachine, AreRunsOfMachine, AreExplained, IsEndlessExplained, AreExplainedUntil}
 use Rattle.shell.specs.Scripts.{at_0}
 use Rattle.shell.proofs.Clocks.{AreClocksKept, later, clocks_kept}
-use Rattle.shell.proofs.Printed.{Adds, adds_nothing, adds_both, step_adds, unanswered_adds}
-use Rattle.shell.proofs.Raised.{moment_raised, refused_raised, node_raised}
+use Rattle.shell.proofs.Printed.{Adds, adds_nothing, adds_both, step_adds}
+use Rattle.shell.proofs.Raised.{moment_raised, node_raised}
 use Rattle.shell.proofs.Restarts.{restarts_go_quietly}
 
 none_there : {X : Type 0} (o : Option X) → is_none o ≡ true → o ≡ None
@@ -67,15 +67,15 @@ stands_new o cell new = record {
 
 step_on : (o : Options) (old new : HeldCell) (clock : ℕ) (w : WorldState) (dropped : List Message) (s : Step) → StandsAt o old clock w dropped → node_in w.sent (raised_event (length dropped) s.event) ≡ Some s.node
     → clock ≤ moment_of clock s.event → Steps old s.event s.answer new
-    → (v : WorldState) × (LeadsTo w (raised_step dropped s) v ⊎ DoesNotRot w (raised_step dropped s) v) × Adds w v (line_of_step s) × StandsAt o new (moment_of clock s.event) v dropped
-step_on o old new clock w dropped s at there le (inl does) =
+    → (v : WorldState) × LeadsTo w (raised_step dropped s) v × Adds w v (line_of_step s) × StandsAt o new (moment_of clock s.event) v dropped
+step_on o old new clock w dropped s at there le does =
     let e : Event = raised_event (length dropped) s.event in
     let same : moment_of clock e ≡ moment_of clock s.event = moment_raised (length dropped) clock s.event in
     let k : StepsTo w dropped e s.answer new = steps_to w dropped old new s.event s.answer at.held_as does in
     let v : WorldState = (happens w e k.choice).world in
     let traced : AddsToTrace w e s.answer v = subst (λ (a : Option Answer). AddsToTrace w e a v) k.answer_is (events_add_to_the_trace w e k.choice) in (
       v,
-      inl (record { choice = k.choice; answer_is = k.answer_is; world_is = refl; traced = traced }),
+      record { choice = k.choice; answer_is = k.answer_is; world_is = refl; traced = traced },
       step_adds w v e k.choice s.node s.answer there k.answer_is traced,
       record {
         reached = reached_on o.config o.servers o.clients w v at.reached ((e, k.choice) ∷ []) refl;
@@ -83,16 +83,6 @@ step_on o old new clock w dropped s at there le (inl does) =
         clocks = subst (λ (to : ℕ). AreClocksKept v.observer to) same (clocks_kept w e k.choice clock (subst (λ (to : ℕ). clock ≤ to) (sym same) le) at.clocks);
       },
     )
-step_on o old new clock w dropped s at there le (inr refused) = (
-  w,
-  inr (record { is_rot = refused_raised (length dropped) s.event refused.may_be; unanswered = refused.unanswered; same = refl }),
-  unanswered_adds w s.node s.answer refused.unanswered,
-  record {
-    reached = at.reached;
-    held_as = subst (λ (h : HeldCell). StandsFor w dropped h) (sym refused.unchanged) at.held_as;
-    clocks = later w.observer clock (moment_of clock s.event) le at.clocks;
-  },
-)
 
 -- the greatest moment is not past the clock
 greatest_before : (o : Options) (cell : HeldCell) (clock : ℕ) (w : WorldState) (dropped : List Message) → StandsAt o cell clock w dropped → cell.greatest ≤ clock

@@ -104,6 +104,3 @@ line_is w (event.Fuse m count torn) choice n (Some reply) at given = absurd (let
 -- a step adds what is printed of it
 pub step_adds : (w v : WorldState) (e : Event) (choice : Choice) (n : Node) (answer : Option Answer) → node_in w.sent e ≡ Some n → (happens w e choice).out.answer ≡ answer → AddsToTrace w e answer v → Adds w v (line_at n answer)
 step_adds w v e choice n answer at given traced = adds w v e answer (line_at n answer) traced (line_is w e choice n answer at given)
-
-pub unanswered_adds : (w : WorldState) (n : Node) (answer : Option Answer) → answer ≡ None → Adds w w (line_at n answer)
-unanswered_adds w n answer none = subst (λ (l : List ℕ). Adds w w l) (sym (ap (line_at n) none ∙ no_line n)) (adds_nothing w)

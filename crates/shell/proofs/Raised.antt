@@ -9,7 +9,6 @@ use Rattle.protocol.specs.World.{WorldState, numbered_from_1}
 use Rattle.laws_clients.specs.Answered.{node_of as node_in}
 use Rattle.laws_rebase.specs.Rebased.{raised, raised_event, raised_number}
 use Rattle.laws_rebase.proofs.CutWorlds.{numbered}
-use Rattle.cell_world.specs.Events.{MayBeRefused}
 use Rattle.cell_world.specs.Held.{HeldCell}
 use Rattle.cell_core.specs.Standing.{StandsFor}
 use Rattle.cell_simulator.specs.Cells.{Meaning}
@@ -22,14 +21,6 @@ moment_raised k clock (event.Tick n now) = refl
 moment_raised k clock (event.Restart n now) = refl
 moment_raised k clock (event.Rot server handle place byte) = refl
 moment_raised k clock (event.Fuse n count torn) = refl
-
-pub refused_raised : (k : ℕ) (e : Event) → MayBeRefused e → MayBeRefused (raised_event k e)
-refused_raised k (event.Call client c now) may = may
-refused_raised k (event.Deliver number now) may = may
-refused_raised k (event.Tick n now) may = may
-refused_raised k (event.Restart n now) may = may
-refused_raised k (event.Rot server handle place byte) may = may
-refused_raised k (event.Fuse n count torn) may = may
 
 receiver_raised : (k : ℕ) (o : Option Message) → option_map (λ (x : Message). x.receiver) (option_map (raised k) o) ≡ option_map (λ (x : Message). x.receiver) o
 receiver_raised k None = refl

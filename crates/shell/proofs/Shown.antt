@@ -1,27 +1,17 @@
--- Steps that may be refused, and replicas as they are printed.
+-- Messages that are dropped, and replicas as they are printed.
 use Rattle.std.proofs.Common.{◌≡◌, ℕ, List, [], ◌∷◌, map, Option, Some, None, Result, Ok, Err, refl, sym, ap, ◌∙◌, inl, inr}
 use Rattle.std.specs.Prelude.{◌⊎◌, IfOk, IfErr, OnOk, OnErr, option_map, unwrap_or}
-use Rattle.std.specs.Result.{result_unwrap_or}
-use Rattle.gfs_types.specs.declared.answer.Answer.{Answer}
 use Rattle.gfs_types.specs.declared.ids.Handle.{Handle}
-use Rattle.messages.specs.declared.event.Event.{Event}
 use Rattle.script.specs.declared.stored.StoredReplica.{StoredReplica}
 use Rattle.protocol.specs.Lookups.{StoredAt}
 use Rattle.protocol.specs.Sending.{handle_of}
-use Rattle.protocol.specs.World.{happens}
 use Rattle.cell_world.specs.AsStored.{as_stored}
-use Rattle.cell_world.specs.Events.{MayBeRefused}
-use Rattle.cell_world.specs.Held.{HeldCell, HasEffect}
+use Rattle.cell_world.specs.Held.{HeldCell}
 use Rattle.cell_world.specs.Looks.{replicas_held}
 use Rattle.cell_world.specs.Rebasing.{IsBehind, Rebases}
 use Rattle.cell_world.specs.declared.rebase_fault.RebaseFault.{RebaseFault}
 use Rattle.cell_world.specs.declared.rebase_fault.RebaseFault.TheVariants.{Clock}
-use Rattle.shell.specs.Worlds.{DropsMessages, IsRefused, Steps, as_shown, replicas_shown}
-
-pub stepped : {E : Type 0} (old new : HeldCell) (event : Event) (r : Result (Option Answer) E) → IfOk r (λ answer. HasEffect old (λ w choice. happens w event choice) answer new) → OnErr r (new ≡ old)
-    → OnErr r (MayBeRefused event) → Steps old event (result_unwrap_or r None) new
-stepped old new event (Ok answer) ok same refused = inl ok
-stepped old new event (Err e) ok same refused = inr (record { may_be = refused; unanswered = refl; unchanged = same })
+use Rattle.shell.specs.Worlds.{DropsMessages, as_shown, replicas_shown}
 
 pub dropped : {V : Type 0} (old new : HeldCell) (moment : ℕ) (r : Result V RebaseFault) → OnOk r (Rebases old moment new) → IfErr r (λ fault. (fault ≡ Clock) × IsBehind old moment) → OnErr r (new ≡ old) → DropsMessages old moment new
 dropped old new moment (Ok v) ok fault same = inl ok

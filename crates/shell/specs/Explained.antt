@@ -1,5 +1,5 @@
 -- What a script's lines come to in the protocol's worlds, and that a run of the relaxed-file machine explains it.
-use Rattle.std.specs.Prelude.{◌≡◌, ◌⊎◌, ⊤, ℕ, IsTrue, List, [], ◌∷◌, ◌++◌, length, Option, None}
+use Rattle.std.specs.Prelude.{◌≡◌, ◌⊎◌, ⊤, ℕ, IsTrue, List, [], ◌∷◌, ◌++◌, length, Option}
 use Rattle.std.specs.List.{flat_map}
 use Rattle.messages.specs.declared.message.Message.{Message}
 use Rattle.script.specs.Answers.{answer_line}
@@ -11,7 +11,6 @@ use Rattle.protocol.specs.Choice.{Choice}
 use Rattle.protocol.specs.Conforms.{WorldRuns}
 use Rattle.protocol.specs.World.{WorldState, happens}
 use Rattle.protocol.specs.Explained.{Explains}
-use Rattle.cell_world.specs.Events.{MayBeRefused}
 use Rattle.cell_world.specs.Held.{HeldCell}
 use Rattle.cell_world.specs.Looks.{server_count}
 use Rattle.laws_rebase.specs.Rebased.{raised_event, restart_events}
@@ -31,12 +30,6 @@ pub record LeadsTo (w : WorldState) (s : Step) (v : WorldState) : Type 0 where
   pub world_is : (happens w s.event choice).world ≡ v
   pub traced : AddsToTrace w s.event s.answer v
 
--- a byte didn't rot, since its server's store couldn't take it
-pub record DoesNotRot (w : WorldState) (s : Step) (v : WorldState) : Type 0 where
-  pub is_rot : MayBeRefused s.event
-  pub unanswered : s.answer ≡ None
-  pub same : v ≡ w
-
 -- a step with messages counted on from those that were dropped
 abbrev pub raised_step : List Message → Step → Step
 raised_step dropped s = record s { event = raised_event (length dropped) s.event }
@@ -49,7 +42,7 @@ MayDrop w dropped later = (later ≡ dropped) ⊎ (later ≡ w.sent)
 abbrev pub LeadTo : WorldState → List Message → List Step → WorldState → List Message → Type 0
 LeadTo w dropped [] v last = (v ≡ w) × MayDrop w dropped last
 LeadTo w dropped (s ∷ rest) v last =
-    (later : List Message) × MayDrop w dropped later × (u : WorldState) × (LeadsTo w (raised_step later s) u ⊎ DoesNotRot w (raised_step later s) u) × LeadTo u later rest v last
+    (later : List Message) × MayDrop w dropped later × (u : WorldState) × LeadsTo w (raised_step later s) u × LeadTo u later rest v last
 
 -- A line leads from one world to the other: by its steps, or by restarts of the master and of each server, after which all messages are dropped.
 abbrev pub LineLeads : {C : Type 0} (held : C → HeldCell) (w : WorldState) (dropped : List Message) (old : Simulated C) → CellLine → List Step → WorldState → List Message → Type 0

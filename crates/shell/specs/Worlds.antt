@@ -1,5 +1,5 @@
 -- What an event may come to in a cell that a script drives, and how its replicas are printed.
-use Rattle.std.specs.Prelude.{◌≡◌, ◌⊎◌, ℕ, List, [], length, map, Option, None, option_map}
+use Rattle.std.specs.Prelude.{◌≡◌, ◌⊎◌, ℕ, List, [], length, map, Option, option_map}
 use Rattle.gfs_types.specs.declared.answer.Answer.{Answer}
 use Rattle.gfs_types.specs.declared.ids.Handle.{Handle}
 use Rattle.messages.specs.declared.event.Event.{Event}
@@ -7,21 +7,14 @@ use Rattle.script.specs.declared.stored.StoredReplica.{StoredReplica}
 use Rattle.protocol.specs.Lookups.{StoredAt}
 use Rattle.protocol.specs.Sending.{handle_of, server_id, version_of}
 use Rattle.protocol.specs.World.{happens, numbered_from_1}
-use Rattle.cell_world.specs.Events.{MayBeRefused}
 use Rattle.cell_world.specs.Held.{HeldCell, HasEffect}
 use Rattle.cell_world.specs.Rebasing.{IsBehind, Rebases}
 use Rattle.cell_world.specs.Looks.{file_held, has_open_call, regions_held, replicas_held, server_count}
 use Rattle.cell_simulator.specs.Cells.{Meaning}
 
--- a byte did not rot: nothing happened
-pub record IsRefused (old : HeldCell) (event : Event) (answer : Option Answer) (new : HeldCell) : Type 0 where
-  pub may_be : MayBeRefused event
-  pub unanswered : answer ≡ None
-  pub unchanged : new ≡ old
-
--- It comes to this in each world that the cell stands for, unless a byte did not rot.
+-- It comes to this in each world that the cell stands for.
 abbrev pub Steps : HeldCell → Event → Option Answer → HeldCell → Type 0
-Steps old event answer new = HasEffect old (λ w choice. happens w event choice) answer new ⊎ IsRefused old event answer new
+Steps old event answer new = HasEffect old (λ w choice. happens w event choice) answer new
 
 -- All messages are dropped, unless the moment is too far behind the greatest one, as no script's clock is: then nothing happens.
 abbrev pub DropsMessages : HeldCell → ℕ → HeldCell → Type 0

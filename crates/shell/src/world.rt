@@ -14,7 +14,7 @@ use relaxed_file::region::Region;
 use script::stored::StoredReplica;
 use std::alloc::{Allocator, Global};
 
-/// A cell that a script drives. A byte that a server's store can't take doesn't rot.
+/// A cell that a script drives.
 #[derive(Drop)]
 pub struct SimulatedWorld<A: Allocator + Clone> {
     pub world: World<A>,
@@ -24,7 +24,7 @@ impl<A: Allocator + Clone> SimulatedCell for SimulatedWorld<A> {
     ghost meaning = { meaning_of (λ c. c.world) };
 
     fn step(&mut self, event: Event) -> Option<Answer> {
-        self.world.step(event).unwrap_or(None)
+        self.world.step(event)
     }
 
     fn rebase(&mut self, now: Moment) {

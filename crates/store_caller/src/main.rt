@@ -39,7 +39,7 @@ fn put_one<D: Disk + Drop>(disk: D, alloc: Global, layout: Layout, bytes: &[u8])
     requires whole { layout.chunk % layout.block ≡ 0 }
     requires new { is_head_open (D.seen disk) ≡ false }
     requires short { length bytes.now ≤ layout.chunk }
-    ensures { IfOk result (λ d. (c : List ℕ) → D.may_leave d c → HoldsReplicas layout.chunk layout.block layout.slots c (with_one layout.block bytes.now)) }
+    ensures { IfOk result (λ d. (c : List ℕ) → D.may_leave d c → HoldsReplicas layout.chunk layout.block layout.slots c (with_one layout.chunk layout.block layout.slots bytes.now)) }
 {
     let mut store = open(disk, alloc, layout)?;
     store.install(alloc, Handle(5), Version(1), Serial(0), bytes)?;

@@ -9,5 +9,5 @@ pub returns : goal.returns
 returns c =
     let l = c.args.layout in
     let bytes = c.args.bytes.now in
-    let d = with_one l.block bytes in
-    IfOk-weaker c.read_one.result (λ found. Some found ≡ read_at d 5 0 l.chunk) (λ found. found ≡ bytes) (λ found e. read_back l.block l.chunk bytes found c.requires.short e) (c.read_one.ensures d (c.in_ok-stored.ensures c.stop.result.bytes c.stop.ensures.lawful))
+    let d = with_one l.chunk l.block l.slots bytes in
+    IfOk-weaker c.read_one.result (λ found. Some found ≡ read_at d 5 0 l.chunk) (λ found. found ≡ bytes) (λ found e. read_back l.chunk l.block l.slots l.chunk bytes found c.requires.short e) (c.read_one.ensures d (c.in_ok-stored.ensures c.stop.result.bytes c.stop.ensures.lawful))

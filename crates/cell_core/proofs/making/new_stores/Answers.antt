@@ -9,12 +9,13 @@ new_store-requires c =
 
 pub loop-init : goal.loop-init
 loop-init c = record {
-  new = none_new c.args.config.block _ c.new-stores.ensures.items;
+  new = none_new c.args.config.chunk c.args.config.block c.args.config.slots _ c.new-stores.ensures.items;
   count = ap length c.new-stores.ensures.items;
 }
 
 pub loop-preserved : goal.loop-preserved
 loop-preserved c = record {
-  new = one_more c.args.config.block c.new-layout.result.block c.in_ok-store.store c.loop.stores.items c.push.new.self.items c.new-layout.ensures.block c.in_ok-store.ensures.new c.in-Ok.ensures.items c.loop.invariant.new;
+  new = one_more c.args.config.chunk c.args.config.block c.args.config.slots c.new-layout.result.chunk c.new-layout.result.block c.new-layout.result.slots c.in_ok-store.store c.loop.stores.items c.push.new.self.items
+  c.new-layout.ensures.chunk c.new-layout.ensures.block c.new-layout.ensures.slots c.in_ok-store.ensures.new c.in-Ok.ensures.items c.loop.invariant.new;
   count = count_more c.loop.stores.items c.push.new.self.items c.in_ok-store.store c.loop.counter c.loop.invariant.count c.in-Ok.ensures.items;
 }

@@ -10,7 +10,7 @@ use Rattle.cell_world.proofs.making.new_servers.Given as goal
 abbrev pub invariant-loop-store : goal.invariant-loop-store
 invariant-loop-store g l =
     record {
-      made : l.all.items ≡ map (λ s. started_server l.config s (new_server_disk l.config.block) 0) (first_numbers l.before);
-      left : All (IsNewStore g.S.ReplicaStore.disk g.S.ReplicaStore.under_way l.config.block) l.store-iterator.rest.items;
+      made : l.all.items ≡ map (λ s. started_server l.config s (new_server_disk l.config.chunk l.config.block l.config.slots) 0) (first_numbers l.before);
+      left : All (IsNewStore g.S.ReplicaStore.disk g.S.ReplicaStore.under_way l.config.chunk l.config.block l.config.slots) l.store-iterator.rest.items;
       count : l.before + length l.store-iterator.rest.items ≡ length l.fn.stores.items;
     }
