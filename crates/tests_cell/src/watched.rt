@@ -150,7 +150,7 @@ impl Watched {
         if !was_open {
             self.appending = record_of(&event)?;
         }
-        let answer = self.cell.world.step(event).unwrap_or(None);
+        let answer = self.cell.world.step(event);
         if !self.is_open(WRITER) {
             // a client that is down takes no call
             let is_taken = was_open || answer.is_some();

@@ -7,6 +7,7 @@ use crate::same::new_store;
 use gfs_types::ids::Handle;
 use gfs_types::torn::Torn;
 use memory_store::MemoryStore;
+use replica_store::change::StoreChange;
 use server_store::fault::ReplicaStoreFault;
 use server_store::stoppable_store::StoppableStore;
 use server_store::store::ReplicaStore;
@@ -56,7 +57,7 @@ fn seen_after<S: ReplicaStore>(
 
 // What a store in memory shows after so many changes.
 fn after(alloc: Global, count: u64) -> Result<Shown, ReplicaStoreFault> {
-    let mut model = MemoryStore::new(alloc, 16);
+    let mut model = MemoryStore::new(alloc, 64, 16, 4);
     let shown = seen_after(alloc, &mut model, count);
     drop(model);
     shown
@@ -169,8 +170,8 @@ fn each_change_is_made_or_not(rt: HostRuntime) -> Result<(), Fail> {
     Ok(())
 }
 
-// A byte that is to rot while the disk stops: it is rotten once the store is opened again, where it was answered so, and nothing has changed
-// where it wasn't.
+// A byte that is to rot while the disk stops: it is rotten once the store is opened again, where it was answered so; where it wasn't, it is
+// rotten or nothing has changed.
 fn stop_within_rot<S: StoppableStore>(
     alloc: Global,
     store: &mut S,
@@ -181,11 +182,16 @@ fn stop_within_rot<S: StoppableStore>(
     commit_first(alloc, store, 4)?;
     let before = seen(alloc, store)?;
     store.stop_after(stop.calls, stop.torn);
-    let is_ok = store.rot(Handle(7), 3, 99).is_ok();
+    let change = StoreChange::Rot {
+        handle: Handle(7),
+        place: 3,
+        byte: 99,
+    };
+    let is_ok = store.commit(change).is_ok();
     open_twice(store, stop)?;
     let found = seen(alloc, store)?;
     let is_rotten = store.read(alloc, Handle(7), 0, 64)?.is_none();
-    Ok(if is_ok { is_rotten } else { found == before })
+    Ok(is_rotten || (!is_ok && found == before))
 }
 
 fn is_rotten_or_not(alloc: Global, stop: Stop) -> Result<bool, ReplicaStoreFault> {

@@ -7,7 +7,9 @@ use disk::NodeDisk;
 use disk_store::disk_store::DiskStore;
 use gfs_types::ids::Handle;
 use memory_store::MemoryStore;
+use replica_store::change::StoreChange;
 use server_store::fault::ReplicaStoreFault;
+use server_store::reopened_store::ReopenedStore;
 use server_store::store::ReplicaStore;
 use std::alloc::Global;
 use std::test::Fail;
@@ -21,7 +23,7 @@ pub(crate) fn new_store(alloc: Global) -> Result<DiskStore<NodeDisk>, ReplicaSto
 }
 
 // Whether both show the same.
-fn are_same<S: ReplicaStore, T: ReplicaStore>(
+fn are_same<S: ReopenedStore, T: ReplicaStore>(
     alloc: Global,
     store: &mut S,
     model: &mut T,
@@ -35,7 +37,7 @@ fn are_same<S: ReplicaStore, T: ReplicaStore>(
 }
 
 // Whether both show the same after a change, and once the first one is opened again.
-fn go_on_alike<S: ReplicaStore, T: ReplicaStore>(
+fn go_on_alike<S: ReopenedStore, T: ReplicaStore>(
     alloc: Global,
     store: &mut S,
     model: &mut T,
@@ -55,7 +57,7 @@ fn go_on_alike<S: ReplicaStore, T: ReplicaStore>(
 }
 
 // Whether both show the same after each change.
-fn are_always_alike<S: ReplicaStore, T: ReplicaStore>(
+fn are_always_alike<S: ReopenedStore, T: ReplicaStore>(
     alloc: Global,
     store: &mut S,
     model: &mut T,
@@ -73,10 +75,10 @@ fn are_always_alike<S: ReplicaStore, T: ReplicaStore>(
 
 // Whether a store shows what one in memory does. What owns a store has one way out, and calls `drop` there: a drop at the end of a scope is proved anew at each
 // place.
-fn is_as_in_memory<S: ReplicaStore>(alloc: Global, store: &mut S) -> Result<bool, ReplicaStoreFault>
+fn is_as_in_memory<S: ReopenedStore>(alloc: Global, store: &mut S) -> Result<bool, ReplicaStoreFault>
     requires { S.under_way store.old ≡ [] }
 {
-    let mut model = MemoryStore::new(alloc, 16);
+    let mut model = MemoryStore::new(alloc, 64, 16, 4);
     let are_alike = are_always_alike(alloc, store, &mut model);
     drop(model);
     are_alike
@@ -96,8 +98,32 @@ fn it_says_what_a_store_in_memory_says(rt: HostRuntime) -> Result<(), Fail> {
     Ok(())
 }
 
+fn rot(place: u64, byte: u8) -> StoreChange {
+    StoreChange::Rot {
+        handle: Handle(7),
+        place,
+        byte,
+    }
+}
+
+// The same byte of both rots.
+fn rot_both<S: ReopenedStore, T: ReplicaStore>(
+    store: &mut S,
+    model: &mut T,
+    place: u64,
+    byte: u8,
+) -> Result<(), ReplicaStoreFault>
+    requires store { S.under_way store.old ≡ [] }
+    requires model { T.under_way model.old ≡ [] }
+    ensures store { OnOk result (S.under_way store.new ≡ []) }
+    ensures model { OnOk result (T.under_way model.new ≡ []) }
+{
+    store.commit(rot(place, byte))?;
+    model.commit(rot(place, byte))
+}
+
 // Whether both show the same once each has four changes, and then the same byte of each is rotten.
-fn rot_alike<S: ReplicaStore, T: ReplicaStore>(
+fn rot_alike<S: ReopenedStore, T: ReplicaStore>(
     alloc: Global,
     store: &mut S,
     model: &mut T,
@@ -109,13 +135,12 @@ fn rot_alike<S: ReplicaStore, T: ReplicaStore>(
 {
     commit_first(alloc, store, 4)?;
     commit_first(alloc, model, 4)?;
-    store.rot(Handle(7), 3, 99)?;
-    model.rot(Handle(7), 3, 99)?;
+    rot_both(store, model, 3, 99)?;
     are_same(alloc, store, model)
 }
 
 // Whether the block of that byte is neither read nor copied nor written over in part, and another block is.
-fn is_shut<S: ReplicaStore>(alloc: Global, store: &mut S) -> Result<bool, ReplicaStoreFault>
+fn is_shut<S: ReopenedStore>(alloc: Global, store: &mut S) -> Result<bool, ReplicaStoreFault>
     requires { S.under_way store.old ≡ [] }
     ensures { S.under_way store.new ≡ [] }
 {
@@ -126,20 +151,36 @@ fn is_shut<S: ReplicaStore>(alloc: Global, store: &mut S) -> Result<bool, Replic
     Ok(read.is_none() && !is_copyable && !over && beside)
 }
 
-// Whether a byte is refused that goes back to what was stored, one that stands there already, and one past the chunk.
-fn refuses_rot<S: ReplicaStore>(store: &mut S) -> bool
-    requires { S.under_way store.old ≡ [] }
-    ensures { S.under_way store.new ≡ [] }
+// Whether the block is read again once that byte is what was stored; one that stands there already changes nothing.
+fn is_back_alike<S: ReopenedStore, T: ReplicaStore>(
+    alloc: Global,
+    store: &mut S,
+    model: &mut T,
+) -> Result<bool, ReplicaStoreFault>
+    requires store { S.under_way store.old ≡ [] }
+    requires model { T.under_way model.old ≡ [] }
+    ensures store { OnOk result (S.under_way store.new ≡ []) }
+    ensures model { OnOk result (T.under_way model.new ≡ []) }
 {
-    let back = store.rot(Handle(7), 3, 65);
-    let same = store.rot(Handle(7), 20, 66);
-    let past = store.rot(Handle(7), 64, 1);
-    let no_room = Err(ReplicaStoreFault::NoRoom);
-    back == no_room && same == no_room && past == no_room
+    rot_both(store, model, 3, 65)?;
+    rot_both(store, model, 20, 66)?;
+    let read = store.read(alloc, Handle(7), 0, 64)?;
+    let is_alike = are_same(alloc, store, model)?;
+    Ok(read.is_some() && is_alike)
+}
+
+// Whether a byte past the chunk is refused. It doesn't rot then.
+fn refuses_rot<S: ReopenedStore>(store: &mut S) -> Result<bool, ReplicaStoreFault>
+    requires { S.under_way store.old ≡ [] }
+    ensures { OnOk result (S.under_way store.new ≡ []) }
+{
+    let past = store.commit(rot(64, 1));
+    store.reopen()?;
+    Ok(past == Err(ReplicaStoreFault::NoRoom))
 }
 
 // Whether a range past the chunk is refused, and an empty one is not.
-fn refuses_past<S: ReplicaStore>(store: &mut S) -> bool
+fn refuses_past<S: ReopenedStore>(store: &mut S) -> bool
     requires { S.under_way store.old ≡ [] }
     ensures { S.under_way store.new ≡ [] }
 {
@@ -148,8 +189,8 @@ fn refuses_past<S: ReplicaStore>(store: &mut S) -> bool
     past == Err(ReplicaStoreFault::NoRoom) && empty == Ok(true)
 }
 
-// Whether it is so once a byte of both is rotten, and both show the same once the first one is opened again.
-fn is_rotten_alike<S: ReplicaStore, T: ReplicaStore>(
+// Whether it is so once a byte of both is rotten, and both show the same once the first one is opened again, and once the byte is back.
+fn is_rotten_alike<S: ReopenedStore, T: ReplicaStore>(
     alloc: Global,
     store: &mut S,
     model: &mut T,
@@ -159,18 +200,20 @@ fn is_rotten_alike<S: ReplicaStore, T: ReplicaStore>(
 {
     let is_alike = rot_alike(alloc, store, model)?;
     let is_shut = is_shut(alloc, store)?;
-    let refuses = refuses_rot(store) && refuses_past(store);
-    store.reopen()?;
-    Ok(is_alike && is_shut && refuses && are_same(alloc, store, model)?)
+    let refuses = refuses_past(store);
+    let refuses_rot = refuses_rot(store)?;
+    let is_same = are_same(alloc, store, model)?;
+    let is_back = is_back_alike(alloc, store, model)?;
+    Ok(is_alike && is_shut && refuses && refuses_rot && is_same && is_back)
 }
 
-fn is_rotten_as_in_memory<S: ReplicaStore>(
+fn is_rotten_as_in_memory<S: ReopenedStore>(
     alloc: Global,
     store: &mut S,
 ) -> Result<bool, ReplicaStoreFault>
     requires { S.under_way store.old ≡ [] }
 {
-    let mut model = MemoryStore::new(alloc, 16);
+    let mut model = MemoryStore::new(alloc, 64, 16, 4);
     let is_alike = is_rotten_alike(alloc, store, &mut model);
     drop(model);
     is_alike
