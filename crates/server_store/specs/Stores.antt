@@ -1,5 +1,5 @@
 -- What a server asks of the store of its replicas, in the words of its disk.
-use Rattle.std.specs.Prelude.{◌≡◌, ◌⊎◌, ⊥, ℕ, ◌<◌, ◌≤◌, Bool, true, List, take, drop, map, Result, IsErrOf}
+use Rattle.std.specs.Prelude.{◌≡◌, ◌⊎◌, ℕ, ◌<◌, ◌≤◌, Bool, true, List, take, drop, map, Result, IsErrOf}
 use Rattle.std.specs.FinMap.{entries}
 use Rattle.messages.specs.declared.message.ReplicaLine.{ReplicaLine}
 use Rattle.replica_store.specs.declared.change.StoreChange.{StoreChange}
