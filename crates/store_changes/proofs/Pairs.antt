@@ -32,7 +32,7 @@ one_block block r n positive =
     let first : from / block ≡ n = ap (λ (k : ℕ). k / block) none ∙ div-mul-add n block 0 (omega (arith, positive)) in
     let at : to - 1 ≡ n * block + (block - 1) = omega (arith, to_is, positive) in
     let last : (to - 1) / block ≡ n = ap (λ (k : ℕ). k / block) at ∙ div-mul-add n block (block - 1) (omega (arith, positive)) in
-    let touched = touched_is block r (from / block) ((to - 1) / block) in
+    let touched = touched_is block r from to in
     let same : blocks_match block r from to ≡ block_matches block r n =
     both_true (blocks_match block r from to) (block_matches block r n)
     (λ is. touched.0 is n (omega (arith, first)) (omega (arith, last)))
