@@ -84,25 +84,6 @@ impl<S: ReplicaStore> Server<S> {
         commit_all(&mut self.store, changes)
     }
 
-    /// Its store, as it is.
-    pub fn into_store(self) -> S
-        ensures disk { S.disk result ≡ self.disk }
-        ensures under_way { S.under_way result ≡ self.under_way }
-    {
-        let Server {
-            config: _,
-            id: _,
-            up: _,
-            clock: _,
-            store,
-            leases: _leases,
-            pushed: _pushed,
-            clones: _clones,
-            alloc: _,
-        } = self;
-        store
-    }
-
     /// A byte of a replica becomes another on the disk, past its digest. After an error that is under way.
     pub fn rot(&mut self, handle: Handle, place: u64, byte: u8) -> Result<(), ReplicaStoreFault>
         requires { self.old.under_way ≡ [] }

@@ -133,6 +133,25 @@ impl<S: ReplicaStore> Server<S> {
         self.alloc
     }
 
+    /// Its store, as it is.
+    pub fn into_store(self) -> S
+        ensures disk { S.disk result ≡ self.disk }
+        ensures under_way { S.under_way result ≡ self.under_way }
+    {
+        let Server {
+            config: _,
+            id: _,
+            up: _,
+            clock: _,
+            store,
+            leases: _leases,
+            pushed: _pushed,
+            clones: _clones,
+            alloc: _,
+        } = self;
+        store
+    }
+
     /// What it knows of a replica.
     pub fn row(&self, handle: Handle) -> Option<Row>
         ensures { result ≡ row_at self.now.disk handle.0 }
