@@ -46,7 +46,7 @@ abbrev pub IsStaleAt : ServerDisk → OrderNo → Type 0
 IsStaleAt d order = IsSameOrLater order.epoch order.count d.epoch d.count
 
 pub stale_later : (d e : ServerDisk) (order : OrderNo) → Later d e → IsStaleAt d order → IsStaleAt e order
-stale_later d e order later stale = then_later (record { block = 0; epoch = order.epoch; count = order.count; replicas = table.empty }) d e stale later
+stale_later d e order later stale = then_later (record { chunk = 0; block = 0; slots = 0; epoch = order.epoch; count = order.count; replicas = table.empty }) d e stale later
 
 pub new_not_stale : (d : ServerDisk) (order : OrderNo) → is_new_order d order.epoch order.count ≡ true → IsStaleAt d order → ⊥
 new_not_stale d order new stale =

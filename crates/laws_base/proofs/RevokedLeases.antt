@@ -115,7 +115,8 @@ module _ (sent : List Message) (n : ℕ) (pairs : ArePaired sent) (disk : Server
           let revoke : SaysRevoke earlier handle version (word.revoke).body = named_revoke word.is key (sym same) in
           let pair = pairs came.1 word.revoke (came.0, came.2) word.is_sent order earlier handle version end_moment members came.4 revoke in
           new_not_stale c.disk order new
-          (then_later (record { block = 0; epoch = order.epoch; count = order.count; replicas = table.empty }) (record { block = 0; epoch = earlier.epoch; count = earlier.count; replicas = table.empty }) c.disk pair.1 h.taken)
+          (then_later (record { chunk = 0; block = 0; slots = 0; epoch = order.epoch; count = order.count; replicas = table.empty })
+          (record { chunk = 0; block = 0; slots = 0; epoch = earlier.epoch; count = earlier.count; replicas = table.empty }) c.disk pair.1 h.taken)
 
   over_extended : (c : ServerCore) (handle : Handle) (end_moment : Moment) (p : SerialOrder) → table.get c.leases handle.0 ≡ Some p → (q v : ℕ) (order : OrderNo) → IsOver sent n c.disk c.leases q v order
       → IsOver sent n c.disk (table.insert c.leases handle.0 (until_moment p end_moment)) q v order

@@ -204,7 +204,7 @@ and_second true b h = h
 and_second false b h = absurd (true≢false (sym h))
 
 next_part : (size i : ℕ) (xs : List ℕ) → take size (drop (i * size) (drop size xs)) ≡ take size (drop (suc i * size) xs)
-next_part size i xs = ap (λ (l : List ℕ). take size l) (drop-drop (i * size) size xs ∙ ap (λ (k : ℕ). drop k xs) (omega (arith, suc-mul i size)))
+next_part size i xs = ap (λ (l : List ℕ). take size l) (drop-drop (i * size) size xs ∙ ap (λ (k : ℕ). drop k xs) (let e : size + i * size ≡ suc i * size = omega (arith, suc-mul i size) in e))
 
 first_part : (size : ℕ) (xs : List ℕ) → take size (drop (0 * size) xs) ≡ take size xs
 first_part size xs = let none : 0 * size ≡ 0 = omega arith in ap (λ (k : ℕ). take size (drop k xs)) none
@@ -261,7 +261,7 @@ module _ (o : Observer) (index handle block : ℕ) where
   chunk_long r = ranged_long (λ place. stored_byte o index handle block r place) 0 (length r.bytes)
 
   byte_at : (r : Replica) (p : ℕ) → p < length r.bytes → get_or (stored_chunk o index handle block r) p 0 ≡ stored_byte o index handle block r p
-  byte_at r p less = ranged_at (λ place. stored_byte o index handle block r place) 0 (length r.bytes) p less ∙ ap (λ place. stored_byte o index handle block r place) (let e : 0 + p ≡ p = omega arith in e)
+  byte_at r p less = ranged_at (λ place. stored_byte o index handle block r place) 0 (length r.bytes) p less ∙ ap (λ (place : ℕ). stored_byte o index handle block r place) (let e : 0 + p ≡ p = omega arith in e)
 
   byte_here : (r : Replica) (p : ℕ) → is_lost block r (p / block) ≡ false → stored_byte o index handle block r p ≡ get_or r.bytes p 0
   byte_here r p is = ap (λ (b : Bool). cond b (get_or (intact_bytes o.intact index handle) p 0) (get_or r.bytes p 0)) is
@@ -309,7 +309,7 @@ module _ (o : Observer) (index handle block : ℕ) where
         (λ p less.
         let low : p < length r.bytes = omega (arith, less, now_long) in
         ranged_at (λ place. stored_byte (with_intact o index handle block r) index handle block r place) 0 (length r.bytes) p low
-        ∙ ap (λ place. stored_byte (with_intact o index handle block r) index handle block r place) (let e : 0 + p ≡ p = omega arith in e)
+        ∙ ap (λ (place : ℕ). stored_byte (with_intact o index handle block r) index handle block r place) (let e : 0 + p ≡ p = omega arith in e)
         ∙ each p low ∙ sym (byte_at r p low))
       where
         now_long : length (stored_chunk (with_intact o index handle block r) index handle block r) ≡ length r.bytes

@@ -13,7 +13,7 @@ ReplicasAreReadAsStored =
     (config : Config) (servers clients : ℕ) (w : WorldState) → IsReached config servers clients w → IsTrue w.observer.are_disks_kept
     → (index : ℕ) (s : ServerState) → element_at w.servers index ≡ Some s → (handle : ℕ) (r : Replica) → replica_of s.disk handle ≡ Some r
     → ((bytes : List ℕ) → read_at s.disk handle 0 r.count ≡ Some bytes → bytes ≡ stored_bytes w.observer index handle s.disk r)
-        × (IsTrue (is_copyable_at s.disk handle) → own_bytes r ≡ stored_bytes w.observer index handle s.disk r)
+    × (IsTrue (is_copyable_at s.disk handle) → own_bytes r ≡ stored_bytes w.observer index handle s.disk r)
 
 -- So is each part: what is read of a range is what was stored there (section 5.2).
 abbrev pub ReadsAreAsStored : Type 0

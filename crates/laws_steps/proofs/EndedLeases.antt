@@ -48,7 +48,8 @@ module _ (w : WorldState) (h : IsOfTimes (scene_of w)) (handle version : ℕ) wh
       let same : index ≡ was.index = server_numbers index was.index (sym to ∙ pair.0 ∙ (was.word).receiver) in
       let over = was.over s (ap (λ (k : ℕ). element_at w.servers k) (sym same) ∙ at) in
       not_true (is_new_order s.disk order.epoch order.count) (λ new. new_not_stale s.disk order new
-      (then_later (record { block = 0; epoch = order.epoch; count = order.count; replicas = table.empty }) (record { block = 0; epoch = (was.order).epoch; count = (was.order).count; replicas = table.empty }) s.disk pair.1 over.taken))
+      (then_later (record { chunk = 0; block = 0; slots = 0; epoch = order.epoch; count = order.count; replicas = table.empty })
+      (record { chunk = 0; block = 0; slots = 0; epoch = (was.order).epoch; count = (was.order).count; replicas = table.empty }) s.disk pair.1 over.taken))
 
   none_held : WasSaidOver w.sent handle version → (index : ℕ) (s : ServerState) (p : SerialOrder) → element_at w.servers index ≡ Some s → table.get s.leases handle ≡ Some p → p.held.version ≡ version → ⊥
   none_held said index s p at is same =

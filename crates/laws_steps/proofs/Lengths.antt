@@ -138,9 +138,9 @@ module _ (size : ℕ) where
   changed_within d (Copy handle copy version) short h =
       becomes_within (λ r. stored_replica d.chunk d.block version.0 0 (own_bytes r)) d copy.0 handle.0 (replica_of d handle.0) refl
       (λ r old.
-          let same = length-own size r old in
-          let most = old.0 in
-          subst (λ (n : ℕ). IsWithinChunk size (stored_replica n d.block version.0 0 (own_bytes r))) (sym h.0) (stored_within size d.block version.0 0 (own_bytes r) (omega (arith, same, most)))) h
+      let same = length-own size r old in
+      let most = old.0 in
+      subst (λ (n : ℕ). IsWithinChunk size (stored_replica n d.block version.0 0 (own_bytes r))) (sym h.0) (stored_within size d.block version.0 0 (own_bytes r) (omega (arith, same, most)))) h
   changed_within d (Remove handle) short h = (h.0, λ k r is. h.1 k r (gone_split d.replicas handle.0 k r is).1)
   changed_within d (Rot handle place byte) short h = becomes_within (λ r. rotten_replica r place byte) d handle.0 handle.0 (replica_of d handle.0) refl (λ r old. rotten_within_chunk size r place byte old) h
 

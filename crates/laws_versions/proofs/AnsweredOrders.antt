@@ -245,7 +245,7 @@ pub stale_refuses : (s : ServerState) (order : OrderNo) → IsStaleAt s.disk ord
 stale_refuses s order stale other lower = refused (is_new_order s.disk other.epoch other.count) refl
   where
     disk_of : OrderNo → ServerDisk
-    disk_of o = record { block = 0; epoch = o.epoch; count = o.count; replicas = table.empty }
+    disk_of o = record { chunk = 0; block = 0; slots = 0; epoch = o.epoch; count = o.count; replicas = table.empty }
 
     refused : (b : Bool) → is_new_order s.disk other.epoch other.count ≡ b → is_new_order s.disk other.epoch other.count ≡ false
     refused false is = is
