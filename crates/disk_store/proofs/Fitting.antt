@@ -1,5 +1,5 @@
 -- A change that can be made is refused for want of room alone, or for a block that doesn't match.
-use Rattle.std.proofs.Common.{◌≡◌, ◌⊎◌, inl, inr, ℕ, ◌+◌, ◌<◌, ◌≤◌, true, false, List, length, refl, sym, ap, ◌∙◌, arith, Option, None, Some, Result, Ok, Err}
+use Rattle.std.proofs.Common.{◌≡◌, ◌⊎◌, inl, inr, ℕ, ◌+◌, ◌<◌, ◌≤◌, true, false, List, length, refl, ap, ◌∙◌, arith, Option, None, Some, Result, Ok, Err}
 use Rattle.std.specs.Prelude.{◌↔◌, ◌≢◌, IsErrAnd, IsErrOf, is_none, is_some, nat_le, nat_lt}
 use Rattle.std.specs.FinMap as map
 use Rattle.std.proofs.lemmas.Bool.{and_parts}
@@ -8,7 +8,7 @@ use Rattle.gfs_types.specs.declared.ids.Handle.{Handle}
 use Rattle.gfs_types.specs.declared.ids.Serial.{Serial}
 use Rattle.gfs_types.specs.declared.ids.Version.{Version}
 use Rattle.replica_store.specs.declared.change.StoreChange.{StoreChange}
-use Rattle.replica_store.specs.declared.change.StoreChange.TheVariants.{Put, Write, Zero, Raise, Copy, Rot}
+use Rattle.replica_store.specs.declared.change.StoreChange.TheVariants.{Put, Write, Zero, Copy, Rot}
 use Rattle.replica_store.specs.declared.row.Row.{Row}
 use Rattle.replica_store.specs.Replicas.{ServerDisk, is_copyable_at, row_at}
 use Rattle.store_changes.specs.Faults.{IsRefused, is_refusal}

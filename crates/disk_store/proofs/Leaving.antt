@@ -1,5 +1,5 @@
 -- The disk that a store hands back.
-use Rattle.std.proofs.Common.{◌≡◌, inl, inr, ℕ, true, List, [], sym, subst}
+use Rattle.std.proofs.Common.{◌≡◌, inl, inr, ℕ, true, List, sym, subst}
 use Rattle.disk.specs.Device.{NoMore}
 use Rattle.disk_redo.specs.GateMoments.{OnlyReads}
 use Rattle.gfs_types.specs.declared.ids.OrderNo.{OrderNo}

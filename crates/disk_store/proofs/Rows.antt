@@ -4,18 +4,15 @@ use Rattle.std.specs.FinMap as map
 use Rattle.std.specs.Cmp.{nat_cmp_total}
 use Rattle.std.specs.Option.{option_map}
 use Rattle.std.specs.Ordering.{eq_by_cmp, nat_cmp}
-use Rattle.std.proofs.lemmas.Bool.{cases_eq, cases_lt}
+use Rattle.std.proofs.lemmas.Bool.{cases_eq}
 use Rattle.std.proofs.lemmas.List.{length-replicate, length-take-le}
-use Rattle.gfs_types.specs.declared.ids.Handle.{Handle}
-use Rattle.messages.specs.declared.message.ReplicaLine.{ReplicaLine}
 use Rattle.replica_store.specs.declared.row.Row.{Row}
 use Rattle.replica_store.specs.Replicas.{Replica, ServerDisk, own_bytes, raised_replica, replica_becomes, replica_of, rotten_replica, row_at, row_of, stored_replica, with_replica, written_replica}
-use Rattle.server_store.specs.Stores.{line_of, replica_lines}
+use Rattle.server_store.specs.Stores.{replica_lines}
 use Rattle.store_disk.specs.Rows.{known_row, listed_as, rows_of}
 use Rattle.store_disk.proofs.Listed.{same_len, same_listed}
 use Rattle.store_disk.proofs.Lookups.{found_elsewhere, found_here, gone_here, kept_elsewhere}
-use Rattle.store_disk.proofs.Looked.{order_stays}
-use Rattle.disk_store.specs.Known.{IsKnownOf, Rows, entry_of, longer_row, raised_row, row_line, rows_with}
+use Rattle.disk_store.specs.Known.{Rows, entry_of, longer_row, raised_row, row_line, rows_with}
 
 module _ (d : ServerDisk) (rows : Rows) (known : (h : ℕ) → map.get rows h ≡ row_at d h) where
   pub insert_known : (h : ℕ) (r : Replica) (row : Row) → row_of (Some r) ≡ Some row → (q : ℕ) → map.get (map.insert rows h row) q ≡ row_at (with_replica d h r) q

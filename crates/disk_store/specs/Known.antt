@@ -1,5 +1,5 @@
 -- What is known of a server's disk without a look at it: the number of the last order, and each replica's row by handle.
-use Rattle.std.specs.Prelude.{◌≡◌, ℕ, ◌+◌, ◌≤◌, max, Bool, true, false, not, ◌&&◌, ◌==◌, nat_le, nat_lt, List, length, Option, None, Some, is_none, is_some}
+use Rattle.std.specs.Prelude.{◌≡◌, ℕ, ◌+◌, ◌≤◌, max, Bool, true, false, not, ◌&&◌, ◌==◌, nat_le, nat_lt, length, Option, None, Some, is_none, is_some}
 use Rattle.std.specs.FinMap as map
 use Rattle.std.specs.Ordering.{nat_cmp}
 use Rattle.gfs_types.specs.declared.ids.Handle.{Handle}

@@ -1,6 +1,5 @@
-use Rattle.std.proofs.Common.{◌≡◌, ap, ◌∙◌}
+use Rattle.std.proofs.Common.{◌≡◌, ◌∙◌}
 use Rattle.std.proofs.lemmas.Result.{IfOk-weaker}
-use Rattle.gfs_types.specs.declared.ids.OrderNo.{OrderNo}
 use Rattle.replica_store.specs.Replicas.{ServerDisk}
 use Rattle.store_disk.specs.Rows.{rows_of}
 use Rattle.disk_store.specs.Known.{IsKnownOf}

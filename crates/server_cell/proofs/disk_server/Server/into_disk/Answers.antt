@@ -1,4 +1,4 @@
-use Rattle.std.proofs.Common.{List, sym, subst}
+use Rattle.std.proofs.Common.{List, subst}
 use Rattle.replica_store.specs.declared.change.StoreChange.{StoreChange}
 use Rattle.replica_store.specs.Replicas.{ServerDisk}
 use Rattle.disk_store.specs.Standing.{LeavesHolding}
