@@ -441,6 +441,13 @@ module _ (o : Observer) (index handle block : ℕ) where
         long : length fresh ≡ 32 * touched block offset stop
         long = digests_long block (touched block offset stop) (drop (offset / block * block) now.bytes)
 
+        placed : offset / block * block + (n - first) * block ≡ n * block
+        placed =
+            let sum : (first + (n - first)) * block ≡ first * block + (n - first) * block = add-mul first (n - first) block in
+            let at : first + (n - first) ≡ n = omega (arith, low) in
+            let product = ap (λ (k : ℕ). k * block) at in
+            omega (arith, sum, product)
+
         digest_is : digest_in n now.digests ≡ sha256 (block_in block n now.bytes)
         digest_is =
             ap (λ (ds : List ℕ). take 32 (drop (n * 32) ds)) (digests_are some)
@@ -448,13 +455,6 @@ module _ (o : Observer) (index handle block : ℕ) where
             ∙ over_part r.digests (32 * first) fresh (fresh_fits some) ((n - first) * 32) 32 (omega (arith, long, low, high))
             ∙ digest_at block (touched block offset stop) (n - first) (drop (offset / block * block) now.bytes) (omega (arith, low, high))
             ∙ ap (λ (l : List ℕ). sha256 (take block l)) (drop-drop ((n - first) * block) (offset / block * block) now.bytes ∙ ap (λ (k : ℕ). drop k now.bytes) placed)
-
-        placed : offset / block * block + (n - first) * block ≡ n * block
-        placed =
-            let sum : (first + (n - first)) * block ≡ first * block + (n - first) * block = add-mul first (n - first) block in
-            let at : first + (n - first) ≡ n = omega (arith, low) in
-            let product = ap (λ (k : ℕ). k * block) at in
-            omega (arith, sum, product)
 
     -- a place that isn't written, in a block that is touched: the block was checked
     edge_matches : offset < stop → (p : ℕ) → (p < offset) ⊎ (stop ≤ p) → first ≤ p / block → p / block ≤ last → block_matches block r (p / block) ≡ true
