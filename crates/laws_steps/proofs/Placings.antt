@@ -123,5 +123,5 @@ mutations_are_placed_by_replicas config servers clients w r index s at moment i 
     there : HasReplicaOf s.disk handle.0 (one.lease).held.version
     there = leases_have_their_replica config servers clients w r index s at handle.0 one.lease one.lease_is
 
-    count : length (there.0).bytes ≡ (one.row).count
+    count : (there.0).count ≡ (one.row).count
     count = row_count (replica_of s.disk handle.0) there.0 one.row there.1 one.there
