@@ -1,6 +1,6 @@
 -- Orders are lawful in each reached world: what is numbered may follow its order, and an entry of an earlier round becomes settled no more.
 use Rattle.std.proofs.Common.{◌≡◌, ◌⊎◌, ℕ, zero, suc, ◌+◌, ◌≤◌, ◌<◌, min, Bool, true, List, [], ◌∷◌, ◌++◌, map, Option, Some, refl, sym, ap, subst, ◌∙◌, inl, inr, arith}
-use Rattle.std.specs.Prelude.{◌==◌, ◌&&◌, ◌||◌, nat_le, take, unwrap_or, not, IsTrue}
+use Rattle.std.specs.Prelude.{◌==◌, ◌&&◌, ◌||◌, nat_le, take, unwrap_or, IsTrue}
 use Rattle.std.specs.List.{AllByRecursion, list_any}
 use Rattle.std.specs.Ordering.{nat_cmp}
 use Rattle.std.specs.FinMap as table
@@ -319,8 +319,8 @@ module _ (config : Config) (servers clients : ℕ) where
               subst (λ (orders : Table (List Placed)). (handle : ℕ) → AreBehind (placed_in orders handle)) (sym (same_orders (observed_moment w.config.skew_ms seen moment) (suc index) (client_call s moment c choice).out.answer))
               (h (were moment (kept_of seen.are_clocks_kept (nat_le seen.greatest (moment + w.config.skew_ms)) w.observer.are_disks_kept twice)));
           rots = λ e index handle s x place byte ending at there up kept.
-              let parts = and_parts w.observer.are_clocks_kept (w.observer.are_disks_kept && not _) kept in
-              h (kept_both w.observer.are_clocks_kept w.observer.are_disks_kept parts.0 (and_parts w.observer.are_disks_kept (not _) parts.1).0);
+              let parts = and_parts w.observer.are_clocks_kept (w.observer.are_disks_kept && _) kept in
+              h (kept_both w.observer.are_clocks_kept w.observer.are_disks_kept parts.0 (and_parts w.observer.are_disks_kept _ parts.1).0);
         }
 
   sound_on : (w : WorldState) (steps : List (Event × Choice)) → IsReached config servers clients w → HasLawfulOrders w → HasLawfulOrders (after_events w steps)
