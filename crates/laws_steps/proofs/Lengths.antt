@@ -9,10 +9,9 @@ use Rattle.gfs_types.specs.declared.mutation.Mutation.TheVariants as mutation
 use Rattle.messages.specs.declared.event.NodeInput.{NodeInput}
 use Rattle.laws_base.proofs.Rots.{rot_config, rot_disk, rot_under_way}
 use Rattle.data_push.specs.Buffers.{PushBuffer}
-use Rattle.replica_store.specs.declared.row.Row.{Row}
 use Rattle.replica_store.specs.declared.change.StoreChange.{StoreChange}
 use Rattle.replica_store.specs.declared.change.StoreChange.TheVariants.{SetOrder, Put, Write, Zero, Raise, Copy, Remove, Rot}
-use Rattle.replica_store.specs.Replicas.{Replica, ServerDisk, new_server_disk, replica_of, with_replica, replica_becomes, stored_replica, written_replica, raised_replica, rotten_replica, filled_to, own_bytes, written_over, disk_changed, disk_changed_by_all, row_of, row_at}
+use Rattle.replica_store.specs.Replicas.{Replica, ServerDisk, new_server_disk, replica_of, with_replica, replica_becomes, stored_replica, written_replica, raised_replica, rotten_replica, filled_to, own_bytes, written_over, disk_changed, disk_changed_by_all}
 use Rattle.protocol.specs.Tables.{element_at, with_at}
 use Rattle.protocol.specs.Choice.{Choice, Ending, Goes, Lost, Stops, decided_changes}
 use Rattle.protocol.specs.Seen.{Taken, no_step}
