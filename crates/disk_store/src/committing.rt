@@ -1,6 +1,6 @@
 //! Changes that a server commits.
 
-ghost use Rattle.std.specs.Prelude.{◌≡◌, ◌⊎◌, true, false, [], ◌∷◌, IfErr, IfOk, None, OnOk, Some};
+ghost use Rattle.std.specs.Prelude.{◌≡◌, ◌⊎◌, true, false, [], ◌∷◌, IfErr, OnOk, Some};
 ghost use Rattle.replica_store.specs.Replicas.{ServerDisk, disk_changed, is_disk_full};
 ghost use Rattle.server_store.specs.declared.fault.ReplicaStoreFault.TheVariants as faults;
 ghost use Rattle.store_changes.specs.declared.fault.StoreFault.TheVariants as making_faults;
@@ -36,7 +36,7 @@ fn writes(change: &StoreChange) -> bool
 
 // Where a change failed: one over a range that can't be written over wasn't begun, each other one may be on its way.
 fn failed(fault: MakeFault, change: StoreChange) -> (ReplicaStoreFault, DiskStoreState)
-    ensures unfit { fault ≡ making_faults.Corrupt → writes change ≡ true → result ≡ (faults.NoRoom, Unread (Some change) None) }
+    ensures unfit { fault ≡ making_faults.Corrupt → writes change ≡ true → result ≡ (faults.NoRoom, Unread (Some change)) }
     ensures begun { (fault ≡ making_faults.Corrupt → writes change ≡ false) → result ≡ (of_change fault, Changing change) }
 {
     let MakeFault::Corrupt = fault else {

@@ -17,7 +17,8 @@ pub(crate) fn touched(block: u64, first: u64, end: u64) -> u64
     requires some { 1 ≤ end }
     ensures { result ≡ touched_value block first end }
 {
-    ((end - 1) / block + 1).saturating_sub(first / block)
+    let behind = (end - 1) / block + 1;
+    behind.saturating_sub(first / block)
 }
 
 /// Whether the block with this number has its digest.
