@@ -61,7 +61,7 @@ applied_reach : (block serial : ℕ) (m : Mutation) (r : Replica) → end_of m �
 applied_reach block serial (Write offset bytes) r = le-max_right r.count (offset + length bytes)
 applied_reach block serial (Append offset bytes) r = le-max_right r.count (offset + length bytes)
 applied_reach block serial (Pad offset end) r =
-    let reach = le-max_right r.count (offset + length (replicate (end - offset) 0)) in
+    let reach = le-max_right r.count (offset + length {A = ℕ} (replicate (end - offset) 0)) in
     let alike = length-alike (end - offset) 0 in
     omega (arith, reach, alike)
 

@@ -55,7 +55,7 @@ use Rattle.laws_replicas.proofs.KeptDisks.{none_more, found_made, take_whole, fr
 use Rattle.laws_replicas.proofs.StoredChunks.{own_stored, rot_chunk_before, rot_chunk_after, same_notes}
 use Rattle.laws_replicas.specs.CopiedEntries.{Follows}
 use Rattle.laws_replicas.proofs.OrdersGrow.{IsAny, same_follows, all_grow, orders_grow}
-use Rattle.laws_replicas.specs.ReplicaImages.{IsImageOf, ReplicasAreImages, SentImagesAreImages}
+use Rattle.laws_replicas.specs.ReplicaImages.{marked, IsImageOf, ReplicasAreImages, SentImagesAreImages}
 use Rattle.laws_replicas.proofs.Images.{Carried, Holds, own_in, AreIn, holds_grown, IsImageSaid, starts_before_end, numbered_there, Leaves, Carries, after}
 use Rattle.laws_base.proofs.Rots.{rot_idle, rot_found, rotten_disk}
 
@@ -111,6 +111,20 @@ noted_good {K} stored now orders s same h =
 pub own_noted : (w v : WorldState) → v.config ≡ w.config → v.observer.intact ≡ w.observer.intact → (index handle : ℕ) (x : Replica) → own_in v index handle x ≡ own_in w index handle x
 own_noted w v config notes index handle x =
     ap (λ (c : Config). own_stored c.block v.observer index handle x) config ∙ ap (λ (bs : List ℕ). take x.count bs) (same_notes w.observer v.observer index handle w.config.block x notes)
+
+-- by the blocks of a disk of a reached world, or that a restart finds
+pub found_stored : (config : Config) (servers clients : ℕ) (w : WorldState) → IsReached config servers clients w → (index : ℕ) (s : ServerState) → element_at w.servers index ≡ Some s
+    → (decided : List Bool) (handle : ℕ) (x : Replica) → own_in w index handle x ≡ stored_bytes w.observer index handle (disk_changed_by_all s.disk (decided_changes decided s.under_way)) x
+found_stored config servers clients w r index s at decided handle x =
+    ap (λ (n : ℕ). own_stored n w.observer index handle x) (sym (all_block s.disk (decided_changes decided s.under_way) ∙ own))
+  where
+    own : s.disk.block ≡ w.config.block
+    own = (servers_within config servers clients w r index s at).block ∙ sym (ap (λ (c : Config). c.block) (settings_stay config servers clients w r))
+
+-- the same bytes are the same image
+pub same_image : (P : List Placed → Type 0) (order : List Placed) (version serial : ℕ) (from to : List ℕ) → from ≡ to → (g : IsImageOf order version serial from) → P (marked g.marks order)
+    → (h : IsImageOf order version serial to) × P (marked h.marks order)
+same_image P order version serial from to same g holds = subst (λ (bs : List ℕ). (h : IsImageOf order version serial bs) × P (marked h.marks order)) same (g, holds)
 
 -- Once a byte of a replica rots in kept disks, as much is stored as before.
 module _ (config : Config) (servers clients : ℕ) (w : WorldState) (r : IsReached config servers clients w) (index handle : ℕ) (s : ServerState) (x : Replica) (place byte : ℕ) (e : Ending) (at : element_at w.servers index ≡ Some s)

@@ -12,10 +12,11 @@ use Rattle.protocol.specs.Tables.{Table, element_at, with_at}
 use Rattle.protocol.specs.Sending.{the_server, server_number}
 use Rattle.protocol.specs.Choice.{Choice, Ending, Goes, Lost, Stops}
 use Rattle.protocol.specs.declared.seen.Seen.{Seen}
-use Rattle.protocol.specs.Observer.{Placed, Observer, observed_moment, observed_call, observed_answer, placed_in, orders_after_all}
+use Rattle.protocol.specs.Observer.{Placed, Observer, observed_moment, observed_call, observed_answer, placed_in, order_of, orders_after_all}
+use Rattle.protocol.specs.StoredBytes.{stored_bytes}
 use Rattle.protocol.specs.ClientStep.{client_at, client_step, client_call}
 use Rattle.protocol.specs.Server.{ServerState}
-use Rattle.protocol.specs.ServerStep.{server_step, server_restarts, server_restart}
+use Rattle.protocol.specs.ServerStep.{found_disk, server_step, server_restarts, server_restart}
 use Rattle.protocol.specs.MasterStep.{master_step, master_restart}
 use Rattle.protocol.specs.World.{WorldState, stamped, IsReached, is_kept, after_rot}
 use Rattle.laws_base.proofs.Steps.{none_some}
@@ -30,11 +31,11 @@ use Rattle.laws_steps.proofs.HeldReplicas.{leases_have_their_replica}
 use Rattle.laws_versions.specs.ClonedVersions.{IsVersionOver}
 use Rattle.laws_versions.proofs.ClonedVersions.{clones_are_of_closed_versions}
 use Rattle.laws_replicas.specs.ReplicaImages.{marked}
-use Rattle.laws_replicas.proofs.Images.{Carried, Carries}
-use Rattle.laws_replicas.proofs.ImagesReached.{Plain}
+use Rattle.laws_replicas.proofs.Images.{Carried, own_in, Carries}
+use Rattle.laws_replicas.proofs.ImagesReached.{Plain, found_stored, same_image}
 use Rattle.laws_replicas.proofs.AckedWords.{IsNoAcked, masters_none, client_none, restarted_none, server_sender}
 use Rattle.laws_replicas.proofs.Acknowledged.{WasCopied, Kept, kept_more, none_more_kept, carried, said_kept, acknowledged_taken}
-use Rattle.laws_replicas.specs.AcknowledgedEntries.{AcknowledgedEntriesAreApplied, PrimariesHaveTheirRound}
+use Rattle.laws_replicas.specs.AcknowledgedEntries.{HasAcknowledged, HasRound, AcknowledgedEntriesAreApplied, PrimariesHaveTheirRound}
 use Rattle.laws_replicas.proofs.AppliedReached.{AppliedBy, ShownBy, AreApplied, Keeps, IsLater, applied_reached}
 use Rattle.laws_replicas.proofs.HeldEntries.{HasRounds, HeldRound, WasGivenTo, rounds_at, held_on, given_on, held_carried, given_carried, master_round, own_round, other_round}
 use Rattle.laws_steps.proofs.Events.{rot_of}
@@ -218,7 +219,8 @@ acknowledged_entries_are_applied config servers clients w r kept index s at choi
     let one = ((joint_reached config servers clients w r kept).each index s at).found choice.decided handle x is in
     elim (one.1.0.0) [
       | inl copied ↦ inl (copied_over config servers clients w r kept handle x.version copied)
-      | inr has ↦ inr (one.0, has)
+      | inr has ↦ inr (same_image (HasAcknowledged w.sent (suc index) handle x.version) (order_of w.observer handle) x.version x.serial (own_in w index handle x)
+          (stored_bytes w.observer index handle (found_disk s choice) x) (found_stored config servers clients w r index s at choice.decided handle x) one.0 has)
     ]
 
 pub primaries_have_their_round : PrimariesHaveTheirRound
@@ -230,6 +232,7 @@ primaries_have_their_round config servers clients w r kept index s at handle p h
       there.2,
       elim (one.1.0.1) [
         | inl copied ↦ inl (copied_over config servers clients w r kept handle there.0.version copied)
-        | inr has ↦ inr (one.0, has s at p held (sym there.2))
+        | inr has ↦ inr (same_image (HasRound (order_of w.observer handle) there.0.version) (order_of w.observer handle) there.0.version there.0.serial (own_in w index handle there.0)
+            (stored_bytes w.observer index handle s.disk there.0) (found_stored config servers clients w r index s at [] handle there.0) one.0 (has s at p held (sym there.2)))
       ],
     )

@@ -136,10 +136,10 @@ pub writable_there : (d : ServerDisk) (handle offset stop : ℕ) (r : Replica) �
 writable_there d handle offset stop r there is = subst (λ (o : Option Replica). writable_in d.block offset stop o ≡ true) there is
 
 -- zeros are so many
-pub writable_zeros : (d : ServerDisk) (handle offset count : ℕ) (r : Replica) → replica_of d handle ≡ Some r → is_writable_at d handle offset (offset + count) ≡ true → is_writable d.block r offset (offset + length (replicate count 0)) ≡ true
+pub writable_zeros : (d : ServerDisk) (handle offset count : ℕ) (r : Replica) → replica_of d handle ≡ Some r → is_writable_at d handle offset (offset + count) ≡ true → is_writable d.block r offset (offset + length {A = ℕ} (replicate count 0)) ≡ true
 writable_zeros d handle offset count r there is = subst (λ (n : ℕ). is_writable d.block r offset (offset + n) ≡ true) (sym (alike_long count)) (writable_there d handle offset (offset + count) r there is)
 
-pub room_of_zeros : (size offset count : ℕ) → offset + count ≤ size → offset + length (replicate count 0) ≤ size
+pub room_of_zeros : (size offset count : ℕ) → offset + count ≤ size → offset + length {A = ℕ} (replicate count 0) ≤ size
 room_of_zeros size offset count fits = let long = alike_long count in omega (arith, long, fits)
 
 -- a pad ends where it says, and one that begins past that writes nothing

@@ -15,8 +15,9 @@ use Rattle.protocol.specs.Sending.{the_server, server_number, handle_of, version
 use Rattle.protocol.specs.Choice.{Choice}
 use Rattle.protocol.specs.declared.seen.Seen.TheVariants.{BecameSettled}
 use Rattle.protocol.specs.Observer.{Placed, observed_moment, order_of}
+use Rattle.protocol.specs.StoredBytes.{stored_bytes}
 use Rattle.protocol.specs.Server.{ServerState, counting_primary}
-use Rattle.protocol.specs.ServerStep.{server_at, server_step}
+use Rattle.protocol.specs.ServerStep.{server_at, found_disk, server_step}
 use Rattle.protocol.specs.World.{WorldState, Happened, stamped, after_server, IsReached, is_kept}
 use Rattle.laws_base.proofs.LeaseOrders.{named_grant, lease_grant, stated_grant}
 use Rattle.laws_base.specs.Laws.{WasGranted, HoldsLastingLease}
@@ -38,6 +39,8 @@ use Rattle.laws_replicas.proofs.Acknowledging.{settled_mutations_were_acknowledg
 use Rattle.laws_replicas.specs.ReplicaImages.{marked, HasEntry}
 use Rattle.laws_replicas.proofs.Marks.{last_element}
 use Rattle.laws_replicas.proofs.Acknowledged.{WasCopied, set_there}
+use Rattle.laws_replicas.proofs.Images.{own_in}
+use Rattle.laws_replicas.proofs.ImagesReached.{found_stored, same_image}
 use Rattle.laws_replicas.proofs.JointRounds.{Joint, joint_reached}
 use Rattle.laws_replicas.specs.AcknowledgedEntries.{IsAtAllMembers, SettledEntriesAreAtAllMembers}
 
@@ -160,7 +163,9 @@ module _ (config : Config) (servers clients : ℕ) (w : WorldState) (r : IsReach
   all_have : IsAtAllMembers v handle version serial
   all_have other u u_there decision x is same =
       let one = ((joint_reached config servers clients v later kept).each other u u_there).found decision.decided handle x is in
-      (one.0, settled_is_among other (marked one.0.marks (order_of v.observer handle)) (subst (λ (n : ℕ). Joint v other handle n (marked one.0.marks (order_of v.observer handle))) same one.1))
+      same_image (λ ps. HasEntry ps version serial) (order_of v.observer handle) x.version x.serial (own_in v other handle x) (stored_bytes v.observer other handle (found_disk u decision) x)
+      (found_stored config servers clients v later other u u_there decision.decided handle x) one.0
+      (settled_is_among other (marked one.0.marks (order_of v.observer handle)) (subst (λ (n : ℕ). Joint v other handle n (marked one.0.marks (order_of v.observer handle))) same one.1))
 
 pub settled_entries_are_at_all_members : SettledEntriesAreAtAllMembers
 settled_entries_are_at_all_members config servers clients w r e choice kept handle version serial now =

@@ -8,6 +8,7 @@ use Rattle.protocol.specs.Tables.{element_at}
 use Rattle.protocol.specs.Sending.{handle_of, version_of, serial_of, the_server}
 use Rattle.protocol.specs.Choice.{Choice}
 use Rattle.protocol.specs.Observer.{Placed, order_of}
+use Rattle.protocol.specs.StoredBytes.{stored_bytes}
 use Rattle.protocol.specs.Server.{ServerState}
 use Rattle.protocol.specs.ServerStep.{found_disk}
 use Rattle.protocol.specs.World.{WorldState, IsReached, is_kept, happens}
@@ -31,7 +32,7 @@ AcknowledgedEntriesAreApplied =
     (config : Config) (servers clients : ℕ) (w : WorldState) → IsReached config servers clients w → IsTrue (is_kept w)
     → (index : ℕ) (s : ServerState) → element_at w.servers index ≡ Some s → (choice : Choice) (handle : ℕ) (r : Replica) → replica_of (found_disk s choice) handle ≡ Some r
     → IsVersionOver w handle r.version
-    ⊎ ((g : IsImageOf (order_of w.observer handle) r.version r.serial r.bytes) × HasAcknowledged w.sent (suc index) handle r.version (marked g.marks (order_of w.observer handle)))
+    ⊎ ((g : IsImageOf (order_of w.observer handle) r.version r.serial (stored_bytes w.observer index handle (found_disk s choice) r)) × HasAcknowledged w.sent (suc index) handle r.version (marked g.marks (order_of w.observer handle)))
 
 -- each entry of this round of the order is among these entries
 abbrev pub HasRound : (order : List Placed) (round : ℕ) → List Placed → Type 0
@@ -44,13 +45,13 @@ PrimariesHaveTheirRound =
     → (index : ℕ) (s : ServerState) → element_at w.servers index ≡ Some s → (handle : ℕ) (p : SerialOrder) → table.get s.leases handle ≡ Some p
     → (r : Replica) × (replica_of s.disk handle ≡ Some r) × (r.version ≡ p.held.version)
     × (IsVersionOver w handle r.version
-    ⊎ ((g : IsImageOf (order_of w.observer handle) r.version r.serial r.bytes) × HasRound (order_of w.observer handle) r.version (marked g.marks (order_of w.observer handle))))
+    ⊎ ((g : IsImageOf (order_of w.observer handle) r.version r.serial (stored_bytes w.observer index handle s.disk r)) × HasRound (order_of w.observer handle) r.version (marked g.marks (order_of w.observer handle))))
 
 -- In this world each replica of this version of the chunk has applied the entry of this serial: on the disk of a server, and as a restart finds it, however the change under way is decided.
 abbrev pub IsAtAllMembers : WorldState → (handle version serial : ℕ) → Type 0
 IsAtAllMembers w handle version serial =
     (index : ℕ) (s : ServerState) → element_at w.servers index ≡ Some s → (choice : Choice) (r : Replica) → replica_of (found_disk s choice) handle ≡ Some r → r.version ≡ version
-    → (g : IsImageOf (order_of w.observer handle) r.version r.serial r.bytes) × HasEntry (marked g.marks (order_of w.observer handle)) version serial
+    → (g : IsImageOf (order_of w.observer handle) r.version r.serial (stored_bytes w.observer index handle (found_disk s choice) r)) × HasEntry (marked g.marks (order_of w.observer handle)) version serial
 
 -- Where clocks and disks are kept: as an entry becomes settled, every replica of its round has applied it (sections 2.7.1 and 3.1).
 abbrev pub SettledEntriesAreAtAllMembers : Type 0
