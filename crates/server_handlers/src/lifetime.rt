@@ -90,11 +90,15 @@ impl<S: ReplicaStore> Server<S> {
         ensures ok { OnOk result (self.new ≡ record self.old { disk = disk_changed self.old.disk (Rot handle place byte) }) }
         ensures err { OnErr result (self.new ≡ record self.old { under_way = Rot handle place byte ∷ [] }) }
     {
-        self.store.commit(StoreChange::Rot {
+        let change = StoreChange::Rot {
             handle,
             place,
             byte,
-        })
+        };
+        match self.store.commit(change) {
+            Ok(()) => Ok(()),
+            Err(fault) => Err(fault),
+        }
     }
 }
 

@@ -8,7 +8,7 @@ use Rattle.disk_store.proofs.disk_store.known_or_disk.Goals as goal
 pub invariant_of-result : goal.invariant_of-result
 invariant_of-result g c =
     let disk = g.D.Disk in
-    let some = c.requires in
+    let some = c.requires.kept in
     let kept = opened_kept disk.seen disk.may_leave c.args.store c.in-Ok.known.order c.in-Ok.known.rows some.0 (c.in-Ok.ensures some.0 some.1) some.1 in
     (subst (λ e. IsKept disk.seen disk.may_leave c.args.store c.in-Ok.known.order c.in-Ok.known.rows e Open) (says_one disk.seen disk.may_leave c.args.store some.0 some.1) kept, tt)
 

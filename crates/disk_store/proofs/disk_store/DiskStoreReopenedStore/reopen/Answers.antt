@@ -4,16 +4,16 @@ use Rattle.server_store.specs.Stores.{IsFound}
 use Rattle.server_store.specs.declared.fault.ReplicaStoreFault.{ReplicaStoreFault}
 use Rattle.server_store.specs.declared.fault.ReplicaStoreFault.TheVariants.{DiskFailed}
 use Rattle.chunk_store.specs.Stores.{StoreState}
-use Rattle.disk_store.specs.Standing.{DiskStoreView, IsKept, IsRemembered, changes_of, closed, disk_said, is_standing_open}
+use Rattle.disk_store.specs.Standing.{DiskStoreView, IsKept, IsRemembered, changes_of, closed, disk_said, is_standing_open, remembered}
 use Rattle.disk_store.specs.declared.standing.DiskStoreState.TheVariants.{Open}
 use Rattle.disk_store.proofs.Commits.{left_remembered, left_said, now_said}
 use Rattle.disk_store.proofs.Keeping.{as_said, closed_is, closed_kept, closed_not_open}
 use Rattle.disk_store.proofs.disk_store.DiskStoreReopenedStore.reopen.Goals as goal
 
 pub open_again-requires : goal.open_again-requires
-open_again-requires g c e =
+open_again-requires g c =
     let is = c.closed-standing.ensures ∙ ap closed c.replace.ensures.value in
-    closed_not_open c.self.inside.standing (sym is ∙ e)
+    record { not_open = λ e. closed_not_open c.self.inside.standing (sym is ∙ e) }
 
 pub invariant_of-self : goal.invariant_of-self
 invariant_of-self g c =
@@ -66,7 +66,8 @@ invariant_of-self-in-Err g c =
     let kept = as_said disk.seen disk.may_leave was.store was.known.order was.known.rows said said (closed was.standing) c.closed-standing.result refl is (closed_kept disk.seen disk.may_leave was.store was.known.order was.known.rows said was.standing c.self.invariant.0) in
     let left = c.closed-standing.result in
     let other : left ≡ Open → ⊥ = λ e. closed_not_open was.standing (sym is ∙ e) in
-    let items = c.remembered-self-inside.ensures in
+    let items : c.remembered-self-inside.result.items ≡ remembered was.standing was.store was.before.items =
+    c.remembered-self-inside.ensures ∙ ap (remembered was.standing was.store) (λ i. (c.replace-before.ensures.value i).items) in
     let here = ap (λ (b : List (StoreState _)). disk_said disk.seen c.open_again.new.store b left) items ∙ left_said disk.seen was.store c.open_again.new.store was.before.items was.standing left c.self.invariant.1 other in (
       subst (λ (e : ServerDisk). IsKept disk.seen disk.may_leave c.open_again.new.store was.known.order was.known.rows e left) (sym here) (c.in-Err.ensures.err was.known.order was.known.rows said kept),
       subst (λ (b : List (StoreState _)). IsRemembered b left) (sym items) (left_remembered disk.seen was.store c.open_again.new.store was.before.items was.standing left c.self.invariant.1),
@@ -78,7 +79,9 @@ returns-in-Err-clause-err g c =
     let disk = g.D.Disk in
     let is = c.closed-standing.ensures ∙ ap closed c.replace.ensures.value in
     let left = c.closed-standing.result in
-    ap (λ (b : List (StoreState _)). disk_said disk.seen c.open_again.new.store b left) c.remembered-self-inside.ensures
+    let items : c.remembered-self-inside.result.items ≡ remembered was.standing was.store was.before.items =
+    c.remembered-self-inside.ensures ∙ ap (remembered was.standing was.store) (λ i. (c.replace-before.ensures.value i).items) in
+    ap (λ (b : List (StoreState _)). disk_said disk.seen c.open_again.new.store b left) items
     ∙ left_said disk.seen was.store c.open_again.new.store was.before.items was.standing left c.self.invariant.1 (λ e. closed_not_open was.standing (sym is ∙ e))
     ∙ ap (λ (s : DiskStoreView). s.disk) c.self.view_is
 

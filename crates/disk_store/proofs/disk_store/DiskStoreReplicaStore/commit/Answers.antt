@@ -2,14 +2,12 @@ use Rattle.std.proofs.Common.{◌≡◌, refl, sym, ap, ◌∙◌, subst, List}
 use Rattle.replica_store.specs.Replicas.{ServerDisk, disk_changed}
 use Rattle.server_store.specs.declared.fault.ReplicaStoreFault.TheVariants.{Damaged, DiskFailed}
 use Rattle.chunk_store.specs.Stores.{StoreState}
-use Rattle.disk_store.specs.Standing.{DiskStoreView, IsKept, IsRemembered, changes_of, disk_said, is_standing_open}
+use Rattle.disk_store.specs.Standing.{DiskStoreView, IsKept, IsRemembered, changes_of, disk_said, is_standing_open, remembered}
 use Rattle.disk_store.specs.declared.standing.DiskStoreState.TheVariants.{Open}
 use Rattle.disk_store.proofs.Commits.{left_remembered, left_said, now_said, under_way_closed}
 use Rattle.disk_store.proofs.Keeping.{as_said}
 use Rattle.disk_store.proofs.Causes.{opened_standing}
 use Rattle.disk_store.proofs.disk_store.DiskStoreReplicaStore.commit.Goals as goal
-
--- `c.remembered-self-inside` remembers the store, and `c.replace-standing` takes the standing; their names are guesses.
 
 pub commit-requires-clause-kept : goal.commit-requires-clause-kept
 commit-requires-clause-kept g c =
@@ -58,7 +56,8 @@ invariant_of-self-in-Err g c =
     let kept = as_said disk.seen disk.may_leave was.store was.known.order was.known.rows said said was.standing c.replace-standing.result refl c.replace-standing.ensures.value c.self.invariant.0 in
     let left = c.in-Err.standing in
     let closed = under_way_closed left c.args.change c.in-Err.ensures.open in
-    let items = c.remembered-self-inside.ensures in
+    let items : c.remembered-self-inside.result.items ≡ remembered was.standing was.store was.before.items =
+    c.remembered-self-inside.ensures ∙ ap (remembered was.standing was.store) (λ i. (c.replace-before.ensures.value i).items) in
     let here = ap (λ (b : List (StoreState _)). disk_said disk.seen c.commit.new.store b left) items ∙ left_said disk.seen was.store c.commit.new.store was.before.items was.standing left c.self.invariant.1 closed in (
       subst (λ (e : ServerDisk). IsKept disk.seen disk.may_leave c.commit.new.store c.commit.new.known.order c.commit.new.known.rows e left) (sym here) (c.in-Err.ensures.err said kept),
       subst (λ (b : List (StoreState _)). IsRemembered b left) (sym items) (left_remembered disk.seen was.store c.commit.new.store was.before.items was.standing left c.self.invariant.1),
@@ -69,7 +68,9 @@ returns-in-Err-clause-err g c =
     let was = c.self.inside in
     let disk = g.D.Disk in
     let left = c.in-Err.standing in
-    ap (λ (b : List (StoreState _)). disk_said disk.seen c.commit.new.store b left) c.remembered-self-inside.ensures
+    let items : c.remembered-self-inside.result.items ≡ remembered was.standing was.store was.before.items =
+    c.remembered-self-inside.ensures ∙ ap (remembered was.standing was.store) (λ i. (c.replace-before.ensures.value i).items) in
+    ap (λ (b : List (StoreState _)). disk_said disk.seen c.commit.new.store b left) items
     ∙ left_said disk.seen was.store c.commit.new.store was.before.items was.standing left c.self.invariant.1 (under_way_closed left c.args.change c.in-Err.ensures.open)
     ∙ ap (λ (s : DiskStoreView). s.disk) c.self.view_is
 
