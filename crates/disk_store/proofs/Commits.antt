@@ -70,12 +70,12 @@ now_said seen may_leave store order rows d before kept = sym (says_one seen may_
 -- how the store was is remembered, where it isn't open any more
 module _ {D : Type 0} (seen : D → List ℕ) (store new : StoreState D) (before : List (StoreState D)) where
   of_before : (one two : DiskStoreState) (b : List (StoreState D)) → IsRemembered b one → (one ≡ Open → ⊥) → (two ≡ Open → ⊥) → disk_said seen new b two ≡ disk_said seen store b one
-  of_before Open two b was no other = absurd (no refl)
-  of_before one Open b was no other = absurd (other refl)
-  of_before (Unread x) (Unread y) b was no other = ap (λ (l : List (StoreState D)). disk_said seen new l (Unread y)) was.1 ∙ sym (ap (λ (l : List (StoreState D)). disk_said seen store l (Unread x)) was.1)
-  of_before (Unread x) (Changing y) b was no other = ap (λ (l : List (StoreState D)). disk_said seen new l (Changing y)) was.1 ∙ sym (ap (λ (l : List (StoreState D)). disk_said seen store l (Unread x)) was.1)
-  of_before (Changing x) (Unread y) b was no other = ap (λ (l : List (StoreState D)). disk_said seen new l (Unread y)) was.1 ∙ sym (ap (λ (l : List (StoreState D)). disk_said seen store l (Changing x)) was.1)
-  of_before (Changing x) (Changing y) b was no other = ap (λ (l : List (StoreState D)). disk_said seen new l (Changing y)) was.1 ∙ sym (ap (λ (l : List (StoreState D)). disk_said seen store l (Changing x)) was.1)
+  of_before Open two b was shut closed = absurd (shut refl)
+  of_before one Open b was shut closed = absurd (closed refl)
+  of_before (Unread x) (Unread y) b was shut closed = ap (λ (l : List (StoreState D)). disk_said seen new l (Unread y)) was.1 ∙ sym (ap (λ (l : List (StoreState D)). disk_said seen store l (Unread x)) was.1)
+  of_before (Unread x) (Changing y) b was shut closed = ap (λ (l : List (StoreState D)). disk_said seen new l (Changing y)) was.1 ∙ sym (ap (λ (l : List (StoreState D)). disk_said seen store l (Unread x)) was.1)
+  of_before (Changing x) (Unread y) b was shut closed = ap (λ (l : List (StoreState D)). disk_said seen new l (Unread y)) was.1 ∙ sym (ap (λ (l : List (StoreState D)). disk_said seen store l (Changing x)) was.1)
+  of_before (Changing x) (Changing y) b was shut closed = ap (λ (l : List (StoreState D)). disk_said seen new l (Changing y)) was.1 ∙ sym (ap (λ (l : List (StoreState D)). disk_said seen store l (Changing x)) was.1)
 
   -- whatever is under way then
   pub left_said : (standing other : DiskStoreState) → IsRemembered before standing → (other ≡ Open → ⊥) → disk_said seen new (remembered standing store before) other ≡ disk_said seen store before standing

@@ -255,16 +255,15 @@ impl<D: StoppableDisk> ReopenedStore for DiskStore<D> {
         let before = mem::replace(&mut self.before, GhostList::new());
         self.before = remembered(&self.standing, &self.store, before);
         let standing = closed(mem::replace(&mut self.standing, DiskStoreState::Open));
-        match open_again(self.alloc, &mut self.store, &standing) {
-            Ok(known) => {
-                self.known = known;
-                Ok(())
-            }
+        let known = match open_again(self.alloc, &mut self.store, &standing) {
+            Ok(known) => known,
             Err(fault) => {
                 self.standing = standing;
-                Err(fault)
+                return Err(fault);
             }
-        }
+        };
+        self.known = known;
+        Ok(())
     }
 }
 

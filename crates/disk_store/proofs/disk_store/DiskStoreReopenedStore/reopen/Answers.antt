@@ -15,8 +15,8 @@ open_again-requires g c =
     let is = c.closed-standing.ensures ∙ ap closed c.replace.ensures.value in
     record { not_open = λ e. closed_not_open c.self.inside.standing (sym is ∙ e) }
 
-pub invariant_of-self : goal.invariant_of-self
-invariant_of-self g c =
+pub invariant_of-self-2 : goal.invariant_of-self-2
+invariant_of-self-2 g c =
     let was = c.self.inside in
     let disk = g.D.Disk in
     let said : ServerDisk = disk_said disk.seen was.store was.before.items was.standing in
@@ -34,8 +34,8 @@ invariant_of-self g c =
       subst (IsRemembered items) (sym c.replace.ensures.after) tt,
     )
 
-pub returns-in-Ok-clause-disk : goal.returns-in-Ok-clause-disk
-returns-in-Ok-clause-disk g c =
+pub returns-clause-disk : goal.returns-clause-disk
+returns-clause-disk g c =
     let was = c.self.inside in
     let disk = g.D.Disk in
     let said : ServerDisk = disk_said disk.seen was.store was.before.items was.standing in
@@ -51,14 +51,14 @@ returns-in-Ok-clause-disk g c =
       | inr found ↦ inr (now (disk_changed_by_all said (changes_of c.closed-standing.result)) found ∙ ap (disk_changed_by_all said) (ap changes_of is ∙ closed_is was.standing))
     ])
 
-pub returns-in-Ok-clause-nothing : goal.returns-in-Ok-clause-nothing
-returns-in-Ok-clause-nothing g c = ap changes_of c.replace.ensures.after
+pub returns-clause-nothing : goal.returns-clause-nothing
+returns-clause-nothing g c = ap changes_of c.replace.ensures.after
 
-pub returns-in-Ok-clause-opened : goal.returns-in-Ok-clause-opened
-returns-in-Ok-clause-opened g c = ap is_standing_open c.replace.ensures.after
+pub returns-clause-opened : goal.returns-clause-opened
+returns-clause-opened g c = ap is_standing_open c.replace.ensures.after
 
-pub invariant_of-self-in-Err : goal.invariant_of-self-in-Err
-invariant_of-self-in-Err g c =
+pub invariant_of-self : goal.invariant_of-self
+invariant_of-self g c =
     let was = c.self.inside in
     let disk = g.D.Disk in
     let said : ServerDisk = disk_said disk.seen was.store was.before.items was.standing in
