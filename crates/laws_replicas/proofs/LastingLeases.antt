@@ -10,6 +10,7 @@ use Rattle.messages.specs.declared.message.Message.{Message}
 use Rattle.protocol.specs.Tables.{element_at, first_numbers, has_number}
 use Rattle.protocol.specs.Sending.{server_number, handle_of, version_of}
 use Rattle.protocol.specs.Observer.{Placed, order_of}
+use Rattle.protocol.specs.StoredBytes.{stored_bytes}
 use Rattle.protocol.specs.World.{WorldState, IsReached, is_kept}
 use Rattle.laws_base.proofs.LeaseOrders.{SaysGrant, says_grant, stated_grant}
 use Rattle.laws_base.specs.Laws.{is_grant, grants_of}
@@ -166,7 +167,7 @@ primaries_have_their_serial config servers clients w r kept index s at handle p 
       round.2,
       elim (round.3) [
         | inl over ↦ absurd (over.lease.held index p (s, at, held, less) (sym round.2))
-        | inr has ↦ same_serial (order_of w.observer handle) (round.0).version (round.0).serial p.serial (round.0).bytes has.0 has.1
+        | inr has ↦ same_serial (order_of w.observer handle) (round.0).version (round.0).serial p.serial (stored_bytes w.observer index handle s.disk round.0) has.0 has.1
             (ap (λ (n : ℕ). serials_of n (order_of w.observer handle)) round.2 ∙ leases_count_their_serials config servers clients w r index s at handle p held)
       ],
     )
