@@ -1,3 +1,2 @@
 pub mod Lent
 pub mod Matching
-pub mod Renewed
