@@ -38,10 +38,10 @@ use Rattle.laws_steps.proofs.Lengths.{all_taken, IsShort, goes_short, length-own
 use Rattle.laws_steps.proofs.HeldReplicas.{IsNumber, numbers_quiet, changed_last}
 use Rattle.laws_steps.proofs.LeasesStayOver.{reached_later}
 use Rattle.laws_entries.proofs.CountedRounds.{set_split}
-use Rattle.laws_replicas.specs.StoredChanges.{ReplicasAreReadAsStored, ReadsAreAsStored}
+use Rattle.laws_replicas.specs.StoredChanges.{ReplicasAreReadAsStored, ReadsAreAsStored, PutsAreStored, WritesAreStored, RotLeavesWhatWasStored}
 use Rattle.laws_steps.proofs.Events.{HoldsExactly, holds_exactly, rot_of}
 use Rattle.laws_replicas.proofs.StoreCauses.{IsNumbered, IsStoredFor, AreMade, AreMadeOn, step_made}
-use Rattle.laws_replicas.proofs.StoredChunks.{alike_long, IsSound, put_sound, written_sound, raised_sound, before_sound, rotten_sound, noted_sound, apart_chunk, same_notes, stored_long, read_whole, read_part}
+use Rattle.laws_replicas.proofs.StoredChunks.{alike_long, IsSound, put_sound, put_stored, written_sound, written_stored, raised_sound, before_sound, rotten_sound, noted_sound, apart_chunk, same_notes, stored_long, read_whole, read_part, rot_chunk_after}
 
 -- lists of changes
 
@@ -493,3 +493,16 @@ replicas_are_read_as_stored config servers clients w r kept index s at handle x 
 
     reads : (bytes : List ℕ) → read_at s.disk handle 0 x.count ≡ Some bytes → bytes ≡ stored_bytes w.observer index handle s.disk x
     reads bytes is = by_test (is_readable s.disk.block x 0 x.count) bytes refl (subst (λ (o : Option Replica). read_from s.disk.block 0 x.count o ≡ Some bytes) there is)
+
+pub puts_are_stored : PutsAreStored
+puts_are_stored o index handle d version serial bytes short = put_stored d.chunk d.block o index handle version serial bytes short
+
+pub writes_are_stored : WritesAreStored
+writes_are_stored config servers clients w r kept index s at handle x there serial offset bytes fits can =
+    written_stored s.disk.chunk s.disk.block w.observer index handle x (sound_reached config servers clients w r kept index s at handle x there) serial offset bytes fits can
+
+pub rot_leaves_what_was_stored : RotLeavesWhatWasStored
+rot_leaves_what_was_stored o index handle d r place byte kept =
+    ap (λ (bs : List ℕ). take r.count bs)
+    (rot_chunk_after o index handle d.block r (rotten_replica r place byte)
+    (and_parts o.are_disks_kept (bytes_eq (stored_chunk (with_intact o index handle d.block r) index handle d.block (rotten_replica r place byte)) (stored_chunk o index handle d.block r)) kept).1)
