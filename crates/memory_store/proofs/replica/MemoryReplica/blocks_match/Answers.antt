@@ -25,6 +25,6 @@ loop-done-preserved c =
     let next = goes_on test first count done c.loop-done.matches whole c.loop-done.invariant c.loop-done-test.true number one at c.in_ok-is_same.ensures.value in
     let now : c.if-matches.matches ≡ (c.loop-done.matches && one) = elim c.if-matches.branch [
       | then-matches w ↦ w.matches-is ∙ ap (λ b. b && one) (sym w.if-matches.true)
-      | else-matches w ↦ w.matches-is ∙ ap (λ b. b && one) (sym w.if-matches.false)
+      | else-matches w ↦ w.matches-is ∙ w.if-matches.false ∙ ap (λ b. b && one) (sym w.if-matches.false)
     ] in
     ap (λ b. b && not (list_any (λ k. not (test k)) (range_with_len (first + (done + 1)) (count - (done + 1))))) now ∙ next
