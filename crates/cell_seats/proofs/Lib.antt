@@ -11,3 +11,4 @@ pub mod ParkedSeats
 pub mod Flags
 pub mod GoingOver
 pub mod EarlierJournals
+pub mod AnswerKinds

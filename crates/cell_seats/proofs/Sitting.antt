@@ -2,16 +2,19 @@
 use Rattle.std.proofs.Common.{◌≡◌, ℕ, Bool, true, false, List, [], ◌∷◌, ◌++◌, length, Option, Some, None, refl, sym, ap, subst, ◌∙◌, inl, inr, append_assoc}
 use Rattle.std.specs.Prelude.{Result, Ok, Err, IfOk, IfErr, IfSome, IsTrue, All}
 use Rattle.std.specs.List.{flat_map}
+use Rattle.std.proofs.lemmas.Bool.{true≢false}
 use Rattle.std.proofs.lemmas.List.{append-nil}
 use Rattle.std.proofs.lemmas.List.Elements.{All-head, All-tail, All-weaker}
 use mathlib.Core.List.{IsPrefix}
 use Rattle.gfs_types.specs.declared.answer.Answer.{Answer}
+use Rattle.gfs_types.specs.declared.answer.Answer.TheVariants.{Refused}
 use Rattle.gfs_types.specs.declared.call.Call.{Call}
 use Rattle.gfs_types.specs.Settings.{first_out_of_range}
 use Rattle.gfs_types.specs.declared.ids.Node.{Node}
 use Rattle.gfs_types.specs.declared.refusal.Refusal.{Refusal}
 use Rattle.protocol_journal.specs.Journal.{Entry, own}
 use Rattle.journal_headline.specs.Journals.{AreExplained}
+use Rattle.journal_headline.specs.AnswerKinds.{is_value_of, IsAnswerTo}
 use Rattle.journal_headline.proofs.Explained.{journals_are_explained}
 use Rattle.cell_journal.specs.Log.{Listed}
 use Rattle.cell_journal.proofs.Begins.{prefix_self, prefix_trans}
@@ -20,10 +23,11 @@ use Rattle.cell_journal.specs.Identity.{Identity}
 use Rattle.cell_journal.specs.declared.view.View.{View}
 use Rattle.laws_rebase.proofs.CutJournals.{own_whole, whole_prefix}
 use Rattle.cell_journal.specs.WholeHistories.{history_of, all_seen, steps_of, all_steps, is_retired, IsHistoryOf}
+use Rattle.cell_seats.proofs.AnswerKinds.{answer_kind}
 use Rattle.cell_seats.proofs.Shown.{visible_steps, answered_more}
 use Rattle.cell_seats.specs.declared.client_call.CallFault.{CallFault}
 use Rattle.cell_seats.specs.Seen.{Visible, Asked, Answered, visible_of, answered_only, IsFurther, HasSeen, Waits, StaysUnanswered}
-use Rattle.cell_seats.specs.Seats.{SeatState, seat_state, shown, is_some, is_the_cells, IsLeft, IsUnanswered, IsGone, IsSeat, IsAnswered, IsLost, Fails, AnswersSo, Loses, is_value_of, refusal_in, IsRefusal}
+use Rattle.cell_seats.specs.Seats.{SeatState, seat_state, shown, is_some, is_the_cells, IsLeft, IsUnanswered, IsGone, IsSeat, IsAnswered, IsLost, Fails, AnswersSo, Loses, refusal_in, IsRefusal}
 
 -- a lawful history in which clocks were kept, of a cell whose settings are in their ranges
 pub explains : (cell : Identity) (entries : List Entry) → first_out_of_range cell.config ≡ None → IsHistoryOf cell entries → IsTrue (are_clocks_kept cell entries) → AreExplained cell.config entries
@@ -197,9 +201,17 @@ sits_still n m earlier v w was count lost waits refusal call fault same none sea
   gone = all_gone v w was.items earlier further seat.gone;
 }
 
-pub loses : (n m : Node) (earlier : List Node) (v w : View) (was : Listed Entry) (lost : Option Refusal) (waits stands : Bool) (refusal : Refusal) → m ≡ n → IsFurther v w → IsTrue (is_the_cells refusal)
-    → IsLost (seat_state n earlier v.of was.items (is_some lost) waits) (seat_state m earlier w.of was.items true stands) refusal
-loses n m earlier v w was lost waits stands refusal same further of_it = record { node = same; cell = further.of; seen = refl; earlier = refl; lost = refl; refused = of_it }
+pub loses : (n m : Node) (earlier : List Node) (v w : View) (was : Listed Entry) (lost : Option Refusal) (waits stands : Bool) (refusal : Refusal) → m ≡ n → lost ≡ None → IsFurther v w
+    → IsTrue (is_the_cells refusal) → IsLost (seat_state n earlier v.of was.items (is_some lost) waits) (seat_state m earlier w.of was.items true stands) refusal
+loses n m earlier v w was lost waits stands refusal same none further of_it = record {
+  node = same;
+  cell = further.of;
+  seen = refl;
+  earlier = refl;
+  lost = refl;
+  refused = of_it;
+  again = λ was_lost. absurd (true≢false (sym was_lost ∙ ap is_some none));
+}
 
 -- one that was refused before is refused again
 pub still_lost : (s : SeatState) (lost : Option Refusal) (refusal : Refusal) → lost ≡ Some refusal → s.is_lost ≡ is_some lost → IfSome lost (λ r. IsTrue (is_the_cells r)) → IsLost s s refusal
@@ -211,6 +223,7 @@ still_lost s (Some r) refusal is same h = record {
   earlier = refl;
   lost = same;
   refused = subst (λ (x : Refusal). IsTrue (is_the_cells x)) (let both : Some r ≡ Some refusal = is in cc) h;
+  again = λ was_lost. refl;
 }
 
 -- what a call was answered
@@ -219,9 +232,17 @@ pub answers : {X : Type 0} (r : Result Answer Refusal) (found : Result X Refusal
 answers r (Ok x) old new call reply h is = subst (λ (a : Result Answer Refusal). IfOk a (λ b. IsAnswered old new call b)) is h
 answers r (Err e) old new call reply h is = tt
 
+-- an answer that is not what the call asks for is its refusal
+refused_so : (old new : SeatState) (asked : Call) (reply : Answer) (refusal : Refusal) → IsAnswered old new asked reply → is_value_of asked reply ≡ false → refusal_in reply ≡ refusal
+    → IsAnswerTo asked reply → IsAnswered old new asked (Refused refusal)
+refused_so old new asked reply refusal answered_so other is (inl value) = absurd (true≢false (sym value ∙ other))
+refused_so old new asked reply refusal answered_so other is (inr (found, same)) =
+    subst (IsAnswered old new asked) (same ∙ ap (λ (r : Refusal). Refused r) (sym (ap refusal_in same) ∙ is)) answered_so
+
 fails_with : (is_value : Answer → Bool) (r : Result Answer Refusal) (refusal : Refusal) (old new : SeatState) (asked : Call) → is_value_of asked ≡ is_value → IfOk r (λ a. IsAnswered old new asked a)
     → IfErr r (λ own_one. IsLost old new own_one) → IsRefusal is_value r refusal → Fails old new asked refusal
-fails_with is_value (Ok a) refusal old new asked kind answered_so lost is = AnswersSo a answered_so (ap (λ (f : Answer → Bool). f a) kind ∙ is.0) is.1
+fails_with is_value (Ok a) refusal old new asked kind answered_so lost is =
+    AnswersSo (refused_so old new asked a refusal answered_so (ap (λ (f : Answer → Bool). f a) kind ∙ is.0) is.1 (answer_kind old new asked a answered_so))
 fails_with is_value (Err e) refusal old new asked kind answered_so lost is = Loses (subst (IsLost old new) is lost)
 
 pub fails : {X : Type 0} (is_value : Answer → Bool) (r : Result Answer Refusal) (found : Result X Refusal) (old new : SeatState) (asked : Call) → is_value_of asked ≡ is_value

@@ -5,7 +5,6 @@ use mathlib.Core.List.{IsPrefix}
 use Rattle.gfs_types.specs.declared.answer.Answer.{Answer}
 use Rattle.gfs_types.specs.declared.answer.Answer.TheVariants as answer
 use Rattle.gfs_types.specs.declared.call.Call.{Call}
-use Rattle.gfs_types.specs.declared.call.Call.TheVariants as calls
 use Rattle.gfs_types.specs.declared.ids.Node.{Node}
 use Rattle.gfs_types.specs.Settings.{first_out_of_range}
 use Rattle.gfs_types.specs.declared.refusal.Refusal.{Refusal}
@@ -92,7 +91,7 @@ pub record IsAnswered (old new : SeatState) (call : Call) (reply : Answer) : Typ
   pub still_open : new.is_lost ≡ false
   pub earlier : new.earlier ≡ old.earlier
 
--- The cell itself refused the call, and refuses all later ones. The client has seen no more than before.
+-- The cell itself refused the call, and refuses all later ones, by which nothing changes. The client has seen no more than before.
 pub record IsLost (old new : SeatState) (refusal : Refusal) : Type 0 where
   pub node : new.node ≡ old.node
   pub cell : new.cell ≡ old.cell
@@ -100,48 +99,15 @@ pub record IsLost (old new : SeatState) (refusal : Refusal) : Type 0 where
   pub earlier : new.earlier ≡ old.earlier
   pub lost : new.is_lost ≡ true
   pub refused : IsTrue (is_the_cells refusal)
+  pub again : old.is_lost ≡ true → new ≡ old
 
 abbrev pub refusal_in : Answer → Refusal
 refusal_in (answer.Refused refusal) = refusal
 refusal_in other = Unknown
 
--- what is answered where a call was done, by kinds of calls
-abbrev pub is_done : Answer → Bool
-is_done answer.Done = true
-is_done other = false
-
-abbrev pub is_descriptor : Answer → Bool
-is_descriptor (answer.Fd fd) = true
-is_descriptor other = false
-
-abbrev pub is_names : Answer → Bool
-is_names (answer.Names names) = true
-is_names other = false
-
-abbrev pub is_length : Answer → Bool
-is_length (answer.Length count) = true
-is_length other = false
-
-abbrev pub is_offset : Answer → Bool
-is_offset (answer.At offset) = true
-is_offset other = false
-
-abbrev pub is_bytes : Answer → Bool
-is_bytes (answer.Bytes bytes rounds) = true
-is_bytes other = false
-
--- whether an answer says that this call was done
-abbrev pub is_value_of : Call → Answer → Bool
-is_value_of (calls.Open path) = is_descriptor
-is_value_of (calls.List path) = is_names
-is_value_of (calls.Length fd) = is_length
-is_value_of (calls.Append fd bytes) = is_offset
-is_value_of (calls.Read fd offset count) = is_bytes
-is_value_of other = is_done
-
--- A call came back with a refusal: that of its answer, or the cell's own. Where the journal has an answer of a third kind, it is Unknown.
+-- A call came back with a refusal: it is the answer that the journal has, or the cell's own.
 pub data Fails (old new : SeatState) (asked : Call) (refusal : Refusal) : Type 0 where
-  AnswersSo : (reply : Answer) → IsAnswered old new asked reply → is_value_of asked reply ≡ false → refusal_in reply ≡ refusal → Fails old new asked refusal
+  AnswersSo : IsAnswered old new asked (answer.Refused refusal) → Fails old new asked refusal
   Loses : IsLost old new refusal → Fails old new asked refusal
 
 -- A seat goes over to its cell that was parked and goes on, with what it saw, and answers again. One whose client saw the whole history goes on as the client that it is, or, where a call of it waits, as one of a new number, whose descriptors are gone; what it shows stays. One that an earlier parking left behind goes on as one of a new number, which shows nothing yet.

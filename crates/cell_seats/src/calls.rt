@@ -3,7 +3,8 @@
 ghost use Rattle.std.specs.Prelude.{◌≡◌, Ok, IfOk, IfErr};
 ghost use Rattle.gfs_types.specs.declared.answer.Answer.TheVariants as answer;
 ghost use Rattle.gfs_types.specs.declared.call.Call.TheVariants as call;
-ghost use Rattle.cell_seats.specs.Seats.{IsAnswered, Fails, IsRefusal, refusal_in, is_done, is_descriptor, is_names, is_length, is_offset, is_bytes};
+ghost use Rattle.journal_headline.specs.AnswerKinds.{is_done, is_descriptor, is_names, is_length, is_offset, is_bytes};
+ghost use Rattle.cell_seats.specs.Seats.{IsAnswered, Fails, IsRefusal, refusal_in};
 
 use crate::seat::Seat;
 use crate::stepper::Stepper;
@@ -196,7 +197,7 @@ fn bytes_in(reply: Result<Answer, Refusal>) -> Result<(Bytes, RoundList), Refusa
     }
 }
 
-// The refusal that an answer is. One of another kind than the call wants is none that is known.
+// The refusal that an answer is. No call has an answer of another kind than it asks for.
 fn refusal_in(answer: Answer) -> Refusal
     ensures { result ≡ refusal_in answer }
 {
