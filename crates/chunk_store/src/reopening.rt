@@ -1,12 +1,12 @@
 //! Opening a store again whose disk has begun again.
 
-ghost use Rattle.std.specs.Prelude.{◌≡◌, ◌<◌, ◌≤◌, ◌%◌, length, IfOk, IsErrOf, OnOk};
+ghost use Rattle.std.specs.Prelude.{◌≡◌, ◌<◌, ◌≤◌, ◌%◌, ℕ, List, length, IfOk, IsErrOf, OnOk};
 ghost use Rattle.disk.specs.Device.{Follows, NoMore};
 ghost use Rattle.disk_redo.specs.Redo.{IsAtRest};
 ghost use Rattle.store_changes.specs.Areas.{area_of};
 ghost use Rattle.store_disk.specs.Places.{disk_size};
 ghost use Rattle.chunk_store.specs.Finding.{IsFoundAmong};
-ghost use Rattle.chunk_store.specs.Reopening.{StillSays};
+ghost use Rattle.chunk_store.specs.Reopening.{IsOfLayout, StillSays};
 ghost use Rattle.chunk_store.specs.declared.fault.OpenFault.TheVariants as faults;
 ghost use Rattle.chunk_store.specs.Volumes.{IsReady, IsReopened};
 
@@ -29,6 +29,7 @@ fn find<D: StoppableDisk>(
     ensures rest { OnOk result (IsAtRest D.seen D.may_leave (area_of layout.chunk layout.block) disk.new) }
     ensures large { OnOk result (disk_size layout.chunk layout.block layout.slots ≤ length (D.seen disk.new)) }
     ensures stops { Follows (StillSays layout.chunk layout.block layout.slots) (D.may_leave disk.old) (D.may_leave disk.new) }
+    ensures undamaged { ((c : List ℕ) → D.may_leave disk.old c → IsOfLayout layout.chunk layout.block layout.slots c) → IsErrOf result faults.Damaged → ⊥ }
     ensures cause { IsErrOf result faults.Device → 0 < D.failed disk.new }
 {
     match disk.restart() {
@@ -66,6 +67,7 @@ impl<D: StoppableDisk> StoreVolume<D> {
         ensures ready { OnOk result (IsReady D.seen D.may_leave self.new) }
         ensures layout { self.new.layout ≡ self.old.layout }
         ensures stops { Follows (StillSays self.old.layout.chunk self.old.layout.block self.old.layout.slots) (D.may_leave self.old.disk) (D.may_leave self.new.disk) }
+        ensures undamaged { ((c : List ℕ) → D.may_leave self.old.disk c → IsOfLayout self.old.layout.chunk self.old.layout.block self.old.layout.slots c) → IsErrOf result faults.Damaged → ⊥ }
         ensures cause { IsErrOf result faults.Device → 0 < D.failed self.new.disk }
     {
         let found = find(alloc, &mut self.disk, self.layout)?;

@@ -1,7 +1,7 @@
 //! The store.
 
 ghost use Rattle.chunk_store.specs.Opening.{HoldsReplicas, IsOpening};
-ghost use Rattle.chunk_store.specs.Reopening.{IsReopened, StillSays};
+ghost use Rattle.chunk_store.specs.Reopening.{IsOfLayout, IsReopened, StillSays};
 ghost use Rattle.chunk_store.specs.Stores.{IsOpen, LeavesChange};
 ghost use Rattle.chunk_store.specs.declared.fault.OpenFault.TheVariants as opening_faults;
 ghost use Rattle.disk.specs.Device.{Follows, HasCause, NoMore};
@@ -11,7 +11,7 @@ ghost use Rattle.replica_store.specs.declared.change.StoreChange.TheVariants.{Co
 ghost use Rattle.replica_store.specs.declared.row.Row.{Row};
 ghost use Rattle.std.specs.FinMap as map;
 ghost use Rattle.std.specs.Option.{option_map};
-ghost use Rattle.std.specs.Prelude.{is_ok, IfErr, IfOk, IsErrOf, None, OnOk, Some, [], false, length, true, ◌%◌, ◌+◌, ◌<◌, ◌↔◌, ◌≡◌, ◌≢◌, ◌≤◌, ◌⊎◌};
+ghost use Rattle.std.specs.Prelude.{is_ok, IfErr, IfOk, IsErrOf, IsTrue, List, None, OnOk, Some, [], false, length, true, ℕ, ◌%◌, ◌+◌, ◌<◌, ◌↔◌, ◌≡◌, ◌≢◌, ◌≤◌, ◌⊎◌};
 ghost use Rattle.store_changes.specs.Faults.{IsRefused, MayFail};
 ghost use Rattle.store_changes.specs.Images.{image_at};
 ghost use Rattle.store_changes.specs.Mutations.{bytes_of as bytes_value, change_of, place_of as place_value};
@@ -469,6 +469,8 @@ impl<D: StoppableDisk> Store<D> {
         ensures reopened { OnOk result (IsReopened D.seen D.may_leave (D.may_leave self.old.disk) self.new) }
         ensures layout { self.new.layout ≡ self.old.layout }
         ensures stops { Follows (StillSays self.old.layout.chunk self.old.layout.block self.old.layout.slots) (D.may_leave self.old.disk) (D.may_leave self.new.disk) }
+        // Damaged comes only where a stop might have left a disk that is too small, or whose open head is another layout's.
+        ensures undamaged { ((c : List ℕ) → D.may_leave self.old.disk c → IsOfLayout self.old.layout.chunk self.old.layout.block self.old.layout.slots c) → IsErrOf result opening_faults.Damaged → ⊥ }
         ensures open { self.new.is_open ≡ is_ok result }
         // Since its disk has begun again it has failed.
         ensures cause { IsErrOf result opening_faults.Device → 0 < D.failed self.new.disk }

@@ -9,6 +9,13 @@ use Rattle.oplog.specs.NewLogs.{IsLogOf}
 abbrev pub IsReopened : List ℕ → List ℕ → Type 0
 IsReopened old new = (new ≡ old) ⊎ (((is_formatted old ≡ false) × IsLogOf [] [] new) ⊎ IsUpgrading old new)
 
+-- a disk of this size that holds a log
+pub record HoldsLog (size : ℕ) (disk : List ℕ) : Type 0 where
+  pub sized : length disk ≡ size
+  pub items : List Record
+  pub records : List Record
+  pub log : IsLogOf items records disk
+
 -- One of the disks that a stop may leave has this size and this log.
 pub record IsAmong (may_leave : List ℕ → Type 0) (size : ℕ) (items records : List Record) : Type 0 where
   pub disk : List ℕ

@@ -15,7 +15,7 @@ ghost use Rattle.oplog.specs.Logs.{IsDurable, MayFail, SameButDisk};
 ghost use Rattle.oplog.specs.NewLogs.{IsLogOf};
 ghost use Rattle.oplog.specs.Opening.{area_found, IsFound, IsOpening, WalksThrough};
 ghost use Rattle.oplog.specs.Order.{is_checkpoint};
-ghost use Rattle.oplog.specs.Reopening.{IsAmong, IsReopened};
+ghost use Rattle.oplog.specs.Reopening.{HoldsLog, IsAmong, IsReopened};
 ghost use Rattle.oplog.specs.Walks.{IsWalk, passed};
 ghost use Rattle.oplog.specs.Writing.{area_with};
 ghost use Rattle.oplog.specs.declared.fault.LogFault.TheVariants as faults;
@@ -303,6 +303,9 @@ impl<D: StoppableDisk> Log<D> {
         ensures size { self.new.size ≡ self.old.size }
         // A stop leaves what one before it might have left, or an empty log where none stood there.
         ensures stops { Follows IsReopened (D.may_leave self.old.disk) (D.may_leave self.new.disk) }
+        // Damaged comes only where a stop might have left a disk of another size, or one that holds no log.
+        ensures undamaged { ((c : List ℕ) → D.may_leave self.old.disk c → HoldsLog self.old.size c) → IsErrOf result faults.Damaged → ⊥ }
+        ensures not_full { IsErrOf result faults.Full → ⊥ }
         // Since its disk has begun again it has failed.
         ensures cause { IsErrOf result faults.Device → 0 < D.failed self.new.disk }
     {

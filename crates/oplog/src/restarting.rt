@@ -1,10 +1,10 @@
 //! What is found on a disk that has begun again.
 
-ghost use Rattle.std.specs.Prelude.{◌≡◌, ◌<◌, ◌≤◌, length, IfOk, IsErrOf, OnOk};
+ghost use Rattle.std.specs.Prelude.{◌≡◌, ◌<◌, ◌≤◌, ℕ, List, length, IfOk, IsErrOf, OnOk};
 ghost use Rattle.disk.specs.Device.{Follows, Only};
 ghost use Rattle.oplog.specs.Opening.{IsFound};
-ghost use Rattle.oplog.specs.Reopening.{IsAmong, IsReopened};
-ghost use Rattle.oplog.specs.declared.fault.LogFault.TheVariants.{Device};
+ghost use Rattle.oplog.specs.Reopening.{HoldsLog, IsAmong, IsReopened};
+ghost use Rattle.oplog.specs.declared.fault.LogFault.TheVariants as faults;
 
 use crate::fault::LogFault;
 use crate::found::FoundArea;
@@ -24,7 +24,9 @@ pub fn find_again<D: StoppableDisk>(
     ensures size { OnOk result (length (D.seen disk.new) ≡ size) }
     ensures durable { OnOk result (Only (D.seen disk.new) (D.may_leave disk.new)) }
     ensures stops { Follows IsReopened (D.may_leave disk.old) (D.may_leave disk.new) }
-    ensures cause { IsErrOf result Device → 0 < D.failed disk.new }
+    ensures undamaged { ((c : List ℕ) → D.may_leave disk.old c → HoldsLog size c) → IsErrOf result faults.Damaged → ⊥ }
+    ensures not_full { IsErrOf result faults.Full → ⊥ }
+    ensures cause { IsErrOf result faults.Device → 0 < D.failed disk.new }
 {
     disk.restart()?;
     if disk.size() != size {

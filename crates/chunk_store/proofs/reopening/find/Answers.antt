@@ -1,3 +1,4 @@
+use Rattle.std.proofs.Common.{◌∙◌}
 use Rattle.chunk_store.proofs.BegunAgain.{found_among, no_more_says, opening_says}
 use Rattle.chunk_store.proofs.reopening.find.Goals as goal
 
@@ -27,3 +28,8 @@ returns-in-Err-open_disk-clause-stops g c =
     let l = c.args.layout in
     opening_says disk.seen disk.may_leave disk.moment disk.left_since l.chunk l.block l.slots (disk.may_leave c.args.disk.now) c.restart.new.self c.in-Ok.ensures.lawful c.in-Ok.ensures.durable
     c.open_disk.new.disk (g.met.D.Disk.counts_now c.open_disk.new.disk) c.open_disk.ensures.any_moment
+
+pub returns-in-Err-open_disk-clause-undamaged : goal.returns-in-Err-open_disk-clause-undamaged
+returns-in-Err-open_disk-clause-undamaged g c held damaged =
+    let fits = held (g.D.Disk.seen c.restart.new.self) c.in-Ok.ensures.lawful in
+    c.open_disk.ensures.undamaged fits.large fits.head (c.in-Err-open_disk.is ∙ damaged)

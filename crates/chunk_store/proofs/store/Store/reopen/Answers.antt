@@ -40,3 +40,6 @@ returns-clause-layout g c = rw (← c.self.view_is) c.reopen.ensures.layout
 
 pub returns-clause-stops : goal.returns-clause-stops
 returns-clause-stops g c = rw (← c.self.view_is) c.reopen.ensures.stops
+
+pub returns-in_err-reopen-clause-undamaged : goal.returns-in_err-reopen-clause-undamaged
+returns-in_err-reopen-clause-undamaged g c = rw (← c.self.view_is) (λ held damaged. c.reopen.ensures.undamaged held (c.in_err-reopen.is ∙ damaged))
