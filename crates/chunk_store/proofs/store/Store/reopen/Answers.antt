@@ -1,4 +1,4 @@
-use Rattle.std.proofs.Common.{false}
+use Rattle.std.proofs.Common.{rules, false}
 use Rattle.std.proofs.lemmas.Bool.{false≢true}
 use Rattle.chunk_store.proofs.States.{reopened, still_whole}
 use Rattle.chunk_store.proofs.store.Store.reopen.Goals as goal
@@ -42,4 +42,4 @@ pub returns-clause-stops : goal.returns-clause-stops
 returns-clause-stops g c = rw (← c.self.view_is) c.reopen.ensures.stops
 
 pub returns-in_err-reopen-clause-undamaged : goal.returns-in_err-reopen-clause-undamaged
-returns-in_err-reopen-clause-undamaged g c = rw (← c.self.view_is) (λ held damaged. c.reopen.ensures.undamaged held (c.in_err-reopen.is ∙ damaged))
+returns-in_err-reopen-clause-undamaged g c = rw (← c.self.view_is) (search rules)
