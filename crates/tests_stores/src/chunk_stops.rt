@@ -63,16 +63,28 @@ pub(crate) fn are_after(states: &States, done: usize, found: Option<Listing>) ->
     found == states[done] || found == states[done + 1]
 }
 
-// The steps on a disk that stops, an opening that stops, and what is listed then; and how many steps were done.
-fn stopped_twice(disk: FuseDisk, alloc: Global, more: u64, torn: Torn) -> (usize, Option<Listing>)
+// What came of the steps on a disk that stops, of an opening that stops, and of the opening after it.
+#[derive(Clone, Copy)]
+struct StoppedTwice {
+    done: usize,
+    // The opening that was to stop came to its end.
+    is_open: bool,
+    found: Option<Listing>,
+}
+
+fn stopped_twice(disk: FuseDisk, alloc: Global, more: u64, torn: Torn) -> StoppedTwice
     requires { is_head_open disk.disk.bytes ≡ false }
 {
     let (disk, ran) = run(disk, alloc, STEPS + 1);
     let mut second = FuseDisk::new(disk.stop(torn));
     second.arm(more);
-    let (stopped, _found) = listed(second, alloc);
+    let (stopped, first) = listed(second, alloc);
     let (_disk, found) = listed(stopped.stop(torn), alloc);
-    (ran.done, found.ok())
+    StoppedTwice {
+        done: ran.done,
+        is_open: first.is_ok(),
+        found: found.ok(),
+    }
 }
 
 #[test]
@@ -82,9 +94,9 @@ fn each_step_is_done_or_not(rt: HostRuntime) -> Result<(), Fail> {
     let mut all = 0;
     for calls in 0..CALLS {
         for torn in WAYS {
-            let (done, found) = stopped_twice(fused(alloc, calls)?, alloc, 1_000, torn);
-            assert!(rt; are_after(&states, done, found));
-            all = done;
+            let ran = stopped_twice(fused(alloc, calls)?, alloc, 1_000, torn);
+            assert!(rt; are_after(&states, ran.done, ran.found));
+            all = ran.done;
         }
     }
     assert_eq!(rt; all, STEPS + 1);
@@ -96,11 +108,14 @@ fn an_opening_that_stopped_is_done_again(rt: HostRuntime) -> Result<(), Fail> {
     let alloc = rt.alloc();
     let states = all_states(alloc);
     for calls in 0..CALLS {
-        for more in 0..OPENING_CALLS {
-            for torn in WAYS {
-                let (done, found) = stopped_twice(fused(alloc, calls)?, alloc, more, torn);
-                assert!(rt; are_after(&states, done, found));
+        for torn in WAYS {
+            let mut is_open = false;
+            for more in 0..OPENING_CALLS {
+                let ran = stopped_twice(fused(alloc, calls)?, alloc, more, torn);
+                assert!(rt; are_after(&states, ran.done, ran.found));
+                is_open = ran.is_open;
             }
+            assert!(rt; is_open);
         }
     }
     Ok(())

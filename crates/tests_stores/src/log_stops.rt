@@ -40,30 +40,40 @@ pub(crate) fn found_on(disk: MemDisk, alloc: Global, plan: &StopPlan) -> Option<
     found.ok()
 }
 
-// What is found once the changes and then an opening stopped.
-fn found_after(
-    disk: MemDisk,
-    alloc: Global,
-    plan: &StopPlan,
-    more: u64,
-    torn: Torn,
-) -> Option<usize> {
-    let mut second = FuseDisk::new(disk);
-    second.arm(more);
-    let (second, _stopped) = find(second, alloc, plan);
-    found_on(second.stop(torn), alloc, plan)
+// What is found once the changes and then an opening stopped, and whether that opening came to its end.
+#[derive(Clone, Copy)]
+struct FoundTwice {
+    is_open: bool,
+    found: Option<usize>,
 }
 
-// The same for each opening and each tear; how many changes were made.
+fn found_after(disk: MemDisk, alloc: Global, plan: &StopPlan, more: u64, torn: Torn) -> FoundTwice {
+    let mut second = FuseDisk::new(disk);
+    second.arm(more);
+    let (second, first) = find(second, alloc, plan);
+    let found = found_on(second.stop(torn), alloc, plan);
+    FoundTwice {
+        is_open: first.is_ok(),
+        found,
+    }
+}
+
+// The same for each opening, the last of which comes to its end, and each tear; how many changes were made.
 fn stopped_at(alloc: Global, plan: &StopPlan, calls: u64) -> Result<Option<usize>, AllocError> {
     let mut last = None;
-    for more in 0..OPENING_CALLS {
-        for torn in WAYS {
+    for torn in WAYS {
+        let mut is_open = false;
+        for more in 0..OPENING_CALLS {
             let (disk, made) = stopped(alloc, plan, calls)?;
-            if !is_after(made, found_after(disk.stop(torn), alloc, plan, more, torn)) {
+            let ran = found_after(disk.stop(torn), alloc, plan, more, torn);
+            if !is_after(made, ran.found) {
                 return Ok(None);
             }
+            is_open = ran.is_open;
             last = Some(made.count);
+        }
+        if !is_open {
+            return Ok(None);
         }
     }
     Ok(last)

@@ -220,13 +220,21 @@ fn is_upgraded(disk: MemDisk, alloc: Global) -> bool {
     found == Ok(true) && is_open && goes_on
 }
 
-// The same after an opening whose disk stops after so many calls.
-fn is_found_after(alloc: Global, second: u8, calls: u64, torn: Torn) -> Option<bool> {
+// What came of an opening whose disk stops after so many calls: whether it came to its end, and whether the log is found, there and after the stop.
+#[derive(Clone, Copy)]
+struct Upgraded {
+    is_open: bool,
+    is_found: bool,
+}
+
+fn upgraded_after(alloc: Global, second: u8, calls: u64, torn: Torn) -> Option<Upgraded> {
     let mut disk = FuseDisk::new(disk_with(alloc, second, &ITEMS, &RECORDS)?);
     disk.arm(calls);
     let (disk, found) = find(disk, alloc, 6, &ENTRIES);
-    let is_right = found == Ok(true) || found == Err(LogFault::Device);
-    Some(is_upgraded(disk.stop(torn), alloc) && is_right)
+    let is_open = found == Ok(true);
+    let is_right = is_open || found == Err(LogFault::Device);
+    let is_found = is_upgraded(disk.stop(torn), alloc) && is_right;
+    Some(Upgraded { is_open, is_found })
 }
 
 fn is_opened(alloc: Global, second: u8) -> Option<bool> {
@@ -241,14 +249,26 @@ fn a_log_of_format_1_gets_format_2(rt: HostRuntime) {
     }
 }
 
+// At each call of the opening, and behind the last one.
+fn are_found_after(alloc: Global, second: u8, torn: Torn) -> bool {
+    let mut is_open = false;
+    for calls in 0..OPENING_CALLS {
+        let Some(ran) = upgraded_after(alloc, second, calls, torn) else {
+            return false;
+        };
+        if !ran.is_found {
+            return false;
+        }
+        is_open = ran.is_open;
+    }
+    is_open
+}
+
 #[test]
 fn a_stop_leaves_the_log_in_either_format(rt: HostRuntime) {
     for second in CLOSED {
-        for calls in 0..OPENING_CALLS {
-            for torn in WAYS {
-                let found = is_found_after(rt.alloc(), second, calls, torn);
-                assert!(rt; found == Some(true), "{second}, call {calls}");
-            }
+        for torn in WAYS {
+            assert!(rt; are_found_after(rt.alloc(), second, torn), "{second}");
         }
     }
 }
