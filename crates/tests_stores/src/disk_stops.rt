@@ -138,7 +138,7 @@ fn are_decided_at(
     Ok(true)
 }
 
-// The same for each call of the change; and whether neither it nor the opening has more calls than were tried.
+// The same for each call of the change; and whether neither it nor the opening has more calls than were tried, and an opening that may make none fails.
 fn are_decided(alloc: Global, tally: &mut Tally, number: u64) -> Result<bool, ReplicaStoreFault> {
     for calls in 0..CALLS {
         if !are_decided_at(alloc, tally, number, calls)? {
@@ -150,8 +150,14 @@ fn are_decided(alloc: Global, tally: &mut Tally, number: u64) -> Result<bool, Re
         more: OPENING_CALLS,
         torn: Torn::New,
     };
+    let none = Stop {
+        calls: CALLS,
+        more: 0,
+        torn: Torn::New,
+    };
     let ran = stop_new_store(alloc, number, last)?;
-    Ok(ran.is_ok && ran.is_open)
+    let stopped = stop_new_store(alloc, number, none)?;
+    Ok(ran.is_ok && ran.is_open && !stopped.is_open)
 }
 
 #[test]

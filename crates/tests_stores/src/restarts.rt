@@ -14,13 +14,13 @@ use stored_log::disk_log::DiskLog;
 // An append takes 4 calls of the disk, and an opening 5.
 const CALLS: u64 = 6;
 
-// An append that stops, once more, and a stop within the opening after it. Whether each record is there or not, as the appends answered.
+// An append that stops, once more, and a stop within the opening after it. Whether each record is there or not, as the appends answered, and nothing passes where no call does.
 fn is_kept<L: StoppableLog>(log: &mut L, record: &Record, calls: u64, torn: Torn) -> bool
     requires { L.under_way log.old ≡ [] }
 {
     log.stop_after(calls, torn);
     let done = log.append(record).is_ok();
-    if log.reopen().is_err() {
+    if (calls == 0 && done) || log.reopen().is_err() {
         return false;
     }
     let found = log.len();
@@ -28,7 +28,10 @@ fn is_kept<L: StoppableLog>(log: &mut L, record: &Record, calls: u64, torn: Torn
         return false;
     }
     log.stop_after_restart(calls, torn);
-    let _ = log.reopen();
+    let is_open = log.reopen().is_ok();
+    if calls == 0 && is_open {
+        return false;
+    }
     log.reopen().is_ok() && log.len() == found.saturating_add(1)
 }
 
