@@ -35,12 +35,27 @@ def constant(value_of):
     return value
 
 
+def same(one, other):
+    return one is other or isinstance(one, int) and one == other
+
+
+def kept(value_of):
+    """The function, which remembers what it gave last, and of what."""
+    last = [(), None]
+
+    def value(*given):
+        if len(given) != len(last[0]) or not all(map(same, given, last[0])):
+            last[:] = [given, value_of(*given)]
+        return last[1]
+    return value
+
+
 def no_case(name):
     raise ValueError(f'no case of {name}')
 
 
 def first_space():
-    space = {'Function': Function, 'FiniteMap': FiniteMap, 'apply': apply, 'constant': constant, 'no_case': no_case,
+    space = {'Function': Function, 'FiniteMap': FiniteMap, 'apply': apply, 'constant': constant, 'kept': kept, 'no_case': no_case,
              'less': OPERATORS['◌-◌'], 'divided': OPERATORS['◌/◌'], 'rest_of': OPERATORS['◌%◌']}
     for place, (_, table) in enumerate(WORDS):
         for name, (count, value) in table.items():
@@ -62,6 +77,8 @@ def with_at(xs, n, y):
 
 # definitions that take too long as they stand, where a module of this name has them; `check_quick` compares both
 QUICK = {('Tables', 'element_at'): element_at, ('Tables', 'with_at'): with_at}
+# definitions that are asked of the same again and again, as of a block at each of its places
+KEPT = {('StoredBytes', 'is_lost')}
 
 
 class Program:
@@ -111,7 +128,8 @@ class Program:
         if count == 0:
             return f'@constant\ndef {me}():\n    return {self.term(module, equations[0][1], {})}'
         arguments = [f'a{i}' for i in range(count)]
-        lines = [f'def {me}({", ".join(arguments)}):']
+        lines = ['@kept'] if (module.name.split('.')[-1], name) in KEPT else []
+        lines.append(f'def {me}({", ".join(arguments)}):')
         for patterns, body, _ in equations:
             self.case(module, patterns, arguments, body, {}, lines)
         lines.append(f'    no_case("{module.name}.{name}")')
