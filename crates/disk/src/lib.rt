@@ -9,6 +9,7 @@ mod node_disk;
 mod page;
 mod pages;
 mod past_write;
+mod stop_plan;
 mod stoppable;
 
 pub use device::{Disk, DiskFault};
@@ -16,4 +17,5 @@ pub use fault::FaultDisk;
 pub use fuse::FuseDisk;
 pub use memory::MemDisk;
 pub use node_disk::NodeDisk;
+pub use stop_plan::StopPlan;
 pub use stoppable::StoppableDisk;

@@ -117,3 +117,14 @@ settings_stay m moment i refused =
 -- so does its opening
 pub opening_stays : (m : MasterState) → settings_of (opening m) ≡ (m.config, m.server_count)
 opening_stays m = (logs_stay (master_begins m []) (log.Epoch (suc m.logged.epoch)) (λ e. e) (λ _. record { same = refl })).same
+
+up_of : (b : Bool) (x y : MasterDoing) (up : Bool) → x.master.up ≡ up → y.master.up ≡ up → (cond b x y).master.up ≡ up
+up_of true x y up p q = p
+up_of false x y up p q = q
+
+-- which doesn't put it down
+pub opening_up : (m : MasterState) → (opening m).master.up ≡ m.up
+opening_up m =
+    let d : MasterDoing = master_begins m [] in
+    let e : Record = log.Epoch (suc m.logged.epoch) in
+    up_of (fits d e) _ _ m.up refl (up_of (checkpoint_fits d.master.config.log_bytes (checkpoint_of d.master.logged)) _ _ m.up (up_of _ (appends (writes_checkpoint d) e) _ m.up refl refl) refl)

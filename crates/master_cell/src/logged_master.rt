@@ -1,6 +1,6 @@
 //! The master.
 
-ghost use Rattle.std.specs.Prelude.{◌≡◌, ◌≤◌, [], true, false, IfErr, IfOk, if◌then◌else◌, Some, None};
+ghost use Rattle.std.specs.Prelude.{◌≡◌, ◌≤◌, [], true, false, IfErr, IfOk, OnErr, if◌then◌else◌, Some, None};
 ghost use Rattle.std.specs.Option.{option_copied};
 ghost use Rattle.protocol.specs.Tables.{moment_limit};
 ghost use Rattle.protocol.specs.Logged.{new_log};
@@ -152,6 +152,7 @@ impl<L: OperationLog + Drop, A: Allocator + Clone> LoggedMaster<L, A> {
         ensures opens { IfOk result (λ m. OpensUp (down_over config server_count (L.disk log) []) now.0 m) }
         ensures fails { IfErr result (λ l. OpensNot (down_over config server_count (L.disk log) []) now.0 (L.disk l) (L.under_way l)) }
         ensures files { IfOk result (λ m. shown_in shown.new ≡ m.logged.table.files) }
+        ensures files_of_error { OnErr result (shown_in shown.new ≡ shown_in shown.old) }
     {
         let mut master = LoggedMaster::down(alloc, config, server_count, log, names)?;
         let _ = master.opens(alloc, now, shown);
@@ -312,8 +313,8 @@ impl<L: StoppableLog, A: Allocator + Clone> LoggedMaster<L, A> {
 }
 
 impl<D: Disk, A: Allocator> LoggedMaster<DiskLog<D>, A> {
-    // The log's disk lets so many calls pass and fails each later one, where it can be told to fail. Changes no byte.
-    pub(crate) fn arm(&mut self, calls: u64)
+    /// The log's disk lets so many calls pass and fails each later one, where it can be told to fail. Changes no byte.
+    pub fn arm(&mut self, calls: u64)
         ensures { self.new ≡ self.old }
     {
         self.log.arm(calls);

@@ -1,16 +1,17 @@
 //! A chunkserver over a disk.
 
-ghost use Rattle.std.specs.Prelude.{◌≡◌, ◌≤◌, ◌<◌, ◌%◌, true, IfErr, IfOk};
+ghost use Rattle.std.specs.Prelude.{◌≡◌, ◌≤◌, ◌<◌, ◌%◌, [], true, IfErr, IfOk};
 ghost use Rattle.std.specs.Option.{option_copied};
 ghost use Rattle.gfs_types.specs.Settings.{largest_chunk};
 ghost use Rattle.disk_redo.specs.GateMoments.{LeavesOnly};
 ghost use Rattle.chunk_store.specs.Opening.{HoldsReplicas, IsOpening};
 ghost use Rattle.disk_store.specs.Standing.{LeavesHolding};
 ghost use Rattle.protocol.specs.Conforms.{ServerSteps, ServerRots};
-ghost use Rattle.protocol.specs.Server.{started_server};
+ghost use Rattle.protocol.specs.Server.{started_server, stopped_server};
 ghost use Rattle.protocol.specs.Tables.{moment_limit};
 ghost use Rattle.replica_store.specs.Replicas.{ServerDisk, row_at};
 ghost use Rattle.server_cell.specs.Inputs.{input_of};
+ghost use Rattle.server_cell.specs.Settings.{KeepsSettings};
 ghost use Rattle.server_store.specs.declared.fault.ReplicaStoreFault.TheVariants as faults;
 
 use crate::server::Chunkserver;
@@ -98,6 +99,14 @@ impl<D: Disk + Drop> Server<D> {
         self.chunkserver.row(handle)
     }
 
+    /// It is put down in a step, before it changed anything. Takes no memory.
+    pub fn stop(&mut self)
+        requires { self.old.up ≡ true }
+        ensures { self.new ≡ stopped_server self.old self.old.disk [] }
+    {
+        self.chunkserver.stop();
+    }
+
     /// A byte of a replica becomes another on the disk, past its digest; nothing happens where there is no such replica. Where its disk
     /// fails under that, or memory is refused, it goes down.
     pub fn rot(&mut self, handle: Handle, place: u64, byte: u8)
@@ -110,7 +119,8 @@ impl<D: Disk + Drop> Server<D> {
     /// A step on a message, or on a tick.
     pub fn step(&mut self, now: Moment, message: Option<&Message>) -> Outcome
         requires { now.0 ≤ moment_limit }
-        ensures { ServerSteps self.old now.0 (input_of (option_copied message.entry)) result.out result.seen self.new }
+        ensures steps { ServerSteps self.old now.0 (input_of (option_copied message.entry)) result.out result.seen self.new }
+        ensures settings { KeepsSettings self.old self.new }
     {
         self.chunkserver.step(now, message)
     }

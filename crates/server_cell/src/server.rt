@@ -8,6 +8,7 @@ ghost use Rattle.protocol.specs.Server.{started_server, stopped_server};
 ghost use Rattle.protocol.specs.Tables.{moment_limit};
 ghost use Rattle.replica_store.specs.Replicas.{row_at};
 ghost use Rattle.server_cell.specs.Inputs.{input_of};
+ghost use Rattle.server_cell.specs.Settings.{KeepsSettings};
 
 use crate::ended::ends;
 use crate::planned::plan_step;
@@ -108,7 +109,8 @@ impl<S: ReplicaStore> Chunkserver<S> {
     /// A step on a message, or on a tick.
     pub fn step(&mut self, now: Moment, message: Option<&Message>) -> Outcome
         requires { now.0 ≤ moment_limit }
-        ensures { ServerSteps self.old now.0 (input_of (option_copied message.entry)) result.out result.seen self.new }
+        ensures steps { ServerSteps self.old now.0 (input_of (option_copied message.entry)) result.out result.seen self.new }
+        ensures settings { KeepsSettings self.old self.new }
     {
         let alloc = self.server.alloc();
         if !self.server.is_up() {
