@@ -11,3 +11,4 @@ pub mod Fitting
 pub mod Reopened
 pub mod Quiet
 pub mod Leaving
+pub mod Again

@@ -1,5 +1,5 @@
 -- A server whose disk stops, and that is opened over it again.
-use Rattle.std.proofs.Common.{◌≡◌, ◌≤◌, true, false, ℕ, List, [], ◌∷◌, inl, inr, refl, sym, ap, ◌∙◌, subst, Option, Some, None}
+use Rattle.std.proofs.Common.{◌≡◌, true, false, ℕ, List, [], ◌∷◌, inl, inr, refl, sym, ap, ◌∙◌, subst, Option, Some, None}
 use Rattle.std.specs.Prelude.{IfSome}
 use Rattle.gfs_types.specs.declared.config.Config.{Config}
 use Rattle.messages.specs.declared.event.StepOut.{StepOut}
@@ -8,13 +8,11 @@ use Rattle.disk.specs.Failing.{FuseState}
 use Rattle.disk.specs.Laws.{left_now}
 use Rattle.disk.specs.Writes.{LeftBy, LeftSince, moment_of}
 use Rattle.disk_redo.specs.GateMoments.{LeavesOnly}
-use Rattle.replica_store.specs.declared.change.StoreChange.{StoreChange}
-use Rattle.replica_store.specs.Replicas.{ServerDisk, disk_changed_by_all, new_server_disk}
-use Rattle.server_store.specs.Stores.{IsFound}
+use Rattle.replica_store.specs.Replicas.{ServerDisk}
 use Rattle.chunk_store.specs.Opening.{HoldsReplicas, IsOpening}
-use Rattle.chunk_store.proofs.Stopped.{opening_holds}
 use Rattle.disk_store.specs.Standing.{LeavesHolding}
-use Rattle.protocol.specs.Conforms.{ServerSteps, ServerRestarts}
+use Rattle.disk_store.proofs.Again.{Found, found, still_left}
+use Rattle.protocol.specs.Conforms.{ServerRestarts}
 use Rattle.protocol.specs.Seen.{no_output}
 use Rattle.protocol.specs.Server.{ServerState, started_server, stopped_server}
 use Rattle.server_cell.specs.Settings.{IsServerOf}
@@ -63,15 +61,7 @@ pub disk_taken : (o : Option FuseState) (s : ServerState) → IsDiskLeft o s →
 disk_taken None s left = tt
 disk_taken (Some f) s left = left
 
--- Sizes.
-
-as_sized : (P : ℕ → ℕ → ℕ → Type 0) (config : Config) (d : ServerDisk) → d.chunk ≡ config.chunk → d.block ≡ config.block → d.slots ≡ config.slots → P d.chunk d.block d.slots → P config.chunk config.block config.slots
-as_sized P config d chunk block slots h =
-    subst (λ (n : ℕ). P n config.block config.slots) chunk (subst (λ (n : ℕ). P d.chunk n config.slots) block (subst (λ (n : ℕ). P d.chunk d.block n) slots h))
-
-as_disk : (P : ℕ → ℕ → ℕ → Type 0) (config : Config) (d : ServerDisk) → d.chunk ≡ config.chunk → d.block ≡ config.block → d.slots ≡ config.slots → P config.chunk config.block config.slots → P d.chunk d.block d.slots
-as_disk P config d chunk block slots h =
-    subst (λ (n : ℕ). P n d.block d.slots) (sym chunk) (subst (λ (n : ℕ). P config.chunk n d.slots) (sym block) (subst (λ (n : ℕ). P config.chunk config.block n) (sym slots) h))
+-- A server that is opened.
 
 -- what a disk of these sizes holds has them
 pub started_of : (config : Config) (id moment : ℕ) (bytes : List ℕ) (d : ServerDisk) → HoldsReplicas config.chunk config.block config.slots bytes d → IsServerOf config id (started_server config id d moment)
@@ -87,40 +77,31 @@ started_of config id moment bytes d (inr stands) = record { config_is = refl; id
 pub opened_of : (config : Config) (id moment : ℕ) (bytes : List ℕ) (d : ServerDisk) (s : ServerState) → HoldsReplicas config.chunk config.block config.slots bytes d → s ≡ started_server config id d moment → IsServerOf config id s
 opened_of config id moment bytes d s holds is = subst (IsServerOf config id) (sym is) (started_of config id moment bytes d holds)
 
--- The disk of a server begins again.
+-- what its disk holds once it has begun again
+abbrev pub FoundAgain : Config → ServerState → List ℕ → Type 0
+FoundAgain config s bytes = Found config.chunk config.block config.slots s.disk s.under_way bytes
+
 module _ (config : Config) (id : ℕ) (s : ServerState) (h : IsServerOf config id s) where
-  -- what it holds then
-  pub record Found (bytes : List ℕ) : Type 0 where
-    pub disk : ServerDisk
-    pub is_found : IsFound s.disk s.under_way disk
-    pub holds : HoldsReplicas config.chunk config.block config.slots bytes disk
-
-  sized : (bytes : List ℕ) (d : ServerDisk) → HoldsReplicas s.disk.chunk s.disk.block s.disk.slots bytes d → HoldsReplicas config.chunk config.block config.slots bytes d
-  sized bytes d = as_sized (λ chunk block slots. HoldsReplicas chunk block slots bytes d) config s.disk h.chunk_is h.block_is h.slots_is
-
-  pub found : (may_leave : List ℕ → Type 0) (bytes : List ℕ) → LeavesHolding may_leave s.disk s.under_way → may_leave bytes → Found bytes
-  found may_leave bytes leaves left = elim (leaves bytes left) [
-    | inl same ↦ record { disk = s.disk; is_found = inl refl; holds = sized bytes s.disk same }
-    | inr made ↦ (
-        let after : ServerDisk = disk_changed_by_all s.disk s.under_way in
-        record { disk = after; is_found = inr refl; holds = sized bytes after made })
-  ]
+  pub found_again : (may_leave : List ℕ → Type 0) (bytes : List ℕ) → LeavesHolding may_leave s.disk s.under_way → may_leave bytes → FoundAgain config s bytes
+  found_again = found config.chunk config.block config.slots s.disk s.under_way h.chunk_is h.block_is h.slots_is
 
   -- it is opened over what was found
-  pub opened_again : (moment : ℕ) (out : StepOut) (new : ServerState) (bytes : List ℕ) → out ≡ no_output → (f : Found bytes) → new ≡ started_server config id f.disk moment → ServerRestarts s moment out new
+  pub opened_again : (moment : ℕ) (out : StepOut) (new : ServerState) (bytes : List ℕ) → out ≡ no_output → (f : FoundAgain config s bytes) → new ≡ started_server config id f.disk moment → ServerRestarts s moment out new
   opened_again moment out new bytes o f is =
       restarts_so s (started_server config id f.disk moment) moment out new o f.is_found (sym h.config_is) (sym h.id_is) is
 
   -- or it isn't, and a stop leaves what it had
-  pub still_left : (old new : FuseState) → Found old.disk.bytes → Only old.disk.bytes (LeftBy old.disk)
+  pub left_again : (old new : FuseState) → FoundAgain config s old.disk.bytes → Only old.disk.bytes (LeftBy old.disk)
       → LeavesOnly (λ (f : FuseState). moment_of f.disk) (λ (f : FuseState) (t : ℕ) (c : List ℕ). LeftSince f.disk t c) old new (IsOpening config.chunk config.block config.slots old.disk.bytes (LeftBy old.disk))
       → LeavesHolding (LeftBy new.disk) s.disk s.under_way
-  still_left old new f only run c left =
-      let holds = opening_holds (λ (x : FuseState). x.disk.bytes) (λ (x : FuseState). LeftBy x.disk) (λ (x : FuseState). moment_of x.disk) (λ (x : FuseState) (t : ℕ) (b : List ℕ). LeftSince x.disk t b)
-      config.chunk config.block config.slots old new f.disk f.holds (λ b was. subst (λ (l : List ℕ). HoldsReplicas config.chunk config.block config.slots l f.disk) (sym (only b was)) f.holds) run in
-      let now : HoldsReplicas s.disk.chunk s.disk.block s.disk.slots c f.disk =
-      as_disk (λ chunk block slots. HoldsReplicas chunk block slots c f.disk) config s.disk h.chunk_is h.block_is h.slots_is (holds.each c (left_now new.disk (moment_of old.disk) c holds.later left)) in
-      elim f.is_found [
-        | inl same ↦ inl (subst (λ (d : ServerDisk). HoldsReplicas s.disk.chunk s.disk.block s.disk.slots c d) same now)
-        | inr made ↦ inr (subst (λ (d : ServerDisk). HoldsReplicas s.disk.chunk s.disk.block s.disk.slots c d) made now)
-      ]
+  left_again old new f only run =
+      still_left config.chunk config.block config.slots s.disk s.under_way h.chunk_is h.block_is h.slots_is (λ (x : FuseState). x.disk.bytes) (λ (x : FuseState). LeftBy x.disk) (λ (x : FuseState). moment_of x.disk)
+      (λ (x : FuseState) (t : ℕ) (c : List ℕ). LeftSince x.disk t c) (λ x t c le now. left_now x.disk t c le now) old new f only run
+
+-- a server that is down has the settings of the one that was
+pub of_stopped : (config : Config) (id : ℕ) (s t : ServerState) → t ≡ stopped s → IsServerOf config id t → IsServerOf config id s
+of_stopped config id s t is h = (let k = subst (IsServerOf config id) is h in record { config_is = k.config_is; id_is = k.id_is; chunk_is = k.chunk_is; block_is = k.block_is; slots_is = k.slots_is })
+
+-- and over its disk
+pub left_down : (o : FuseState) (s t : ServerState) → t ≡ stopped s → LeavesHolding (LeftBy o.disk) s.disk s.under_way → LeavesHolding (LeftBy o.disk) t.disk t.under_way
+left_down o s t is left = subst (λ (x : ServerState). LeavesHolding (LeftBy o.disk) x.disk x.under_way) (sym is) left
