@@ -18,7 +18,7 @@ use master_cell::shown::ShownFiles;
 use messages::event::StepOut;
 use messages::message::Message;
 use operation_log::log::OperationLog;
-use operation_log::stoppable::StoppableLog;
+use operation_log::reopened::ReopenedLog;
 use std::alloc::{Allocator, Global};
 use step_outcome::Outcome;
 
@@ -92,7 +92,7 @@ impl<L: OperationLog, A: Allocator + Clone> CellMaster for SeatedMaster<L, A> {
     }
 }
 
-impl<L: StoppableLog, A: Allocator + Clone> RestartedMaster for SeatedMaster<L, A> {
+impl<L: ReopenedLog, A: Allocator + Clone> RestartedMaster for SeatedMaster<L, A> {
     #[tactic(auto, using(crate::proofs::Files::shown_up))]
     fn restart(&mut self, now: Moment) -> StepOut {
         self.master.restart(now, &mut self.files)

@@ -21,14 +21,13 @@ use disk::Disk;
 use gfs_types::config::Config;
 use gfs_types::ids::Moment;
 use gfs_types::lists::Sequence;
-use gfs_types::torn::Torn;
 use log_records::record::Record;
 use master_plan::plan::Plan;
 use master_state::state::State;
 use messages::event::StepOut;
 use messages::message::Message;
 use operation_log::log::OperationLog;
-use operation_log::stoppable::StoppableLog;
+use operation_log::reopened::ReopenedLog;
 use std::alloc::{Allocator, Global};
 use std::marker::Model;
 use step_outcome::{Outcome, down_output, no_output};
@@ -282,7 +281,7 @@ impl<L: OperationLog, A: Allocator + Clone> LoggedMaster<L, A> {
     }
 }
 
-impl<L: StoppableLog, A: Allocator + Clone> LoggedMaster<L, A> {
+impl<L: ReopenedLog, A: Allocator + Clone> LoggedMaster<L, A> {
     /// It begins again, whether it was up or down: it reads its log, and logs a new epoch. Where the master is up after it, the
     /// chunks of its files are put into `shown`, which else stays.
     #[tactic(auto, using(crate::proofs::Restarts::not_begun, crate::proofs::Restarts::restarts))]
@@ -297,18 +296,6 @@ impl<L: StoppableLog, A: Allocator + Clone> LoggedMaster<L, A> {
             return down_output(alloc);
         };
         self.opens(alloc, now, shown)
-    }
-
-    /// Its log's disk lets so many calls pass and fails each later one until the next restart, which finds what was under way as `torn`
-    /// says. That of a master that is down does so once the next restart has begun.
-    pub fn fuse(&mut self, calls: u64, torn: Torn)
-        ensures { self.new ≡ self.old }
-    {
-        if self.up {
-            self.log.stop_after(calls, torn);
-        } else {
-            self.log.stop_after_restart(calls, torn);
-        }
     }
 }
 

@@ -16,14 +16,12 @@ use crate::rotten::rots;
 use gfs_types::config::Config;
 use gfs_types::ids::{Handle, Moment, ServerId};
 use gfs_types::lists::Sequence;
-use gfs_types::torn::Torn;
 use messages::event::StepOut;
 use messages::message::Message;
 use replica_store::row::Row;
 use server_handlers::server::Server;
 use server_store::armed_store::ArmedStore;
 use server_store::reopened_store::ReopenedStore;
-use server_store::stoppable_store::StoppableStore;
 use server_store::store::ReplicaStore;
 use std::alloc::Global;
 use std::marker::Model;
@@ -160,15 +158,5 @@ impl<S: ArmedStore> Chunkserver<S> {
         ensures { self.new ≡ self.old }
     {
         self.server.arm(calls);
-    }
-}
-
-impl<S: StoppableStore> Chunkserver<S> {
-    /// Its disk lets so many calls pass and fails each later one until the next restart, which finds what was under way as `torn` says.
-    /// That of a server that is down does so once the next restart has begun.
-    pub fn fuse(&mut self, calls: u64, torn: Torn)
-        ensures { self.new ≡ self.old }
-    {
-        self.server.fuse(calls, torn);
     }
 }

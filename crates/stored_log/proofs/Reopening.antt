@@ -1,6 +1,6 @@
 -- A log that is opened again has what one of the disks has that a stop may leave.
-use Rattle.std.proofs.Common.{◌≡◌, ℕ, ◌≤◌, true, false, List, [], ◌∷◌, ◌++◌, length, inl, inr, ⊎_elim, refl, sym, ap, subst, ◌∙◌, arith}
-use Rattle.disk.specs.Device.{Follows, Only}
+use Rattle.std.proofs.Common.{◌≡◌, ℕ, ◌≤◌, true, false, List, [], ◌∷◌, ◌++◌, length, inl, inr, ⊎_elim, refl, sym, ap, subst, ◌∙◌}
+use Rattle.disk.specs.Device.{Only}
 use Rattle.disk_redo.specs.GateMoments.{LeavesOnly}
 use Rattle.oplog.specs.Areas.{AreaState, AreaSays}
 use Rattle.oplog.proofs.Areas.{area_unique}
@@ -9,7 +9,7 @@ use Rattle.oplog.specs.Formats.{is_format_2}
 use Rattle.log_records.specs.declared.record.Record.{Record}
 use Rattle.oplog.specs.NewLogs.{IsLogOf}
 use Rattle.oplog.specs.Opening.{IsOpening}
-use Rattle.oplog.specs.Reopening.{IsAmong, IsReopened}
+use Rattle.oplog.specs.Reopening.{IsReopened}
 use Rattle.oplog.proofs.NewestArea.{current_is, only_area}
 use Rattle.oplog.proofs.SecondGate.{log_of_format_2, opened_log}
 use Rattle.oplog.proofs.Whole.{front_formatted}
@@ -52,31 +52,10 @@ reopened items records standing d c kept (inl same) = subst (HasKept items recor
 reopened items records standing d c kept (inr (inl new)) = let both : true ≡ false = sym (kept_formatted items records standing d kept) ∙ new.0 in absurd cc
 reopened items records standing d c kept (inr (inr upgrading)) = let both : true ≡ false = sym (kept_format_2 items records standing d kept) ∙ upgrading.was.closed in absurd cc
 
--- a log that is begun anew has what it had
-pub reopened_leaves : {D : Type 0} (may_leave : D → List ℕ → Type 0) (old new : D) (items records : List Record) (standing : LogStanding) → Follows IsReopened (may_leave old) (may_leave new)
-    → Leaves may_leave old items records standing → Leaves may_leave new items records standing
-reopened_leaves may_leave old new items records standing follows kept c left =
-    let from = follows c left in
-    reopened items records standing from.0 c (kept from.0 from.1) from.2
-
--- the log that is found, among two
+-- the log that is found
 pub log_found : (items records found_items found_records : List Record) (d : List ℕ) → 4096 ≤ length d → IsLogOf found_items found_records d → HasLog items records d → log_of found_items found_records ≡ log_of items records
 log_found items records found_items found_records d large found log =
     logs_unique items records found_items found_records d large log (opened_log found_items found_records d (log_formatted items records d log) (log_of_format_2 items records d log) found)
-
-decided : (items records found_items found_records : List Record) (standing : LogStanding) (d : List ℕ) → 4096 ≤ length d → IsLogOf found_items found_records d → HasKept items records (closed standing) d
-    → IsDecided (log_of items records) (changes_of standing) (log_of found_items found_records)
-decided items records found_items found_records Open d large found log = ([], log_found items records found_items found_records d large found log)
-decided items records found_items found_records Unread d large found log = ([], log_found items records found_items found_records d large found log)
-decided items records found_items found_records (Appending entry) d large found (inl log) = ([], log_found items records found_items found_records d large found log)
-decided items records found_items found_records (Appending entry) d large found (inr log) = (true ∷ [], log_found items (records ++ entry ∷ []) found_items found_records d large found log)
-decided items records found_items found_records (Checkpointing written) d large found (inl log) = ([], log_found items records found_items found_records d large found log)
-decided items records found_items found_records (Checkpointing written) d large found (inr log) = (true ∷ [], log_found written [] found_items found_records d large found log)
-
-pub found_decided : {D : Type 0} (may_leave : D → List ℕ → Type 0) (old : D) (size : ℕ) (items records found_items found_records : List Record) (standing : LogStanding) → 4096 ≤ size
-    → IsAmong (may_leave old) size found_items found_records → Leaves may_leave old items records (closed standing) → IsDecided (log_of items records) (changes_of standing) (log_of found_items found_records)
-found_decided may_leave old size items records found_items found_records standing large found kept =
-    decided items records found_items found_records standing found.disk (omega (arith, large, found.sized)) found.log (kept found.disk found.left)
 
 left_decided : (items records : List Record) (standing : LogStanding) (c : List ℕ) → HasKept items records (closed standing) c
     → (left : LogDisk) × IsDecided (log_of items records) (changes_of standing) left × HasLog left.items left.records c
