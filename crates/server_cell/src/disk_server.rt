@@ -1,6 +1,6 @@
 //! A chunkserver over a disk.
 
-ghost use Rattle.std.specs.Prelude.{◌≡◌, ◌≤◌, ◌<◌, ◌%◌, [], true, IfErr, IfOk};
+ghost use Rattle.std.specs.Prelude.{◌≡◌, ◌≤◌, ◌<◌, ◌%◌, List, [], true, IfErr, IfOk};
 ghost use Rattle.std.specs.Option.{option_copied};
 ghost use Rattle.gfs_types.specs.Settings.{largest_chunk};
 ghost use Rattle.disk_redo.specs.GateMoments.{LeavesOnly};
@@ -9,6 +9,7 @@ ghost use Rattle.disk_store.specs.Standing.{LeavesHolding};
 ghost use Rattle.protocol.specs.Conforms.{ServerSteps, ServerRots};
 ghost use Rattle.protocol.specs.Server.{started_server, stopped_server};
 ghost use Rattle.protocol.specs.Tables.{moment_limit};
+ghost use Rattle.protocol.specs.declared.seen.Seen.{Seen};
 ghost use Rattle.replica_store.specs.Replicas.{ServerDisk, row_at};
 ghost use Rattle.server_cell.specs.Inputs.{input_of};
 ghost use Rattle.server_cell.specs.Settings.{KeepsSettings};
@@ -19,6 +20,7 @@ use disk::Disk;
 use disk_store::disk_store::DiskStore;
 use gfs_types::config::Config;
 use gfs_types::ids::{Handle, Moment, ServerId};
+use messages::event::{NodeInput, StepOut};
 use messages::message::Message;
 use replica_store::row::Row;
 use server_store::fault::ReplicaStoreFault;
@@ -26,6 +28,19 @@ use std::alloc::Global;
 use std::marker::Model;
 use step_outcome::Outcome;
 use store_disk::Layout;
+
+/// What a server takes a step on.
+pub type ServerIn = NodeInput;
+
+// The message that a step is taken on; none at a tick.
+fn message_in(input: &ServerIn) -> Option<&Message>
+    ensures { input_of (option_copied result) ≡ input.now }
+{
+    match input {
+        NodeInput::Deliver(message) => Some(message),
+        NodeInput::Tick => None,
+    }
+}
 
 /// A chunkserver over a disk of its own. It begins on what the disk holds, and hands the disk back as it ends.
 #[derive(Drop)]
@@ -117,7 +132,18 @@ impl<D: Disk + Drop> Server<D> {
     }
 
     /// A step on a message, or on a tick.
-    pub fn step(&mut self, now: Moment, message: Option<&Message>) -> Outcome
+    #[tactic(auto, using(crate::proofs::DiskServers::steps_seen))]
+    pub fn step(&mut self, now: Moment, input: ServerIn) -> StepOut
+        requires { now.0 ≤ moment_limit }
+        ensures { (seen : List Seen) × ServerSteps self.old now.0 input result seen self.new }
+    {
+        let message = message_in(&input);
+        let Outcome { out, seen: _seen } = self.take_step(now, message);
+        out
+    }
+
+    /// The same, with what is seen of it.
+    pub fn take_step(&mut self, now: Moment, message: Option<&Message>) -> Outcome
         requires { now.0 ≤ moment_limit }
         ensures steps { ServerSteps self.old now.0 (input_of (option_copied message.entry)) result.out result.seen self.new }
         ensures settings { KeepsSettings self.old self.new }

@@ -156,7 +156,7 @@ impl ServerSlot {
         ensures { ServerSteps self.old now.0 (input_of (option_copied message.entry)) result.out result.seen self.new }
     {
         match &mut self.server {
-            Some(server) => server.step(now, message),
+            Some(server) => server.take_step(now, message),
             None => Outcome::nothing(self.alloc),
         }
     }
