@@ -135,7 +135,8 @@ impl<D: Disk + Drop> Server<D> {
     #[tactic(auto, using(crate::proofs::DiskServers::steps_seen))]
     pub fn step(&mut self, now: Moment, input: ServerIn) -> StepOut
         requires { now.0 ≤ moment_limit }
-        ensures { (seen : List Seen) × ServerSteps self.old now.0 input result seen self.new }
+        ensures steps { (seen : List Seen) × ServerSteps self.old now.0 input result seen self.new }
+        ensures settings { KeepsSettings self.old self.new }
     {
         let message = message_in(&input);
         let Outcome { out, seen: _seen } = self.take_step(now, message);
