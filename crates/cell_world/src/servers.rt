@@ -55,11 +55,7 @@ pub(crate) fn server_steps(
 }
 
 /// The chunkserver at a place begins again.
-pub(crate) fn server_restarts(
-    servers: &mut Vec<ServerSlot>,
-    place: usize,
-    now: Moment,
-) -> StepOut
+pub(crate) fn server_restarts(servers: &mut Vec<ServerSlot>, place: usize, now: Moment) -> StepOut
     requires moment { now.0 ≤ moment_limit }
     requires place { place < length servers.old.items }
     ensures { RestartsAt servers.old.items place now.0 result servers.new.items }
@@ -83,12 +79,7 @@ pub(crate) fn server_rots(
 }
 
 /// The disk of the chunkserver at a place is told to stop.
-pub(crate) fn server_fuses(
-    servers: &mut Vec<ServerSlot>,
-    place: usize,
-    calls: u64,
-    torn: Torn,
-)
+pub(crate) fn server_fuses(servers: &mut Vec<ServerSlot>, place: usize, calls: u64, torn: Torn)
     requires { place < length servers.old.items }
     ensures { servers.new.items ≡ servers.old.items }
 {

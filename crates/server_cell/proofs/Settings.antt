@@ -79,20 +79,18 @@ pub given_up_settings : (s t new : ServerState) → frame t ≡ frame s → new 
 given_up_settings s t new same stop = then_settings s t new (framed s t same) (stopped_settings t new t.under_way stop)
 
 -- a byte rotted
+module _ (s : ServerState) (change : StoreChange) where
+  rot_ends : (ending : Ending) → KeepsSettings s (after_rot s change ending)
+  rot_ends Goes = changed_settings s (after_rot s change Goes) (change ∷ []) refl
+  rot_ends Lost = stopped_settings s (after_rot s change Lost) [] refl
+  rot_ends (Stops made) = over_alike s (after_rot s change (Stops made)) (disk_changed_by_all s.disk (made_changes made (change ∷ []))) refl refl refl (all_alike s.disk (made_changes made (change ∷ [])))
+
+rotted_settings : (s : ServerState) (handle place byte : ℕ) (ending : Ending) (o : Option Replica) → KeepsSettings s (rotted s handle place byte ending o)
+rotted_settings s handle place byte ending None = same_settings s
+rotted_settings s handle place byte ending (Some x) = rot_ends s (Rot (handle_of handle) place byte) ending
+
 pub rots_settings : (s t : ServerState) (handle place byte : ℕ) → ServerRots s handle place byte t → KeepsSettings s t
-rots_settings s t handle place byte r = subst (KeepsSettings s) r.state_is (either r.ending (replica_of s.disk handle))
-  where
-    abbrev change : StoreChange
-    change = Rot (handle_of handle) place byte
-
-    after : (ending : Ending) → KeepsSettings s (after_rot s change ending)
-    after Goes = changed_settings s (after_rot s change Goes) (change ∷ []) refl
-    after Lost = stopped_settings s (after_rot s change Lost) [] refl
-    after (Stops made) = over_alike s (after_rot s change (Stops made)) (disk_changed_by_all s.disk (made_changes made (change ∷ []))) refl refl refl (all_alike s.disk (made_changes made (change ∷ [])))
-
-    either : (ending : Ending) (o : Option Replica) → KeepsSettings s (rotted s handle place byte ending o)
-    either ending None = same_settings s
-    either ending (Some x) = after ending
+rots_settings s t handle place byte r = subst (KeepsSettings s) r.state_is (rotted_settings s handle place byte r.ending (replica_of s.disk handle))
 
 -- a server of these settings goes on to be one
 pub still_of : (config : Config) (id : ℕ) (s t : ServerState) → IsServerOf config id s → KeepsSettings s t → IsServerOf config id t

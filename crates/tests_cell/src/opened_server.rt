@@ -120,7 +120,10 @@ fn a_server_is_opened_over_the_disk_of_an_earlier_one(rt: HostRuntime) {
     for torn in [Torn::Old, Torn::New, Torn::Byte(1)] {
         assert!(rt; outlasts(alloc, torn) == Some(true));
         for calls in 0..12 {
-            assert!(rt; stops_within(alloc, calls, torn) == Some(true), "call {calls}");
+            assert!(rt;
+                stops_within(alloc, calls, torn) == Some(true),
+                "call {calls}"
+            );
         }
     }
 }

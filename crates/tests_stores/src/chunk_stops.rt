@@ -163,7 +163,7 @@ fn keep_order(
     requires { store.is_open ≡ true }
     ensures { (d : ServerDisk) → IsOpen (λ (x : FuseState). x.disk.bytes) (λ (x : FuseState). LeftBy x.disk) store d
         → IfOk result (λ s. IsOpen (λ (x : FuseState). x.disk.bytes) (λ (x : FuseState). LeftBy x.disk) s d
-          ⊎ IsOpen (λ (x : FuseState). x.disk.bytes) (λ (x : FuseState). LeftBy x.disk) s (disk_changed d (SetOrder order))) }
+        ⊎ IsOpen (λ (x : FuseState). x.disk.bytes) (λ (x : FuseState). LeftBy x.disk) s (disk_changed d (SetOrder order))) }
 {
     let mut store = store;
     let layout = store.layout();

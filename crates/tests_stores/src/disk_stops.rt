@@ -194,11 +194,7 @@ fn each_change_is_made_or_not(rt: HostRuntime) -> Result<(), Fail> {
 
 // A byte that is to rot while the disk stops: it is rotten once the store is opened again, where it was answered so; where it wasn't, it is
 // rotten or nothing has changed.
-fn stop_within_rot(
-    alloc: Global,
-    store: TestStore,
-    stop: Stop,
-) -> Result<bool, ReplicaStoreFault>
+fn stop_within_rot(alloc: Global, store: TestStore, stop: Stop) -> Result<bool, ReplicaStoreFault>
     requires { store.under_way ≡ [] }
 {
     let mut store = store;
