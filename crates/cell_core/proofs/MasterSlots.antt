@@ -1,22 +1,34 @@
 -- A master whose log's disk stops, and that is opened over it again.
-use Rattle.std.proofs.Common.{◌≡◌, ◌≤◌, ◌×◌, ℕ, Bool, true, false, cond, List, [], ◌∷◌, length, refl, sym, ap, ◌∙◌, subst, Option, Some, None, arith}
+use Rattle.std.proofs.Common.{◌≡◌, ◌≤◌, ℕ, Bool, true, false, cond, List, [], ◌∷◌, length, refl, sym, ap, ◌∙◌, subst, Option, Some, None, arith}
 use Rattle.std.specs.Prelude.{◌&&◌, nat_le, IfSome, option_map}
 use Rattle.std.proofs.lemmas.Bool.Decides.{nat_tests}
 use Rattle.gfs_types.specs.declared.config.Config.{Config}
 use Rattle.gfs_types.specs.declared.ids.FileId.{FileId}
 use Rattle.gfs_types.specs.Paths.{Path}
+use Rattle.messages.specs.declared.event.StepOut.{StepOut}
+use Rattle.disk.specs.Device.{Only}
 use Rattle.disk.specs.Failing.{FuseState}
-use Rattle.disk.specs.Writes.{LeftBy}
+use Rattle.disk.specs.Laws.{left_now}
+use Rattle.disk.specs.Writes.{LeftBy, LeftSince, moment_of}
+use Rattle.disk_redo.specs.GateMoments.{LeavesOnly}
+use Rattle.oplog.specs.Disks.{HasLog}
+use Rattle.oplog.specs.NewLogs.{IsLogOf}
+use Rattle.oplog.specs.Opening.{IsOpening}
+use Rattle.operation_log.specs.Logs.{IsDecided}
 use Rattle.stored_log.specs.Kept.{DiskLogState, IsDiskSize, LeavesDecided}
-use Rattle.protocol.specs.Logged.{LogDisk, LogChange, new_log}
+use Rattle.stored_log.proofs.Reopening.{log_again, still_decided}
+use Rattle.protocol.specs.Conforms.{MasterRestarts}
+use Rattle.protocol.specs.Logged.{LogDisk, LogChange}
 use Rattle.protocol.specs.Master.{MasterState, stopped_master}
+use Rattle.protocol.specs.Seen.{down_output, no_output}
 use Rattle.protocol.specs.Sending.{file_id}
 use Rattle.protocol.specs.Tables.{Table}
 use Rattle.protocol.specs.World.{files_seen}
 use Rattle.cell_world.specs.FileNames.{file_in}
-use Rattle.master_cell.specs.Opens.{down_over}
-use Rattle.master_cell.proofs.Again.{KeepsSettings}
-use Rattle.cell_core.specs.MasterSlots.{IsLetGo, IsLogLeft, IsMasterOf, slot_state}
+use Rattle.master_cell.specs.Opens.{OpensNot, OpensUp, down_over}
+use Rattle.master_cell.proofs.Again.{KeepsSettings, down_again, up_again}
+use Rattle.master_cell.proofs.Restarts.{not_begun, not_made}
+use Rattle.cell_core.specs.MasterSlots.{IsDiskLeft, IsLetGo, IsMasterOf, slot_state}
 
 abbrev stopped : MasterState → MasterState
 stopped m = stopped_master m m.disk m.under_way
@@ -90,9 +102,20 @@ none_taken config count before None held log go is =
       ap (λ (x : Option DiskLogState). slot_state config count None x before) none,
     )
 
-pub disk_held : (o : Option FuseState) (m : MasterState) → IsLogLeft o m → IfSome o (λ f. LeavesDecided (λ (d : FuseState). LeftBy d.disk) f m.disk m.under_way)
-disk_held None m left = tt
-disk_held (Some f) m left = left
+-- the disk of one that isn't held, nor its log
+pub disk_held : (config : Config) (count : ℕ) (before : List DiskLogState) (o : Option MasterState) (held log : Option DiskLogState) (disk : Option FuseState) → IsLetGo o held log → log ≡ None → IsDiskLeft config count o held before disk
+    → (let m = slot_state config count o held before in IfSome disk (λ f. LeavesDecided (λ (d : FuseState). LeftBy d.disk) f m.disk m.under_way))
+disk_held config count before (Some m) held log disk (x, found, d, u) is left = absurd cc
+disk_held config count before None (Some l) log disk go is left = absurd cc
+disk_held config count before None None log None go is left = tt
+disk_held config count before None None log (Some f) go is left = left
+
+-- or of one that can't be opened
+pub disk_kept : (config : Config) (count : ℕ) (before : List DiskLogState) (o : Option MasterState) (log : Option DiskLogState) (f : FuseState) (m : MasterState) → slot_state config count o log before ≡ m
+    → LeavesDecided (λ (d : FuseState). LeftBy d.disk) f m.disk m.under_way → IsDiskLeft config count o log before (Some f)
+disk_kept config count before (Some x) log f m view left = tt
+disk_kept config count before None (Some l) f m view left = tt
+disk_kept config count before None None f m view left = subst (λ (x : MasterState). LeavesDecided (λ (d : FuseState). LeftBy d.disk) f x.disk x.under_way) (sym view) left
 
 -- Settings.
 
@@ -123,3 +146,44 @@ is_disk_size b size is h = (let both = both_are (nat_le 4096 size) (nat_le size 
 -- The files of one that is down stay.
 pub files_stay : (m : MasterState) (files : Table (List ℕ)) → m.up ≡ false → files ≡ files_seen m files
 files_stay m files down = sym (ap (λ (b : Bool). cond b m.logged.table.files files) down)
+
+-- Beginning again.
+
+-- it could not be opened
+pub not_again : (m new : MasterState) (moment : ℕ) (out : StepOut) → out ≡ down_output → new ≡ stopped m → MasterRestarts m moment out new
+not_again m new moment out o is = subst (λ (x : StepOut). MasterRestarts m moment x new) (sym o) (not_begun m new moment is)
+
+-- a stop leaves of a disk that has begun again what it left
+pub begun_left : (f g : FuseState) (log : LogDisk) (under_way : List LogChange) → LeavesDecided (λ (d : FuseState). LeftBy d.disk) f log under_way → LeftBy f.disk g.disk.bytes → Only g.disk.bytes (LeftBy g.disk)
+    → LeavesDecided (λ (d : FuseState). LeftBy d.disk) g log under_way
+begun_left f g log under_way leaves is only c left =
+    let kept = leaves g.disk.bytes is in
+    (kept.0, kept.1, subst (λ (b : List ℕ). HasLog kept.0.items kept.0.records b) (sym (only c left)) kept.2)
+
+-- also of one over which no log could be opened
+pub unopened_left : (f g new : FuseState) (log : LogDisk) (under_way : List LogChange) → LeavesDecided (λ (d : FuseState). LeftBy d.disk) f log under_way → LeftBy f.disk g.disk.bytes → Only g.disk.bytes (LeftBy g.disk)
+    → LeavesOnly (λ (x : FuseState). moment_of x.disk) (λ (x : FuseState) (t : ℕ) (b : List ℕ). LeftSince x.disk t b) g new (IsOpening g.disk.bytes (LeftBy g.disk)) → LeavesDecided (λ (d : FuseState). LeftBy d.disk) new log under_way
+unopened_left f g new log under_way leaves is only run =
+    still_decided (λ (x : FuseState). x.disk.bytes) (λ (x : FuseState). LeftBy x.disk) (λ (x : FuseState). moment_of x.disk) (λ (x : FuseState) (t : ℕ) (b : List ℕ). LeftSince x.disk t b) log under_way f g new leaves is only run
+    (λ x t c le now. left_now x.disk t c le now)
+
+-- the log that was opened is one that the master may have left
+pub opened_decided : (f : FuseState) (bytes : List ℕ) (m : MasterState) (found : DiskLogState) → 4096 ≤ length bytes → LeavesDecided (λ (d : FuseState). LeftBy d.disk) f m.disk m.under_way → LeftBy f.disk bytes
+    → IsLogOf found.disk.items found.disk.records bytes → IsDecided m.disk m.under_way found.disk
+opened_decided f bytes m found large leaves is there =
+    log_again (λ (x : FuseState). x.disk.bytes) (λ (x : FuseState). LeftBy x.disk) (λ (x : FuseState). moment_of x.disk) (λ (x : FuseState) (t : ℕ) (b : List ℕ). LeftSince x.disk t b) m.disk m.under_way f bytes found.disk large leaves is there
+
+module _ (config : Config) (count : ℕ) (m : MasterState) (of : IsMasterOf config count m) (moment : ℕ) (log : DiskLogState) (decided : IsDecided m.disk m.under_way log.disk) (none : log.under_way ≡ []) where
+  -- the master is up over it
+  pub is_up_again : (out : StepOut) (new : MasterState) → out ≡ no_output → OpensUp (down_over config count log.disk []) moment new → MasterRestarts m moment out new
+  is_up_again out new o up = up_again m config count log.disk moment of.config_is of.count_is decided out new o up
+
+  -- or it is down over what its opening left
+  pub is_down_again : (out : StepOut) (left : DiskLogState) → out ≡ down_output → OpensNot (down_over config count log.disk []) moment left.disk left.under_way → MasterRestarts m moment out (down_over config count left.disk left.under_way)
+  is_down_again out left o n = down_again m config count log.disk moment of.config_is of.count_is decided out (down_over config count left.disk left.under_way) left.disk left.under_way o refl n
+
+  -- or the opening was not begun
+  pub is_left_again : (out : StepOut) → out ≡ down_output → MasterRestarts m moment out (down_over config count log.disk log.under_way)
+  is_left_again out o =
+      down_again m config count log.disk moment of.config_is of.count_is decided out (down_over config count log.disk log.under_way) log.disk [] o
+      (ap (λ (u : List LogChange). down_over config count log.disk u) none) (not_made config count log.disk log.disk [] moment refl refl)

@@ -26,10 +26,12 @@ pub record IsMasterOf (config : Config) (count : ℕ) (m : MasterState) : Type 0
   pub config_is : m.config ≡ config
   pub count_is : m.server_count ≡ count
 
--- a stop leaves of the disk, where one is held, the master's log with what is under way or without it
-abbrev pub IsLogLeft : Option FuseState → MasterState → Type 0
-IsLogLeft None m = ⊤
-IsLogLeft (Some f) m = LeavesDecided (λ (d : FuseState). LeftBy d.disk) f m.disk m.under_way
+-- Where no master is held, nor its log, but a disk, a stop leaves of it the master's log, with what is under way or without it.
+abbrev pub IsDiskLeft : Config → ℕ → Option MasterState → Option DiskLogState → List DiskLogState → Option FuseState → Type 0
+IsDiskLeft config count (Some m) log before disk = ⊤
+IsDiskLeft config count None (Some l) before disk = ⊤
+IsDiskLeft config count None None before None = ⊤
+IsDiskLeft config count None None before (Some f) = (let m = slot_state config count None None before in LeavesDecided (λ (d : FuseState). LeftBy d.disk) f m.disk m.under_way)
 
 -- the log of a master that is let go, or the one that is held
 abbrev pub IsLetGo : Option MasterState → Option DiskLogState → Option DiskLogState → Type 0

@@ -77,7 +77,7 @@ impl<A: Allocator> Model for MasterSlot<A> {
     ghost use Rattle.std.specs.Coded.{codes, coded_ℕ, coded_list};
     ghost use Rattle.std.specs.FinMap as map;
     ghost use Rattle.master_cell.specs.Shown.{shown_in};
-    ghost use Rattle.cell_core.specs.MasterSlots.{IsLogLeft, IsMasterOf, SlotState, slot_state};
+    ghost use Rattle.cell_core.specs.MasterSlots.{IsDiskLeft, IsMasterOf, SlotState, slot_state};
 
     ghost Value = { SlotState };
 
@@ -88,7 +88,7 @@ impl<A: Allocator> Model for MasterSlot<A> {
     ghost invariant = { λ s. (s.config.lease_ms ≤ 3600000)
         × (s.config.skew_ms ≤ 60000)
         × IsMasterOf s.config s.server_count (slot_state s.config s.server_count s.master s.log s.before.items)
-        × IsLogLeft s.disk (slot_state s.config s.server_count s.master s.log s.before.items)
+        × IsDiskLeft s.config s.server_count s.master s.log s.before.items s.disk
         × ((slot_state s.config s.server_count s.master s.log s.before.items).up ≡ true → shown_in s.files ≡ (slot_state s.config s.server_count s.master s.log s.before.items).logged.table.files) };
 }
 
@@ -173,6 +173,7 @@ impl<A: Allocator + Clone> MasterSlot<A> {
         match log_of(self.master.take(), self.log.take()) {
             Some(log) => {
                 self.before = GhostList::new().and(&log);
+                self.disk = None;
                 Some(log.into_disk())
             }
             None => self.disk.take(),
@@ -234,7 +235,6 @@ impl<A: Allocator + Clone> RestartedMaster for MasterSlot<A> {
                 return down_output(self.alloc);
             }
         };
-        self.disk = None;
         self.master = None;
         let Ok(names) = self.names.clone() else {
             self.log = Some(log);

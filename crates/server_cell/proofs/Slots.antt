@@ -15,8 +15,9 @@ use Rattle.disk_store.proofs.Again.{Found, found, still_left}
 use Rattle.protocol.specs.Conforms.{ServerRestarts}
 use Rattle.protocol.specs.Seen.{no_output}
 use Rattle.protocol.specs.Server.{ServerState, started_server, stopped_server}
-use Rattle.server_cell.specs.Settings.{IsServerOf}
+use Rattle.server_cell.specs.Settings.{IsServerOf, KeepsSettings}
 use Rattle.server_cell.specs.Slots.{IsDiskLeft, slot_state}
+use Rattle.server_cell.proofs.Settings.{still_of}
 use Rattle.server_cell.proofs.Steps.{restarts_so}
 
 abbrev stopped : ServerState → ServerState
@@ -27,6 +28,10 @@ stopped s = stopped_server s s.disk s.under_way
 -- the server that is held is its state
 pub held_is : (config : Config) (id : ℕ) (o : Option ServerState) (s : ServerState) (before : List ServerState) → o ≡ Some s → slot_state config id o before ≡ s
 held_is config id o s before is = ap (λ (x : Option ServerState). slot_state config id x before) is
+
+-- and goes on to be one of its settings
+pub goes_on : (config : Config) (id : ℕ) (o : Option ServerState) (s t : ServerState) (before : List ServerState) → o ≡ Some s → IsServerOf config id (slot_state config id o before) → KeepsSettings s t → IsServerOf config id t
+goes_on config id o s t before is h kept = still_of config id s t (subst (IsServerOf config id) (held_is config id o s before is) h) kept
 
 -- one that isn't held is down
 none_up : (config : Config) (id : ℕ) (before : List ServerState) → (slot_state config id None before).up ≡ false
@@ -57,9 +62,17 @@ stays_down config id o before is =
 pub stopped_of : (config : Config) (id : ℕ) (s t : ServerState) → t ≡ stopped s → IsServerOf config id s → IsServerOf config id t
 stopped_of config id s t is h = subst (IsServerOf config id) (sym is) (record { config_is = h.config_is; id_is = h.id_is; chunk_is = h.chunk_is; block_is = h.block_is; slots_is = h.slots_is })
 
-pub disk_taken : (o : Option FuseState) (s : ServerState) → IsDiskLeft o s → IfSome o (λ f. LeavesHolding (LeftBy f.disk) s.disk s.under_way)
-disk_taken None s left = tt
-disk_taken (Some f) s left = left
+module _ (config : Config) (id : ℕ) (before : List ServerState) where
+  -- the disk of one that isn't held
+  pub disk_taken : (o : Option ServerState) (disk : Option FuseState) → o ≡ None → IsDiskLeft config id o before disk → (let s = slot_state config id o before in IfSome disk (λ f. LeavesHolding (LeftBy f.disk) s.disk s.under_way))
+  disk_taken (Some s) disk is left = absurd cc
+  disk_taken None None is left = tt
+  disk_taken None (Some f) is left = left
+
+  -- or of one that can't be opened
+  pub disk_kept : (o : Option ServerState) (f : FuseState) (s : ServerState) → slot_state config id o before ≡ s → LeavesHolding (LeftBy f.disk) s.disk s.under_way → IsDiskLeft config id o before (Some f)
+  disk_kept (Some x) f s view left = tt
+  disk_kept None f s view left = subst (λ (x : ServerState). LeavesHolding (LeftBy f.disk) x.disk x.under_way) (sym view) left
 
 -- A server that is opened.
 

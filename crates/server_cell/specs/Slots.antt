@@ -13,7 +13,8 @@ slot_state config id (Some s) before = s
 slot_state config id None [] = down_server config id (new_server_disk config.chunk config.block config.slots) []
 slot_state config id None (s ∷ rest) = stopped_server s s.disk s.under_way
 
--- a stop leaves of the disk, where one is held, what the server's disk had
-abbrev pub IsDiskLeft : Option FuseState → ServerState → Type 0
-IsDiskLeft None s = ⊤
-IsDiskLeft (Some f) s = LeavesHolding (LeftBy f.disk) s.disk s.under_way
+-- Where no server is held but a disk, a stop leaves of it what the server's disk had.
+abbrev pub IsDiskLeft : Config → ℕ → Option ServerState → List ServerState → Option FuseState → Type 0
+IsDiskLeft config id (Some s) before disk = ⊤
+IsDiskLeft config id None before None = ⊤
+IsDiskLeft config id None before (Some f) = (let s = slot_state config id None before in LeavesHolding (LeftBy f.disk) s.disk s.under_way)

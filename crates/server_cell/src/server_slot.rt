@@ -70,7 +70,7 @@ impl Model for ServerSlot {
 
     ghost invariant = { λ s. IsForServers s.config
         × IsServerOf s.config s.id.0 (slot_state s.config s.id.0 s.server s.before.items)
-        × IsDiskLeft s.disk (slot_state s.config s.id.0 s.server s.before.items) };
+        × IsDiskLeft s.config s.id.0 s.server s.before.items s.disk };
 }
 
 impl ServerSlot {
@@ -184,6 +184,7 @@ impl ServerSlot {
         match self.server.take() {
             Some(server) => {
                 self.before = GhostList::new().and(&server);
+                self.disk = None;
                 Some(server.into_disk())
             }
             None => self.disk.take(),
@@ -203,7 +204,6 @@ impl ServerSlot {
         match Server::open(self.alloc, self.config, self.id, disk, now) {
             Ok(server) => {
                 self.server = Some(server);
-                self.disk = None;
                 no_output(self.alloc)
             }
             Err((disk, _fault)) => {

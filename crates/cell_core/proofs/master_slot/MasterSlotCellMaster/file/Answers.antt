@@ -10,7 +10,7 @@ use Rattle.cell_core.proofs.master_slot.MasterSlotCellMaster.file.Goals as goal
 pub returns-in-Some : goal.returns-in-Some
 returns-in-Some g c =
     let i = c.self.inside in
-    c.file_of.ensures ∙ ap (λ (m : MasterState). option_map file_id (file_in m c.args.path.now)) (sym (held_is i.config i.server_count i.master c.in-Some.master.now i.log i.before.items c.in-Some.is) ∙ ap (λ (s : SlotState). s.state) c.self.view_is)
+    c.file_of.ensures ∙ ap (λ (m : MasterState). option_map file_id (file_in m c.args.path.now)) (sym (held_is i.config i.server_count i.master _ i.log i.before.items c.in-Some.is) ∙ ap (λ (s : SlotState). s.state) c.self.view_is)
 
 pub returns-in-None : goal.returns-in-None
 returns-in-None g c =

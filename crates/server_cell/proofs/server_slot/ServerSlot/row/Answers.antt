@@ -7,7 +7,7 @@ use Rattle.server_cell.proofs.server_slot.ServerSlot.row.Goals as goal
 pub returns-in-Some : goal.returns-in-Some
 returns-in-Some c =
     let i = c.self.inside in
-    c.row.ensures ∙ ap (λ (s : ServerState). row_at s.disk c.args.handle.0) (sym (held_is i.config i.id.0 i.server c.in-Some.server.now i.before.items c.in-Some.is) ∙ c.self.view_is)
+    c.row.ensures ∙ ap (λ (s : ServerState). row_at s.disk c.args.handle.0) (sym (held_is i.config i.id.0 i.server _ i.before.items c.in-Some.is) ∙ c.self.view_is)
 
 pub returns-in-None : goal.returns-in-None
 returns-in-None c =
