@@ -151,6 +151,7 @@ impl<A: Allocator + Clone> MasterSlot<A> {
         let Ok(master) = LoggedMaster::new(alloc, config, server_count, log, own_names) else {
             return Err(StartFault::NoMemory);
         };
+        let files = ShownFiles::new(alloc);
         Ok(MasterSlot {
             alloc,
             config,
@@ -160,7 +161,7 @@ impl<A: Allocator + Clone> MasterSlot<A> {
             log: None,
             disk: None,
             before: GhostList::new(),
-            files: ShownFiles::new(alloc),
+            files,
             stops: StopPlan::new(),
         })
     }

@@ -10,4 +10,4 @@ open-requires-clause-holds c = (
 
 pub returns-clause-new : goal.returns-clause-new
 returns-clause-new c =
-    c.in-Ok-server.ensures (new_server_disk c.args.config.chunk c.args.config.block c.args.config.slots) (holds_none c.args.config.chunk c.args.config.block c.args.config.slots c.disk_size.result c.in-Ok.disk c.in-Ok.ensures)
+    c.in-Ok-open.ensures (new_server_disk c.args.config.chunk c.args.config.block c.args.config.slots) (holds_none c.args.config.chunk c.args.config.block c.args.config.slots c.disk_size.result c.in-Ok.disk c.in-Ok.ensures)
