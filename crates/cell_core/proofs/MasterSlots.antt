@@ -26,7 +26,7 @@ use Rattle.protocol.specs.Tables.{Table}
 use Rattle.protocol.specs.World.{files_seen}
 use Rattle.cell_world.specs.FileNames.{file_in}
 use Rattle.master_cell.specs.Opens.{OpensNot, OpensUp, down_over}
-use Rattle.master_cell.proofs.Again.{KeepsSettings, down_again, up_again}
+use Rattle.master_cell.proofs.Again.{KeepsSettings, down_again, opened_settings, up_again}
 use Rattle.master_cell.proofs.Restarts.{not_begun, not_made}
 use Rattle.cell_core.specs.MasterSlots.{IsDiskLeft, IsLetGo, IsMasterOf, slot_state}
 
@@ -187,3 +187,12 @@ module _ (config : Config) (count : ℕ) (m : MasterState) (of : IsMasterOf conf
   is_left_again out o =
       down_again m config count log.disk moment of.config_is of.count_is decided out (down_over config count log.disk log.under_way) log.disk [] o
       (ap (λ (u : List LogChange). down_over config count log.disk u) none) (not_made config count log.disk log.disk [] moment refl refl)
+
+-- one that is up has its settings, and its files are shown
+pub up_of : (config : Config) (count moment : ℕ) (log : LogDisk) (new : MasterState) → OpensUp (down_over config count log []) moment new → IsMasterOf config count new
+up_of config count moment log new up =
+    let kept = opened_settings config count log moment up.opens.went up.opens.made up.out new up.opens.gives in
+    record { config_is = kept.0; count_is = kept.1 }
+
+pub up_files : (m : MasterState) (files before : Table (List ℕ)) → m.up ≡ true → files ≡ m.logged.table.files → files ≡ files_seen m before
+up_files m files before up is = is ∙ sym (ap (λ (b : Bool). cond b m.logged.table.files before) up)

@@ -14,7 +14,7 @@ use Rattle.protocol.specs.MasterStep.{has_opened, is_within_limits, master_bound
 use Rattle.protocol.specs.Seen.{Taken, down_output, no_output, no_step}
 use Rattle.master_cell.specs.Opens.{Opens, OpensNot, OpensUp, down_over, opened}
 use Rattle.master_cell.proofs.Restarts.{restarts}
-use Rattle.master_cell.proofs.Settings.{opening_up, settings_stay}
+use Rattle.master_cell.proofs.Settings.{opening_stays, opening_up, settings_stay}
 use Rattle.master_cell.proofs.Steady.{settings_of}
 
 -- A step leaves the settings, and how many servers there are.
@@ -81,6 +81,18 @@ module _ (config : Config) (count : ℕ) (log : LogDisk) (moment : ℕ) where
       → (out ≡ down_output) × (new ≡ down_over config count new.disk new.under_way)
   down_gave true made out new g down = down_went (has_opened started (opening started) && is_within_limits (opening started).master) out new g down
   down_gave false made out new g down = (sym g.out_is, down_as _ _ new g.left_as)
+
+  -- with its settings
+  gone_settings : (b : Bool) (new : MasterState) → IsLeftAs (gone b).state new → (new.config ≡ config) × (new.server_count ≡ count)
+  gone_settings true new left =
+      let kept = opening_stays started in
+      let held = left_settings (opening started).master new left in
+      (held.0 ∙ ap (λ (s : Config × ℕ). s.0) kept, held.1 ∙ ap (λ (s : Config × ℕ). s.1) kept)
+  gone_settings false new left = left_settings (stopped_master started (opening started).master.disk []) new left
+
+  pub opened_settings : (went : Bool) (made : ℕ) (out : StepOut) (new : MasterState) → GivesMaster (opened config count log moment went made) out [] new → (new.config ≡ config) × (new.server_count ≡ count)
+  opened_settings true made out new g = gone_settings (has_opened started (opening started) && is_within_limits (opening started).master) new g.left_as
+  opened_settings false made out new g = left_settings _ new g.left_as
 
 -- The log that was found is one that the master may have left.
 module _ (m : MasterState) (config : Config) (count : ℕ) (log : LogDisk) (moment : ℕ) (config_is : m.config ≡ config) (count_is : m.server_count ≡ count) (decided : IsDecided m.disk m.under_way log) where
