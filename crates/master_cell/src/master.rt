@@ -2,10 +2,12 @@
 
 ghost use Rattle.std.specs.Prelude.{◌≡◌, ◌≤◌, ◌<◌, List, IfErr, IfOk, length};
 ghost use Rattle.std.specs.Option.{option_copied};
+ghost use Rattle.log_records.specs.declared.record.Record.{Record};
+ghost use Rattle.oplog.specs.NewLogs.{IsLogOf};
 ghost use Rattle.protocol.specs.Conforms.{MasterSteps};
 ghost use Rattle.protocol.specs.Tables.{moment_limit};
 ghost use Rattle.protocol.specs.declared.seen.Seen.{Seen};
-ghost use Rattle.operation_log.specs.declared.fault.OperationLogFault.TheVariants.{Device};
+ghost use Rattle.operation_log.specs.declared.fault.OperationLogFault.TheVariants.{Damaged, Device};
 ghost use Rattle.stored_log.specs.Kept.{IsDiskSize, LeavesDecided};
 ghost use Rattle.master_cell.specs.Disks.{FailsOver, OpensOver};
 ghost use Rattle.master_cell.specs.Inputs.{input_of};
@@ -80,6 +82,8 @@ impl<A: Allocator + Clone, D: Disk + Drop> Master<A, D> {
         ensures fails { IfErr result (λ e. FailsOver D.seen D.may_leave D.moment D.left_since config servers disk now.0 e.0) }
         // A log is told as one whose disk failed only where it did.
         ensures cause { IfErr result (λ e. e.1 ≡ opening_faults.Log Device → D.failed disk < D.failed e.0) }
+        // And as damaged only where none stands.
+        ensures undamaged { (items records : List Record) → IsLogOf items records (D.seen disk) → IfErr result (λ e. e.1 ≡ opening_faults.Log Damaged → ⊥) }
     {
         let log = match DiskLog::open(disk, alloc) {
             Ok(log) => log,

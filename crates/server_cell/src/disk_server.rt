@@ -1,6 +1,6 @@
 //! A chunkserver over a disk.
 
-ghost use Rattle.std.specs.Prelude.{◌≡◌, ◌≤◌, ◌<◌, ◌%◌, List, [], true, IfErr, IfOk};
+ghost use Rattle.std.specs.Prelude.{◌≡◌, ◌≤◌, ◌<◌, ◌%◌, List, [], true, length, IfErr, IfOk};
 ghost use Rattle.std.specs.Option.{option_copied};
 ghost use Rattle.gfs_types.specs.Settings.{largest_chunk};
 ghost use Rattle.disk_redo.specs.GateMoments.{LeavesOnly};
@@ -14,6 +14,8 @@ ghost use Rattle.replica_store.specs.Replicas.{ServerDisk, row_at};
 ghost use Rattle.server_cell.specs.Inputs.{input_of};
 ghost use Rattle.server_cell.specs.Settings.{KeepsSettings};
 ghost use Rattle.server_store.specs.declared.fault.ReplicaStoreFault.TheVariants as faults;
+ghost use Rattle.store_disk.specs.Formats.{IsHeadOf, is_head_open};
+ghost use Rattle.store_disk.specs.Places.{disk_size};
 
 use crate::server::Chunkserver;
 use disk::Disk;
@@ -83,6 +85,9 @@ impl<D: Disk + Drop> Server<D> {
         // A stop at any moment of a call that fails leaves what one before it might have left, or what holds the same.
         ensures any_moment_of_error { IfErr result (λ e. LeavesOnly D.moment D.left_since disk e.0 (IsOpening config.chunk config.block config.slots (D.seen disk) (D.may_leave disk))) }
         ensures cause { IfErr result (λ e. e.1 ≡ faults.DiskFailed → D.failed disk < D.failed e.0) }
+        // Damaged comes only where the disk is too small, or its open head is that of other sizes.
+        ensures undamaged { disk_size config.chunk config.block config.slots ≤ length (D.seen disk)
+            → (is_head_open (D.seen disk) ≡ true → IsHeadOf config.chunk config.block config.slots (D.seen disk)) → IfErr result (λ e. e.1 ≡ faults.Damaged → ⊥) }
     {
         let layout = Layout::new(config.chunk, config.block, config.slots);
         match DiskStore::open(alloc, disk, layout) {

@@ -89,6 +89,8 @@ impl<D: Disk> DiskLog<D> {
         ensures read_of_error { IfErr result (λ e. IsReopened (D.seen disk) (D.seen e.0)) }
         ensures any_moment_of_error { IfErr result (λ e. LeavesOnly D.moment D.left_since disk e.0 (IsOpening (D.seen disk) (D.may_leave disk))) }
         ensures open { IfOk result (λ l. l.is_open ≡ true) }
+        // Damaged comes only where the disk holds no log.
+        ensures undamaged { (items records : List Record) → IsLogOf items records (D.seen disk) → IfErr result (λ e. e.1 ≡ faults.Damaged → ⊥) }
         ensures cause { IfErr result (λ e. e.1 ≡ faults.Device → D.failed disk < D.failed e.0) }
     {
         let log_bytes = disk.size() as u64;

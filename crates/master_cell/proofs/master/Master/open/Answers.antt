@@ -1,5 +1,5 @@
 use Rattle.std.proofs.Common.{◌≡◌}
-use Rattle.operation_log.specs.declared.fault.OperationLogFault.TheVariants.{Device}
+use Rattle.operation_log.specs.declared.fault.OperationLogFault.TheVariants.{Damaged, Device}
 use Rattle.master_cell.proofs.Disks.{not_read}
 use Rattle.master_cell.proofs.master.Master.open.Goals as goal
 
@@ -10,3 +10,6 @@ returns-in-Err-clause-fails g c =
 
 pub returns-in-Err-clause-cause : goal.returns-in-Err-clause-cause
 returns-in-Err-clause-cause g c e = let same : c.in-Err.fault ≡ Device = cc in c.in-Err.ensures.cause same
+
+pub returns-in-Err-clause-undamaged : goal.returns-in-Err-clause-undamaged
+returns-in-Err-clause-undamaged g c items records log e = let same : c.in-Err.fault ≡ Damaged = cc in c.in-Err.ensures.undamaged items records log same
