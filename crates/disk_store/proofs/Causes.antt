@@ -27,6 +27,17 @@ pub disk_has_room : {T : Type 0} (f : DiskFault) (x : ReplicaStoreFault) → x �
 disk_has_room disk.Device x is e = absurd cc
 disk_has_room disk.NoMemory x is e = absurd cc
 
+-- what an opening was told as
+pub opening_failed : (f : OpenFault) (x : ReplicaStoreFault) → x ≡ of_opening f → x ≡ store.DiskFailed → f ≡ opening.Device
+opening_failed opening.Damaged x is e = absurd cc
+opening_failed opening.Device x is e = refl
+opening_failed opening.NoMemory x is e = absurd cc
+
+pub opening_damaged : (f : OpenFault) (x : ReplicaStoreFault) → x ≡ of_opening f → x ≡ store.Damaged → f ≡ opening.Damaged
+opening_damaged opening.Damaged x is e = refl
+opening_damaged opening.Device x is e = absurd cc
+opening_damaged opening.NoMemory x is e = absurd cc
+
 pub disk_cause : {T U : Type 0} (before now : ℕ) (f : DiskFault) (x : ReplicaStoreFault) → x ≡ of_disk f → IsOfDisk {T = T} before now (Err f) → HasCause {T = U} before now (Err x)
 disk_cause before now disk.Device x is h = record { later = h.later; failed = λ e. h.failed refl; undamaged = λ e. absurd cc }
 disk_cause before now disk.NoMemory x is h = record { later = h.later; failed = λ e. absurd cc; undamaged = λ e. absurd cc }

@@ -1,14 +1,12 @@
 -- What is kept of a disk, whatever its standing.
 use Rattle.std.proofs.Common.{◌≡◌, inl, inr, ℕ, ◌≤◌, ◌%◌, List, [], ◌∷◌, refl, sym, ap, ◌∙◌, subst, None, Some}
-use Rattle.disk.specs.Device.{Follows}
 use Rattle.gfs_types.specs.declared.ids.OrderNo.{OrderNo}
 use Rattle.replica_store.specs.Replicas.{ServerDisk, disk_changed}
 use Rattle.replica_store.specs.declared.change.StoreChange.{StoreChange}
 use Rattle.store_disk.specs.declared.places.Layout.{Layout}
-use Rattle.chunk_store.specs.Reopening.{StillSays}
 use Rattle.chunk_store.specs.Stores.{IsOpen, StoreState}
 use Rattle.disk_store.specs.Known.{IsKnownOf, Rows}
-use Rattle.disk_store.specs.Standing.{IsKept, IsStandingTrue, Leaves, LeavesMade, changes_of, closed, refused}
+use Rattle.disk_store.specs.Standing.{IsKept, IsStandingTrue, Leaves, LeavesMade, changes_of, refused}
 use Rattle.disk_store.specs.declared.standing.DiskStoreState.{DiskStoreState}
 use Rattle.disk_store.specs.declared.standing.DiskStoreState.TheVariants.{Open, Unread, Changing}
 use Rattle.disk_store.proofs.Saying.{changed_alike, open_leaves}
