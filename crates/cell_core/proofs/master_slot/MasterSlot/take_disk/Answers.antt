@@ -74,3 +74,22 @@ returns-in-None-clause-left g c =
     subst (λ (s : SlotState). IfSome c.take-in-None.result (λ f. LeavesDecided (λ (d : FuseState). LeftBy d.disk) f s.state.disk s.state.under_way)) c.self.view_is
     (subst (λ (o : Option FuseState). (let m = slot_state i.config i.server_count i.master i.log i.before.items in IfSome o (λ f. LeavesDecided (λ (d : FuseState). LeftBy d.disk) f m.disk m.under_way))) (sym c.take-in-None.ensures.value)
     (disk_held i.config i.server_count i.before.items i.master i.log c.log_of.result i.disk go c.in-None.is c.self.invariant.3))
+
+pub invariant_of-self-in-None : goal.invariant_of-self-in-None
+invariant_of-self-in-None g c =
+    let i = c.self.inside in
+    let now : MasterState = slot_state i.config i.server_count c.take.new.self c.take-2.new.self i.before.items in
+    let go : IsLetGo i.master i.log c.log_of.result =
+    subst (λ (o : Option MasterState). IsLetGo o i.log c.log_of.result) c.take.ensures.value (subst (λ (x : Option DiskLogState). IsLetGo c.take.result x c.log_of.result) c.take-2.ensures.value c.log_of.ensures) in
+    let none = none_taken i.config i.server_count i.before.items i.master i.log c.log_of.result go c.in-None.is in
+    let gone : now ≡ stopped (slot_state i.config i.server_count i.master i.log i.before.items) =
+    ap (λ (o : Option MasterState). slot_state i.config i.server_count o c.take-2.new.self i.before.items) c.take.ensures.after
+    ∙ ap (λ (x : Option DiskLogState). slot_state i.config i.server_count None x i.before.items) c.take-2.ensures.after ∙ none.0 in (
+      c.self.invariant.0,
+      c.self.invariant.1,
+      stopped_of i.config i.server_count (slot_state i.config i.server_count i.master i.log i.before.items) now gone c.self.invariant.2,
+      subst (λ (f : Option FuseState). IsDiskLeft i.config i.server_count c.take.new.self c.take-2.new.self i.before.items f) (sym c.take-in-None.ensures.after)
+          (subst (λ (o : Option MasterState). IsDiskLeft i.config i.server_count o c.take-2.new.self i.before.items None) (sym c.take.ensures.after)
+          (subst (λ (x : Option DiskLogState). IsDiskLeft i.config i.server_count None x i.before.items None) (sym c.take-2.ensures.after) tt)),
+      λ up. let both : false ≡ true = sym (ap (λ (m : MasterState). m.up) gone) ∙ up in absurd cc,
+    )
