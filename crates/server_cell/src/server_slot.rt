@@ -134,9 +134,10 @@ impl ServerSlot {
         requires { self.old.up ≡ true }
         ensures { self.new ≡ stopped_server self.old self.old.disk [] }
     {
-        if let Some(server) = &mut self.server {
-            server.stop();
-        }
+        let Some(server) = &mut self.server else {
+            return;
+        };
+        server.stop();
     }
 
     /// A byte of a replica becomes another on the disk, past its digest; nothing happens where there is no such replica. Where the disk fails
@@ -145,9 +146,10 @@ impl ServerSlot {
         requires { self.old.up ≡ true }
         ensures { ServerRots self.old handle.0 place byte self.new }
     {
-        if let Some(server) = &mut self.server {
-            server.rot(handle, place, byte);
-        }
+        let Some(server) = &mut self.server else {
+            return;
+        };
+        server.rot(handle, place, byte);
     }
 
     /// A step of the server on a message, or on a tick.
@@ -155,10 +157,10 @@ impl ServerSlot {
         requires { now.0 ≤ moment_limit }
         ensures { ServerSteps self.old now.0 (input_of (option_copied message.entry)) result.out result.seen self.new }
     {
-        match &mut self.server {
-            Some(server) => server.take_step(now, message),
-            None => Outcome::nothing(self.alloc),
-        }
+        let Some(server) = &mut self.server else {
+            return Outcome::nothing(self.alloc);
+        };
+        server.take_step(now, message)
     }
 
     /// The disk of a server that is up lets so many calls pass and fails each later one until the next restart, which finds unsynced ranges as

@@ -15,8 +15,8 @@ invariant_of-self c =
     let i = c.self.inside in
     (c.self.invariant.0, goes_on i.config i.id.0 i.server _ c.rot.new.self i.before.items c.in-Some.is c.self.invariant.1 (rots_settings _ c.rot.new.self c.args.handle.0 c.args.place c.args.byte c.rot.ensures), tt)
 
-pub returns-in-Some : goal.returns-in-Some
-returns-in-Some c =
+pub returns : goal.returns
+returns c =
     let i = c.self.inside in
     subst (λ (s : ServerState). ServerRots s c.args.handle.0 c.args.place c.args.byte c.rot.new.self) (sym (held_is i.config i.id.0 i.server _ i.before.items c.in-Some.is) ∙ c.self.view_is) c.rot.ensures
 

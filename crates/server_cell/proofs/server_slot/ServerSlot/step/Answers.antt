@@ -12,14 +12,14 @@ invariant_of-self c =
     let i = c.self.inside in
     (c.self.invariant.0, goes_on i.config i.id.0 i.server _ c.take_step.new.self i.before.items c.in-Some.is c.self.invariant.1 c.take_step.ensures.settings, tt)
 
-pub returns-in-Some : goal.returns-in-Some
-returns-in-Some c =
+pub returns : goal.returns
+returns c =
     let i = c.self.inside in
     subst (λ (s : ServerState). ServerSteps s c.args.now.0 (input_of (option_copied c.args.message)) c.take_step.result.out c.take_step.result.seen c.take_step.new.self)
     (sym (held_is i.config i.id.0 i.server _ i.before.items c.in-Some.is) ∙ c.self.view_is) c.take_step.ensures.steps
 
-pub returns-in-None : goal.returns-in-None
-returns-in-None c =
+pub returns-in_default : goal.returns-in_default
+returns-in_default c =
     let i = c.self.inside in
-    let down = ap (λ (s : ServerState). s.up) (sym c.self.view_is) ∙ not_held i.config i.id.0 i.server i.before.items c.in-None.is in
+    let down = ap (λ (s : ServerState). s.up) (sym c.self.view_is) ∙ not_held i.config i.id.0 i.server i.before.items c.in_default.is in
     as_given (stays c.args.self.now c.args.now.0 (input_of (option_copied c.args.message)) down) c.nothing.ensures.out c.nothing.ensures.seen refl

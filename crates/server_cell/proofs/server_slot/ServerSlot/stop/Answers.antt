@@ -14,8 +14,8 @@ invariant_of-self c =
     let i = c.self.inside in
     (c.self.invariant.0, goes_on i.config i.id.0 i.server _ c.stop.new.self i.before.items c.in-Some.is c.self.invariant.1 (stopped_settings _ c.stop.new.self [] c.stop.ensures), tt)
 
-pub returns-in-Some : goal.returns-in-Some
-returns-in-Some c =
+pub returns : goal.returns
+returns c =
     let i = c.self.inside in
     c.stop.ensures ∙ ap (λ (s : ServerState). stopped_server s s.disk []) (sym (held_is i.config i.id.0 i.server _ i.before.items c.in-Some.is) ∙ c.self.view_is)
 

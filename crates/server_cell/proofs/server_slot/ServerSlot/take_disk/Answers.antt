@@ -13,9 +13,9 @@ pub returns-in-Some-clause-down : goal.returns-in-Some-clause-down
 returns-in-Some-clause-down c =
     let i = c.self.inside in
     let s = c.in-Some.server in
-    let items : c.and.result.items ≡ s ∷ [] = c.and.ensures ∙ ap (λ (l : List ServerState). l ++ s ∷ []) c.new.ensures in
-    ap (λ (o : Option ServerState). slot_state i.config i.id.0 o c.and.result.items) c.take.ensures.after
-    ∙ let_go i.config i.id.0 i.server s i.before.items c.and.result.items (sym c.take.ensures.value ∙ c.in-Some.is) items
+    let items : c.and-self-inside.result.items ≡ s ∷ [] = c.and-self-inside.ensures ∙ ap (λ (l : List ServerState). l ++ s ∷ []) c.new.ensures in
+    ap (λ (o : Option ServerState). slot_state i.config i.id.0 o c.and-self-inside.result.items) c.take.ensures.after
+    ∙ let_go i.config i.id.0 i.server s i.before.items c.and-self-inside.result.items (sym c.take.ensures.value ∙ c.in-Some.is) items
     ∙ ap (λ (x : ServerState). stopped_server x x.disk x.under_way) c.self.view_is
 
 pub returns-in-Some-clause-left : goal.returns-in-Some-clause-left
@@ -28,13 +28,13 @@ pub invariant_of-self : goal.invariant_of-self
 invariant_of-self c =
     let i = c.self.inside in
     let s = c.in-Some.server in
-    let items : c.and.result.items ≡ s ∷ [] = c.and.ensures ∙ ap (λ (l : List ServerState). l ++ s ∷ []) c.new.ensures in
-    let gone : slot_state i.config i.id.0 c.take.new.self c.and.result.items ≡ stopped_server (slot_state i.config i.id.0 i.server i.before.items) _ _ =
-    ap (λ (o : Option ServerState). slot_state i.config i.id.0 o c.and.result.items) c.take.ensures.after
-    ∙ let_go i.config i.id.0 i.server s i.before.items c.and.result.items (sym c.take.ensures.value ∙ c.in-Some.is) items in (
+    let items : c.and-self-inside.result.items ≡ s ∷ [] = c.and-self-inside.ensures ∙ ap (λ (l : List ServerState). l ++ s ∷ []) c.new.ensures in
+    let gone : slot_state i.config i.id.0 c.take.new.self c.and-self-inside.result.items ≡ stopped_server (slot_state i.config i.id.0 i.server i.before.items) _ _ =
+    ap (λ (o : Option ServerState). slot_state i.config i.id.0 o c.and-self-inside.result.items) c.take.ensures.after
+    ∙ let_go i.config i.id.0 i.server s i.before.items c.and-self-inside.result.items (sym c.take.ensures.value ∙ c.in-Some.is) items in (
       c.self.invariant.0,
-      stopped_of i.config i.id.0 (slot_state i.config i.id.0 i.server i.before.items) (slot_state i.config i.id.0 c.take.new.self c.and.result.items) gone c.self.invariant.1,
-      subst (λ (o : Option ServerState). IsDiskLeft i.config i.id.0 o c.and.result.items None) (sym c.take.ensures.after) tt,
+      stopped_of i.config i.id.0 (slot_state i.config i.id.0 i.server i.before.items) (slot_state i.config i.id.0 c.take.new.self c.and-self-inside.result.items) gone c.self.invariant.1,
+      subst (λ (o : Option ServerState). IsDiskLeft i.config i.id.0 o c.and-self-inside.result.items None) (sym c.take.ensures.after) tt,
     )
 
 pub returns-in-None-clause-down : goal.returns-in-None-clause-down
