@@ -206,16 +206,17 @@ impl<A: Allocator + Clone> CellMaster for MasterSlot<A> {
     }
 
     fn stop(&mut self) {
-        if let Some(master) = &mut self.master {
-            master.stop();
-        }
+        let Some(master) = &mut self.master else {
+            return;
+        };
+        master.stop();
     }
 
     fn step(&mut self, now: Moment, message: Option<&Message>) -> Outcome {
-        match &mut self.master {
-            Some(master) => master.step(now, message, &mut self.files),
-            None => Outcome::nothing(self.alloc),
-        }
+        let Some(master) = &mut self.master else {
+            return Outcome::nothing(self.alloc);
+        };
+        master.step(now, message, &mut self.files)
     }
 }
 

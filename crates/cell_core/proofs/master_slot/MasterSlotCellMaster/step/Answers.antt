@@ -18,15 +18,15 @@ step-requires-clause-shown g c =
     let i = c.self.inside in
     subst (λ (m : MasterState). m.up ≡ true → shown_in i.files ≡ m.logged.table.files) (held_is i.config i.server_count i.master _ i.log i.before.items c.in-Some.is) c.self.invariant.4
 
-pub returns-in-Some-clause-steps : goal.returns-in-Some-clause-steps
-returns-in-Some-clause-steps g c =
+pub returns-clause-steps : goal.returns-clause-steps
+returns-clause-steps g c =
     let i = c.self.inside in
     let same = sym (held_is i.config i.server_count i.master _ i.log i.before.items c.in-Some.is) ∙ ap (λ (s : SlotState). s.state) c.self.view_is in
     on_input c.args.self.now.state c.args.now.0 (option_copied c.args.message) c.step.result.out c.step.result.seen c.step.new.self
     (subst (λ (m : MasterState). MasterSteps m c.args.now.0 (master_input (option_copied c.args.message)) c.step.result.out c.step.result.seen c.step.new.self) same c.step.ensures.steps)
 
-pub returns-in-Some-clause-files : goal.returns-in-Some-clause-files
-returns-in-Some-clause-files g c = c.step.ensures.files ∙ ap (λ (s : SlotState). files_seen c.step.new.self s.files) c.self.view_is
+pub returns-clause-files : goal.returns-clause-files
+returns-clause-files g c = c.step.ensures.files ∙ ap (λ (s : SlotState). files_seen c.step.new.self s.files) c.self.view_is
 
 pub invariant_of-self : goal.invariant_of-self
 invariant_of-self g c =
@@ -39,14 +39,14 @@ invariant_of-self g c =
       λ up. shown_up c.step.new.self (shown_in c.step.new.shown) (shown_in i.files) c.step.ensures.files up,
     )
 
-pub returns-in-None-clause-steps : goal.returns-in-None-clause-steps
-returns-in-None-clause-steps g c =
+pub returns-in_default-clause-steps : goal.returns-in_default-clause-steps
+returns-in_default-clause-steps g c =
     let i = c.self.inside in
-    let down = ap (λ (s : SlotState). s.state.up) (sym c.self.view_is) ∙ not_held i.config i.server_count i.master i.log i.before.items c.in-None.is in
+    let down = ap (λ (s : SlotState). s.state.up) (sym c.self.view_is) ∙ not_held i.config i.server_count i.master i.log i.before.items c.in_default.is in
     stays_down c.args.self.now.state c.args.now.0 (input_of (option_copied c.args.message)) c.nothing.result.out c.nothing.result.seen down c.nothing.ensures.out c.nothing.ensures.seen
 
-pub returns-in-None-clause-files : goal.returns-in-None-clause-files
-returns-in-None-clause-files g c =
+pub returns-in_default-clause-files : goal.returns-in_default-clause-files
+returns-in_default-clause-files g c =
     let i = c.self.inside in
-    let down = ap (λ (s : SlotState). s.state.up) (sym c.self.view_is) ∙ not_held i.config i.server_count i.master i.log i.before.items c.in-None.is in
+    let down = ap (λ (s : SlotState). s.state.up) (sym c.self.view_is) ∙ not_held i.config i.server_count i.master i.log i.before.items c.in_default.is in
     files_stay c.args.self.now.state c.args.self.now.files down

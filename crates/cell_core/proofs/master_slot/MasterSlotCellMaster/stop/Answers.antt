@@ -9,13 +9,18 @@ stop-requires g c =
     let i = c.self.inside in
     ap (λ (m : MasterState). m.up) (sym (held_is i.config i.server_count i.master _ i.log i.before.items c.in-Some.is) ∙ ap (λ (s : SlotState). s.state) c.self.view_is) ∙ c.requires
 
-pub returns-in-Some-clause-state : goal.returns-in-Some-clause-state
-returns-in-Some-clause-state g c =
+pub returns-clause-state : goal.returns-clause-state
+returns-clause-state g c =
     let i = c.self.inside in
     c.stop.ensures ∙ ap (λ (m : MasterState). stopped_master m m.disk []) (sym (held_is i.config i.server_count i.master _ i.log i.before.items c.in-Some.is) ∙ ap (λ (s : SlotState). s.state) c.self.view_is)
 
-pub returns-in-Some-clause-files : goal.returns-in-Some-clause-files
-returns-in-Some-clause-files g c = ap (λ (s : SlotState). s.files) c.self.view_is
+pub returns-clause-files : goal.returns-clause-files
+returns-clause-files g c = ap (λ (s : SlotState). s.files) c.self.view_is
+
+pub returns-in_default-clause-state : goal.returns-in_default-clause-state
+returns-in_default-clause-state g c =
+    let i = c.self.inside in
+    up_held i.config i.server_count i.master i.log i.before.items c.args.self.now.state c.in_default.is (ap (λ (s : SlotState). s.state) c.self.view_is) c.requires
 
 pub invariant_of-self : goal.invariant_of-self
 invariant_of-self g c =
