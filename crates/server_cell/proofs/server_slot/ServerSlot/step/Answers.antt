@@ -1,4 +1,4 @@
-use Rattle.std.proofs.Common.{refl, sym, ap, ◌∙◌, subst}
+use Rattle.std.proofs.Common.{sym, ap, ◌∙◌, subst}
 use Rattle.std.specs.Option.{option_copied}
 use Rattle.protocol.specs.Conforms.{ServerSteps}
 use Rattle.protocol.specs.Server.{ServerState}
@@ -8,7 +8,10 @@ use Rattle.server_cell.proofs.Steps.{as_given, stays}
 use Rattle.server_cell.proofs.server_slot.ServerSlot.step.Goals as goal
 
 pub invariant_of-self : goal.invariant_of-self
-invariant_of-self c =
+invariant_of-self c = c.self.invariant
+
+pub invariant_of-self-in-Some : goal.invariant_of-self-in-Some
+invariant_of-self-in-Some c =
     let i = c.self.inside in
     (c.self.invariant.0, goes_on i.config i.id.0 i.server _ c.take_step.new.self i.before.items c.in-Some.is c.self.invariant.1 c.take_step.ensures.settings, tt)
 
@@ -22,4 +25,4 @@ pub returns-in_default : goal.returns-in_default
 returns-in_default c =
     let i = c.self.inside in
     let down = ap (λ (s : ServerState). s.up) (sym c.self.view_is) ∙ not_held i.config i.id.0 i.server i.before.items c.in_default.is in
-    as_given (stays c.args.self.now c.args.now.0 (input_of (option_copied c.args.message)) down) c.nothing.ensures.out c.nothing.ensures.seen refl
+    as_given (stays c.args.self.now c.args.now.0 (input_of (option_copied c.args.message)) down) c.nothing.ensures.out c.nothing.ensures.seen c.self.view_is
