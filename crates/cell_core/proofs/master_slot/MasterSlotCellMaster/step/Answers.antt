@@ -29,7 +29,10 @@ pub returns-clause-files : goal.returns-clause-files
 returns-clause-files g c = c.step.ensures.files ∙ ap (λ (s : SlotState). files_seen c.step.new.self s.files) c.self.view_is
 
 pub invariant_of-self : goal.invariant_of-self
-invariant_of-self g c =
+invariant_of-self g c = c.self.invariant
+
+pub invariant_of-self-2 : goal.invariant_of-self-2
+invariant_of-self-2 g c =
     let i = c.self.inside in
     let of = subst (IsMasterOf i.config i.server_count) (held_is i.config i.server_count i.master _ i.log i.before.items c.in-Some.is) c.self.invariant.2 in (
       c.self.invariant.0,

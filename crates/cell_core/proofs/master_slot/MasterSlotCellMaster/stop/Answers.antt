@@ -23,7 +23,10 @@ returns-in_default-clause-state g c =
     up_held i.config i.server_count i.master i.log i.before.items c.args.self.now.state c.in_default.is (ap (λ (s : SlotState). s.state) c.self.view_is) c.requires
 
 pub invariant_of-self : goal.invariant_of-self
-invariant_of-self g c =
+invariant_of-self g c = c.self.invariant
+
+pub invariant_of-self-2 : goal.invariant_of-self-2
+invariant_of-self-2 g c =
     let i = c.self.inside in
     let of = subst (IsMasterOf i.config i.server_count) (held_is i.config i.server_count i.master _ i.log i.before.items c.in-Some.is) c.self.invariant.2 in (
       c.self.invariant.0,

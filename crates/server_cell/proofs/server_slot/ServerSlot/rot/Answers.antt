@@ -13,8 +13,8 @@ rot-requires c =
 pub invariant_of-self : goal.invariant_of-self
 invariant_of-self c = c.self.invariant
 
-pub invariant_of-self-in-Some : goal.invariant_of-self-in-Some
-invariant_of-self-in-Some c =
+pub invariant_of-self-2 : goal.invariant_of-self-2
+invariant_of-self-2 c =
     let i = c.self.inside in
     (c.self.invariant.0, goes_on i.config i.id.0 i.server _ c.rot.new.self i.before.items c.in-Some.is c.self.invariant.1 (rots_settings _ c.rot.new.self c.args.handle.0 c.args.place c.args.byte c.rot.ensures), tt)
 
