@@ -46,10 +46,10 @@ pub returns-in_default-clause-steps : goal.returns-in_default-clause-steps
 returns-in_default-clause-steps g c =
     let i = c.self.inside in
     let down = ap (λ (s : SlotState). s.state.up) (sym c.self.view_is) ∙ not_held i.config i.server_count i.master i.log i.before.items c.in_default.is in
-    stays_down c.args.self.now.state c.args.now.0 (input_of (option_copied c.args.message)) c.nothing.result.out c.nothing.result.seen down c.nothing.ensures.out c.nothing.ensures.seen
+    subst (λ (s : SlotState). MasterSteps c.args.self.now.state c.args.now.0 (input_of (option_copied c.args.message)) c.nothing.result.out c.nothing.result.seen s.state) (sym c.self.view_is)
+    (stays_down c.args.self.now.state c.args.now.0 (input_of (option_copied c.args.message)) c.nothing.result.out c.nothing.result.seen down c.nothing.ensures.out c.nothing.ensures.seen)
 
 pub returns-in_default-clause-files : goal.returns-in_default-clause-files
 returns-in_default-clause-files g c =
     let i = c.self.inside in
-    let down = ap (λ (s : SlotState). s.state.up) (sym c.self.view_is) ∙ not_held i.config i.server_count i.master i.log i.before.items c.in_default.is in
-    files_stay c.args.self.now.state c.args.self.now.files down
+    ap (λ (s : SlotState). s.files) c.self.view_is ∙ files_stay _ c.args.self.now.files (not_held i.config i.server_count i.master i.log i.before.items c.in_default.is)

@@ -22,6 +22,9 @@ returns-in_default-clause-state g c =
     let i = c.self.inside in
     up_held i.config i.server_count i.master i.log i.before.items c.args.self.now.state c.in_default.is (ap (λ (s : SlotState). s.state) c.self.view_is) c.requires
 
+pub returns-in_default-clause-files : goal.returns-in_default-clause-files
+returns-in_default-clause-files g c = ap (λ (s : SlotState). s.files) c.self.view_is
+
 pub invariant_of-self : goal.invariant_of-self
 invariant_of-self g c = c.self.invariant
 
