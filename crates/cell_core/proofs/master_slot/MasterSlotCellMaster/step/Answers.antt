@@ -52,4 +52,5 @@ returns-in_default-clause-steps g c =
 pub returns-in_default-clause-files : goal.returns-in_default-clause-files
 returns-in_default-clause-files g c =
     let i = c.self.inside in
-    ap (λ (s : SlotState). s.files) c.self.view_is ∙ files_stay _ c.args.self.now.files (not_held i.config i.server_count i.master i.log i.before.items c.in_default.is)
+    let down = ap (λ (s : SlotState). s.state.up) (sym c.self.view_is) ∙ not_held i.config i.server_count i.master i.log i.before.items c.in_default.is in
+    subst (λ (s : SlotState). s.files ≡ files_seen s.state c.args.self.now.files) (sym c.self.view_is) (files_stay c.args.self.now.state c.args.self.now.files down)
