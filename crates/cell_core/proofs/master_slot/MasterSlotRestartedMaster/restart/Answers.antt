@@ -39,8 +39,9 @@ returns-then-not-is_log_size-clause-steps g c =
 
 pub returns-then-not-is_log_size-clause-files : goal.returns-then-not-is_log_size-clause-files
 returns-then-not-is_log_size-clause-files g c =
+    let i = c.self.inside in
     let down = c.self.view_is ∙ c.take_disk.ensures.down in
-    ap (λ (s : SlotState). s.files) down ∙ files_stay _ c.args.self.now.files (ap (λ (s : SlotState). s.state.up) down)
+    ap (λ (s : SlotState). s.files) down ∙ files_stay (slot_state i.config i.server_count i.master i.log i.before.items) c.args.self.now.files (ap (λ (s : SlotState). s.state.up) down)
 
 pub open-requires : goal.open-requires
 open-requires g c = subst IsDiskSize c.size.ensures (is_disk_size c.is_log_size.result c.size.result c.is_log_size.ensures c.if-not-is_log_size.false)
@@ -62,8 +63,9 @@ returns-in-Err-clause-steps g c =
 
 pub returns-in-Err-clause-files : goal.returns-in-Err-clause-files
 returns-in-Err-clause-files g c =
+    let i = c.self.inside in
     let down = c.self.view_is ∙ c.take_disk.ensures.down in
-    ap (λ (s : SlotState). s.files) down ∙ files_stay _ c.args.self.now.files (ap (λ (s : SlotState). s.state.up) down)
+    ap (λ (s : SlotState). s.files) down ∙ files_stay (slot_state i.config i.server_count i.master i.log i.before.items) c.args.self.now.files (ap (λ (s : SlotState). s.state.up) down)
 
 -- no names
 pub invariant_of-self-in_default-clone : goal.invariant_of-self-in_default-clone
