@@ -5,4 +5,5 @@ pub mod Reached
 pub mod CellLaws
 pub mod Files
 pub mod Settings
-pub mod Stores
+pub mod NewDisks
+pub mod MasterSlots

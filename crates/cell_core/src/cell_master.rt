@@ -1,27 +1,24 @@
 //! The master as a cell wants it: with the chunks of all files as they stood when it was last up.
 
-ghost use Rattle.std.specs.Prelude.{◌≡◌, ◌≤◌, true, [], IfErr, IfOk};
+ghost use Rattle.std.specs.Prelude.{◌≡◌, ◌≤◌, true, [], IfOk};
 ghost use Rattle.std.specs.Coded.{→_prop, Coded-set, coded_ℕ, coded_list};
 ghost use Rattle.std.specs.FinMap as table;
 ghost use Rattle.protocol.specs.Logged.{new_log};
 ghost use Rattle.protocol.specs.MasterStep.{new_master};
-ghost use Rattle.master_cell.specs.Opens.{OpensNot, OpensUp, down_over};
 ghost use Rattle.master_cell.specs.Shown.{shown_in};
-ghost use Rattle.protocol.specs.Tables.{moment_limit};
 
-use cell_world::master::CellMaster;
+use crate::showing::{file_of, handle_in};
+use cell_world::master::{CellMaster, RestartedMaster};
 use gfs_types::config::Config;
 use gfs_types::ids::{FileId, Handle, Moment};
 use gfs_types::path::Path;
-use gfs_types::torn::Torn;
 use master_cell::fault::MasterFault;
 use master_cell::logged_master::LoggedMaster;
 use master_cell::shown::ShownFiles;
 use messages::event::StepOut;
 use messages::message::Message;
-use namespace::name_kind::NameKind;
 use operation_log::log::OperationLog;
-use operation_log::stoppable::StoppableLog;
+use operation_log::reopened::ReopenedLog;
 use std::alloc::{Allocator, Global};
 use step_outcome::Outcome;
 
@@ -65,43 +62,9 @@ impl<L: OperationLog + Drop, A: Allocator + Clone> SeatedMaster<L, A> {
             files: ShownFiles::new(alloc),
         })
     }
-
-    /// Opens it over a log that an earlier one may have left, as a restart does. Where it can't be up, its log comes back. The settings are
-    /// within their ranges.
-    pub fn open(
-        alloc: Global,
-        config: Config,
-        server_count: u16,
-        log: L,
-        now: Moment,
-        names: A,
-    ) -> Result<Self, L>
-        requires lease { config.lease_ms ≤ 3600000 }
-        requires skew { config.skew_ms ≤ 60000 }
-        requires moment { now.0 ≤ moment_limit }
-        requires decided { L.under_way log ≡ [] }
-        ensures opens { IfOk result (λ m. OpensUp (down_over config server_count (L.disk log) []) now.0 m.master) }
-        ensures fails { IfErr result (λ l. OpensNot (down_over config server_count (L.disk log) []) now.0 (L.disk l) (L.under_way l)) }
-    {
-        let mut files = ShownFiles::new(alloc);
-        let master = LoggedMaster::open(alloc, config, server_count, log, now, names, &mut files)?;
-        Ok(SeatedMaster { master, files })
-    }
-
-    /// The log as it is, with what is under way on it.
-    pub fn into_log(self) -> L
-        ensures disk { L.disk result ≡ self.master.disk }
-        ensures under_way { L.under_way result ≡ self.master.under_way }
-    {
-        let Self {
-            master,
-            files: _files,
-        } = self;
-        master.into_log()
-    }
 }
 
-impl<L: StoppableLog, A: Allocator + Clone> CellMaster for SeatedMaster<L, A> {
+impl<L: OperationLog, A: Allocator + Clone> CellMaster for SeatedMaster<L, A> {
     ghost state = { λ m. m.master };
 
     ghost files = { λ m. shown_in m.files };
@@ -110,29 +73,12 @@ impl<L: StoppableLog, A: Allocator + Clone> CellMaster for SeatedMaster<L, A> {
         self.master.is_up()
     }
 
-    #[tactic(auto, using(crate::proofs::Files::none_down, crate::proofs::Files::no_name, crate::proofs::Files::a_file, crate::proofs::Files::a_directory))]
     fn file(&self, path: &Path) -> Option<FileId> {
-        let Some(state) = self.master.state() else {
-            return None;
-        };
-        let Some(node) = state.node(path) else {
-            return None;
-        };
-        match node.kind() {
-            NameKind::File(id) => Some(id),
-            NameKind::Dir => None,
-        }
+        file_of(&self.master, path)
     }
 
-    #[tactic(auto, using(crate::proofs::Files::no_file, crate::proofs::Files::no_chunk, crate::proofs::Files::a_chunk))]
     fn handle_at(&self, file: FileId, index: u64) -> Option<Handle> {
-        let Some(handles) = self.files.get(file) else {
-            return None;
-        };
-        let Some(handle) = handles.as_slice().get(index as usize) else {
-            return None;
-        };
-        Some(Handle(*handle))
+        handle_in(&self.files, file, index)
     }
 
     #[tactic(auto, using(crate::proofs::Files::shown_stopped))]
@@ -140,15 +86,13 @@ impl<L: StoppableLog, A: Allocator + Clone> CellMaster for SeatedMaster<L, A> {
         self.master.stop();
     }
 
-    fn fuse(&mut self, calls: u64, torn: Torn) {
-        self.master.fuse(calls, torn);
-    }
-
     #[tactic(auto, using(crate::proofs::Files::on_input, crate::proofs::Files::shown_up))]
     fn step(&mut self, now: Moment, message: Option<&Message>) -> Outcome {
         self.master.step(now, message, &mut self.files)
     }
+}
 
+impl<L: ReopenedLog, A: Allocator + Clone> RestartedMaster for SeatedMaster<L, A> {
     #[tactic(auto, using(crate::proofs::Files::shown_up))]
     fn restart(&mut self, now: Moment) -> StepOut {
         self.master.restart(now, &mut self.files)

@@ -5,5 +5,7 @@ pub mod cell_master;
 pub mod kept_promises;
 pub mod laws;
 pub mod making;
+pub mod master_slot;
+mod showing;
 pub mod start_fault;
 pub mod world;

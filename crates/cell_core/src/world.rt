@@ -1,12 +1,13 @@
 //! A cell that a list of events led to, with the headline as the contract of its steps, runs and rebases.
 
-ghost use Rattle.std.specs.Prelude.{◌≡◌, ◌≤◌, ◌+◌, [], None, length, map, option_map, All, IfOk, IfErr, OnOk, OnErr};
+ghost use Rattle.std.specs.Prelude.{◌≡◌, ◌≤◌, ◌<◌, ◌+◌, [], None, length, map, option_map, IfOk, IfErr, OnOk, OnErr};
 ghost use Rattle.std.specs.Option.{option_copied};
 ghost use Rattle.std.specs.FinMap as table;
-ghost use Rattle.gfs_types.specs.Settings.{largest_chunk};
 ghost use Rattle.protocol.specs.Lookups.{file_named, regions_at, replicas_at};
 ghost use Rattle.protocol.specs.MasterStep.{new_master};
 ghost use Rattle.protocol.specs.Sending.{file_id};
+ghost use Rattle.protocol.specs.Server.{started_server};
+ghost use Rattle.protocol.specs.Tables.{first_numbers};
 ghost use Rattle.protocol.specs.World.{happens, new_world, numbered_from_1};
 ghost use Rattle.replica_store.specs.Replicas.{new_server_disk};
 ghost use Rattle.cell_core.specs.Headline.{RebasesAsMachine, RunsAsMachine, StepsAsMachine};
@@ -18,13 +19,11 @@ ghost use Rattle.cell_world.specs.Looks.{file_held, has_open_call, regions_held,
 ghost use Rattle.cell_world.specs.Rebasing.{IsBehind, Rebases};
 ghost use Rattle.cell_world.specs.Runs.{Runs};
 
-use crate::making::{
-    WorldMaster, WorldStore, are_fitting, have_room, is_count, new_master, new_stores,
-};
+use crate::making::{are_fitting, have_room, is_count, new_servers};
+use crate::master_slot::MasterSlot;
 use crate::start_fault::StartFault;
 use cell_world::cell::CellState;
 use cell_world::fault::RunFault;
-use cell_world::master::CellMaster;
 use cell_world::rebase_fault::RebaseFault;
 use gfs_types::answer::Answer;
 use gfs_types::config::Config;
@@ -35,13 +34,14 @@ use messages::event::Event;
 use messages::message::Message;
 use relaxed_file::region::Region;
 use script::stored::StoredReplica;
+use server_cell::server_slot::ServerSlot;
 use std::alloc::{Allocator, Global};
 use std::marker::Model;
 
 /// One master, whose names lie in `A`, and chunkservers and clients by their numbers, from 1, with each message that was sent since they
 /// were dropped last. Each is what a list of events led to from a new cell.
 pub struct World<A: Allocator + Clone> {
-    cell: CellState<WorldMaster<A>, WorldStore>,
+    cell: CellState<MasterSlot<A>>,
 }
 
 // Stands here, once, so that no crate above proves the drops of all that a cell owns.
@@ -92,29 +92,26 @@ impl<A: Allocator + Clone> World<A> {
         if !have_room(alloc, &names)? {
             return Err(StartFault::NamesFull);
         }
-        let master = new_master(alloc, config, server_count, names)?;
-        let stores = new_stores(alloc, config, server_count)?;
-        Ok(World::of_nodes(alloc, config, master, stores, clients)?)
+        let master = MasterSlot::new(alloc, config, server_count, names)?;
+        let servers = new_servers(alloc, config, server_count)?;
+        Ok(World::of_nodes(alloc, config, master, servers, clients)?)
     }
 
-    // A new cell of a new master, with a new server over each of the new stores, and new clients. The settings are within their ranges.
+    // A new cell of a new master, new servers by their numbers, and new clients.
     fn of_nodes(
         alloc: Global,
         config: Config,
-        master: WorldMaster<A>,
-        stores: Vec<WorldStore>,
+        master: MasterSlot<A>,
+        servers: Vec<ServerSlot>,
         clients: u64,
     ) -> Result<World<A>, NoMemory>
-        requires least { 64 ≤ config.chunk }
-        requires most { config.chunk ≤ largest_chunk }
-        requires skew { config.skew_ms ≤ 60000 }
-        requires stores { All (λ s. (s.disk ≡ new_server_disk config.chunk config.block config.slots) × (s.under_way ≡ [])) stores.items }
-        requires count { length stores.items ≤ 65535 }
-        requires master { ⟦<WorldMaster<A> as CellMaster>⟧.state master ≡ new_master config (length stores.items) }
-        requires files { ⟦<WorldMaster<A> as CellMaster>⟧.files master ≡ table.empty }
-        ensures { IfOk result (λ world. IsHeldAs (new_world config (length stores.items) clients) world) }
+        requires chunk { 0 < config.chunk }
+        requires servers { servers.items ≡ map (λ s. started_server config s (new_server_disk config.chunk config.block config.slots) 0) (first_numbers (length servers.items)) }
+        requires master { master.state ≡ new_master config (length servers.items) }
+        requires files { master.files ≡ table.empty }
+        ensures { IfOk result (λ world. IsHeldAs (new_world config (length servers.items) clients) world) }
     {
-        let cell = CellState::new(alloc, config, master, stores, clients)?;
+        let cell = CellState::new(alloc, config, master, servers, clients)?;
         Ok(World { cell })
     }
 }

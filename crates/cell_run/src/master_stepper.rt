@@ -10,7 +10,7 @@ ghost use Rattle.cell_run.specs.Standing.{MasterStands};
 use crate::step_message::message_in;
 use cell_journal::journal_entry::StepCause;
 use cell_seats::stepper::{NodeStep, Stepper};
-use cell_world::master::CellMaster;
+use cell_world::master::{CellMaster, RestartedMaster};
 use gfs_types::call::Call;
 use gfs_types::ids::Moment;
 use messages::event::StepOut;
@@ -21,7 +21,7 @@ pub struct MasterNode<M: CellMaster + Drop> {
     pub master: M,
 }
 
-impl<M: CellMaster + Drop> Stepper for MasterNode<M> {
+impl<M: RestartedMaster + Drop> Stepper for MasterNode<M> {
     ghost stands = { λ n s. MasterStands (M.state n.master) s };
 
     fn may_take(&self, cause: &StepCause) -> bool {
@@ -42,7 +42,7 @@ impl<M: CellMaster + Drop> Stepper for MasterNode<M> {
 }
 
 // A step, which has no answer.
-fn step_master<M: CellMaster + Drop>(master: &mut M, now: Moment, cause: &StepCause) -> StepOut
+fn step_master<M: RestartedMaster + Drop>(master: &mut M, now: Moment, cause: &StepCause) -> StepOut
     requires moment { now.0 ≤ moment_limit }
     requires may { (s : NodeState) → MasterStands (M.state master.old) s → IsTrue (may_take s (cause_of cause.now)) }
     ensures steps { (s : NodeState) → MasterStands (M.state master.old) s → StepsSo s now.0 (cause_of cause.now) result (MasterStands (M.state master.new)) }

@@ -1,13 +1,11 @@
 -- Nodes of a new cell, one more at a time.
 use Rattle.std.proofs.Common.{◌≡◌, ℕ, suc, ◌+◌, List, [], ◌∷◌, ◌++◌, map, refl, sym, subst, ap, ◌∙◌, arith}
-use Rattle.std.specs.Prelude.{unwrap_or, All}
+use Rattle.std.specs.Prelude.{unwrap_or}
 use Rattle.std.specs.Ordering.{nat_cmp}
 use Rattle.std.specs.FinMap as table
 use Rattle.std.proofs.lemmas.List.{map-append}
-use Rattle.std.proofs.lemmas.List.Elements.{All-head, All-rest, All-same}
 use Rattle.gfs_types.specs.declared.config.Config.{Config}
-use Rattle.replica_store.specs.declared.change.StoreChange.{StoreChange}
-use Rattle.replica_store.specs.Replicas.{ServerDisk, new_server_disk}
+use Rattle.replica_store.specs.Replicas.{new_server_disk}
 use Rattle.protocol.specs.Tables.{first_numbers}
 use Rattle.protocol.specs.declared.seen.Seen.{Seen}
 use Rattle.protocol.specs.Client.{new_client}
@@ -29,19 +27,6 @@ one_more f n xs after is more =
 
     back : {Y : Type 0} (f : ℕ → Y) (n : ℕ) → map f (first_numbers n) ++ f (suc n) ∷ [] ≡ map f (first_numbers (suc n))
     back f n = sym (map-append f (first_numbers n) (suc n ∷ []))
-
--- a new store: a new server's disk, and nothing under way
-abbrev pub IsNewStore : {S : Type 0} (disk : S → ServerDisk) (under_way : S → List StoreChange) (chunk block slots : ℕ) → S → Type 0
-IsNewStore disk under_way chunk block slots s = (disk s ≡ new_server_disk chunk block slots) × (under_way s ≡ [])
-
--- of new stores the first is one, and so are the others
-module _ {S : Type 0} (disk : S → ServerDisk) (under_way : S → List StoreChange) (chunk block slots : ℕ) where
-  pub first_is_new : (store : S) (rest items : List S) → items ≡ store ∷ rest → All (IsNewStore disk under_way chunk block slots) items → IsNewStore disk under_way chunk block slots store
-  first_is_new store rest items steps new =
-      All-head (IsNewStore disk under_way chunk block slots) store rest (All-same (IsNewStore disk under_way chunk block slots) (store ∷ rest) items (sym steps) new)
-
-  pub rest_is_new : (store : S) (rest items : List S) → items ≡ store ∷ rest → All (IsNewStore disk under_way chunk block slots) items → All (IsNewStore disk under_way chunk block slots) rest
-  rest_is_new store rest items steps new = All-rest (IsNewStore disk under_way chunk block slots) store rest items steps new
 
 none_held : AreHeldAs table.empty (orders_seen [])
 none_held q = refl

@@ -10,7 +10,7 @@ ghost use Rattle.cell_world.specs.Held.{HasEffect};
 
 use crate::clients::{client_calls, client_may_call, client_place, client_steps, is_client_up};
 use crate::clock::later;
-use crate::master::CellMaster;
+use crate::master::{CellMaster, StoppableMaster};
 use crate::masters::master_steps;
 use crate::record::CellRecord;
 use crate::servers::{
@@ -23,23 +23,21 @@ use gfs_types::config::Config;
 use gfs_types::ids::{ClientId, Handle, MAX_MOMENT, Moment, Node, ServerId};
 use gfs_types::torn::Torn;
 use messages::event::Event;
-use server_cell::server::Chunkserver;
-use server_store::stoppable_store::StoppableStore;
-use server_store::store::ReplicaStore;
+use server_cell::server_slot::ServerSlot;
 use std::marker::Model;
 
 /// A cell of one master, and of servers and clients by their numbers, from 1, and the greatest moment that was given to a node.
 #[derive(Drop)]
-pub struct CellState<M: CellMaster, S: ReplicaStore> {
+pub struct CellState<M: CellMaster> {
     pub(crate) config: Config,
     pub(crate) master: M,
-    pub(crate) servers: Vec<Chunkserver<S>>,
+    pub(crate) servers: Vec<ServerSlot>,
     pub(crate) clients: Vec<Client>,
     pub(crate) record: CellRecord,
     pub(crate) greatest: Moment,
 }
 
-impl<M: CellMaster, S: ReplicaStore> Model for CellState<M, S> {
+impl<M: CellMaster> Model for CellState<M> {
     ghost use Rattle.std.specs.Coded.{codes, coded_ℕ, coded_list};
     ghost use Rattle.std.specs.FinMap as map;
     ghost use Rattle.lru.specs.LruCache.{lru_cache_code};
@@ -61,7 +59,7 @@ impl<M: CellMaster, S: ReplicaStore> Model for CellState<M, S> {
     } };
 }
 
-impl<M: CellMaster, S: StoppableStore> CellState<M, S> {
+impl<M: StoppableMaster> CellState<M> {
     /// One event. One that names no such node, message, replica, place or moment, or a node that is down, changes nothing.
     pub fn step(&mut self, event: Event) -> Option<Answer>
         ensures { HasEffect self.old (λ w choice. happens w event choice) result self.new }

@@ -9,9 +9,8 @@ use crate::clients::client_place;
 use crate::master::CellMaster;
 use client_calls::client::Client;
 use gfs_types::ids::ClientId;
-use server_store::store::ReplicaStore;
 
-impl<M: CellMaster, S: ReplicaStore> CellState<M, S> {
+impl<M: CellMaster> CellState<M> {
     /// How many servers there are. They are numbered up to 65,535.
     pub fn server_count(&self) -> u16
         ensures { result ≡ server_count self.now }

@@ -42,21 +42,27 @@ pub trait CellMaster {
         ensures state { state self.new ≡ stopped_master (state self.old) (state self.old).disk [] }
         ensures files { files self.new ≡ files self.old };
 
-    /// Its disk lets so many calls pass and fails each later one until its restart, which finds what was under way as `torn` says.
-    /// That of a master that is down does so once its restart has begun.
-    fn fuse(&mut self, calls: u64, torn: Torn)
-        ensures state { state self.new ≡ state self.old }
-        ensures files { files self.new ≡ files self.old };
-
     /// A step on a message, or on a tick.
     fn step(&mut self, now: Moment, message: Option<&Message>) -> Outcome
         requires { now.0 ≤ moment_limit }
         ensures steps { MasterSteps (state self.old) now.0 (input_of (option_copied message.entry)) result.out result.seen (state self.new) }
         ensures files { files self.new ≡ files_seen (state self.new) (files self.old) };
+}
 
+/// A master that begins again in its place.
+pub trait RestartedMaster: CellMaster {
     /// It begins again, whether it was up or down.
     fn restart(&mut self, now: Moment) -> StepOut
         requires { now.0 ≤ moment_limit }
-        ensures steps { MasterRestarts (state self.old) now.0 result (state self.new) }
-        ensures files { files self.new ≡ files_seen (state self.new) (files self.old) };
+        ensures steps { MasterRestarts (Self.state self.old) now.0 result (Self.state self.new) }
+        ensures files { Self.files self.new ≡ files_seen (Self.state self.new) (Self.files self.old) };
+}
+
+/// A master whose disk a script stops.
+pub trait StoppableMaster: RestartedMaster {
+    /// Its disk lets so many calls pass and fails each later one until its restart, which finds what was under way as `torn` says.
+    /// That of a master that is down does so once its restart has begun.
+    fn fuse(&mut self, calls: u64, torn: Torn)
+        ensures state { Self.state self.new ≡ Self.state self.old }
+        ensures files { Self.files self.new ≡ Self.files self.old };
 }

@@ -7,12 +7,11 @@ ghost use Rattle.cell_world.specs.Rebasing.{IsBehind, Rebases};
 ghost use Rattle.cell_world.specs.Runs.{Runs};
 
 use crate::cell::CellState;
-use crate::master::CellMaster;
+use crate::master::StoppableMaster;
 use crate::rebase_fault::RebaseFault;
 use gfs_types::ids::{Moment, Node, ServerId};
-use server_store::stoppable_store::StoppableStore;
 
-impl<M: CellMaster, S: StoppableStore> CellState<M, S> {
+impl<M: StoppableMaster> CellState<M> {
     /// The master and then each server, in rising number, begin again at a moment. Then all messages are dropped, and the next one has the
     /// number 1. At an error nothing has changed.
     ///

@@ -6,15 +6,14 @@ ghost use Rattle.cell_world.specs.Runs.{Runs};
 use crate::answers::Answers;
 use crate::cell::CellState;
 use crate::fault::RunFault;
-use crate::master::CellMaster;
+use crate::master::StoppableMaster;
 use gfs_types::answer::Answer;
 use gfs_types::no_memory::NoMemory;
 use messages::event::Event;
-use server_store::stoppable_store::StoppableStore;
 use std::alloc::Global;
 use std::collections::VecDeque;
 
-impl<M: CellMaster, S: StoppableStore> CellState<M, S> {
+impl<M: StoppableMaster> CellState<M> {
     /// The events in order, and their answers.
     pub fn run(&mut self, alloc: Global, events: &[Event]) -> Result<Vec<Answer>, RunFault>
         ensures ok { IfOk result (λ answers. Runs self.old events.now answers.items self.new) }

@@ -14,23 +14,17 @@ use gfs_types::answer::Answer;
 use gfs_types::ids::{Handle, Moment, ServerId};
 use gfs_types::torn::Torn;
 use messages::event::StepOut;
-use server_cell::server::Chunkserver;
-use server_store::reopened_store::ReopenedStore;
-use server_store::stoppable_store::StoppableStore;
-use server_store::store::ReplicaStore;
+use server_cell::server_slot::ServerSlot;
 use step_outcome::Outcome;
 
 /// The place of a server's number.
-pub(crate) fn server_place<S: ReplicaStore>(
-    servers: &Vec<Chunkserver<S>>,
-    id: ServerId,
-) -> Option<usize>
+pub(crate) fn server_place(servers: &Vec<ServerSlot>, id: ServerId) -> Option<usize>
     ensures { MatchOption result ((id.0 ≡ 0) ⊎ (length servers.now.items < id.0)) (λ place. (id.0 ≡ suc place) × (place < length servers.now.items)) }
 {
     place_of(u64::from(id.0), servers.as_slice().len())
 }
 
-pub(crate) fn is_server_up<S: ReplicaStore>(servers: &Vec<Chunkserver<S>>, place: usize) -> bool
+pub(crate) fn is_server_up(servers: &Vec<ServerSlot>, place: usize) -> bool
     requires { place < length servers.now.items }
     ensures { IsUpAt (λ s. s.up) servers.now.items place result }
 {
@@ -38,8 +32,8 @@ pub(crate) fn is_server_up<S: ReplicaStore>(servers: &Vec<Chunkserver<S>>, place
 }
 
 /// The chunkserver at a place takes a step on the message of a number, or on a tick. For want of memory it goes down.
-pub(crate) fn server_steps<S: ReplicaStore>(
-    servers: &mut Vec<Chunkserver<S>>,
+pub(crate) fn server_steps(
+    servers: &mut Vec<ServerSlot>,
     place: usize,
     kept: &mut CellRecord,
     given: Option<u64>,
@@ -61,11 +55,7 @@ pub(crate) fn server_steps<S: ReplicaStore>(
 }
 
 /// The chunkserver at a place begins again.
-pub(crate) fn server_restarts<S: ReopenedStore>(
-    servers: &mut Vec<Chunkserver<S>>,
-    place: usize,
-    now: Moment,
-) -> StepOut
+pub(crate) fn server_restarts(servers: &mut Vec<ServerSlot>, place: usize, now: Moment) -> StepOut
     requires moment { now.0 ≤ moment_limit }
     requires place { place < length servers.old.items }
     ensures { RestartsAt servers.old.items place now.0 result servers.new.items }
@@ -74,8 +64,8 @@ pub(crate) fn server_restarts<S: ReopenedStore>(
 }
 
 /// A byte of a replica of the chunkserver at a place rots.
-pub(crate) fn server_rots<S: ReplicaStore>(
-    servers: &mut Vec<Chunkserver<S>>,
+pub(crate) fn server_rots(
+    servers: &mut Vec<ServerSlot>,
     index: usize,
     handle: Handle,
     place: u64,
@@ -89,12 +79,7 @@ pub(crate) fn server_rots<S: ReplicaStore>(
 }
 
 /// The disk of the chunkserver at a place is told to stop.
-pub(crate) fn server_fuses<S: StoppableStore>(
-    servers: &mut Vec<Chunkserver<S>>,
-    place: usize,
-    calls: u64,
-    torn: Torn,
-)
+pub(crate) fn server_fuses(servers: &mut Vec<ServerSlot>, place: usize, calls: u64, torn: Torn)
     requires { place < length servers.old.items }
     ensures { servers.new.items ≡ servers.old.items }
 {

@@ -18,11 +18,10 @@ use gfs_types::path::Path;
 use messages::message::Message;
 use relaxed_file::region::Region;
 use script::stored::StoredReplica;
-use server_cell::server::Chunkserver;
-use server_store::store::ReplicaStore;
+use server_cell::server_slot::ServerSlot;
 use std::alloc::Global;
 
-impl<M: CellMaster, S: ReplicaStore> CellState<M, S> {
+impl<M: CellMaster> CellState<M> {
     /// The file that a path names; none where it names no file, and while the master is down.
     pub fn file(&self, path: &Path) -> Option<FileId>
         ensures held { result ≡ file_held self.now path.now }
@@ -83,9 +82,9 @@ impl<M: CellMaster, S: ReplicaStore> CellState<M, S> {
     }
 }
 
-fn stored_on_all<S: ReplicaStore>(
+fn stored_on_all(
     alloc: Global,
-    servers: &[Chunkserver<S>],
+    servers: &[ServerSlot],
     handle: Handle,
 ) -> Result<Vec<StoredReplica>, NoMemory>
     ensures { IfOk result (λ all. map as_stored all.items ≡ filter_map (stored_on handle.0) servers.now) }
@@ -99,7 +98,7 @@ fn stored_on_all<S: ReplicaStore>(
     Ok(all)
 }
 
-fn stored<S: ReplicaStore>(server: &Chunkserver<S>, handle: Handle) -> Option<StoredReplica>
+fn stored(server: &ServerSlot, handle: Handle) -> Option<StoredReplica>
     ensures { option_map as_stored result ≡ stored_on handle.0 server.now }
 {
     if !server.is_up() {

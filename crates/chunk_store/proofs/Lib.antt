@@ -7,7 +7,6 @@ pub mod OpenHeads
 pub mod Moments
 pub mod Applied
 pub mod Copied
-pub mod BegunAgain
 pub mod Looked
 pub mod StillOpen
 pub mod Stopped

@@ -19,8 +19,7 @@ use Rattle.store_changes.specs.Faults.{IsRefused}
 use Rattle.store_changes.specs.declared.fault.StoreFault.{StoreFault}
 use Rattle.chunk_store.specs.Faults.{stays_open}
 use Rattle.chunk_store.specs.Stores.{IsOpen, LeavesChange, StoreState}
-use Rattle.chunk_store.specs.Reopening.{IsReopened}
-use Rattle.chunk_store.specs.Volumes.{IsOpen as IsVolumeOpen, IsReady, IsReopened as IsVolumeReopened, IsSound, store_of, volume_of}
+use Rattle.chunk_store.specs.Volumes.{IsOpen as IsVolumeOpen, IsReady, IsSound, store_of, volume_of}
 use Rattle.chunk_store.proofs.Ready.{ready_after}
 use Rattle.chunk_store.proofs.Looked.{its_slot as volume_its_slot, none_writable as volume_none_writable}
 use Rattle.chunk_store.proofs.StillOpen.{enough_bytes as volume_enough_bytes, leaves_all as volume_leaves_all, none_held as volume_none_held, read_open as volume_read_open, row_held as volume_row_held, still_open as volume_still_open}
@@ -85,10 +84,6 @@ module _ {D : Type 0} (seen : D → List ℕ) (may_leave : D → List ℕ → Ty
         → IsRefused result → IsOpen seen may_leave (store_of new is_open) d
     refused_open (Ok value) d is kept refused = absurd refused
     refused_open (Err fault) d is kept refused = as_store new is_open d (is ∙ refused) (kept refused)
-
-  -- it was opened again
-  pub reopened : (volume : StoreVolume D) (left_by : List ℕ → Type 0) → IsVolumeReopened seen may_leave left_by volume → IsReopened seen may_leave left_by (store_of volume true)
-  reopened volume left_by is = record { bytes = is.bytes; left = is.left; opens = λ d says. as_store volume true d refl (is.opens d says) }
 
 -- what is known of a store that says something
 module _ {D : Type 0} (seen : D → List ℕ) (may_leave : D → List ℕ → Type 0) (store : StoreState D) (d : ServerDisk) (is : IsOpen seen may_leave store d) where

@@ -5,12 +5,6 @@ use Rattle.std.specs.List.{range_with_len}
 use Rattle.store_disk.specs.Index.{IndexState}
 use Rattle.store_disk.specs.declared.held.HeldReplica.{HeldReplica}
 use Rattle.store_disk.specs.Stored.{is_used}
-use Rattle.disk_redo.specs.Redo.{stands_for}
-use Rattle.replica_store.specs.Replicas.{ServerDisk}
-use Rattle.store_changes.specs.Areas.{area_of}
-use Rattle.chunk_store.specs.Opening.{IsFound}
-use Rattle.chunk_store.specs.Reopening.{IsSaid}
-use Rattle.chunk_store.specs.declared.found.FoundReplicas.{FoundReplicas}
 
 -- Of the replicas that `all` knows, `some` knows those in the first n slots.
 pub record KnowsFirst (chunk block slots : ℕ) (disk : List ℕ) (all : IndexState) (n : ℕ) (some : IndexState) : Type 0 where
@@ -18,9 +12,3 @@ pub record KnowsFirst (chunk block slots : ℕ) (disk : List ℕ) (all : IndexSt
   pub early : (handle : ℕ) (found : HeldReplica) → map.get some.held handle ≡ Some found → found.slot < n
   pub each : (handle : ℕ) (found : HeldReplica) → map.get all.held handle ≡ Some found → found.slot < n → map.get some.held handle ≡ Some found
   pub free : some.free ≡ filter (λ slot. not (is_used chunk block disk slot && nat_lt slot n)) (range_with_len 0 slots)
-
--- What was found is what one of the disks said that a stop might have left.
-pub record IsFoundAmong {D : Type 0} (seen : D → List ℕ) (may_leave : List ℕ → Type 0) (disk : D) (chunk block slots : ℕ) (found : FoundReplicas) : Type 0 where
-  pub bytes : List ℕ
-  pub left : may_leave bytes
-  pub finds : (d : ServerDisk) → IsSaid chunk block slots bytes d → IsFound chunk block slots found (stands_for (area_of chunk block) (seen disk)) d

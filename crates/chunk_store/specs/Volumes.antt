@@ -6,7 +6,6 @@ use Rattle.replica_store.specs.declared.change.StoreChange.{StoreChange}
 use Rattle.store_changes.specs.Areas.{area_of}
 use Rattle.store_changes.specs.Changing.{LeavesEither, Says}
 use Rattle.store_disk.specs.Places.{disk_size}
-use Rattle.chunk_store.specs.Reopening.{IsSaid}
 use Rattle.chunk_store.specs.Stores.{StoreState}
 use Rattle.chunk_store.specs.declared.volume.StoreVolume.{StoreVolume}
 
@@ -28,12 +27,6 @@ pub record IsOpen {D : Type 0} (seen : D → List ℕ) (may_leave : D → List �
 abbrev pub LeavesChange : {D : Type 0} → (D → List ℕ) → (D → ℕ) → (D → ℕ → List ℕ → Type 0) → StoreVolume D → StoreVolume D → StoreChange → Type 0
 LeavesChange seen moment left_since old new change =
     LeavesEither seen moment left_since old.layout.chunk old.layout.block old.layout.slots old.disk new.disk old.index change
-
--- It is open on what one of the disks said that a stop might have left.
-pub record IsReopened {D : Type 0} (seen : D → List ℕ) (may_leave : D → List ℕ → Type 0) (left_by : List ℕ → Type 0) (store : StoreVolume D) : Type 0 where
-  pub bytes : List ℕ
-  pub left : left_by bytes
-  pub opens : (d : ServerDisk) → IsSaid store.layout.chunk store.layout.block store.layout.slots bytes d → IsOpen seen may_leave store d
 
 -- what a volume is to the store's callers
 abbrev pub store_of : {D : Type 0} → StoreVolume D → Bool → StoreState D

@@ -15,7 +15,6 @@ mod looking;
 mod matching;
 mod opening;
 mod reading;
-mod reopening;
 mod rotting;
 mod slots_reading;
 mod store;

@@ -1,17 +1,16 @@
 //! The store.
 
 ghost use Rattle.chunk_store.specs.Opening.{HoldsReplicas, IsOpening};
-ghost use Rattle.chunk_store.specs.Reopening.{IsOfLayout, IsReopened, StillSays};
 ghost use Rattle.chunk_store.specs.Stores.{IsOpen, LeavesChange};
 ghost use Rattle.chunk_store.specs.declared.fault.OpenFault.TheVariants as opening_faults;
-ghost use Rattle.disk.specs.Device.{Follows, HasCause, NoMore};
+ghost use Rattle.disk.specs.Device.{HasCause};
 ghost use Rattle.disk_redo.specs.GateMoments.{LeavesOnly, OnlyReads};
 ghost use Rattle.replica_store.specs.Replicas.{ServerDisk, disk_changed, is_disk_full, is_writable_at, read_at, row_at};
 ghost use Rattle.replica_store.specs.declared.change.StoreChange.TheVariants.{Copy, Put, Raise, Remove, Rot, SetOrder};
 ghost use Rattle.replica_store.specs.declared.row.Row.{Row};
 ghost use Rattle.std.specs.FinMap as map;
 ghost use Rattle.std.specs.Option.{option_map};
-ghost use Rattle.std.specs.Prelude.{is_ok, IfErr, IfOk, IsErrOf, IsTrue, List, None, OnOk, Some, [], false, length, true, ℕ, ◌%◌, ◌+◌, ◌<◌, ◌↔◌, ◌≡◌, ◌≢◌, ◌≤◌, ◌⊎◌};
+ghost use Rattle.std.specs.Prelude.{IfErr, IfOk, IsErrOf, None, OnOk, Some, [], false, length, true, ◌%◌, ◌+◌, ◌<◌, ◌↔◌, ◌≡◌, ◌≢◌, ◌≤◌, ◌⊎◌};
 ghost use Rattle.store_changes.specs.Faults.{IsRefused, MayFail};
 ghost use Rattle.store_changes.specs.Images.{image_at};
 ghost use Rattle.store_changes.specs.Mutations.{bytes_of as bytes_value, change_of, place_of as place_value};
@@ -24,10 +23,9 @@ ghost use Rattle.chunk_store.specs.Faults.{stays_open};
 use crate::fault::OpenFault;
 use crate::volume::StoreVolume;
 use bytes::Bytes;
-use disk::{Disk, DiskFault, StoppableDisk};
+use disk::{Disk, DiskFault};
 use gfs_types::ids::{Handle, OrderNo, Serial, Version};
 use gfs_types::mutation::Mutation;
-use gfs_types::torn::Torn;
 use replica_store::row::Row;
 use std::alloc::{AllocError, Global};
 use std::marker::Model;
@@ -440,44 +438,5 @@ impl<D: Disk> Store<D> {
         ensures cause { HasCause (D.failed self.old.disk) (D.failed self.new.disk) result }
     {
         self.volume.is_writable(alloc, handle, offset, end)
-    }
-}
-
-impl<D: StoppableDisk> Store<D> {
-    /// Lets so many calls of the disk pass and fails each later one until it begins again, which then finds what was under way as `torn` says. Changes no byte.
-    pub fn stop_after(&mut self, calls: u64, torn: Torn)
-        ensures unchanged { self.new ≡ record self.old { disk = self.new.disk } }
-        ensures seen { D.seen self.new.disk ≡ D.seen self.old.disk }
-        ensures crash { NoMore (D.may_leave self.old.disk) (D.may_leave self.new.disk) }
-        ensures failed { D.failed self.new.disk ≡ D.failed self.old.disk }
-    {
-        self.volume.stop_after(calls, torn);
-    }
-
-    /// The same, once it has begun again. Of several the last one counts.
-    pub fn stop_after_restart(&mut self, calls: u64, torn: Torn)
-        ensures unchanged { self.new ≡ record self.old { disk = self.new.disk } }
-        ensures seen { D.seen self.new.disk ≡ D.seen self.old.disk }
-        ensures crash { NoMore (D.may_leave self.old.disk) (D.may_leave self.new.disk) }
-        ensures failed { D.failed self.new.disk ≡ D.failed self.old.disk }
-    {
-        self.volume.stop_after_restart(calls, torn);
-    }
-
-    /// Has the disk begin again, and opens the store that stands there: it says what one of the disks said that a stop might have left. After an error the store is not open, and its disk still says what it said.
-    pub fn reopen(&mut self, alloc: Global) -> Result<(), OpenFault>
-        ensures reopened { OnOk result (IsReopened D.seen D.may_leave (D.may_leave self.old.disk) self.new) }
-        ensures layout { self.new.layout ≡ self.old.layout }
-        ensures stops { Follows (StillSays self.old.layout.chunk self.old.layout.block self.old.layout.slots) (D.may_leave self.old.disk) (D.may_leave self.new.disk) }
-        // Damaged comes only where a stop might have left a disk that is too small, or whose open head is another layout's.
-        ensures undamaged { ((c : List ℕ) → D.may_leave self.old.disk c → IsOfLayout self.old.layout.chunk self.old.layout.block self.old.layout.slots c) → IsErrOf result opening_faults.Damaged → ⊥ }
-        ensures open { self.new.is_open ≡ is_ok result }
-        // Since its disk has begun again it has failed.
-        ensures cause { IsErrOf result opening_faults.Device → 0 < D.failed self.new.disk }
-    {
-        self.is_open = false;
-        self.volume.reopen(alloc)?;
-        self.is_open = true;
-        Ok(())
     }
 }

@@ -5,15 +5,13 @@ mod device;
 mod fault;
 mod fuse;
 mod memory;
-mod node_disk;
 mod page;
 mod pages;
 mod past_write;
-mod stoppable;
+mod stop_plan;
 
 pub use device::{Disk, DiskFault};
 pub use fault::FaultDisk;
 pub use fuse::FuseDisk;
 pub use memory::MemDisk;
-pub use node_disk::NodeDisk;
-pub use stoppable::StoppableDisk;
+pub use stop_plan::StopPlan;

@@ -27,12 +27,6 @@ pub disk_has_room : {T : Type 0} (f : DiskFault) (x : ReplicaStoreFault) → x �
 disk_has_room disk.Device x is e = absurd cc
 disk_has_room disk.NoMemory x is e = absurd cc
 
--- nor is an opening's
-pub opening_has_room : {T : Type 0} (f : OpenFault) (x : ReplicaStoreFault) → x ≡ of_opening f → IsErrOf {T = T} (Err x) store.NoRoom → ⊥
-opening_has_room opening.Damaged x is e = absurd cc
-opening_has_room opening.Device x is e = absurd cc
-opening_has_room opening.NoMemory x is e = absurd cc
-
 -- what an opening was told as
 pub opening_failed : (f : OpenFault) (x : ReplicaStoreFault) → x ≡ of_opening f → x ≡ store.DiskFailed → f ≡ opening.Device
 opening_failed opening.Damaged x is e = absurd cc
@@ -140,12 +134,6 @@ begun_cause {T = T} {U = U} Began before now x f standing other fits may = recor
 pub other_cause : {T S : Type 0} (Began : Type 0) (before now : ℕ) (x : ReplicaStoreFault) (standing : S) → before ≤ now → (Began → x ≡ store.DiskFailed → ⊥) → (x ≡ store.Damaged → ⊥)
     → HasCauseOf {T = T} Began before now (Err (x, standing))
 other_cause Began before now x standing later other undamaged = record { later = later; failed = λ began e. absurd (other began e); undamaged = undamaged }
-
--- an opening's is the disk's where it is answered as one
-pub opening_cause : {T U P : Type 0} (f : OpenFault) (x : ReplicaStoreFault) → x ≡ of_opening f → (IsErrOf {T = T} (Err f) opening.Device → P) → IsErrOf {T = U} (Err x) store.DiskFailed → P
-opening_cause opening.Damaged x is h e = absurd cc
-opening_cause opening.Device x is h e = h refl
-opening_cause opening.NoMemory x is h e = absurd cc
 
 -- what a store's callers see of a cause
 pub told_cause : {T : Type 0} (is_open : Bool) (before now : ℕ) (r : Result T ReplicaStoreFault) → HasCause before now r → IsOfStore is_open before now r

@@ -1,14 +1,12 @@
 -- What is kept of a disk, whatever its standing.
 use Rattle.std.proofs.Common.{◌≡◌, inl, inr, ℕ, ◌≤◌, ◌%◌, List, [], ◌∷◌, refl, sym, ap, ◌∙◌, subst, None, Some}
-use Rattle.disk.specs.Device.{Follows}
 use Rattle.gfs_types.specs.declared.ids.OrderNo.{OrderNo}
 use Rattle.replica_store.specs.Replicas.{ServerDisk, disk_changed}
 use Rattle.replica_store.specs.declared.change.StoreChange.{StoreChange}
 use Rattle.store_disk.specs.declared.places.Layout.{Layout}
-use Rattle.chunk_store.specs.Reopening.{StillSays}
 use Rattle.chunk_store.specs.Stores.{IsOpen, StoreState}
 use Rattle.disk_store.specs.Known.{IsKnownOf, Rows}
-use Rattle.disk_store.specs.Standing.{IsKept, IsStandingTrue, Leaves, LeavesMade, changes_of, closed, refused}
+use Rattle.disk_store.specs.Standing.{IsKept, IsStandingTrue, Leaves, LeavesMade, changes_of, refused}
 use Rattle.disk_store.specs.declared.standing.DiskStoreState.{DiskStoreState}
 use Rattle.disk_store.specs.declared.standing.DiskStoreState.TheVariants.{Open, Unread, Changing}
 use Rattle.disk_store.proofs.Saying.{changed_alike, open_leaves}
@@ -17,23 +15,9 @@ module _ {D : Type 0} (seen : D → List ℕ) (may_leave : D → List ℕ → Ty
   abbrev Kept : DiskStoreState → Type 0
   Kept = IsKept seen may_leave store order rows d
 
-  -- what a stop left goes on to say the same
-  still_leaves : (disk : D) → Follows (StillSays store.layout.chunk store.layout.block store.layout.slots) (may_leave store.disk) (may_leave disk) → (e f : ServerDisk) → Leaves may_leave store e f → Leaves may_leave (record store { disk = disk }) e f
-  still_leaves disk stops e f leaves c left =
-      let was = stops c left in
-      elim (leaves was.0 was.1) [
-        | inl says ↦ inl (was.2 e says)
-        | inr says ↦ inr (was.2 f says)
-      ]
-
   -- in another standing
   stands_as : (one two : DiskStoreState) → Kept one → IsStandingTrue seen may_leave store d two → Kept two
   stands_as one two kept stands = record { chunk_is = kept.chunk_is; block_is = kept.block_is; slots_is = kept.slots_is; whole = kept.whole; known = kept.known; stands = stands }
-
-  pub closed_kept : (standing : DiskStoreState) → Kept standing → Kept (closed standing)
-  closed_kept Open kept = stands_as Open (Unread None) kept (open_leaves seen may_leave store d kept.stands)
-  closed_kept (Unread change) kept = kept
-  closed_kept (Changing change) kept = kept
 
   pub refused_kept : (standing : DiskStoreState) (change : StoreChange) → changes_of standing ≡ [] → Kept standing → Kept (refused standing change)
   refused_kept Open change none kept = stands_as Open (Unread (Some change)) kept (open_leaves seen may_leave store d kept.stands)
@@ -74,17 +58,6 @@ module _ {D : Type 0} (seen : D → List ℕ) (may_leave : D → List ℕ → Ty
         stands = is;
       }
 
-  -- it was found as it was
-  pub found_as_it_was : (new : StoreState D) (after : OrderNo) (found : Rows) {standing : DiskStoreState} → new.layout ≡ store.layout → Kept standing → IsKnownOf after found d → IsOpen seen may_leave new d → IsKept seen may_leave new after found d Open
-  found_as_it_was new after found same kept known is = record {
-    chunk_is = kept.chunk_is ∙ sym (ap (λ (l : Layout). l.chunk) same);
-    block_is = kept.block_is ∙ sym (ap (λ (l : Layout). l.block) same);
-    slots_is = kept.slots_is ∙ sym (ap (λ (l : Layout). l.slots) same);
-    whole = ap (λ (l : Layout). l.chunk % l.block) same ∙ kept.whole;
-    known = known;
-    stands = is;
-  }
-
   -- what a failed change leaves
   pub failed_leaves : (moment : D → ℕ) (left_since : D → ℕ → List ℕ → Type 0) (counts_now : (disk : D) (t : ℕ) (c : List ℕ) → t ≤ moment disk → may_leave disk c → left_since disk t c) (new : StoreState D) (change : StoreChange)
       → Kept Open → LeavesMade seen may_leave moment left_since store new change → Leaves may_leave (record store { disk = new.disk }) d (disk_changed d change)
@@ -92,33 +65,11 @@ module _ {D : Type 0} (seen : D → List ℕ) (may_leave : D → List ℕ → Ty
       let stands = made d kept.stands in
       stands.stop.each c (counts_now new.disk (moment store.disk) c stands.stop.later left)
 
-  -- the disk began again and was read, whatever came of it
-  pub reopened_as : (standing : DiskStoreState) (new : StoreState D) → new.layout ≡ store.layout → (standing ≡ Open → ⊥) → Follows (StillSays store.layout.chunk store.layout.block store.layout.slots) (may_leave store.disk) (may_leave new.disk) → Kept standing
-      → IsKept seen may_leave new order rows d standing
-  reopened_as Open new same other stops kept = absurd (other refl)
-  reopened_as (Unread change) new same other stops kept =
-      in_layout (Unread change) (Unread change) new same kept
-      (subst (λ (l : Layout). Leaves may_leave (record { disk = new.disk; layout = l; order = new.order; index = new.index; is_open = new.is_open }) d d) (sym same) (still_leaves new.disk stops d d kept.stands))
-  reopened_as (Changing change) new same other stops kept =
-      in_layout (Changing change) (Changing change) new same kept
-      (subst (λ (l : Layout). Leaves may_leave (record { disk = new.disk; layout = l; order = new.order; index = new.index; is_open = new.is_open }) d (disk_changed d change)) (sym same) (still_leaves new.disk stops d (disk_changed d change) kept.stands))
-
 -- what is under way in another standing
 pub refused_is : (standing : DiskStoreState) (change : StoreChange) → changes_of standing ≡ [] → changes_of (refused standing change) ≡ change ∷ []
 refused_is Open change none = refl
 refused_is (Unread other) change none = refl
 refused_is (Changing other) change none = absurd cc
-
-pub closed_is : (standing : DiskStoreState) → changes_of (closed standing) ≡ changes_of standing
-closed_is Open = refl
-closed_is (Unread change) = refl
-closed_is (Changing change) = refl
-
--- a store that is to be read anew isn't open
-pub closed_not_open : (standing : DiskStoreState) → closed standing ≡ Open → ⊥
-closed_not_open Open e = cc
-closed_not_open (Unread change) e = cc
-closed_not_open (Changing change) e = cc
 
 -- of the same disk, in the same standing
 pub as_said : {D : Type 0} (seen : D → List ℕ) (may_leave : D → List ℕ → Type 0) (store : StoreState D) (order : OrderNo) (rows : Rows) (d e : ServerDisk) (one two : DiskStoreState) → e ≡ d → two ≡ one → IsKept seen may_leave store order rows d one → IsKept seen may_leave store order rows e two

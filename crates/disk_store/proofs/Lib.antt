@@ -8,6 +8,6 @@ pub mod Commits
 pub mod Careful
 pub mod Causes
 pub mod Fitting
-pub mod Reopened
 pub mod Quiet
 pub mod Leaving
+pub mod Again

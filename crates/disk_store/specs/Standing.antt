@@ -58,12 +58,6 @@ disk_said seen store before Open = disk_of seen store
 disk_said seen store before (Unread change) = disk_of seen (before_or store before)
 disk_said seen store before (Changing change) = disk_of seen (before_or store before)
 
--- an open store has to be read anew; what is under way stays so
-abbrev pub closed : DiskStoreState → DiskStoreState
-closed Open = Unread None
-closed (Unread change) = Unread change
-closed (Changing change) = Changing change
-
 -- a change is under way that wasn't begun
 abbrev pub refused : DiskStoreState → StoreChange → DiskStoreState
 refused Open change = Unread (Some change)

@@ -14,22 +14,19 @@ use crate::committing::commit;
 use crate::faults::fault_of_opening;
 use crate::known::Known;
 use crate::looking::{is_copyable, is_writable, read};
-use crate::reopening::{known_of, open_again};
-use crate::standing::{DiskStoreState, closed};
+use crate::reopening::known_of;
+use crate::standing::DiskStoreState;
 use bytes::Bytes;
 use chunk_store::Store;
-use disk::{Disk, StoppableDisk};
+use disk::Disk;
 use gfs_types::ids::{Handle, OrderNo};
 use gfs_types::no_memory::NoMemory;
-use gfs_types::torn::Torn;
 use ghost_list::GhostList;
 use messages::message_lists::ReplicaList;
 use replica_store::change::StoreChange;
 use replica_store::row::Row;
 use server_store::armed_store::ArmedStore;
 use server_store::fault::ReplicaStoreFault;
-use server_store::reopened_store::ReopenedStore;
-use server_store::stoppable_store::StoppableStore;
 use server_store::store::ReplicaStore;
 use std::alloc::Global;
 use std::marker::Model;
@@ -140,6 +137,16 @@ impl<D: Disk> DiskStore<D> {
         }
     }
 
+    /// How many bytes its chunks and its blocks have, and how many slots there are.
+    pub fn layout(&self) -> Layout
+        ensures chunk { result.chunk ≡ self.now.disk.chunk }
+        ensures block { result.block ≡ self.now.disk.block }
+        ensures slots { result.slots ≡ self.now.disk.slots }
+        ensures whole { result.chunk % result.block ≡ 0 }
+    {
+        self.store.layout()
+    }
+
     /// The disk as it is: it holds what the store says, with what is under way made or not, whenever it stops.
     pub fn into_disk(self) -> D
         ensures holds { self.is_open ≡ true → HoldsReplicas self.disk.chunk self.disk.block self.disk.slots (D.seen result) self.disk }
@@ -247,32 +254,5 @@ impl<D: Disk> ReplicaStore for DiskStore<D> {
 impl<D: Disk> ArmedStore for DiskStore<D> {
     fn arm(&mut self, calls: u64) {
         self.store.arm(calls);
-    }
-}
-
-impl<D: StoppableDisk> ReopenedStore for DiskStore<D> {
-    fn reopen(&mut self) -> Result<(), ReplicaStoreFault> {
-        let before = mem::replace(&mut self.before, GhostList::new());
-        self.before = remembered(&self.standing, &self.store, before);
-        let standing = closed(mem::replace(&mut self.standing, DiskStoreState::Open));
-        let known = match open_again(self.alloc, &mut self.store, &standing) {
-            Ok(known) => known,
-            Err(fault) => {
-                self.standing = standing;
-                return Err(fault);
-            }
-        };
-        self.known = known;
-        Ok(())
-    }
-}
-
-impl<D: StoppableDisk> StoppableStore for DiskStore<D> {
-    fn stop_after(&mut self, calls: u64, torn: Torn) {
-        self.store.stop_after(calls, torn);
-    }
-
-    fn stop_after_restart(&mut self, calls: u64, torn: Torn) {
-        self.store.stop_after_restart(calls, torn);
     }
 }

@@ -1,7 +1,7 @@
 //! How a store stands to its disk.
 
 ghost use Rattle.std.specs.Prelude.{◌≡◌};
-ghost use Rattle.disk_store.specs.Standing.{closed, refused};
+ghost use Rattle.disk_store.specs.Standing.{refused};
 
 use replica_store::change::StoreChange;
 
@@ -14,16 +14,6 @@ pub enum DiskStoreState {
     Unread(Option<StoreChange>),
     /// This change failed on its way.
     Changing(StoreChange),
-}
-
-/// An open store has to be read anew; what is under way stays so.
-pub fn closed(standing: DiskStoreState) -> DiskStoreState
-    ensures { result ≡ closed standing }
-{
-    match standing {
-        DiskStoreState::Open => DiskStoreState::Unread(None),
-        other => other,
-    }
 }
 
 // A change is under way that wasn't begun.

@@ -9,6 +9,7 @@ pub mod Noting
 pub mod Showing
 pub mod Steps
 pub mod Restarts
+pub mod Again
 pub mod Disks
 pub mod Parts
 pub mod Limits

@@ -13,13 +13,13 @@ use Rattle.log_records.specs.declared.record.Record.{Record}
 use Rattle.log_records.specs.declared.record.Record.TheVariants as log
 use Rattle.gfs_types.specs.declared.refusal.Refusal.TheVariants.{NamesFull}
 use Rattle.relaxed_file.specs.NameStep.{needs_room}
-use Rattle.std.specs.Prelude.{◌==◌, nat_lt, nat_le}
+use Rattle.std.specs.Prelude.{◌&&◌, ◌==◌, not, nat_lt, nat_le}
 use Rattle.std.specs.FinMap as table
 use Rattle.chunk_table.specs.ChunkTable.{ChunkRow, chunk_of}
 use Rattle.protocol.specs.Sending.{client_number, server_number, client_id, file_id, moment_of}
 use Rattle.protocol.specs.LogSizes.{checkpoint_fits}
 use Rattle.protocol.specs.Logged.{KeptCall, checkpoint_of}
-use Rattle.protocol.specs.Master.{MasterState, MasterDoing, PendingSnapshot, master_begins, appends, fits, writes_checkpoint, logs, without_attempts, gives_up_copies, has_lease}
+use Rattle.protocol.specs.Master.{MasterState, MasterDoing, PendingSnapshot, master_begins, appends, fits, is_of_copy, writes_checkpoint, logs, without_attempts, gives_up_copies, has_lease}
 use Rattle.protocol.specs.MasterSnapshots.{answers_name, revokes_row, revokes, revokes_all, takes_locks, snapshot_handles, snapshot_files, copies_for_files, begins_snapshot, settles_name, first_is_true, all_but_first, changes_names, is_ready, lets_go, takes_snapshot, takes_ready}
 use Rattle.protocol.specs.MasterNames.{master_refusal, performs, names_by, is_waiting_call, names_anew, names_kept, told_shape}
 use Rattle.protocol.specs.MasterStep.{master_takes, master_does, master_at, master_goes, opening}
@@ -117,3 +117,18 @@ settings_stay m moment i refused =
 -- so does its opening
 pub opening_stays : (m : MasterState) → settings_of (opening m) ≡ (m.config, m.server_count)
 opening_stays m = (logs_stay (master_begins m []) (log.Epoch (suc m.logged.epoch)) (λ e. e) (λ _. record { same = refl })).same
+
+up_of : (b : Bool) (x y : MasterDoing) (up : Bool) → x.master.up ≡ up → y.master.up ≡ up → (cond b x y).master.up ≡ up
+up_of true x y up p q = p
+up_of false x y up p q = q
+
+-- which doesn't put it down
+pub opening_up : (m : MasterState) → (opening m).master.up ≡ m.up
+opening_up m =
+    let d : MasterDoing = master_begins m [] in
+    let e : Record = log.Epoch (suc m.logged.epoch) in
+    let after : MasterDoing = writes_checkpoint d in
+    let has_place : Bool = checkpoint_fits d.master.config.log_bytes (checkpoint_of d.master.logged) in
+    let fits_then : Bool = fits after e && not (is_of_copy d.master.logged e) in
+    up_of (fits d e) (appends d e) (cond has_place (cond fits_then (appends after e) after) d) m.up refl
+    (up_of has_place (cond fits_then (appends after e) after) d m.up (up_of fits_then (appends after e) after m.up refl refl) refl)

@@ -1,6 +1,6 @@
 //! The master.
 
-ghost use Rattle.std.specs.Prelude.{◌≡◌, ◌≤◌, [], true, false, IfErr, IfOk, if◌then◌else◌, Some, None};
+ghost use Rattle.std.specs.Prelude.{◌≡◌, ◌≤◌, [], true, false, IfErr, IfOk, OnErr, if◌then◌else◌, Some, None};
 ghost use Rattle.std.specs.Option.{option_copied};
 ghost use Rattle.protocol.specs.Tables.{moment_limit};
 ghost use Rattle.protocol.specs.Logged.{new_log};
@@ -21,14 +21,13 @@ use disk::Disk;
 use gfs_types::config::Config;
 use gfs_types::ids::Moment;
 use gfs_types::lists::Sequence;
-use gfs_types::torn::Torn;
 use log_records::record::Record;
 use master_plan::plan::Plan;
 use master_state::state::State;
 use messages::event::StepOut;
 use messages::message::Message;
 use operation_log::log::OperationLog;
-use operation_log::stoppable::StoppableLog;
+use operation_log::reopened::ReopenedLog;
 use std::alloc::{Allocator, Global};
 use std::marker::Model;
 use step_outcome::{Outcome, down_output, no_output};
@@ -152,6 +151,7 @@ impl<L: OperationLog + Drop, A: Allocator + Clone> LoggedMaster<L, A> {
         ensures opens { IfOk result (λ m. OpensUp (down_over config server_count (L.disk log) []) now.0 m) }
         ensures fails { IfErr result (λ l. OpensNot (down_over config server_count (L.disk log) []) now.0 (L.disk l) (L.under_way l)) }
         ensures files { IfOk result (λ m. shown_in shown.new ≡ m.logged.table.files) }
+        ensures files_of_error { OnErr result (shown_in shown.new ≡ shown_in shown.old) }
     {
         let mut master = LoggedMaster::down(alloc, config, server_count, log, names)?;
         let _ = master.opens(alloc, now, shown);
@@ -281,7 +281,7 @@ impl<L: OperationLog, A: Allocator + Clone> LoggedMaster<L, A> {
     }
 }
 
-impl<L: StoppableLog, A: Allocator + Clone> LoggedMaster<L, A> {
+impl<L: ReopenedLog, A: Allocator + Clone> LoggedMaster<L, A> {
     /// It begins again, whether it was up or down: it reads its log, and logs a new epoch. Where the master is up after it, the
     /// chunks of its files are put into `shown`, which else stays.
     #[tactic(auto, using(crate::proofs::Restarts::not_begun, crate::proofs::Restarts::restarts))]
@@ -297,23 +297,11 @@ impl<L: StoppableLog, A: Allocator + Clone> LoggedMaster<L, A> {
         };
         self.opens(alloc, now, shown)
     }
-
-    /// Its log's disk lets so many calls pass and fails each later one until the next restart, which finds what was under way as `torn`
-    /// says. That of a master that is down does so once the next restart has begun.
-    pub fn fuse(&mut self, calls: u64, torn: Torn)
-        ensures { self.new ≡ self.old }
-    {
-        if self.up {
-            self.log.stop_after(calls, torn);
-        } else {
-            self.log.stop_after_restart(calls, torn);
-        }
-    }
 }
 
 impl<D: Disk, A: Allocator> LoggedMaster<DiskLog<D>, A> {
-    // The log's disk lets so many calls pass and fails each later one, where it can be told to fail. Changes no byte.
-    pub(crate) fn arm(&mut self, calls: u64)
+    /// The log's disk lets so many calls pass and fails each later one, where it can be told to fail. Changes no byte.
+    pub fn arm(&mut self, calls: u64)
         ensures { self.new ≡ self.old }
     {
         self.log.arm(calls);

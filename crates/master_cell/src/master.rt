@@ -1,13 +1,17 @@
 //! The master over a disk.
 
-ghost use Rattle.std.specs.Prelude.{◌≡◌, ◌≤◌, List, IfErr, IfOk, length};
+ghost use Rattle.std.specs.Prelude.{◌≡◌, ◌≤◌, ◌<◌, List, IfErr, IfOk, length};
 ghost use Rattle.std.specs.Option.{option_copied};
+ghost use Rattle.log_records.specs.declared.record.Record.{Record};
+ghost use Rattle.oplog.specs.NewLogs.{IsLogOf};
 ghost use Rattle.protocol.specs.Conforms.{MasterSteps};
 ghost use Rattle.protocol.specs.Tables.{moment_limit};
 ghost use Rattle.protocol.specs.declared.seen.Seen.{Seen};
+ghost use Rattle.operation_log.specs.declared.fault.OperationLogFault.TheVariants.{Damaged, Device};
 ghost use Rattle.stored_log.specs.Kept.{IsDiskSize, LeavesDecided};
 ghost use Rattle.master_cell.specs.Disks.{FailsOver, OpensOver};
 ghost use Rattle.master_cell.specs.Inputs.{input_of};
+ghost use Rattle.master_cell.specs.declared.opening_fault.OpeningFault.TheVariants as opening_faults;
 
 use crate::logged_master::LoggedMaster;
 use crate::opening_fault::OpeningFault;
@@ -76,6 +80,10 @@ impl<A: Allocator + Clone, D: Disk + Drop> Master<A, D> {
         requires size { IsDiskSize (length (D.seen disk)) }
         ensures opens { IfOk result (λ m. OpensOver config servers (D.seen disk) now.0 m) }
         ensures fails { IfErr result (λ e. FailsOver D.seen D.may_leave D.moment D.left_since config servers disk now.0 e.0) }
+        // A log is told as one whose disk failed only where it did.
+        ensures cause { IfErr result (λ e. e.1 ≡ opening_faults.Log Device → D.failed disk < D.failed e.0) }
+        // And as damaged only where none stands.
+        ensures undamaged { (items records : List Record) → IsLogOf items records (D.seen disk) → IfErr result (λ e. e.1 ≡ opening_faults.Log Damaged → ⊥) }
     {
         let log = match DiskLog::open(disk, alloc) {
             Ok(log) => log,

@@ -4,5 +4,5 @@
 pub mod fault;
 pub mod log;
 pub mod memory;
+pub mod reopened;
 pub mod sizes;
-pub mod stoppable;

@@ -20,7 +20,6 @@ mod opening;
 mod order;
 mod reading;
 mod reading_items;
-mod restarting;
 mod upgrading;
 mod volume;
 mod walk;

@@ -1,8 +1,8 @@
 //! The operation log.
 
-ghost use Rattle.std.specs.Prelude.{◌≡◌, ◌<◌, ◌≤◌, ◌+◌, ◌↔◌, ◌&&◌, ◌++◌, ℕ, List, true, false, is_ok, length, IfErr, IfOk, OnErr, OnOk, IsErrOf};
+ghost use Rattle.std.specs.Prelude.{◌≡◌, ◌<◌, ◌≤◌, ◌+◌, ◌↔◌, ◌&&◌, ◌++◌, List, true, false, length, IfErr, IfOk, OnErr, OnOk, IsErrOf};
 ghost use Rattle.std.specs.List.{AllByRecursion};
-ghost use Rattle.disk.specs.Device.{Elapses, Follows, NoMore, Only};
+ghost use Rattle.disk.specs.Device.{Elapses, NoMore, Only};
 ghost use Rattle.disk_redo.specs.GateMoments.{LeavesOnly, OnlyReads};
 ghost use Rattle.log_codec.specs.Payloads.{is_item, IsWritable};
 ghost use Rattle.log_records.specs.declared.record.Record.{Record};
@@ -15,7 +15,7 @@ ghost use Rattle.oplog.specs.Logs.{IsDurable, MayFail, SameButDisk};
 ghost use Rattle.oplog.specs.NewLogs.{IsLogOf};
 ghost use Rattle.oplog.specs.Opening.{area_found, IsFound, IsOpening, WalksThrough};
 ghost use Rattle.oplog.specs.Order.{is_checkpoint};
-ghost use Rattle.oplog.specs.Reopening.{HoldsLog, IsAmong, IsReopened};
+ghost use Rattle.oplog.specs.Reopening.{IsReopened};
 ghost use Rattle.oplog.specs.Walks.{IsWalk, passed};
 ghost use Rattle.oplog.specs.Writing.{area_with};
 ghost use Rattle.oplog.specs.declared.fault.LogFault.TheVariants as faults;
@@ -27,11 +27,9 @@ use crate::fault::LogFault;
 use crate::found::FoundArea;
 use crate::opening::open_disk;
 use crate::reading::read_again;
-use crate::restarting::find_again;
 use crate::volume::LogVolume;
 use crate::walk::Walk;
-use disk::{Disk, StoppableDisk};
-use gfs_types::torn::Torn;
+use disk::Disk;
 use log_records::record::Record;
 use std::alloc::Global;
 use std::marker::Model;
@@ -268,53 +266,5 @@ impl<D: Disk> Log<D> {
         ensures failed { D.failed self.new.disk ≡ D.failed self.old.disk }
     {
         self.volume.disk.arm(calls);
-    }
-}
-
-impl<D: StoppableDisk> Log<D> {
-    /// Lets so many calls of the disk pass and fails each later one until it begins again, which then finds what was under way as `torn` says. Changes no byte.
-    pub fn stop_after(&mut self, calls: u64, torn: Torn)
-        ensures same { SameButDisk self.old self.new }
-        ensures seen { D.seen self.new.disk ≡ D.seen self.old.disk }
-        ensures crash { NoMore (D.may_leave self.old.disk) (D.may_leave self.new.disk) }
-        ensures failed { D.failed self.new.disk ≡ D.failed self.old.disk }
-    {
-        self.volume.disk.stop_after(calls, torn);
-    }
-
-    /// The same, once it has begun again. Of several the last one counts.
-    pub fn stop_after_restart(&mut self, calls: u64, torn: Torn)
-        ensures same { SameButDisk self.old self.new }
-        ensures seen { D.seen self.new.disk ≡ D.seen self.old.disk }
-        ensures crash { NoMore (D.may_leave self.old.disk) (D.may_leave self.new.disk) }
-        ensures failed { D.failed self.new.disk ≡ D.failed self.old.disk }
-    {
-        self.volume.disk.stop_after_restart(calls, torn);
-    }
-
-    /// Has the disk begin again, and opens the log that stands there: that of one of the disks that a stop might have left. Gives a walk through its items and records, where there are any.
-    ///
-    /// After an error the log is closed, and shows what it showed. `Damaged`: what stands on the disk is no log, or the disk has another size.
-    pub fn reopen(&mut self, alloc: Global) -> Result<Option<Walk>, LogFault>
-        ensures among { OnOk result (IsAmong (D.may_leave self.old.disk) self.old.size self.new.area.items self.new.area.records) }
-        ensures walk { IfOk result (λ w. WalksThrough (self.new.area.items ++ self.new.area.records) w) }
-        ensures err { OnErr result (self.new.area ≡ self.old.area) }
-        ensures open { self.new.is_open ≡ is_ok result }
-        ensures size { self.new.size ≡ self.old.size }
-        // A stop leaves what one before it might have left, or an empty log where none stood there.
-        ensures stops { Follows IsReopened (D.may_leave self.old.disk) (D.may_leave self.new.disk) }
-        // Damaged comes only where a stop might have left a disk of another size, or one that holds no log.
-        ensures undamaged { ((c : List ℕ) → D.may_leave self.old.disk c → HoldsLog self.old.size c) → IsErrOf result faults.Damaged → ⊥ }
-        ensures not_full { IsErrOf result faults.Full → ⊥ }
-        // Since its disk has begun again it has failed.
-        ensures cause { IsErrOf result faults.Device → 0 < D.failed self.new.disk }
-    {
-        self.is_open = false;
-        let found = find_again(&mut self.volume.disk, alloc, self.volume.size)?;
-        self.volume.place(&found);
-        self.items = found.items;
-        self.records = found.records;
-        self.is_open = true;
-        Ok(found.walk)
     }
 }

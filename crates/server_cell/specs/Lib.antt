@@ -3,3 +3,5 @@ pub mod Inputs
 pub mod Kinds
 pub mod Known
 pub mod Rots
+pub mod Settings
+pub mod Slots

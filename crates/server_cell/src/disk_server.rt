@@ -1,23 +1,28 @@
 //! A chunkserver over a disk.
 
-ghost use Rattle.std.specs.Prelude.{◌≡◌, ◌≤◌, ◌<◌, ◌%◌, true, IfErr, IfOk};
+ghost use Rattle.std.specs.Prelude.{◌≡◌, ◌≤◌, ◌<◌, ◌%◌, List, [], true, length, IfErr, IfOk};
 ghost use Rattle.std.specs.Option.{option_copied};
 ghost use Rattle.gfs_types.specs.Settings.{largest_chunk};
 ghost use Rattle.disk_redo.specs.GateMoments.{LeavesOnly};
 ghost use Rattle.chunk_store.specs.Opening.{HoldsReplicas, IsOpening};
 ghost use Rattle.disk_store.specs.Standing.{LeavesHolding};
 ghost use Rattle.protocol.specs.Conforms.{ServerSteps, ServerRots};
-ghost use Rattle.protocol.specs.Server.{started_server};
+ghost use Rattle.protocol.specs.Server.{started_server, stopped_server};
 ghost use Rattle.protocol.specs.Tables.{moment_limit};
+ghost use Rattle.protocol.specs.declared.seen.Seen.{Seen};
 ghost use Rattle.replica_store.specs.Replicas.{ServerDisk, row_at};
 ghost use Rattle.server_cell.specs.Inputs.{input_of};
+ghost use Rattle.server_cell.specs.Settings.{KeepsSettings};
 ghost use Rattle.server_store.specs.declared.fault.ReplicaStoreFault.TheVariants as faults;
+ghost use Rattle.store_disk.specs.Formats.{IsHeadOf, is_head_open};
+ghost use Rattle.store_disk.specs.Places.{disk_size};
 
 use crate::server::Chunkserver;
 use disk::Disk;
 use disk_store::disk_store::DiskStore;
 use gfs_types::config::Config;
 use gfs_types::ids::{Handle, Moment, ServerId};
+use messages::event::{NodeInput, StepOut};
 use messages::message::Message;
 use replica_store::row::Row;
 use server_store::fault::ReplicaStoreFault;
@@ -25,6 +30,19 @@ use std::alloc::Global;
 use std::marker::Model;
 use step_outcome::Outcome;
 use store_disk::Layout;
+
+/// What a server takes a step on.
+pub type ServerIn = NodeInput;
+
+// The message that a step is taken on; none at a tick.
+fn message_in(input: &ServerIn) -> Option<&Message>
+    ensures { input_of (option_copied result) ≡ input.now }
+{
+    match input {
+        NodeInput::Deliver(message) => Some(message),
+        NodeInput::Tick => None,
+    }
+}
 
 /// A chunkserver over a disk of its own. It begins on what the disk holds, and hands the disk back as it ends.
 #[derive(Drop)]
@@ -67,6 +85,9 @@ impl<D: Disk + Drop> Server<D> {
         // A stop at any moment of a call that fails leaves what one before it might have left, or what holds the same.
         ensures any_moment_of_error { IfErr result (λ e. LeavesOnly D.moment D.left_since disk e.0 (IsOpening config.chunk config.block config.slots (D.seen disk) (D.may_leave disk))) }
         ensures cause { IfErr result (λ e. e.1 ≡ faults.DiskFailed → D.failed disk < D.failed e.0) }
+        // Damaged comes only where the disk is too small, or its open head is that of other sizes.
+        ensures undamaged { disk_size config.chunk config.block config.slots ≤ length (D.seen disk)
+            → (is_head_open (D.seen disk) ≡ true → IsHeadOf config.chunk config.block config.slots (D.seen disk)) → IfErr result (λ e. e.1 ≡ faults.Damaged → ⊥) }
     {
         let layout = Layout::new(config.chunk, config.block, config.slots);
         match DiskStore::open(alloc, disk, layout) {
@@ -98,6 +119,14 @@ impl<D: Disk + Drop> Server<D> {
         self.chunkserver.row(handle)
     }
 
+    /// It is put down in a step, before it changed anything. Takes no memory.
+    pub fn stop(&mut self)
+        requires { self.old.up ≡ true }
+        ensures { self.new ≡ stopped_server self.old self.old.disk [] }
+    {
+        self.chunkserver.stop();
+    }
+
     /// A byte of a replica becomes another on the disk, past its digest; nothing happens where there is no such replica. Where its disk
     /// fails under that, or memory is refused, it goes down.
     pub fn rot(&mut self, handle: Handle, place: u64, byte: u8)
@@ -108,9 +137,22 @@ impl<D: Disk + Drop> Server<D> {
     }
 
     /// A step on a message, or on a tick.
-    pub fn step(&mut self, now: Moment, message: Option<&Message>) -> Outcome
+    #[tactic(auto, using(crate::proofs::DiskServers::steps_seen))]
+    pub fn step(&mut self, now: Moment, input: ServerIn) -> StepOut
         requires { now.0 ≤ moment_limit }
-        ensures { ServerSteps self.old now.0 (input_of (option_copied message.entry)) result.out result.seen self.new }
+        ensures steps { (seen : List Seen) × ServerSteps self.old now.0 input result seen self.new }
+        ensures settings { KeepsSettings self.old self.new }
+    {
+        let message = message_in(&input);
+        let Outcome { out, seen: _seen } = self.take_step(now, message);
+        out
+    }
+
+    /// The same, with what is seen of it.
+    pub fn take_step(&mut self, now: Moment, message: Option<&Message>) -> Outcome
+        requires { now.0 ≤ moment_limit }
+        ensures steps { ServerSteps self.old now.0 (input_of (option_copied message.entry)) result.out result.seen self.new }
+        ensures settings { KeepsSettings self.old self.new }
     {
         self.chunkserver.step(now, message)
     }

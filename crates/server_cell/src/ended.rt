@@ -2,6 +2,7 @@
 
 ghost use Rattle.std.specs.Prelude.{◌≡◌, []};
 ghost use Rattle.server_cell.specs.Ends.{Ends};
+ghost use Rattle.server_cell.specs.Settings.{KeepsSettings};
 ghost use Rattle.server_handlers.specs.Doing.{doing};
 
 use crate::numberings::numberings;
@@ -14,7 +15,8 @@ use step_outcome::Outcome;
 // The changes of the disk are made, and then the messages are sent. Where a change fails, the server stops.
 pub(crate) fn ends<S: ReplicaStore>(server: &mut Server<S>, effects: ServerEffects) -> Outcome
     requires { server.old.under_way ≡ [] }
-    ensures { Ends server.old (doing server.old effects) result.out result.seen server.new }
+    ensures ends { Ends server.old (doing server.old effects) result.out result.seen server.new }
+    ensures settings { KeepsSettings server.old server.new }
 {
     let alloc = server.alloc();
     let ServerEffects {

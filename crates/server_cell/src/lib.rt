@@ -12,5 +12,6 @@ mod placed;
 mod planned;
 mod rotten;
 pub mod server;
+pub mod server_slot;
 pub mod server_writes;
 mod servers;

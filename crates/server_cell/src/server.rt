@@ -8,6 +8,7 @@ ghost use Rattle.protocol.specs.Server.{started_server, stopped_server};
 ghost use Rattle.protocol.specs.Tables.{moment_limit};
 ghost use Rattle.replica_store.specs.Replicas.{row_at};
 ghost use Rattle.server_cell.specs.Inputs.{input_of};
+ghost use Rattle.server_cell.specs.Settings.{KeepsSettings};
 
 use crate::ended::ends;
 use crate::planned::plan_step;
@@ -15,14 +16,12 @@ use crate::rotten::rots;
 use gfs_types::config::Config;
 use gfs_types::ids::{Handle, Moment, ServerId};
 use gfs_types::lists::Sequence;
-use gfs_types::torn::Torn;
 use messages::event::StepOut;
 use messages::message::Message;
 use replica_store::row::Row;
 use server_handlers::server::Server;
 use server_store::armed_store::ArmedStore;
 use server_store::reopened_store::ReopenedStore;
-use server_store::stoppable_store::StoppableStore;
 use server_store::store::ReplicaStore;
 use std::alloc::Global;
 use std::marker::Model;
@@ -108,7 +107,8 @@ impl<S: ReplicaStore> Chunkserver<S> {
     /// A step on a message, or on a tick.
     pub fn step(&mut self, now: Moment, message: Option<&Message>) -> Outcome
         requires { now.0 ≤ moment_limit }
-        ensures { ServerSteps self.old now.0 (input_of (option_copied message.entry)) result.out result.seen self.new }
+        ensures steps { ServerSteps self.old now.0 (input_of (option_copied message.entry)) result.out result.seen self.new }
+        ensures settings { KeepsSettings self.old self.new }
     {
         let alloc = self.server.alloc();
         if !self.server.is_up() {
@@ -158,15 +158,5 @@ impl<S: ArmedStore> Chunkserver<S> {
         ensures { self.new ≡ self.old }
     {
         self.server.arm(calls);
-    }
-}
-
-impl<S: StoppableStore> Chunkserver<S> {
-    /// Its disk lets so many calls pass and fails each later one until the next restart, which finds what was under way as `torn` says.
-    /// That of a server that is down does so once the next restart has begun.
-    pub fn fuse(&mut self, calls: u64, torn: Torn)
-        ensures { self.new ≡ self.old }
-    {
-        self.server.fuse(calls, torn);
     }
 }

@@ -14,5 +14,4 @@ mod push;
 mod pushed;
 pub mod reads;
 pub mod server;
-mod stops;
 mod ticks;

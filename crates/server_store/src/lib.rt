@@ -4,5 +4,4 @@
 pub mod armed_store;
 pub mod fault;
 pub mod reopened_store;
-pub mod stoppable_store;
 pub mod store;

@@ -20,6 +20,13 @@ device_alone log.Damaged x is h e = absurd cc
 device_alone log.Device x is h e = h refl
 device_alone log.NoMemory x is h e = absurd cc
 
+-- nor that of a damaged disk, for another than want of room
+pub damaged_alone : {P : Type 0} (f : LogFault) (x : OperationLogFault) → x ≡ fault_of f → (f ≡ log.Full → ⊥) → (f ≡ log.Damaged → P) → x ≡ master.Damaged → P
+damaged_alone log.Full x is room h e = absurd (room refl)
+damaged_alone log.Damaged x is room h e = h refl
+damaged_alone log.Device x is room h e = absurd cc
+damaged_alone log.NoMemory x is room h e = absurd cc
+
 pub reopening_cause : {T U P : Type 0} (f : LogFault) (x : OperationLogFault) → x ≡ fault_of f → (IsErrOf {T = T} (Err f) log.Device → P) → IsErrOf {T = U} (Err x) master.Device → P
 reopening_cause f x is h e = let same : x ≡ master.Device = cc in device_alone f x is (λ d. h (ap (λ (y : LogFault). Err y) d)) same
 

@@ -49,12 +49,6 @@ module _ {D : Type 0} (seen : D → List ℕ) (may_leave : D → List ℕ → Ty
   closed_leaves log (Checkpointing written) durable kept = kept
 
 module _ {D : Type 0} (may_leave : D → List ℕ → Type 0) where
-  pub closed_kept : (old new : LogState D) (standing : LogStanding) → new.area ≡ old.area → Leaves may_leave new.disk old.area.items old.area.records (closed standing) → IsKept may_leave new (closed standing)
-  closed_kept old new Open same left = λ c might. area_kept Unread old.area new.area c same (left c might)
-  closed_kept old new Unread same left = λ c might. area_kept Unread old.area new.area c same (left c might)
-  closed_kept old new (Appending entry) same left = λ c might. area_kept (Appending entry) old.area new.area c same (left c might)
-  closed_kept old new (Checkpointing written) same left = λ c might. area_kept (Checkpointing written) old.area new.area c same (left c might)
-
   -- an open log stays open
   pub still_kept : (new : LogState D) (standing : LogStanding) → standing ≡ Open → new.is_open ≡ true → IsKept may_leave new standing
   still_kept new standing is opened = subst (IsKept may_leave new) (sym is) opened

@@ -1,6 +1,6 @@
 //! The log over its disk.
 
-ghost use Rattle.std.specs.Prelude.{◌≡◌, ◌<◌, ◌≤◌, ◌+◌, ◌*◌, ◌^◌, ◌++◌, ◌∷◌, [], true, List, length, is_some, nat_le, slice_get, IfErr, IfOk, IfSome, OnOk};
+ghost use Rattle.std.specs.Prelude.{◌≡◌, ◌<◌, ◌+◌, ◌^◌, ◌++◌, ◌∷◌, [], true, List, length, is_some, IfErr, IfOk, IfSome};
 ghost use Rattle.disk_redo.specs.GateMoments.{LeavesOnly};
 ghost use Rattle.log_records.specs.declared.record.Record.{Record};
 ghost use Rattle.oplog.specs.NewLogs.{IsLogOf};
@@ -8,21 +8,18 @@ ghost use Rattle.oplog.specs.Opening.{IsOpening, WalksThrough};
 ghost use Rattle.oplog.specs.Reopening.{IsReopened};
 ghost use Rattle.oplog.specs.Walks.{IsWalk};
 ghost use Rattle.protocol.specs.Logged.{new_log};
-ghost use Rattle.protocol.specs.LogSizes.{checkpoint_fits, checkpoint_size, payload_size, used_size};
-ghost use Rattle.operation_log.specs.Logs.{IsDecided};
+ghost use Rattle.protocol.specs.LogSizes.{checkpoint_fits, checkpoint_size};
 ghost use Rattle.operation_log.specs.declared.fault.OperationLogFault.TheVariants as faults;
-ghost use Rattle.stored_log.specs.Kept.{all_entries, closed, HasDiskSize, IsDiskSize, KeepsWalk, LeavesDecided, Takes};
+ghost use Rattle.stored_log.specs.Kept.{all_entries, HasDiskSize, IsDiskSize, KeepsWalk, LeavesDecided, Takes};
 
 use crate::entries::{entry_at, fault_of};
 use crate::standing::LogStanding;
-use disk::{Disk, StoppableDisk};
-use gfs_types::torn::Torn;
+use disk::Disk;
 use log_codec::{is_item, is_writable};
 use log_records::record::Record;
 use operation_log::fault::OperationLogFault;
 use operation_log::log::OperationLog;
 use operation_log::sizes::used_with;
-use operation_log::stoppable::StoppableLog;
 use oplog::{CountedRecords, Log, LogFault, Walk, is_checkpoint};
 use std::alloc::Global;
 use std::marker::Model;
@@ -74,16 +71,6 @@ impl<D: Disk> Model for DiskLog<D> {
         × KeepsWalk (all_entries l.log) l.walk };
 }
 
-// An open log has to be read anew; what is under way stays so.
-fn closed(standing: LogStanding) -> LogStanding
-    ensures { result ≡ closed standing }
-{
-    match standing {
-        LogStanding::Open => LogStanding::Unread,
-        other => other,
-    }
-}
-
 // The walk, where there are more entries; else its bytes are given back.
 fn if_more(walk: Walk, has_more: bool) -> Option<Walk>
     ensures { (all : List Record) → IsWalk all walk → KeepsWalk all result }
@@ -102,6 +89,8 @@ impl<D: Disk> DiskLog<D> {
         ensures read_of_error { IfErr result (λ e. IsReopened (D.seen disk) (D.seen e.0)) }
         ensures any_moment_of_error { IfErr result (λ e. LeavesOnly D.moment D.left_since disk e.0 (IsOpening (D.seen disk) (D.may_leave disk))) }
         ensures open { IfOk result (λ l. l.is_open ≡ true) }
+        // Damaged comes only where the disk holds no log.
+        ensures undamaged { (items records : List Record) → IsLogOf items records (D.seen disk) → IfErr result (λ e. e.1 ≡ faults.Damaged → ⊥) }
         ensures cause { IfErr result (λ e. e.1 ≡ faults.Device → D.failed disk < D.failed e.0) }
     {
         let log_bytes = disk.size() as u64;
@@ -295,31 +284,5 @@ impl<D: Disk> OperationLog for DiskLog<D> {
         let (entry, walk) = entry_at(&mut self.log, self.alloc, walk, place)?;
         self.walk = if_more(walk, place + 1 < count);
         Ok(entry)
-    }
-}
-
-impl<D: StoppableDisk> StoppableLog for DiskLog<D> {
-    // The disk begins again and is read. It says what it said before the change that was under way, or after it.
-    fn reopen(&mut self) -> Result<(), OperationLogFault> {
-        let _is_open = self.log.is_open();
-        self.standing = closed(mem::replace(&mut self.standing, LogStanding::Unread));
-        self.walk = None;
-        match self.log.reopen(self.alloc) {
-            Ok(walk) => {
-                self.used = self.log.used() as u64;
-                self.walk = walk;
-                self.standing = LogStanding::Open;
-                Ok(())
-            }
-            Err(fault) => Err(fault_of(fault)),
-        }
-    }
-
-    fn stop_after(&mut self, calls: u64, torn: Torn) {
-        self.log.stop_after(calls, torn);
-    }
-
-    fn stop_after_restart(&mut self, calls: u64, torn: Torn) {
-        self.log.stop_after_restart(calls, torn);
     }
 }

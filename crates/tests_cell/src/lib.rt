@@ -21,6 +21,8 @@ mod nul;
 #[cfg(test)]
 mod opened;
 #[cfg(test)]
+mod opened_server;
+#[cfg(test)]
 mod outcome;
 #[cfg(test)]
 mod primary;

@@ -1,1 +1,2 @@
 pub mod Usable
+pub mod StoppedStores

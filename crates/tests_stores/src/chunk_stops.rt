@@ -2,13 +2,15 @@
 
 ghost use Rattle.std.specs.Prelude.{◌≡◌, ◌⊎◌, false, IfOk, true};
 ghost use Rattle.chunk_store.specs.Stores.{IsOpen};
+ghost use Rattle.disk.specs.Failing.{FuseState};
+ghost use Rattle.disk.specs.Writes.{LeftBy};
 ghost use Rattle.replica_store.specs.declared.change.StoreChange.TheVariants.{SetOrder};
 ghost use Rattle.replica_store.specs.Replicas.{ServerDisk, disk_changed};
 ghost use Rattle.store_disk.specs.Formats.{is_head_open};
 
 use crate::chunk_calls::{Listing, SIZE, STEPS, fused, listed, open_new, run};
 use chunk_store::{OpenFault, Store};
-use disk::{Disk, FuseDisk, NodeDisk, StoppableDisk};
+use disk::{Disk, FuseDisk, MemDisk, StopPlan};
 use gfs_types::ids::OrderNo;
 use gfs_types::torn::Torn;
 use std::alloc::{AllocError, Global};
@@ -153,31 +155,29 @@ fn a_refused_allocation_leaves_a_state(rt: HostRuntime) -> Result<(), Fail> {
 }
 
 // Keeps an order's number, whether the disk stops meanwhile or not, and opens the store on what the disk has then. It says what it said before, or has the number.
-fn keep_order<D: StoppableDisk>(
-    store: Store<D>,
+fn keep_order(
+    store: Store<FuseDisk>,
     alloc: Global,
     order: OrderNo,
-) -> Result<Store<D>, (D, OpenFault)>
+) -> Result<Store<FuseDisk>, (FuseDisk, OpenFault)>
     requires { store.is_open ≡ true }
-    ensures { (d : ServerDisk) → IsOpen D.seen D.may_leave store d
-        → IfOk result (λ s. IsOpen D.seen D.may_leave s d ⊎ IsOpen D.seen D.may_leave s (disk_changed d (SetOrder order))) }
+    ensures { (d : ServerDisk) → IsOpen (λ (x : FuseState). x.disk.bytes) (λ (x : FuseState). LeftBy x.disk) store d
+        → IfOk result (λ s. IsOpen (λ (x : FuseState). x.disk.bytes) (λ (x : FuseState). LeftBy x.disk) s d
+        ⊎ IsOpen (λ (x : FuseState). x.disk.bytes) (λ (x : FuseState). LeftBy x.disk) s (disk_changed d (SetOrder order))) }
 {
     let mut store = store;
     let layout = store.layout();
     let _is_kept = store.set_order(alloc, order).is_ok();
-    let mut disk = store.into_disk();
-    match disk.restart() {
-        Ok(()) => Store::open(disk, alloc, layout),
-        Err(_) => Err((disk, OpenFault::NoMemory)),
-    }
+    let disk = StopPlan::new().restart(store.into_disk());
+    Store::open(disk, alloc, layout)
 }
 
 // The number of the last order, where the disk stops after so many calls.
 fn order_after(alloc: Global, calls: u64) -> Option<OrderNo> {
-    let Ok(disk) = NodeDisk::new(alloc, SIZE) else {
+    let Ok(disk) = MemDisk::new(alloc, SIZE) else {
         return None;
     };
-    let Ok(store) = open_new(disk, alloc) else {
+    let Ok(store) = open_new(FuseDisk::new(disk), alloc) else {
         return None;
     };
     let mut store = store;

@@ -1,15 +1,17 @@
 //! A store whose disk stops at each of its calls, and at each call of the opening after that.
 
-ghost use Rattle.std.specs.Prelude.{◌≡◌, [], OnOk};
+ghost use Rattle.std.specs.Prelude.{◌≡◌, [], IfOk};
 
 use crate::changes::{CHANGES, Shown, change_of, commit_first, seen};
 use crate::same::new_store;
+use crate::stopped_store::{TestStore, open_after, taken};
+use disk::StopPlan;
 use gfs_types::ids::Handle;
 use gfs_types::torn::Torn;
 use memory_store::MemoryStore;
 use replica_store::change::StoreChange;
+use server_store::armed_store::ArmedStore;
 use server_store::fault::ReplicaStoreFault;
-use server_store::stoppable_store::StoppableStore;
 use server_store::store::ReplicaStore;
 use std::alloc::Global;
 use std::test::Fail;
@@ -64,30 +66,47 @@ fn after(alloc: Global, count: u64) -> Result<Shown, ReplicaStoreFault> {
 }
 
 // The store is opened twice, and its disk stops in the first opening. Whether that succeeded.
-fn open_twice<S: StoppableStore>(store: &mut S, stop: Stop) -> Result<bool, ReplicaStoreFault>
-    ensures { OnOk result (S.under_way store.new ≡ []) }
+fn open_twice(
+    alloc: Global,
+    store: TestStore,
+    stop: Stop,
+) -> Result<(TestStore, bool), ReplicaStoreFault>
+    ensures { IfOk result (λ r. r.0.under_way ≡ []) }
 {
-    store.stop_after_restart(stop.more, stop.torn);
-    let is_open = store.reopen().is_ok();
-    store.reopen()?;
-    Ok(is_open)
+    let mut stops = StopPlan::new();
+    stops.tear(stop.torn);
+    stops.stop_after_restart(stop.more, stop.torn);
+    let (disk, layout) = taken(store);
+    let (disk, layout, is_open) = match open_after(alloc, disk, layout, &mut stops) {
+        Ok(store) => {
+            let (disk, layout) = taken(store);
+            (disk, layout, true)
+        }
+        Err((disk, _fault)) => (disk, layout, false),
+    };
+    match open_after(alloc, disk, layout, &mut stops) {
+        Ok(store) => Ok((store, is_open)),
+        Err((_disk, fault)) => Err(fault),
+    }
 }
 
 // A change, after those before it, while the disk stops.
-fn stop_within<S: StoppableStore>(
+fn stop_within(
     alloc: Global,
-    store: &mut S,
+    store: TestStore,
     number: u64,
     stop: Stop,
 ) -> Result<Stopped, ReplicaStoreFault>
-    requires { S.under_way store.old ≡ [] }
+    requires { store.under_way ≡ [] }
 {
-    commit_first(alloc, store, number)?;
+    let mut store = store;
+    commit_first(alloc, &mut store, number)?;
     let change = change_of(alloc, number)?;
-    store.stop_after(stop.calls, stop.torn);
+    store.arm(stop.calls);
     let is_ok = store.commit(change).is_ok();
-    let is_open = open_twice(store, stop)?;
-    let found = seen(alloc, store)?;
+    let (again, is_open) = open_twice(alloc, store, stop)?;
+    let mut again = again;
+    let found = seen(alloc, &mut again)?;
     Ok(Stopped {
         is_ok,
         is_open,
@@ -96,10 +115,7 @@ fn stop_within<S: StoppableStore>(
 }
 
 fn stop_new_store(alloc: Global, number: u64, stop: Stop) -> Result<Stopped, ReplicaStoreFault> {
-    let mut store = new_store(alloc)?;
-    let stopped = stop_within(alloc, &mut store, number, stop);
-    drop(store);
-    stopped
+    stop_within(alloc, new_store(alloc)?, number, stop)
 }
 
 // What is seen before a change and after it; and whether one that failed was found made, and one not made.
@@ -178,33 +194,28 @@ fn each_change_is_made_or_not(rt: HostRuntime) -> Result<(), Fail> {
 
 // A byte that is to rot while the disk stops: it is rotten once the store is opened again, where it was answered so; where it wasn't, it is
 // rotten or nothing has changed.
-fn stop_within_rot<S: StoppableStore>(
-    alloc: Global,
-    store: &mut S,
-    stop: Stop,
-) -> Result<bool, ReplicaStoreFault>
-    requires { S.under_way store.old ≡ [] }
+fn stop_within_rot(alloc: Global, store: TestStore, stop: Stop) -> Result<bool, ReplicaStoreFault>
+    requires { store.under_way ≡ [] }
 {
-    commit_first(alloc, store, 4)?;
-    let before = seen(alloc, store)?;
-    store.stop_after(stop.calls, stop.torn);
+    let mut store = store;
+    commit_first(alloc, &mut store, 4)?;
+    let before = seen(alloc, &mut store)?;
+    store.arm(stop.calls);
     let change = StoreChange::Rot {
         handle: Handle(7),
         place: 3,
         byte: 99,
     };
     let is_ok = store.commit(change).is_ok();
-    open_twice(store, stop)?;
-    let found = seen(alloc, store)?;
-    let is_rotten = store.read(alloc, Handle(7), 0, 64)?.is_none();
+    let (again, _is_open) = open_twice(alloc, store, stop)?;
+    let mut again = again;
+    let found = seen(alloc, &mut again)?;
+    let is_rotten = again.read(alloc, Handle(7), 0, 64)?.is_none();
     Ok(is_rotten || (!is_ok && found == before))
 }
 
 fn is_rotten_or_not(alloc: Global, stop: Stop) -> Result<bool, ReplicaStoreFault> {
-    let mut store = new_store(alloc)?;
-    let is_decided = stop_within_rot(alloc, &mut store, stop);
-    drop(store);
-    is_decided
+    stop_within_rot(alloc, new_store(alloc)?, stop)
 }
 
 fn are_rotten_or_not(alloc: Global, calls: u64) -> Result<bool, ReplicaStoreFault> {

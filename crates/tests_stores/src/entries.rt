@@ -4,11 +4,11 @@ ghost use Rattle.std.specs.Prelude.{◌≡◌, [], OnOk};
 
 use crate::refused::checkpoint;
 use crate::restarts::new_log;
+use crate::stopped_log::open_again;
 use gfs_types::ids::{FileId, Handle};
 use log_records::record::Record;
 use operation_log::fault::OperationLogFault;
 use operation_log::log::OperationLog;
-use operation_log::stoppable::StoppableLog;
 use std::alloc::Global;
 use std::test::Fail;
 
@@ -44,7 +44,7 @@ fn append<L: OperationLog>(log: &mut L, epoch: u64) -> Result<(), OperationLogFa
 }
 
 // A checkpoint of one item, and a record.
-fn fill<L: StoppableLog>(log: &mut L) -> Result<(), OperationLogFault>
+fn fill<L: OperationLog>(log: &mut L) -> Result<(), OperationLogFault>
     requires { L.under_way log.old ≡ [] }
     ensures { OnOk result (L.under_way log.new ≡ []) }
 {
@@ -56,8 +56,7 @@ fn fill<L: StoppableLog>(log: &mut L) -> Result<(), OperationLogFault>
     let written = checkpoint(log, &counters);
     drop(counters);
     written?;
-    append(log, 8)?;
-    log.reopen()
+    append(log, 8)
 }
 
 // What is read after an opening, in order, backwards and behind the end; and behind one record more, and before it.
@@ -74,17 +73,12 @@ fn read<L: OperationLog>(log: &mut L) -> Result<[Option<u64>; 6], OperationLogFa
     Ok([first, second, again, none, third, before])
 }
 
-fn filled_and_read<L: StoppableLog>(log: &mut L) -> Result<[Option<u64>; 6], OperationLogFault>
-    requires { L.under_way log.old ≡ [] }
-{
-    fill(log)?;
-    read(log)
-}
-
 fn entries_read(alloc: Global) -> Option<[Option<u64>; 6]> {
     let mut log = new_log(alloc)?;
-    let found = filled_and_read(&mut log);
-    drop(log);
+    fill(&mut log).ok()?;
+    let mut again = open_again(alloc, log)?;
+    let found = read(&mut again);
+    drop(again);
     found.ok()
 }
 

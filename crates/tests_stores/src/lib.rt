@@ -35,3 +35,7 @@ mod restarts;
 mod rotten;
 #[cfg(test)]
 mod same;
+#[cfg(test)]
+mod stopped_log;
+#[cfg(test)]
+mod stopped_store;

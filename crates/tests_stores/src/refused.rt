@@ -4,45 +4,33 @@ ghost use Rattle.std.specs.Prelude.{◌≡◌, [], IfSome, OnOk};
 
 use crate::log_calls::create;
 use crate::restarts::new_log;
-use disk::NodeDisk;
+use crate::stopped_log::{TestLog, open_again};
 use gfs_types::ids::{FileId, Handle};
 use gfs_types::no_memory::NoMemory;
 use log_records::record::Record;
 use operation_log::fault::OperationLogFault;
 use operation_log::log::OperationLog;
-use operation_log::stoppable::StoppableLog;
 use std::alloc::Global;
 use std::test::Fail;
-use stored_log::disk_log::DiskLog;
 
 // How often a record is appended.
 const APPENDS: u64 = 3;
 
-// The log is opened again, if need be once more.
-fn open_again<L: StoppableLog>(log: &mut L) -> Result<(), OperationLogFault>
-    ensures { OnOk result (L.under_way log.new ≡ []) }
-{
-    if log.reopen().is_ok() {
-        return Ok(());
-    }
-    log.reopen()
-}
-
 // An append. Where memory is refused the log is opened again, which has the record or not, and then it is appended.
-fn grow<L: StoppableLog>(log: &mut L, record: &Record) -> Result<(), OperationLogFault>
-    requires { L.under_way log.old ≡ [] }
-    ensures { OnOk result (L.under_way log.new ≡ []) }
+fn grow(alloc: Global, log: TestLog, record: &Record) -> Option<TestLog>
+    requires { log.under_way ≡ [] }
+    ensures { IfSome result (λ l. l.under_way ≡ []) }
 {
+    let mut log = log;
     let before = log.len();
     if log.append(record).is_ok() {
-        return Ok(());
+        return Some(log);
     }
-    open_again(log)?;
-    if log.len() == before {
-        log.append(record)
-    } else {
-        Ok(())
+    let mut again = open_again(alloc, log)?;
+    if again.len() == before && again.append(record).is_err() {
+        return None;
     }
+    Some(again)
 }
 
 pub(crate) fn checkpoint<L: OperationLog>(
@@ -58,38 +46,39 @@ pub(crate) fn checkpoint<L: OperationLog>(
 }
 
 // A checkpoint of one item. Where memory is refused the log is opened again, and it is written once more.
-fn shrink<L: StoppableLog>(log: &mut L, item: &Record) -> Result<(), OperationLogFault>
-    requires { L.under_way log.old ≡ [] }
-    ensures { OnOk result (L.under_way log.new ≡ []) }
+fn shrink(alloc: Global, log: TestLog, item: &Record) -> Option<TestLog>
+    requires { log.under_way ≡ [] }
+    ensures { IfSome result (λ l. l.under_way ≡ []) }
 {
-    if checkpoint(log, item).is_ok() {
-        return Ok(());
+    let mut log = log;
+    if checkpoint(&mut log, item).is_ok() {
+        return Some(log);
     }
-    open_again(log)?;
-    checkpoint(log, item)
+    let mut again = open_again(alloc, log)?;
+    if checkpoint(&mut again, item).is_err() {
+        return None;
+    }
+    Some(again)
 }
 
 // Appends, a checkpoint, an append and an opening: how many entries there are before the checkpoint, after it, and at the end.
-fn go_on<L: StoppableLog>(
-    log: &mut L,
-    record: &Record,
-    item: &Record,
-) -> Result<[u64; 3], OperationLogFault>
-    requires { L.under_way log.old ≡ [] }
+fn go_on(alloc: Global, log: TestLog, record: &Record, item: &Record) -> Option<[u64; 3]>
+    requires { log.under_way ≡ [] }
 {
+    let mut log = log;
     for number in 0..APPENDS {
-        grow(log, record)?;
+        log = grow(alloc, log, record)?;
     }
     let before = log.len();
-    shrink(log, item)?;
+    let log = shrink(alloc, log, item)?;
     let after = log.len();
-    grow(log, record)?;
-    open_again(log)?;
-    Ok([before, after, log.len()])
+    let log = grow(alloc, log, record)?;
+    let log = open_again(alloc, log)?;
+    Some([before, after, log.len()])
 }
 
 // A new log, made once more where memory was refused.
-fn new_log_again(alloc: Global) -> Option<DiskLog<NodeDisk>>
+fn new_log_again(alloc: Global) -> Option<TestLog>
     ensures { IfSome result (λ l. l.under_way ≡ []) }
 {
     match new_log(alloc) {
@@ -100,12 +89,7 @@ fn new_log_again(alloc: Global) -> Option<DiskLog<NodeDisk>>
 
 fn counts(alloc: Global, record: &Record, item: &Record) -> Option<[u64; 3]> {
     match new_log_again(alloc) {
-        Some(log) => {
-            let mut log = log;
-            let found = go_on(&mut log, record, item);
-            drop(log);
-            found.ok()
-        }
+        Some(log) => go_on(alloc, log, record, item),
         None => None,
     }
 }

@@ -1,12 +1,13 @@
 //! The master's log, whose disk stops and begins again.
 
-ghost use Rattle.std.specs.Prelude.{◌≡◌, [], IfOk, IfSome};
+ghost use Rattle.std.specs.Prelude.{◌≡◌, [], IfSome};
 
 use crate::log_calls::{SIZE, WAYS, create};
-use disk::{Disk, NodeDisk};
+use crate::stopped_log::{TestLog, open_after};
+use disk::{Disk, FuseDisk, MemDisk, StopPlan};
 use gfs_types::torn::Torn;
 use log_records::record::Record;
-use operation_log::stoppable::StoppableLog;
+use operation_log::log::OperationLog;
 use std::alloc::Global;
 use std::test::Fail;
 use stored_log::disk_log::DiskLog;
@@ -14,33 +15,72 @@ use stored_log::disk_log::DiskLog;
 // An append takes 4 calls of the disk, and an opening 5.
 const CALLS: u64 = 6;
 
-// An append that stops, once more, and a stop within the opening after it. Whether each record is there or not, as the appends answered, and nothing passes where no call does.
-fn is_kept<L: StoppableLog>(log: &mut L, record: &Record, calls: u64, torn: Torn) -> bool
-    requires { L.under_way log.old ≡ [] }
+// An append that stops. The log that is found then, and whether the append was answered so; none where it was done without a call of the disk.
+fn stopped_within(
+    alloc: Global,
+    log: TestLog,
+    record: &Record,
+    calls: u64,
+    torn: Torn,
+) -> Option<(TestLog, bool)>
+    requires { log.under_way ≡ [] }
+    ensures { IfSome result (λ r. r.0.under_way ≡ []) }
 {
-    log.stop_after(calls, torn);
+    let mut log = log;
+    log.arm(calls);
     let done = log.append(record).is_ok();
-    if (calls == 0 && done) || log.reopen().is_err() {
-        return false;
+    if calls == 0 && done {
+        return None;
     }
+    let mut stops = StopPlan::new();
+    stops.tear(torn);
+    match open_after(alloc, log.into_disk(), &mut stops) {
+        Ok(log) => Some((log, done)),
+        Err(_) => None,
+    }
+}
+
+// How many entries the log has once an opening of it stopped, and it was opened again; none where an opening was done without a call of the disk.
+fn found_later(alloc: Global, log: TestLog, calls: u64, torn: Torn) -> Option<u64> {
+    let mut stops = StopPlan::new();
+    stops.stop_after_restart(calls, torn);
+    let disk = match open_after(alloc, log.into_disk(), &mut stops) {
+        Ok(log) => {
+            if calls == 0 {
+                return None;
+            }
+            log.into_disk()
+        }
+        Err(disk) => disk,
+    };
+    match open_after(alloc, disk, &mut stops) {
+        Ok(log) => Some(log.len()),
+        Err(_) => None,
+    }
+}
+
+// An append that stops, once more, and a stop within the opening after it. Whether each record is there or not, as the appends answered, and nothing passes where no call does.
+fn is_kept(alloc: Global, log: TestLog, record: &Record, calls: u64, torn: Torn) -> bool
+    requires { log.under_way ≡ [] }
+{
+    let Some((log, done)) = stopped_within(alloc, log, record, calls, torn) else {
+        return false;
+    };
+    let mut log = log;
     let found = log.len();
     if found > 1 || (found == 0 && done) || log.append(record).is_err() {
         return false;
     }
-    log.stop_after_restart(calls, torn);
-    let is_open = log.reopen().is_ok();
-    if calls == 0 && is_open {
-        return false;
-    }
-    log.reopen().is_ok() && log.len() == found.saturating_add(1)
+    found_later(alloc, log, calls, torn) == Some(found.saturating_add(1))
 }
 
-pub(crate) fn new_log(alloc: Global) -> Option<DiskLog<NodeDisk>>
+pub(crate) fn new_log(alloc: Global) -> Option<TestLog>
     ensures decided { IfSome result (λ l. l.under_way ≡ []) }
 {
-    let Ok(disk) = NodeDisk::new(alloc, SIZE) else {
+    let Ok(disk) = MemDisk::new(alloc, SIZE) else {
         return None;
     };
+    let disk = FuseDisk::new(disk);
     if disk.size() != SIZE {
         drop(disk);
         return None;
@@ -50,12 +90,7 @@ pub(crate) fn new_log(alloc: Global) -> Option<DiskLog<NodeDisk>>
 
 fn is_kept_in_new_log(alloc: Global, record: &Record, calls: u64, torn: Torn) -> bool {
     match new_log(alloc) {
-        Some(log) => {
-            let mut log = log;
-            let is_kept = is_kept(&mut log, record, calls, torn);
-            drop(log);
-            is_kept
-        }
+        Some(log) => is_kept(alloc, log, record, calls, torn),
         None => false,
     }
 }

@@ -3,27 +3,27 @@
 ghost use Rattle.std.specs.Prelude.{◌≡◌, [], IfOk, OnOk};
 
 use crate::changes::{CHANGES, change_of, commit_first, layout, seen};
-use disk::NodeDisk;
+use crate::stopped_store::{TestStore, open_again};
+use disk::{FuseDisk, MemDisk};
 use disk_store::disk_store::DiskStore;
 use gfs_types::ids::Handle;
 use memory_store::MemoryStore;
 use replica_store::change::StoreChange;
 use server_store::fault::ReplicaStoreFault;
-use server_store::reopened_store::ReopenedStore;
 use server_store::store::ReplicaStore;
 use std::alloc::Global;
 use std::test::Fail;
 
-pub(crate) fn new_store(alloc: Global) -> Result<DiskStore<NodeDisk>, ReplicaStoreFault>
+pub(crate) fn new_store(alloc: Global) -> Result<TestStore, ReplicaStoreFault>
     ensures { IfOk result (λ s. s.under_way ≡ []) }
 {
     let layout = layout();
-    let disk = NodeDisk::new(alloc, layout.disk_size())?;
-    DiskStore::new(alloc, disk, layout)
+    let disk = MemDisk::new(alloc, layout.disk_size())?;
+    DiskStore::new(alloc, FuseDisk::new(disk), layout)
 }
 
 // Whether both show the same.
-fn are_same<S: ReopenedStore, T: ReplicaStore>(
+fn are_same<S: ReplicaStore, T: ReplicaStore>(
     alloc: Global,
     store: &mut S,
     model: &mut T,
@@ -36,8 +36,8 @@ fn are_same<S: ReopenedStore, T: ReplicaStore>(
     Ok(seen(alloc, store)? == seen(alloc, model)?)
 }
 
-// Whether both show the same after a change, and once the first one is opened again.
-fn go_on_alike<S: ReopenedStore, T: ReplicaStore>(
+// Whether both show the same after a change.
+fn go_on_alike<S: ReplicaStore, T: ReplicaStore>(
     alloc: Global,
     store: &mut S,
     model: &mut T,
@@ -50,23 +50,42 @@ fn go_on_alike<S: ReopenedStore, T: ReplicaStore>(
 {
     store.commit(change_of(alloc, number)?)?;
     model.commit(change_of(alloc, number)?)?;
-    let open = are_same(alloc, store, model)?;
-    store.reopen()?;
-    let opened_again = are_same(alloc, store, model)?;
-    Ok(open && opened_again)
+    are_same(alloc, store, model)
+}
+
+// Whether both show the same after a change, and once the first one is opened again over its disk.
+fn outlasts_alike<T: ReplicaStore>(
+    alloc: Global,
+    store: TestStore,
+    model: &mut T,
+    number: u64,
+) -> Result<(TestStore, bool), ReplicaStoreFault>
+    requires store { store.under_way ≡ [] }
+    requires model { T.under_way model.old ≡ [] }
+    ensures store { IfOk result (λ r. r.0.under_way ≡ []) }
+    ensures model { OnOk result (T.under_way model.new ≡ []) }
+{
+    let mut store = store;
+    let open = go_on_alike(alloc, &mut store, model, number)?;
+    let mut again = open_again(alloc, store)?;
+    let opened_again = are_same(alloc, &mut again, model)?;
+    Ok((again, open && opened_again))
 }
 
 // Whether both show the same after each change.
-fn are_always_alike<S: ReopenedStore, T: ReplicaStore>(
+fn are_always_alike<T: ReplicaStore>(
     alloc: Global,
-    store: &mut S,
+    store: TestStore,
     model: &mut T,
 ) -> Result<bool, ReplicaStoreFault>
-    requires store { S.under_way store.old ≡ [] }
+    requires store { store.under_way ≡ [] }
     requires model { T.under_way model.old ≡ [] }
 {
+    let mut store = store;
     for number in 0..CHANGES {
-        if !go_on_alike(alloc, store, model, number)? {
+        let (again, are_alike) = outlasts_alike(alloc, store, model, number)?;
+        store = again;
+        if !are_alike {
             return Ok(false);
         }
     }
@@ -75,8 +94,8 @@ fn are_always_alike<S: ReopenedStore, T: ReplicaStore>(
 
 // Whether a store shows what one in memory does. What owns a store has one way out, and calls `drop` there: a drop at the end of a scope is proved anew at each
 // place.
-fn is_as_in_memory<S: ReopenedStore>(alloc: Global, store: &mut S) -> Result<bool, ReplicaStoreFault>
-    requires { S.under_way store.old ≡ [] }
+fn is_as_in_memory(alloc: Global, store: TestStore) -> Result<bool, ReplicaStoreFault>
+    requires { store.under_way ≡ [] }
 {
     let mut model = MemoryStore::new(alloc, 64, 16, 4);
     let are_alike = are_always_alike(alloc, store, &mut model);
@@ -85,10 +104,7 @@ fn is_as_in_memory<S: ReopenedStore>(alloc: Global, store: &mut S) -> Result<boo
 }
 
 fn new_is_as_in_memory(alloc: Global) -> Result<bool, ReplicaStoreFault> {
-    let mut store = new_store(alloc)?;
-    let is_as_in_memory = is_as_in_memory(alloc, &mut store);
-    drop(store);
-    is_as_in_memory
+    is_as_in_memory(alloc, new_store(alloc)?)
 }
 
 #[test]
@@ -107,7 +123,7 @@ fn rot(place: u64, byte: u8) -> StoreChange {
 }
 
 // The same byte of both rots.
-fn rot_both<S: ReopenedStore, T: ReplicaStore>(
+fn rot_both<S: ReplicaStore, T: ReplicaStore>(
     store: &mut S,
     model: &mut T,
     place: u64,
@@ -123,7 +139,7 @@ fn rot_both<S: ReopenedStore, T: ReplicaStore>(
 }
 
 // Whether both show the same once each has four changes, and then the same byte of each is rotten.
-fn rot_alike<S: ReopenedStore, T: ReplicaStore>(
+fn rot_alike<S: ReplicaStore, T: ReplicaStore>(
     alloc: Global,
     store: &mut S,
     model: &mut T,
@@ -140,7 +156,7 @@ fn rot_alike<S: ReopenedStore, T: ReplicaStore>(
 }
 
 // Whether the block of that byte is neither read nor copied nor written over in part, and another block is.
-fn is_shut<S: ReopenedStore>(alloc: Global, store: &mut S) -> Result<bool, ReplicaStoreFault>
+fn is_shut<S: ReplicaStore>(alloc: Global, store: &mut S) -> Result<bool, ReplicaStoreFault>
     requires { S.under_way store.old ≡ [] }
     ensures { S.under_way store.new ≡ [] }
 {
@@ -152,7 +168,7 @@ fn is_shut<S: ReopenedStore>(alloc: Global, store: &mut S) -> Result<bool, Repli
 }
 
 // Whether the block is read again once that byte is what was stored; one that stands there already changes nothing.
-fn is_back_alike<S: ReopenedStore, T: ReplicaStore>(
+fn is_back_alike<S: ReplicaStore, T: ReplicaStore>(
     alloc: Global,
     store: &mut S,
     model: &mut T,
@@ -170,17 +186,18 @@ fn is_back_alike<S: ReopenedStore, T: ReplicaStore>(
 }
 
 // Whether a byte past the chunk is refused. It doesn't rot then.
-fn refuses_rot<S: ReopenedStore>(store: &mut S) -> Result<bool, ReplicaStoreFault>
-    requires { S.under_way store.old ≡ [] }
-    ensures { OnOk result (S.under_way store.new ≡ []) }
+fn refuses_rot(alloc: Global, store: TestStore) -> Result<(TestStore, bool), ReplicaStoreFault>
+    requires { store.under_way ≡ [] }
+    ensures { IfOk result (λ r. r.0.under_way ≡ []) }
 {
+    let mut store = store;
     let past = store.commit(rot(64, 1));
-    store.reopen()?;
-    Ok(past == Err(ReplicaStoreFault::NoRoom))
+    let again = open_again(alloc, store)?;
+    Ok((again, past == Err(ReplicaStoreFault::NoRoom)))
 }
 
 // Whether a range past the chunk is refused, and an empty one is not.
-fn refuses_past<S: ReopenedStore>(store: &mut S) -> bool
+fn refuses_past<S: ReplicaStore>(store: &mut S) -> bool
     requires { S.under_way store.old ≡ [] }
     ensures { S.under_way store.new ≡ [] }
 {
@@ -189,29 +206,28 @@ fn refuses_past<S: ReopenedStore>(store: &mut S) -> bool
     past == Err(ReplicaStoreFault::NoRoom) && empty == Ok(true)
 }
 
-// Whether it is so once a byte of both is rotten, and both show the same once the first one is opened again, and once the byte is back.
-fn is_rotten_alike<S: ReopenedStore, T: ReplicaStore>(
+// Whether it is so once a byte of both is rotten, and both show the same once the first one is opened again over its disk, and once the byte is back.
+fn is_rotten_alike<T: ReplicaStore>(
     alloc: Global,
-    store: &mut S,
+    store: TestStore,
     model: &mut T,
 ) -> Result<bool, ReplicaStoreFault>
-    requires store { S.under_way store.old ≡ [] }
+    requires store { store.under_way ≡ [] }
     requires model { T.under_way model.old ≡ [] }
 {
-    let is_alike = rot_alike(alloc, store, model)?;
-    let is_shut = is_shut(alloc, store)?;
-    let refuses = refuses_past(store);
-    let refuses_rot = refuses_rot(store)?;
-    let is_same = are_same(alloc, store, model)?;
-    let is_back = is_back_alike(alloc, store, model)?;
+    let mut store = store;
+    let is_alike = rot_alike(alloc, &mut store, model)?;
+    let is_shut = is_shut(alloc, &mut store)?;
+    let refuses = refuses_past(&mut store);
+    let (again, refuses_rot) = refuses_rot(alloc, store)?;
+    let mut again = again;
+    let is_same = are_same(alloc, &mut again, model)?;
+    let is_back = is_back_alike(alloc, &mut again, model)?;
     Ok(is_alike && is_shut && refuses && refuses_rot && is_same && is_back)
 }
 
-fn is_rotten_as_in_memory<S: ReopenedStore>(
-    alloc: Global,
-    store: &mut S,
-) -> Result<bool, ReplicaStoreFault>
-    requires { S.under_way store.old ≡ [] }
+fn is_rotten_as_in_memory(alloc: Global, store: TestStore) -> Result<bool, ReplicaStoreFault>
+    requires { store.under_way ≡ [] }
 {
     let mut model = MemoryStore::new(alloc, 64, 16, 4);
     let is_alike = is_rotten_alike(alloc, store, &mut model);
@@ -220,10 +236,7 @@ fn is_rotten_as_in_memory<S: ReopenedStore>(
 }
 
 fn new_is_rotten_as_in_memory(alloc: Global) -> Result<bool, ReplicaStoreFault> {
-    let mut store = new_store(alloc)?;
-    let is_as_in_memory = is_rotten_as_in_memory(alloc, &mut store);
-    drop(store);
-    is_as_in_memory
+    is_rotten_as_in_memory(alloc, new_store(alloc)?)
 }
 
 #[test]

@@ -10,11 +10,7 @@ returns-clause-skew c = λ t. (bounds_ok c.args.config.now c.check.result c.is_o
 pub returns-clause-log : goal.returns-clause-log
 returns-clause-log c = λ t. (bounds_ok c.args.config.now c.check.result c.is_ok.result c.check.ensures c.is_ok.ensures.value t).log
 
-pub returns-clause-block : goal.returns-clause-block
-returns-clause-block c = λ t. (bounds_ok c.args.config.now c.check.result c.is_ok.result c.check.ensures c.is_ok.ensures.value t).block
-
-pub returns-clause-whole : goal.returns-clause-whole
-returns-clause-whole c = λ t. (bounds_ok c.args.config.now c.check.result c.is_ok.result c.check.ensures c.is_ok.ensures.value t).whole
-
-pub returns-clause-slots : goal.returns-clause-slots
-returns-clause-slots c = λ t. (bounds_ok c.args.config.now c.check.result c.is_ok.result c.check.ensures c.is_ok.ensures.value t).slots
+pub returns-clause-servers : goal.returns-clause-servers
+returns-clause-servers c = λ t.
+    let b = bounds_ok c.args.config.now c.check.result c.is_ok.result c.check.ensures c.is_ok.ensures.value t in
+    record { least = b.least; most = b.most; block = b.block; whole = b.whole; slots = b.slots; skew = b.skew }

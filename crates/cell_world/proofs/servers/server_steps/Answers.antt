@@ -9,7 +9,7 @@ use Rattle.cell_world.proofs.Lost.{at, unrecorded, recorded_so, server_lost}
 use Rattle.cell_world.proofs.servers.server_steps.Goals as goal
 
 pub returns-then-is_err : goal.returns-then-is_err
-returns-then-is_err g c =
+returns-then-is_err c =
     let s : ServerState = c.index_mut.result.now in
     let there = at c.args.servers.now.items c.args.place s c.requires.place c.index_mut.ensures.value in
     record {
@@ -24,7 +24,7 @@ returns-then-is_err g c =
     }
 
 pub returns : goal.returns
-returns g c =
+returns c =
     let s : ServerState = c.index_mut-2.result.now in
     record {
       old = s;

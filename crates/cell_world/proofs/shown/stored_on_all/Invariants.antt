@@ -6,4 +6,4 @@ use Rattle.cell_world.proofs.shown.stored_on_all.Given as goal
 
 -- what is left completes the list
 abbrev pub invariant-loop-server : goal.invariant-loop-server
-invariant-loop-server g l = map as_stored l.all.items ++ filter_map (stored_on l.handle.0) (drop l.server-index l.servers) ≡ filter_map (stored_on l.handle.0) l.servers
+invariant-loop-server l = map as_stored l.all.items ++ filter_map (stored_on l.handle.0) (drop l.server-index l.servers) ≡ filter_map (stored_on l.handle.0) l.servers

@@ -10,10 +10,10 @@ returns g c =
       config = c.args.config;
       master = g.M.CellMaster.state c.args.master;
       files = g.M.CellMaster.files c.args.master;
-      servers = c.in_ok-servers.servers.items;
+      servers = c.args.servers.items;
       clients = c.in_ok-clients.clients.items;
       sent = c.new.result.network.messages;
       seen = c.new.result.sights.seen;
       greatest = 0;
     } in
-    held_new c.args.config (length c.args.stores.items) c.args.clients h refl c.requires.master c.requires.files c.in_ok-servers.ensures c.in_ok-clients.ensures c.new.ensures.sent c.new.ensures.seen refl
+    held_new c.args.config (length c.args.servers.items) c.args.clients h refl c.requires.master c.requires.files c.requires.servers c.in_ok-clients.ensures c.new.ensures.sent c.new.ensures.seen refl

@@ -1,5 +1,7 @@
 use Rattle.std.proofs.Common.{◌≡◌, sym, ◌∙◌}
+use Rattle.master_cell.proofs.Files.{shown_down}
 use Rattle.master_cell.proofs.Restarts.{handed_back, opens_not}
+use Rattle.master_cell.specs.Shown.{shown_in}
 use Rattle.master_cell.proofs.logged_master.LoggedMaster.open.Goals as goal
 
 pub returns-in_err-master-clause-fails : goal.returns-in_err-master-clause-fails
@@ -12,3 +14,7 @@ returns-else-is_up-clause-fails g c =
     opens_not c.args.config c.args.server_count (g.L.OperationLog.disk c.args.log) (g.L.OperationLog.under_way c.args.log) c.in_ok-master.master c.args.now.0 c.opens.result c.opens.new.self
     (g.L.OperationLog.disk c.into_log.result) (g.L.OperationLog.under_way c.into_log.result) c.in_ok-master.ensures.down c.requires.decided c.opens.ensures.opens
     (sym c.is_up.ensures ∙ c.if-is_up.false) c.into_log.ensures.disk c.into_log.ensures.under_way
+
+pub returns-else-is_up-clause-files_of_error : goal.returns-else-is_up-clause-files_of_error
+returns-else-is_up-clause-files_of_error g c =
+    c.opens.ensures.files ∙ sym (shown_down c.opens.new.self (shown_in c.args.shown.now) (sym c.is_up.ensures ∙ c.if-is_up.false))

@@ -1,5 +1,7 @@
-use Rattle.std.proofs.Common.{ℕ, ap, ◌∙◌}
+use Rattle.std.proofs.Common.{ℕ, ◌≤◌, length, ap, ◌∙◌}
 use Rattle.std.specs.Prelude.{◌%◌}
+use Rattle.store_disk.specs.Formats.{IsHeadOf}
+use Rattle.store_disk.specs.Places.{disk_size}
 use Rattle.disk_redo.specs.GateMoments.{LeavesOnly}
 use Rattle.replica_store.specs.Replicas.{ServerDisk}
 use Rattle.chunk_store.specs.Opening.{HoldsReplicas, IsOpening}
@@ -31,6 +33,15 @@ returns-in-Err-clause-any_moment_of_error g c =
     let disk = g.D.Disk in
     by_settings (λ chunk block slots. LeavesOnly disk.moment disk.left_since c.args.disk c.in-Err.error.0 (IsOpening chunk block slots (disk.seen c.args.disk) (disk.may_leave c.args.disk))) c.args.config c.new-layout.result
     c.new-layout.ensures.chunk c.new-layout.ensures.block c.new-layout.ensures.slots c.in-Err.ensures.any_moment_of_error
+
+pub returns-in-Err-clause-undamaged : goal.returns-in-Err-clause-undamaged
+returns-in-Err-clause-undamaged g c large head =
+    let l = c.new-layout.result in
+    let is = c.new-layout.ensures in
+    let bytes = g.D.Disk.seen c.args.disk in
+    c.in-Err.ensures.undamaged
+    (by_layout (λ chunk block slots. disk_size chunk block slots ≤ length bytes) c.args.config l is.chunk is.block is.slots large)
+    (λ opened. by_layout (λ chunk block slots. IsHeadOf chunk block slots bytes) c.args.config l is.chunk is.block is.slots (head opened))
 
 pub new-requires-clause-nothing : goal.new-requires-clause-nothing
 new-requires-clause-nothing g c = c.in-Ok.ensures.nothing.0

@@ -1,0 +1,5 @@
+use Rattle.tests_cell.proofs.Servers.{still_tested}
+use Rattle.tests_cell.proofs.opened_server.creates.Goals as goal
+
+pub returns : goal.returns
+returns c = still_tested c.args.server.now c.step.new.self c.requires c.step.ensures.settings

@@ -1,0 +1,129 @@
+//! A chunkserver that is opened over a disk, which it hands back.
+
+ghost use Rattle.std.specs.Prelude.{◌≡◌, IfSome};
+
+use disk::{FuseDisk, MemDisk, StopPlan};
+use gfs_types::config::Config;
+use gfs_types::ids::{Handle, Moment, Node, OrderNo, ServerId, Version};
+use gfs_types::torn::Torn;
+use messages::event::{NodeInput, StepOut};
+use messages::message::{Body, Message};
+use server_cell::disk_server::Server;
+use std::alloc::Global;
+use store_disk::Layout;
+
+const NOW: Moment = Moment(0);
+
+const ID: ServerId = ServerId(1);
+
+const CHUNK: Handle = Handle(7);
+
+type DiskServer = Server<FuseDisk>;
+
+// Chunks of 64 bytes in blocks of 16, in four slots.
+fn settings() -> Config
+    ensures chunk { result.chunk ≡ 64 }
+    ensures block { result.block ≡ 16 }
+    ensures slots { result.slots ≡ 4 }
+{
+    Config {
+        chunk: 64,
+        block: 16,
+        slots: 4,
+        ..Config::default()
+    }
+}
+
+/// A server over a new disk; none where it can't be up.
+fn open_new(alloc: Global) -> Option<DiskServer>
+    ensures { IfSome result (λ s. (s.disk.chunk ≡ 64) × (s.disk.block ≡ 16) × (s.disk.slots ≡ 4)) }
+{
+    let config = settings();
+    if config.skew_ms > 60_000 {
+        return None;
+    }
+    let layout = Layout::new(64, 16, 4);
+    let Ok(disk) = MemDisk::new(alloc, layout.disk_size()) else {
+        return None;
+    };
+    match Server::open(alloc, config, ID, FuseDisk::new(disk), NOW) {
+        Ok(server) => Some(server),
+        Err(_) => None,
+    }
+}
+
+/// The server over its disk once that has stopped.
+fn open_again(alloc: Global, server: DiskServer, torn: Torn) -> Option<DiskServer>
+    requires { (server.disk.chunk ≡ 64) × (server.disk.block ≡ 16) × (server.disk.slots ≡ 4) }
+    ensures { IfSome result (λ s. (s.disk.chunk ≡ 64) × (s.disk.block ≡ 16) × (s.disk.slots ≡ 4)) }
+{
+    let config = settings();
+    if config.skew_ms > 60_000 {
+        return None;
+    }
+    let mut stops = StopPlan::new();
+    stops.tear(torn);
+    let disk = stops.restart(server.into_disk());
+    match Server::open(alloc, config, ID, disk, NOW) {
+        Ok(server) => Some(server),
+        Err(_) => None,
+    }
+}
+
+// An order of the master: a replica of a new chunk.
+fn create() -> Message {
+    Message {
+        number: 1,
+        sender: Node::Master,
+        receiver: Node::Server(ID),
+        body: Body::Create {
+            order: OrderNo { epoch: 1, count: 1 },
+            handle: CHUNK,
+            version: Version(1),
+        },
+    }
+}
+
+// Whether it has a replica, takes the order, and has one then, which the master is told of.
+fn creates(server: &mut DiskServer) -> bool
+    requires { (server.old.disk.chunk ≡ 64) × (server.old.disk.block ≡ 16) × (server.old.disk.slots ≡ 4) }
+    ensures { (server.new.disk.chunk ≡ 64) × (server.new.disk.block ≡ 16) × (server.new.disk.slots ≡ 4) }
+{
+    let had = server.row(CHUNK).is_some();
+    let StepOut { sent, down, .. } = server.step(NOW, NodeInput::Deliver(create()));
+    let told = sent.as_slice().len() == 1;
+    !had && told && !down && server.is_up() && server.row(CHUNK).is_some()
+}
+
+// The replica is there once the server is opened again over its disk.
+fn outlasts(alloc: Global, torn: Torn) -> Option<bool> {
+    let mut server = open_new(alloc)?;
+    let has_created = creates(&mut server);
+    let again = open_again(alloc, server, torn)?;
+    Some(has_created && again.is_up() && again.row(CHUNK).is_some())
+}
+
+// One whose disk fails within the step is down, and has the replica or not once it is opened again.
+fn stops_within(alloc: Global, calls: u64, torn: Torn) -> Option<bool> {
+    let mut server = open_new(alloc)?;
+    server.arm(calls);
+    let has_created = creates(&mut server);
+    let was_up = server.is_up();
+    let again = open_again(alloc, server, torn)?;
+    let has_replica = again.row(CHUNK).is_some();
+    Some(again.is_up() && (has_replica || !has_created) && was_up == has_created)
+}
+
+#[test]
+fn a_server_is_opened_over_the_disk_of_an_earlier_one(rt: HostRuntime) {
+    let alloc = rt.alloc();
+    for torn in [Torn::Old, Torn::New, Torn::Byte(1)] {
+        assert!(rt; outlasts(alloc, torn) == Some(true));
+        for calls in 0..12 {
+            assert!(rt;
+                stops_within(alloc, calls, torn) == Some(true),
+                "call {calls}"
+            );
+        }
+    }
+}
