@@ -120,7 +120,7 @@ def replicas_seen(words, script, program):
     seen = {}
     for cell in cells_of(options, script.encode(), program):
         for place, server in enumerate(state.servers(cell.world), 1):
-            seen.setdefault(f's{place}', set()).update(bytes(replica.bytes) for replica in state.replicas(server).values())
+            seen.setdefault(f's{place}', set()).update(bytes(replica.bytes[:replica.count]) for replica in state.replicas(server).values())
     return seen
 
 
