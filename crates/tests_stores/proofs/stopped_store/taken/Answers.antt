@@ -5,8 +5,8 @@ pub returns-clause-store : goal.returns-clause-store
 returns-clause-store c = record {
   disk = c.args.store.disk;
   under_way = c.args.store.under_way;
-  chunk_is = sym c.layout.ensures.chunk;
-  block_is = sym c.layout.ensures.block;
-  slots_is = sym c.layout.ensures.slots;
+  chunk_is = sym c.layout-layout.ensures.chunk;
+  block_is = sym c.layout-layout.ensures.block;
+  slots_is = sym c.layout-layout.ensures.slots;
   leaves = c.into_disk.ensures.left;
 }
