@@ -46,7 +46,8 @@ fn open_new(alloc: Global) -> Option<DiskServer>
     let Ok(disk) = MemDisk::new(alloc, layout.disk_size()) else {
         return None;
     };
-    match Server::open(alloc, config, ID, FuseDisk::new(disk), NOW) {
+    let disk = FuseDisk::new(disk);
+    match Server::open(alloc, config, ID, disk, NOW) {
         Ok(server) => Some(server),
         Err(_) => None,
     }
