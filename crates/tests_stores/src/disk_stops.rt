@@ -1,11 +1,12 @@
 //! A store whose disk stops at each of its calls, and at each call of the opening after that.
 
-ghost use Rattle.std.specs.Prelude.{◌≡◌, [], IfOk};
+ghost use Rattle.std.specs.Prelude.{◌≡◌, ◌%◌, [], IfOk};
+ghost use Rattle.tests_stores.specs.StoppedStores.{HasStore};
 
 use crate::changes::{CHANGES, Shown, change_of, commit_first, seen};
 use crate::same::new_store;
 use crate::stopped_store::{TestStore, open_after, taken};
-use disk::StopPlan;
+use disk::{FuseDisk, StopPlan};
 use gfs_types::ids::Handle;
 use gfs_types::torn::Torn;
 use memory_store::MemoryStore;
@@ -15,6 +16,7 @@ use server_store::fault::ReplicaStoreFault;
 use server_store::store::ReplicaStore;
 use std::alloc::Global;
 use std::test::Fail;
+use store_disk::Layout;
 
 const WAYS: [Torn; 5] = [
     Torn::Old,
@@ -65,6 +67,27 @@ fn after(alloc: Global, count: u64) -> Result<Shown, ReplicaStoreFault> {
     shown
 }
 
+// The disk after an opening of its store, the store's sizes, and whether it was opened.
+fn open_and_let_go(
+    alloc: Global,
+    disk: FuseDisk<Global>,
+    layout: Layout,
+    stops: &mut StopPlan,
+) -> (FuseDisk<Global>, Layout, bool)
+    requires whole { layout.chunk % layout.block ≡ 0 }
+    requires store { HasStore layout disk }
+    ensures whole { result.1.chunk % result.1.block ≡ 0 }
+    ensures store { HasStore result.1 result.0 }
+{
+    match open_after(alloc, disk, layout, stops) {
+        Ok(store) => {
+            let (disk, layout) = taken(store);
+            (disk, layout, true)
+        }
+        Err((disk, _fault)) => (disk, layout, false),
+    }
+}
+
 // The store is opened twice, and its disk stops in the first opening. Whether that succeeded.
 fn open_twice(
     alloc: Global,
@@ -77,13 +100,7 @@ fn open_twice(
     stops.tear(stop.torn);
     stops.stop_after_restart(stop.more, stop.torn);
     let (disk, layout) = taken(store);
-    let (disk, layout, is_open) = match open_after(alloc, disk, layout, &mut stops) {
-        Ok(store) => {
-            let (disk, layout) = taken(store);
-            (disk, layout, true)
-        }
-        Err((disk, _fault)) => (disk, layout, false),
-    };
+    let (disk, layout, is_open) = open_and_let_go(alloc, disk, layout, &mut stops);
     match open_after(alloc, disk, layout, &mut stops) {
         Ok(store) => Ok((store, is_open)),
         Err((_disk, fault)) => Err(fault),
