@@ -1,5 +1,5 @@
 -- Bytes that were put over others, and the others put back.
-use Rattle.std.proofs.Common.{◌≡◌, ◌≤◌, ℕ, ◌+◌, ◌-◌, ◌++◌, List, length, take, drop, sym, ap, ◌∙◌, arith}
+use Rattle.std.proofs.Common.{◌≡◌, ◌≤◌, ℕ, ◌+◌, ◌++◌, List, length, take, drop, sym, ap, ◌∙◌, arith}
 use Rattle.std.proofs.lemmas.List.{append_assoc, take_at, drop_at, take-append-drop, length-take-le, length-drop, length-append}
 use Rattle.std.proofs.Math.Seq.{take-add}
 use Rattle.replica_store.specs.Replicas.{written_over}
