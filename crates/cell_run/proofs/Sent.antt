@@ -27,10 +27,8 @@ use Rattle.master_plan.specs.contracts.plan.Plan as Plan
 use Rattle.disk.proofs.fuse.FuseDisk.TheSendSync as fuse
 use Rattle.disk.proofs.stop_plan.StopPlan.TheSendSync as stops
 use Rattle.disk.specs.contracts.fuse.FuseDisk as Fuse
-use Rattle.disk.specs.contracts.fuse.FuseDiskDisk.TheImpl as on_disk
 use Rattle.ghost_list.proofs.ghost_list.GhostList.TheSendSync as ghosts_of
 use Rattle.stored_log.proofs.disk_log.DiskLog.TheSendSync as disk_log
-use Rattle.stored_log.specs.contracts.disk_log.DiskLogOperationLog.TheImpl as on_log
 use Rattle.stored_log.specs.contracts.disk_log.DiskLog as Log
 use Rattle.master_cell.specs.contracts.logged_master.LoggedMaster as Master
 use Rattle.master_cell.proofs.shown.ShownFiles.TheSendSync as shown
@@ -47,15 +45,16 @@ plan_send = search (sendable, crosses, maps.crosses, state_send, heap.the_field_
 fuse_send : IsSend (Fuse.the_row Heap.the_row ghosts)
 fuse_send = search (sendable, crosses, fuse.the_send, heap.the_send)
 
-log_send : IsSend (Log.the_row (Fuse.the_row Heap.the_row ghosts) (on_disk.ghosts Heap.the_row ghosts))
-log_send = let a = fuse_send in search (sendable, crosses, disk_log.the_send)
+-- with what its disk is for proofs
 
-master_send : IsSend (Master.the_row (Log.the_row (Fuse.the_row Heap.the_row ghosts) (on_disk.ghosts Heap.the_row ghosts)) Heap.the_row (on_log.ghosts (Fuse.the_row Heap.the_row ghosts) (on_disk.ghosts Heap.the_row ghosts)) ghosts)
-master_send = let a = log_send in let b = plan_send in search (sendable, crosses) depth 40 fits 100000
+log_send : (d : _) → IsSend (Log.the_row (Fuse.the_row Heap.the_row ghosts) d)
+log_send d = let a = fuse_send in search (sendable, crosses, disk_log.the_send)
+
+master_send : (d : _) (l : _) → IsSend (Master.the_row (Log.the_row (Fuse.the_row Heap.the_row ghosts) d) Heap.the_row l ghosts)
+master_send d l = let a = log_send d in let b = plan_send in search (sendable, crosses) depth 40 fits 100000
 
 slot_send : IsSend (Slot.the_row Heap.the_row ghosts)
-slot_send = let a = fuse_send in let b = log_send in let c = master_send in
-    search (sendable, crosses, heap.the_send, heap.the_field_send, config.the_field_send, option.the_field_send, ghosts_of.the_send, shown.the_send, stops.the_send) depth 40 fits 100000
+slot_send = search (sendable, crosses, heap.the_send, heap.the_field_send, config.the_field_send, option.the_field_send, fuse_send, log_send, master_send, ghosts_of.the_send, shown.the_send, stops.the_send) depth 40 fits 100000
 
 node_send : IsSend (Node.the_row (Slot.the_row Heap.the_row ghosts))
 node_send = declared_send (Node.the_type (Slot.the_row Heap.the_row ghosts)) (slot_send, tt)
