@@ -6,8 +6,6 @@ mod appends;
 #[cfg(test)]
 mod cells;
 #[cfg(test)]
-mod full_stores;
-#[cfg(test)]
 mod gate;
 #[cfg(test)]
 mod parking;
