@@ -37,11 +37,15 @@ fn four_producers(rt: HostRuntime) -> Result<(), Fail> {
     Ok(())
 }
 
-#[test]
-fn losses_and_repeats(rt: HostRuntime) -> Result<(), Fail> {
-    let alloc = rt.alloc();
+// The same of a cell whose network loses each seventh message and repeats each fifth, where a call has so many attempts.
+fn produced_in_spite_of_losses<R: Threads + Wait + Clock + Copy + Send + Sync + 'static>(
+    rt: R,
+    alloc: Global,
+    attempts: u32,
+    counts: (u64, u64),
+) -> Option<usize> {
     let config = Config {
-        attempts: 2,
+        attempts,
         ..hasty(3)
     };
     let lossy = Policy {
@@ -49,9 +53,21 @@ fn losses_and_repeats(rt: HostRuntime) -> Result<(), Fail> {
         repeat_every: 5,
         hold_every: 0,
     };
-    let mut cell = Cell::start(rt, alloc, config, 3, OpenGate)?;
-    let count = produced(&rt, alloc, &mut cell, lossy, (2, 20));
+    let mut cell = Cell::start(rt, alloc, config, 3, OpenGate).ok()?;
+    let count = produced(&rt, alloc, &mut cell, lossy, counts);
     drop(cell.close(&rt));
+    count
+}
+
+#[test]
+fn losses_and_repeats(rt: HostRuntime) {
+    let count = produced_in_spite_of_losses(rt, rt.alloc(), 2, (2, 20));
     assert!(rt; count.is_some());
-    Ok(())
+}
+
+// With as many attempts as a call has by default.
+#[test]
+fn losses_and_repeats_in_five_attempts(rt: HostRuntime) {
+    let count = produced_in_spite_of_losses(rt, rt.alloc(), 5, (2, 4));
+    assert!(rt; count.is_some());
 }
