@@ -8,8 +8,6 @@ mod cells;
 #[cfg(test)]
 mod gate;
 #[cfg(test)]
-mod leaving;
-#[cfg(test)]
 mod parking;
 #[cfg(test)]
 mod parks;
