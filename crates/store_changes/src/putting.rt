@@ -27,10 +27,9 @@ fn whole_chunk(alloc: Global, layout: Layout, bytes: &[u8]) -> Result<Vec<u8>, A
     requires { length bytes.now ≤ layout.chunk }
     ensures { IfOk result (λ v. v.items ≡ filled_to layout.chunk bytes.now) }
 {
-    let zeros = vec![in alloc; 0; layout.chunk as usize - bytes.len()]?;
     let mut all = Vec::with_capacity(alloc, layout.chunk as usize)?;
     all.extend_from_slice(bytes)?;
-    all.extend_from_slice(&zeros)?;
+    all.resize(layout.chunk as usize, 0)?;
     Ok(all)
 }
 

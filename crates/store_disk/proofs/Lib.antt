@@ -10,6 +10,7 @@ pub mod FormatSlots
 pub mod Heads
 pub mod Lookups
 pub mod Free
+pub mod Fronts
 pub mod Slots
 pub mod OpenHeads
 pub mod Replicas

@@ -1,4 +1,5 @@
 pub mod Blocks
+pub mod Fronts
 pub mod Places
 pub mod Fields
 pub mod Index

@@ -1,36 +1,33 @@
-//! The block that was hashed last.
+//! The blocks that were hashed last.
 
 ghost use Rattle.std.specs.Prelude.{◌≡◌};
 ghost use Rattle.sha2.specs.Sha256.{sha256};
 
-use sha2::{Digest, Sha256};
+use crate::hashed_front::last_filled;
+use crate::known_block::KnownBlock;
 use std::alloc::Global;
 use std::marker::Model;
 
-/// The block that was hashed last, with its digest: the same block isn't hashed again.
+/// The block that was hashed last, and the last one with hardly a byte that isn't zero, with their digests: the same block isn't hashed again, and of one that has
+/// more written behind the same bytes these aren't.
 #[derive(Drop)]
 pub struct HashedBlock {
-    bytes: Vec<u8>,
-    digest: Option<[u8; 32]>,
+    filled: KnownBlock,
+    blank: KnownBlock,
 }
 
 impl Model for HashedBlock {
-    ghost use Rattle.std.specs.Prelude.{◌≡◌, IfSome};
-    ghost use Rattle.sha2.specs.Sha256.{sha256};
-
     ghost Value = { Unit {0} };
 
     ghost view = { λ _. tt };
-
-    ghost invariant = { λ h. IfSome h.digest (λ digest. digest ≡ sha256 h.bytes.items) };
 }
 
 impl HashedBlock {
     /// None was hashed so far.
     pub fn new(alloc: Global) -> HashedBlock {
         HashedBlock {
-            bytes: Vec::new(alloc),
-            digest: None,
+            filled: KnownBlock::new(alloc),
+            blank: KnownBlock::new(alloc),
         }
     }
 
@@ -38,23 +35,17 @@ impl HashedBlock {
     pub fn digest_of(&mut self, block: &[u8]) -> [u8; 32]
         ensures { result ≡ sha256 block.now }
     {
-        match self.digest {
-            Some(digest) if block == self.bytes.as_slice() => digest,
-            _ => self.hash(block),
+        if let Some(digest) = self.filled.known(block) {
+            return digest;
         }
-    }
-
-    // Where memory is refused the block isn't kept.
-    fn hash(&mut self, block: &[u8]) -> [u8; 32]
-        ensures { result ≡ sha256 block.now }
-    {
-        let digest = Sha256::digest(block);
-        self.digest = None;
-        self.bytes.clear();
-        match self.bytes.extend_from_slice(block) {
-            Ok(()) => self.digest = Some(digest),
-            Err(_) => {}
+        if let Some(digest) = self.blank.known(block) {
+            return digest;
         }
-        digest
+        let front = last_filled(block);
+        if front == 0 {
+            self.blank.hash(block, front)
+        } else {
+            self.filled.hash(block, front)
+        }
     }
 }
