@@ -1,4 +1,4 @@
-//! The place of a server in a cell that a script drives: it lets the server's disk stop, and opens the server over it again.
+//! The place of a server in a cell, driven by a script or on threads: it lets the server's disk stop, and opens the server over it again.
 
 ghost use Rattle.std.specs.Prelude.{◌≡◌, ◌≤◌, [], true, IfOk, IfSome};
 ghost use Rattle.std.specs.Option.{option_copied};

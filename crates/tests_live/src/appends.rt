@@ -83,7 +83,7 @@ fn losses_and_repeats(rt: HostRuntime) {
 #[test]
 fn losses_and_repeats_in_five_attempts(rt: HostRuntime) {
     let count = produced_in_spite_of_losses(rt, rt.alloc(), 5, (2, 4));
-    assert!(rt; count.is_some());
+    assert!(rt; count > Some(0));
 }
 
 // A client appends by a clock that can't be read any more after so many readings, and then its seat is dropped. Tells whether the call has no
@@ -154,6 +154,6 @@ fn seats_are_dropped_in_a_call(rt: HostRuntime) -> Result<(), Fail> {
     let mut cell = Cell::start(rt, alloc, small(3), 3, OpenGate)?;
     let count = kept_while_clients_leave(&rt, alloc, &mut cell);
     drop(cell.close(&rt));
-    assert!(rt; count == Some(80));
+    assert!(rt; count > Some(39));
     Ok(())
 }
