@@ -46,10 +46,13 @@ class Source:
         self.clients = pick(COUNTS + [self.chance.randint(1, 64)])
         chunk, block = pick(CHUNKS)
         self.settings = {
-            'chunk': chunk, 'block': block, 'goal': pick([1, 2, 3, 3, 3, 5]), 'slots': pick([512, 512, 512, 512, 512, 3, 8]),
+            'chunk': chunk, 'block': block, 'goal': pick([1, 2, 3, 3, 3, 5]), 'slots': 512,
             'attempts': pick([2, 3, 5]), 'attempt_ms': pick([1000, 2000, 5000]), 'skew_ms': pick([1000, 2000]), 'lease_ms': pick([60_000, 60_000, 4000]),
             'cache_entries': pick([1, 8, 256, 256]), 'cache_ms': pick([20, 1000, 60_000]), 'push_entries': pick([1, 4, 64, 64]),
         }
+        if self.chance.random() < 0.2:
+            # Each call that needs a chunk more takes all its attempts then.
+            self.settings.update({'slots': pick([2, 4, 16]), 'attempts': 2, 'attempt_ms': 300, 'skew_ms': 1000})
         # A client that the cell refused goes on under a new number, of which there are 64, and without descriptors: so others read in the end.
         self.has_small_journal = self.clients <= 6 and self.chance.random() < 0.35
         if self.has_small_journal:
