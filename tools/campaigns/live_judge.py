@@ -91,7 +91,7 @@ class Judge:
         elif number == TOO_LONG and path and kind == 'append' and not self.is_too_long(path, call.words[2]):
             self.fault(f'{call.line()} prints {line}')
         if kind == 'write' and path:
-            self.written[path].append((call.round, call.words[2], call.words[3], False))
+            self.written[path].append((call.words[2], call.words[3], False))
 
     def is_too_long(self, path, data):
         return len(data) > self.source.shapes[path] // 4
@@ -109,6 +109,9 @@ class Judge:
         if path is None or self.is_too_long(path, data) or at % chunk + len(data) > chunk:
             self.fault(f'{call.line()} is answered at {at}')
             return
+        if path in self.source.owners:
+            self.written[path].append((at, data, True))
+            return
         self.counts['records answered'] += 1
         self.records[path].append(Record(at, data.encode(), call.round, call.client))
 
@@ -117,7 +120,7 @@ class Judge:
         if path is None:
             self.fault(f'{call.line()} is answered')
         else:
-            self.written[path].append((call.round, call.words[2], call.words[3], True))
+            self.written[path].append((call.words[2], call.words[3], True))
 
     def answered_read(self, client, call, words):
         path, opened = client.file(call.words[1])
@@ -128,12 +131,17 @@ class Judge:
         elif at % self.source.shapes[path] + count <= self.source.shapes[path]:
             self.looks[path, at // self.source.shapes[path]].append(Look(at, count, data, opened, call.client))
 
+    def is_whole(self, path, record):
+        """Whether no write went over it: one goes to another file than was meant where an `open` before it was refused."""
+        end = record.at + len(record.data)
+        return all(end <= offset or offset + len(data) <= record.at for offset, data, _ in self.written[path])
+
     def all_of(self, path, before=None):
         """The records that stand in a file: its own, or those that were answered before a round; a snapshot's source's as well, which were answered before it."""
-        own = [it for it in self.records[path] if before is None or it.round < before]
+        own = [it for it in self.records[path] if (before is None or it.round < before) and self.is_whole(path, it)]
         if path in self.source.sources:
             source, made = self.source.sources[path]
-            own += [it._replace(round=-1) for it in self.all_of(source, made)]
+            own += [it._replace(round=-1) for it in self.all_of(source, made) if self.is_whole(path, it)]
         return own
 
     def look_at_records(self, path):
@@ -161,7 +169,7 @@ class Judge:
     def look_at_written(self, path):
         """What the one client that writes into a file was answered last of each byte. Of what was refused nothing is known."""
         bytes_ = {}
-        for _, offset, data, is_done in self.written[path]:
+        for offset, data, is_done in self.written[path]:
             bytes_.update({offset + place: byte if is_done else None for place, byte in enumerate(data.encode())})
         for it in (it for (of, _), looks in self.looks.items() if of == path for it in looks if it.opened >= self.source.last_round):
             for place in range(it.at, it.at + it.count):

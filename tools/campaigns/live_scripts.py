@@ -179,14 +179,15 @@ class Source:
         readers = range(self.callers + 1, self.clients + 1) if self.has_small_journal else sorted({self.client() for _ in range(3)})
         descriptors = {}
         for client in readers:
-            for path in self.shapes:
+            # A snapshot may not be there; then later descriptors are others than these.
+            for path in sorted(self.shapes, key=lambda it: it in self.sources):
                 self.open(client, path)
                 descriptors[client, path] = len(self.opened[client])
         self.last_round = self.round
         for (client, path), descriptor in descriptors.items():
             if self.has_small_journal:
                 self.end_round(reopens=True)
-            elif client == readers[0] and path == next(iter(self.shapes)):
+            elif (client, path) == next(iter(descriptors)):
                 self.end_round()
             self.call(client, 'length', descriptor)
             chunk = self.shapes[path]
