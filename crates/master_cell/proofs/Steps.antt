@@ -88,8 +88,8 @@ module _ (disk : LogDisk) (under_way : List LogChange) (config : Config) (count 
         from_old down_output [] (standing false new_disk new_under_way config count q)
         (record {
           choice = choice;
-          gives = gives (master_step m moment i choice) (master_bounded m (doing disk p1) choice) down_output [] (standing false new_disk new_under_way config count q)
-              (ap (λ (d : MasterDoing). master_bounded m d choice) goes.leads) refl refl
+          gives = gives (master_step m moment i choice) (master_bounded m i (doing disk p1) choice) down_output [] (standing false new_disk new_under_way config count q)
+              (ap (λ (d : MasterDoing). master_bounded m i d choice) goes.leads) refl refl
               (left_down config p0.config count p0.server_count p0 q (log_changed_by_all disk (made_changes stop.made p1.changes)) new_disk (change_under_way stop.made p1.changes) new_under_way
               rest.config_is rest.count_is stop.disk_is stop.begun);
         })
@@ -105,7 +105,7 @@ module _ (disk : LogDisk) (under_way : List LogChange) (config : Config) (count 
         (record {
           choice = choice;
           gives = gives (master_step m moment i choice) (record { state = master_of disk p1; out = out; seen = p1.seen }) out p1.seen (standing true new_disk new_under_way config count (resting p1))
-              (ap (λ (d : MasterDoing). master_bounded m d choice) goes.leads
+              (ap (λ (d : MasterDoing). master_bounded m i d choice) goes.leads
               ∙ ap (λ (b : Bool). if b then master_ends m (doing disk p1) choice Ends else no_step m) made.within)
               refl refl
               (record { but_under_way = ap (λ (x : LogDisk). record (master_of disk p1) { disk = x }) made.disk_is; under_way = inl made.none });
@@ -163,7 +163,7 @@ module _ (disk : LogDisk) (under_way : List LogChange) (config : Config) (count 
 -- a master that is down, as it was made, takes no step
 pub stays_down : (m : MasterState) (moment : ℕ) (i : NodeInput) (out : StepOut) (seen : List Seen) → m.up ≡ false → out ≡ no_output → seen ≡ [] → MasterSteps m moment i out seen m
 stays_down m moment i out seen down o s =
-    let same : master_step m moment i (with_ending Ends []) ≡ no_step m = ap (λ b. if b then master_bounded m (master_goes m moment i []) (with_ending Ends []) else no_step m) down in
+    let same : master_step m moment i (with_ending Ends []) ≡ no_step m = ap (λ b. if b then master_bounded m i (master_goes m moment i []) (with_ending Ends []) else no_step m) down in
     record {
       choice = with_ending Ends [];
       gives = gives (master_step m moment i (with_ending Ends [])) (no_step m) out seen m same (sym o) (sym s) (record { but_under_way = refl; under_way = inl refl });
