@@ -1,5 +1,5 @@
 -- Which steps the master takes near a counter's limit: one that might raise a counter past it changes nothing.
-use Rattle.std.specs.Prelude.{ℕ, suc, ◌+◌, ◌-◌, ◌*◌, Bool, true, ◌&&◌, ◌||◌, nat_lt, nat_le, if◌then◌else◌, List, length, Option, Some, None}
+use Rattle.std.specs.Prelude.{ℕ, ◌+◌, ◌-◌, ◌*◌, Bool, true, ◌&&◌, ◌||◌, nat_lt, nat_le, if◌then◌else◌, List, length, Option, Some, None}
 use Rattle.gfs_types.specs.Counters.{counter_limit}
 use Rattle.gfs_types.specs.declared.config.Config.{Config}
 use Rattle.messages.specs.declared.event.NodeInput.{NodeInput}
@@ -22,9 +22,9 @@ step_counts = 281_474_976_710_656
 abbrev pub is_far : ℕ → Bool
 is_far counter = nat_le (counter + step_counts) counter_limit
 
--- the next chunk has a handle, and its places are within the limit
+-- the next chunk takes a handle and its places
 abbrev pub has_handle : Config → Logged → Bool
-has_handle config l = nat_le (suc l.next_handle * config.chunk) counter_limit
+has_handle config l = nat_le (l.next_handle * config.chunk + config.chunk) counter_limit
 
 -- the chunk has a next version number
 abbrev pub has_version : ChunkRow → Bool
@@ -71,4 +71,4 @@ counts_on config l input.Tick = true
 
 -- Each counter that a step on this input may raise has room for it.
 abbrev pub can_count : MasterState → NodeInput → Bool
-can_count m i = is_far m.logged.next_file && is_far m.order_count && counts_on m.config m.logged i
+can_count m i = (is_far m.logged.next_file && is_far m.order_count) && counts_on m.config m.logged i
