@@ -171,7 +171,8 @@ stays_down m moment i out seen down o s =
     }
 
 -- a step that might raise a counter past its limit isn't taken
-pub not_counted : (m : MasterState) (moment : ℕ) (i : NodeInput) (out : StepOut) (seen : List Seen) → m.up ≡ true → can_count m i ≡ false → out ≡ no_output → seen ≡ [] → MasterSteps m moment i out seen m
+pub not_counted : (m : MasterState) (moment : ℕ) (i : NodeInput) (out : StepOut) (seen : List Seen) → m.up ≡ true → can_count m i ≡ false → out ≡ no_output → seen ≡ []
+    → MasterSteps m moment i out seen m
 not_counted m moment i out seen up not o s =
     let choice : Choice = with_ending Ends [] in
     let d : MasterDoing = master_goes m moment i [] in
