@@ -16,7 +16,7 @@ pub returns-then-not-self-clause-steps : goal.returns-then-not-self-clause-steps
 returns-then-not-self-clause-steps g c =
     let down : c.args.self.now.up ≡ false =
     up_is c.self.inside.up (g.L.OperationLog.disk c.self.inside.log) (g.L.OperationLog.under_way c.self.inside.log) c.self.inside.config c.self.inside.server_count c.self.inside.plan c.args.self.now (search rules) c.self.view_is in
-    stays_down c.args.self.now c.args.now.0 (input_of (option_copied c.args.message)) c.nothing-then-not-self.result.out c.nothing-then-not-self.result.seen down c.nothing-then-not-self.ensures.out c.nothing-then-not-self.ensures.seen
+    stays_down c.args.self.now c.args.now.0 (input_of (option_copied c.args.message)) c.nothing.result.out c.nothing.result.seen down c.nothing.ensures.out c.nothing.ensures.seen
 
 pub returns-then-not-self-clause-files : goal.returns-then-not-self-clause-files
 returns-then-not-self-clause-files g c =
