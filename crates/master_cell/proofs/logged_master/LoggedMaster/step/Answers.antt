@@ -31,7 +31,7 @@ returns-then-not-can_count-clause-steps g c =
     let under_way = g.L.OperationLog.under_way m.log in
     let i = input_of (option_copied c.args.message) in
     let none = c.nothing-then-not-can_count in
-    let up : m.up ≡ true = search rules in
+    let up : c.self.inside.up ≡ true = search rules in
     let old = is_up_as m.up disk under_way m.config m.server_count m.plan c.args.self.now up c.self.view_is in
     let not : can_count (known m.plan) i ≡ false = sym c.can_count.ensures ∙ c.if-not-can_count.true in
     subst (λ (x : MasterState). MasterSteps x c.args.now.0 i none.result.out none.result.seen x) old
@@ -42,7 +42,7 @@ returns-then-not-can_count-clause-files g c =
     let m = c.self.inside in
     let disk = g.L.OperationLog.disk m.log in
     let under_way = g.L.OperationLog.under_way m.log in
-    let up : m.up ≡ true = search rules in
+    let up : c.self.inside.up ≡ true = search rules in
     let old = is_up_as m.up disk under_way m.config m.server_count m.plan c.args.self.now up c.self.view_is in
     shown_still c.args.self.now (shown_in c.args.shown.now) c.requires.shown (sym (ap (λ (x : MasterState). x.up) old))
 
