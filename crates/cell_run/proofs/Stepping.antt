@@ -207,13 +207,13 @@ master_ends_silent m d choice Goes = refl
 master_ends_silent m d choice Lost = refl
 master_ends_silent m d choice (Stops made) = refl
 
-bounded_silent : (m : MasterState) (d : MasterDoing) (choice : Choice) → (master_bounded m d choice).out.answer ≡ None
-bounded_silent m d choice = either_silent (may_end d choice.ending) (master_ends m d choice choice.ending) (no_step m) (master_ends_silent m d choice choice.ending) refl
+bounded_silent : (m : MasterState) (i : NodeInput) (d : MasterDoing) (choice : Choice) → (master_bounded m i d choice).out.answer ≡ None
+bounded_silent m i d choice = either_silent (may_end m i d choice.ending) (master_ends m d choice choice.ending) (no_step m) (master_ends_silent m d choice choice.ending) refl
 
 pub master_silent : (old new : MasterState) (moment : ℕ) (i : NodeInput) (out : StepOut) (seen : List Seen) → MasterSteps old moment i out seen new → out.answer ≡ None
 master_silent old new moment i out seen steps =
     let d : MasterDoing = master_goes old moment i steps.choice.refused in
-    ap (λ (o : StepOut). o.answer) (sym steps.gives.out_is) ∙ either_silent old.up (master_bounded old d steps.choice) (no_step old) (bounded_silent old d steps.choice) refl
+    ap (λ (o : StepOut). o.answer) (sym steps.gives.out_is) ∙ either_silent old.up (master_bounded old i d steps.choice) (no_step old) (bounded_silent old i d steps.choice) refl
 
 opened_silent : (old m : MasterState) (d : MasterDoing) (choice : Choice) (e : Ending) → (opens_as old m d choice e).out.answer ≡ None
 opened_silent old m d choice Lost = refl

@@ -41,7 +41,7 @@ pub master_lost : (m new : MasterState) (moment : ℕ) (i : NodeInput) (before a
     → after.network.messages ≡ before.network.messages → after.sights.seen ≡ before.sights.seen → MasterStepsSo m moment i before None new after
 master_lost m new moment i before after up new_is sent seen =
     let t : Taken MasterState = record { state = stopped_master m m.disk []; out = down_output; seen = [] } in
-    let same : master_step m moment i lost_choice ≡ t = ap (λ (b : Bool). if b then master_bounded m (master_goes m moment i []) lost_choice else no_step m) up in
+    let same : master_step m moment i lost_choice ≡ t = ap (λ (b : Bool). if b then master_bounded m i (master_goes m moment i []) lost_choice else no_step m) up in
     record {
       out = down_output;
       seen = [];

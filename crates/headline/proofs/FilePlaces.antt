@@ -15,6 +15,7 @@ use Rattle.protocol.specs.Tables.{element_at}
 use Rattle.protocol.specs.Choice.{Choice, Ending, Goes, Lost, Stops}
 use Rattle.protocol.specs.Seen.{Taken, no_step}
 use Rattle.protocol.specs.Master.{MasterState, MasterDoing}
+use Rattle.protocol.specs.MasterLimits.{can_count}
 use Rattle.protocol.specs.MasterStep.{is_within_limits, master_goes, master_ends, master_bounded, master_step, may_end, started_master, opening, has_opened, opens_as, found_log}
 use Rattle.protocol.specs.World.{WorldState, new_world}
 use Rattle.laws_base.proofs.Steps.{on_cond, none_some}
@@ -45,17 +46,17 @@ by_limits m h = leb-true (m.logged.next_handle * m.config.chunk) counter_limit (
 down : (m : MasterState) → m.up ≡ false → IsWithin m
 down m is up = absurd (true≢false (sym up ∙ is))
 
-ends_within : (m : MasterState) (d : MasterDoing) (choice : Choice) (e : Ending) → may_end d e ≡ true → IsWithin (master_ends m d choice e).state
-ends_within m d choice Goes may up = inl (by_limits d.master may)
-ends_within m d choice Lost may up = absurd cc
-ends_within m d choice (Stops made) may up = absurd cc
+ends_within : (m : MasterState) (i : NodeInput) (d : MasterDoing) (choice : Choice) (e : Ending) → may_end m i d e ≡ true → IsWithin (master_ends m d choice e).state
+ends_within m i d choice Goes may up = inl (by_limits d.master (and_parts (can_count m i) (is_within_limits d.master) may).1)
+ends_within m i d choice Lost may up = absurd cc
+ends_within m i d choice (Stops made) may up = absurd cc
 
 step_within : (m : MasterState) (moment : ℕ) (i : NodeInput) (choice : Choice) → IsWithin m → IsWithin (master_step m moment i choice).state
 step_within m moment i choice h =
     let d : MasterDoing = master_goes m moment i choice.refused in
     let Good : Taken MasterState → Type 0 = λ t. IsWithin t.state in
-    on_cond Good m.up (master_bounded m d choice) (no_step m)
-    (λ _. on_cond Good (may_end d choice.ending) (master_ends m d choice choice.ending) (no_step m) (λ may. ends_within m d choice choice.ending may) (λ _. h)) (λ _. h)
+    on_cond Good m.up (master_bounded m i d choice) (no_step m)
+    (λ _. on_cond Good (may_end m i d choice.ending) (master_ends m d choice choice.ending) (no_step m) (λ may. ends_within m i d choice choice.ending may) (λ _. h)) (λ _. h)
 
 opens_within : (old m : MasterState) (d : MasterDoing) (choice : Choice) (e : Ending) → IsWithin (opens_as old m d choice e).state
 opens_within old m d choice Lost = λ up. absurd cc

@@ -166,8 +166,8 @@ module _ (config : Config) (servers clients : ℕ) (w : WorldState) (r : IsReach
   by_step : (moment : ℕ) (i : NodeInput) (choice : Choice) → IsTrue w.master.up → grants_of handle version w.sent < grants_of handle version (w.sent ++ stamped (suc (length w.sent)) (master_step w.master moment i choice).out.sent)
       → IsGrantingStep w handle version (master_step w.master moment i choice).state
   by_step moment i choice up =
-      on_cond good w.master.up (master_bounded w.master d choice) (no_step w.master)
-      (λ _. on_cond good (may_end d choice.ending) (master_ends w.master d choice choice.ending) (no_step w.master) (λ _. by_ending choice.ending) (λ _. quiet [] (λ epoch count. refl)))
+      on_cond good w.master.up (master_bounded w.master i d choice) (no_step w.master)
+      (λ _. on_cond good (may_end w.master i d choice.ending) (master_ends w.master d choice choice.ending) (no_step w.master) (λ _. by_ending choice.ending) (λ _. quiet [] (λ epoch count. refl)))
       (λ _. quiet [] (λ epoch count. refl))
     where
       d : MasterDoing

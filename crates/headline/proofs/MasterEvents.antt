@@ -199,8 +199,8 @@ module _ (config : Config) (servers clients : ℕ) (w : WorldState) (settings : 
       by_step : (t : Taken MasterState) → master_step w.master s.moment s.taken choice ≡ t → v ≡ (after_master w s.moment t).world
       by_step t step_is = s.event_is choice ∙ ap (λ (x : Taken MasterState). (after_master w s.moment x).world) step_is
 
-      bounded : master_step w.master s.moment s.taken choice ≡ master_bounded w.master d choice
-      bounded = ap (λ (b : Bool). cond b (master_bounded w.master d choice) (no_step w.master)) s.up
+      bounded : master_step w.master s.moment s.taken choice ≡ master_bounded w.master s.taken d choice
+      bounded = ap (λ (b : Bool). cond b (master_bounded w.master s.taken d choice) (no_step w.master)) s.up
 
       timely : max w.observer.greatest s.moment ≤ s.moment + w.config.skew_ms
       timely = quiet.timely config servers clients w r e choice clocks w.master.snapshots k h s.moment (master_step w.master s.moment s.taken choice) (by_step _ refl)
@@ -231,7 +231,7 @@ module _ (config : Config) (servers clients : ℕ) (w : WorldState) (settings : 
           silently w.master.snapshots k h s.moment (log_as v.master decided) [] (ap (λ (y : WorldState). y.sent) same ∙ append-nil w.sent)
           (stops.stops config servers clients w r kept e choice clocks k h is s.up s.moment timely s.taken s.heard copies s.event_is step made same decided))
 
-      by_limits : (b : Bool) → may_end d choice.ending ≡ b → IsWholeWorld config v
+      by_limits : (b : Bool) → may_end w.master s.taken d choice.ending ≡ b → IsWholeWorld config v
       by_limits true may = by_ending choice.ending refl (bounded ∙ ap (λ (b : Bool). cond b (goes_through choice.ending) (no_step w.master)) may)
       by_limits false not =
           let same = by_step (no_step w.master) (bounded ∙ ap (λ (b : Bool). cond b (goes_through choice.ending) (no_step w.master)) not) in
@@ -242,7 +242,7 @@ module _ (config : Config) (servers clients : ℕ) (w : WorldState) (settings : 
           (stops.unchanged config servers clients w r kept e choice clocks k h is s.up s.moment timely s.taken s.heard copies same)))
 
       by_the_step : IsWholeWorld config v
-      by_the_step = by_limits (may_end d choice.ending) refl
+      by_the_step = by_limits (may_end w.master s.taken d choice.ending) refl
 
     -- a restart
 

@@ -94,8 +94,8 @@ module _ (w : WorldState) where
   after_step : (moment : ℕ) (i : NodeInput) (choice : Choice) → IsTrue w.master.up → IsMasterAfter w (master_step w.master moment i choice).state
   after_step moment i choice up =
       let d : MasterDoing = master_goes w.master moment i choice.refused in
-      on_cond (λ (t : Taken MasterState). IsMasterAfter w t.state) w.master.up (master_bounded w.master d choice) (no_step w.master)
-      (λ _. on_cond (λ (t : Taken MasterState). IsMasterAfter w t.state) (may_end d choice.ending) (master_ends w.master d choice choice.ending) (no_step w.master) (λ _. by_ending moment i choice up choice.ending) (λ _. inl refl))
+      on_cond (λ (t : Taken MasterState). IsMasterAfter w t.state) w.master.up (master_bounded w.master i d choice) (no_step w.master)
+      (λ _. on_cond (λ (t : Taken MasterState). IsMasterAfter w t.state) (may_end w.master i d choice.ending) (master_ends w.master d choice choice.ending) (no_step w.master) (λ _. by_ending moment i choice up choice.ending) (λ _. inl refl))
       (λ _. inl refl)
 
   after_opening : (old started : MasterState) (d : MasterDoing) (choice : Choice) (e : Ending) → IsOpened d.master → IsMasterAfter w (opens_as old started d choice e).state

@@ -141,8 +141,8 @@ module _ (s : MasterState) (moment : ℕ) (choice : Choice) (low : (file : ℕ) 
   step_answered : (ask : IsAsk i) → AreAnswered ask step
   step_answered ask =
       let d : MasterDoing = master_goes s moment i choice.refused in
-      on_cond (AreAnswered ask) s.up (master_bounded s d choice) (no_step s)
-      (λ _. on_cond (AreAnswered ask) (may_end d choice.ending) (master_ends s d choice choice.ending) (no_step s) (λ _. ends_answered ask d choice.ending (answers ask)) (λ _. tt)) (λ _. tt)
+      on_cond (AreAnswered ask) s.up (master_bounded s i d choice) (no_step s)
+      (λ _. on_cond (AreAnswered ask) (may_end s i d choice.ending) (master_ends s d choice choice.ending) (no_step s) (λ _. ends_answered ask d choice.ending (answers ask)) (λ _. tt)) (λ _. tt)
 
   all_words : (ms : List Message) → AllOf (λ m. IsForAsk i m.receiver m.body) ms → (IsUnasked i ⊎ ((ask : IsAsk i) × AllOf (λ m. IsAnsweredBy s.logged step.state.logged ask.file.0 ask.what m.body) ms))
       → AllOf (λ m. IsWord i s.logged step.state.logged m.receiver m.body) ms
@@ -177,8 +177,8 @@ IsUpIfSaid t = (place : ℕ) (m : Message) → element_at t.out.sent place ≡ S
 pub up_if_said : (s : MasterState) (moment : ℕ) (i : NodeInput) (choice : Choice) → IsTrue s.up → IsUpIfSaid (master_step s moment i choice)
 up_if_said s moment i choice up =
     let d : MasterDoing = master_goes s moment i choice.refused in
-    on_cond IsUpIfSaid s.up (master_bounded s d choice) (no_step s)
-    (λ _. on_cond IsUpIfSaid (may_end d choice.ending) (master_ends s d choice choice.ending) (no_step s) (λ _. by_ending choice.ending) (λ _ place m at. up)) (λ _ place m at. up)
+    on_cond IsUpIfSaid s.up (master_bounded s i d choice) (no_step s)
+    (λ _. on_cond IsUpIfSaid (may_end s i d choice.ending) (master_ends s d choice choice.ending) (no_step s) (λ _. by_ending choice.ending) (λ _ place m at. up)) (λ _ place m at. up)
   where
     by_ending : (e : Ending) → IsUpIfSaid (master_ends s (master_goes s moment i choice.refused) choice e)
     by_ending Goes place m at = goes_keeps (λ c. c.up ≡ true) up_keeps s moment i choice.refused up

@@ -89,8 +89,8 @@ module _ (config : Config) (servers clients : ℕ) (w : WorldState) (r : IsReach
       → element_at (w.sent ++ stamped (suc (length w.sent)) (master_step w.master moment i choice).out.sent) place ≡ Some m → (number : ℕ) (l : Location) → m.body ≡ body.Told number (Some l)
       → IsTelling w (master_step w.master moment i choice).state m number l
   by_step e moment i choice given up place m from at number l is =
-      on_cond good w.master.up (master_bounded w.master d choice) (no_step w.master)
-      (λ _. on_cond good (may_end d choice.ending) (master_ends w.master d choice choice.ending) (no_step w.master) (λ _. by_ending choice.ending) (λ _ at. none_new w.sent [] k place m tt from at number l is))
+      on_cond good w.master.up (master_bounded w.master i d choice) (no_step w.master)
+      (λ _. on_cond good (may_end w.master i d choice.ending) (master_ends w.master d choice choice.ending) (no_step w.master) (λ _. by_ending choice.ending) (λ _ at. none_new w.sent [] k place m tt from at number l is))
       (λ _ at. none_new w.sent [] k place m tt from at number l is) at
     where
       d : MasterDoing

@@ -122,8 +122,8 @@ pub step_issued : (m : MasterState) (moment : ℕ) (i : NodeInput) (choice : Cho
 step_issued m moment i choice h =
     let d : MasterDoing = master_goes m moment i choice.refused in
     let good : Taken MasterState → Type 0 = λ t. IsIssued t.state in
-    on_cond good m.up (master_bounded m d choice) (no_step m)
-    (λ up. on_cond good (may_end d choice.ending) (master_ends m d choice choice.ending) (no_step m)
+    on_cond good m.up (master_bounded m i d choice) (no_step m)
+    (λ up. on_cond good (may_end m i d choice.ending) (master_ends m d choice choice.ending) (no_step m)
     (λ _. ends_issued m d choice choice.ending h
     (goes_keeps (IsIssuing m.disk) (issuing_keeps m.disk) m moment i choice.refused (record { none = h.idle up; disk = refl; rows = h.rows up; stops = h.found [] })))
     (λ _. h))

@@ -441,8 +441,8 @@ step_granted sent k m moment i choice logged h =
     let d : MasterDoing = master_goes m moment i choice.refused in
     let good : Taken MasterState → Type 0 = λ t. AreGrants (sent ++ stamped k t.out.sent) t.state in
     let same : AreGrants (sent ++ stamped k []) m = still_granted sent (sent ++ stamped k []) m (silent sent [] k no_orders) h in
-    on_cond good m.up (master_bounded m d choice) (no_step m)
-    (λ up. on_cond good (may_end d choice.ending) (master_ends m d choice choice.ending) (no_step m)
+    on_cond good m.up (master_bounded m i d choice) (no_step m)
+    (λ up. on_cond good (may_end m i d choice.ending) (master_ends m d choice choice.ending) (no_step m)
     (λ _.
     let u : IsUpToLog IsFoundRows IsRowedLog rows_kept m = logged.up up in
     let some : (handle version : ℕ) → 1 ≤ granted_by sent [] handle version → 1 ≤ granted_before sent handle version = λ handle version one. omega (arith, one) in

@@ -159,8 +159,8 @@ step_timely sent k greatest lease m moment i choice logged is reached early long
     let d : MasterDoing = master_goes m moment i choice.refused in
     let good : Taken MasterState → Type 0 = λ t. AreTimely (sent ++ stamped k t.out.sent) greatest lease t.state in
     let same : AreTimely (sent ++ stamped k []) greatest lease m = silent_timely sent [] k greatest lease m tt h in
-    on_cond good m.up (master_bounded m d choice) (no_step m)
-    (λ up. on_cond good (may_end d choice.ending) (master_ends m d choice choice.ending) (no_step m)
+    on_cond good m.up (master_bounded m i d choice) (no_step m)
+    (λ up. on_cond good (may_end m i d choice.ending) (master_ends m d choice choice.ending) (no_step m)
     (λ _.
     let u : IsUpToLog IsFoundRows IsRowedLog rows_kept m = logged.up up in
     let first : Core = core_of (master_begins (master_at m moment) choice.refused) in

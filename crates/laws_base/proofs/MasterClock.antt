@@ -45,8 +45,8 @@ step_in_time : (config : Config) (greatest : ℕ) (m : MasterState) (moment : �
 step_in_time config greatest m moment i choice reached h =
     let d : MasterDoing = master_goes m moment i choice.refused in
     let good : Taken MasterState → Type 0 = λ t. IsInTime config greatest t.state in
-    on_cond good m.up (master_bounded m d choice) (no_step m)
-    (λ _. on_cond good (may_end d choice.ending) (master_ends m d choice choice.ending) (no_step m)
+    on_cond good m.up (master_bounded m i d choice) (no_step m)
+    (λ _. on_cond good (may_end m i d choice.ending) (master_ends m d choice choice.ending) (no_step m)
     (λ _. ends_in_time config greatest m d choice choice.ending h.0 (goes_keeps (IsCoreInTime config greatest) (time_keeps config greatest) m moment i choice.refused (h.0, max-le h.1 reached)))
     (λ _. h))
     (λ _. h)

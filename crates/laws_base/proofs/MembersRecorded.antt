@@ -215,8 +215,8 @@ step_truthful sent k m moment i choice is h =
     let d : MasterDoing = master_goes m moment i choice.refused in
     let good : Taken MasterState → Type 0 = λ t. IsTruthful (sent ++ stamped k t.out.sent) t.state in
     let told : ℕ → ℕ → ℕ → Type 0 = WasTold sent (length sent) in
-    on_cond good m.up (master_bounded m d choice) (no_step m)
-    (λ _. on_cond good (may_end d choice.ending) (master_ends m d choice choice.ending) (no_step m)
+    on_cond good m.up (master_bounded m i d choice) (no_step m)
+    (λ _. on_cond good (may_end m i d choice.ending) (master_ends m d choice choice.ending) (no_step m)
     (λ _. let end = goes_told ⊥ told NoneEnded (λ c. AreGrantsTold told c.sent) (granting_keeps told) m moment i choice.refused (input_told sent i is) (λ asks. absurd asks) (tt, h.attempts, λ asks. absurd asks, λ asks. absurd asks) in
     ends_truthful sent k m d choice choice.ending h (end.0, end.1))
     (λ _. same_truthful sent k m h))

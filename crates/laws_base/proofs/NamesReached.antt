@@ -20,6 +20,7 @@ use Rattle.chunk_table.specs.ChunkTable.{ChunkRow, ChunkTable, changed_by, no_sh
 use Rattle.protocol.specs.LogSizes.{checkpoint_fits}
 use Rattle.protocol.specs.Logged.{Logged, LogDisk, LogChange, AppendRecord, WriteCheckpoint, first_logged, log_changed, log_changed_by_all, after_record, after_records, checkpoint_of, copies_given_up, all_copies_given_up}
 use Rattle.protocol.specs.Master.{MasterState, MasterDoing, stopped_master, master_begins, fits, appends, writes_checkpoint, logs_after_checkpoint, is_of_copy}
+use Rattle.protocol.specs.MasterLimits.{can_count}
 use Rattle.protocol.specs.MasterStep.{master_goes, master_ends, master_bounded, master_step, is_within_limits, may_end, found_log, row_after_restart, started_master, opening, has_opened, opens_as, new_master, first_log}
 use Rattle.protocol.specs.World.{WorldState, IsReached}
 use Rattle.laws_base.proofs.Steps.{on_cond, none_some, put_cases}
@@ -220,24 +221,24 @@ module _ (G : Logged → Type 0) (R : Logged → Logged → Type 0) (b : IsKeptB
         up = λ _. record { idle = g.none; bound = within d.master limits; names = names; same = g.same; tied = g.tied; ready = ready };
       }
 
-  ends_logged : (m : MasterState) (d : MasterDoing) (choice : Choice) (e : Ending) → may_end d e ≡ true → IsLogged m → IsNaming m.disk (core_of d)
+  ends_logged : (m : MasterState) (i : NodeInput) (d : MasterDoing) (choice : Choice) (e : Ending) → may_end m i d e ≡ true → IsLogged m → IsNaming m.disk (core_of d)
       → IsNamespace d.master.logged.names d.master.snapshots → AreReady d.master.now d.master.attempts d.master.logged → IsLogged (master_ends m d choice e).state
-  ends_logged m d choice Goes limits h g names ready = running m.disk d limits g names ready
-  ends_logged m d choice Lost limits h g names ready = stopped m m.disk [] (found_same IsGood m.disk (h.found []))
-  ends_logged m d choice (Stops made) limits h g names ready =
+  ends_logged m i d choice Goes limits h g names ready = running m.disk d (and_parts (can_count m i) (is_within_limits d.master) limits).1 g names ready
+  ends_logged m i d choice Lost limits h g names ready = stopped m m.disk [] (found_same IsGood m.disk (h.found []))
+  ends_logged m i d choice (Stops made) limits h g names ready =
       stopped m (log_changed_by_all m.disk (take made d.changes)) (take 1 (drop made d.changes)) (found_stopped IsGood m.disk d.changes made g.stops)
 
   pub step_logged : (m : MasterState) (moment : ℕ) (i : NodeInput) (choice : Choice) → IsLogged m → IsLogged (master_step m moment i choice).state
   step_logged m moment i choice h =
       let d : MasterDoing = master_goes m moment i choice.refused in
       let good : Taken MasterState → Type 0 = λ t. IsLogged t.state in
-      on_cond good m.up (master_bounded m d choice) (no_step m)
-      (λ up. on_cond good (may_end d choice.ending) (master_ends m d choice choice.ending) (no_step m)
+      on_cond good m.up (master_bounded m i d choice) (no_step m)
+      (λ up. on_cond good (may_end m i d choice.ending) (master_ends m d choice choice.ending) (no_step m)
       (λ limits.
       let u : IsUpToLog m = h.up up in
       let end = goes_named NoneEnded (IsNaming m.disk) (naming_keeps m.disk NoneEnded) m moment i choice.refused (no_input i) u.bound u.names u.ready
       (record { none = u.idle; disk = refl; same = u.same; tied = u.tied; stops = h.found [] }) in
-      ends_logged m d choice choice.ending limits h end.0 end.1 end.2)
+      ends_logged m i d choice choice.ending limits h end.0 end.1 end.2)
       (λ _. h))
       (λ _. h)
 

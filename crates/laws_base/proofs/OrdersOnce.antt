@@ -145,8 +145,8 @@ pub step_numbered : (sent : List Message) (k : ℕ) (m : MasterState) (moment : 
 step_numbered sent k m moment i choice h =
     let d : MasterDoing = master_goes m moment i choice.refused in
     let good : Taken MasterState → Type 0 = λ t. AreNumbered (sent ++ stamped k t.out.sent) t.state in
-    on_cond good m.up (master_bounded m d choice) (no_step m)
-    (λ up. on_cond good (may_end d choice.ending) (master_ends m d choice choice.ending) (no_step m)
+    on_cond good m.up (master_bounded m i d choice) (no_step m)
+    (λ up. on_cond good (may_end m i d choice.ending) (master_ends m d choice choice.ending) (no_step m)
     (λ _. ends_numbered sent m h up d
     (goes_keeps (Numbers m.disk m.logged.epoch m.order_count) (numbers_keep m.disk m.logged.epoch m.order_count) m moment i choice.refused (begun sent m moment choice.refused h up))
     k choice choice.ending)

@@ -333,8 +333,8 @@ master_silent : (m : MasterState) (moment : ℕ) (i : NodeInput) (choice : Choic
 master_silent m moment i choice =
     let d : MasterDoing = master_goes m moment i choice.refused in
     let good : Taken MasterState → Type 0 = λ t. SayNoRevoked t.out.sent in
-    on_cond good m.up (master_bounded m d choice) (no_step m)
-    (λ _. on_cond good (may_end d choice.ending) (master_ends m d choice choice.ending) (no_step m) (λ _. ends_silent m d choice choice.ending (goes_keeps (λ c. SayNoRevoked c.sent) master_keeps m moment i choice.refused tt)) (λ _. tt))
+    on_cond good m.up (master_bounded m i d choice) (no_step m)
+    (λ _. on_cond good (may_end m i d choice.ending) (master_ends m d choice choice.ending) (no_step m) (λ _. ends_silent m d choice choice.ending (goes_keeps (λ c. SayNoRevoked c.sent) master_keeps m moment i choice.refused tt)) (λ _. tt))
     (λ _. tt)
 
 opens_silent : (old m : MasterState) (d : MasterDoing) (choice : Choice) (e : Ending) → SayNoRevoked (opens_as old m d choice e).out.sent

@@ -611,8 +611,8 @@ step_revokes sent k m moment i choice logged numbered h =
     let d : MasterDoing = master_goes m moment i choice.refused in
     let good : Taken MasterState → Type 0 = λ t. AreRevokes (sent ++ stamped k t.out.sent) t.state in
     let same : AreRevokes (sent ++ stamped k []) m = still_revokes sent [] k m no_orders h in
-    on_cond good m.up (master_bounded m d choice) (no_step m)
-    (λ up. on_cond good (may_end d choice.ending) (master_ends m d choice choice.ending) (no_step m)
+    on_cond good m.up (master_bounded m i d choice) (no_step m)
+    (λ up. on_cond good (may_end m i d choice.ending) (master_ends m d choice choice.ending) (no_step m)
     (λ _.
     let u : IsUpToLog IsFoundRows IsRowedLog rows_kept m = logged.up up in
     let epoch : ℕ = m.logged.epoch in

@@ -90,8 +90,8 @@ step_one : (m : MasterState) (moment : ℕ) (i : NodeInput) (choice : Choice) �
 step_one m moment i choice logged =
     let d : MasterDoing = master_goes m moment i choice.refused in
     let good : Taken MasterState → Type 0 = λ t. AreFromOne t.out.sent in
-    on_cond good m.up (master_bounded m d choice) (no_step m)
-    (λ up. on_cond good (may_end d choice.ending) (master_ends m d choice choice.ending) (no_step m)
+    on_cond good m.up (master_bounded m i d choice) (no_step m)
+    (λ up. on_cond good (may_end m i d choice.ending) (master_ends m d choice choice.ending) (no_step m)
     (λ _.
     let u : IsUpToLog IsFoundRows IsRowedLog rows_kept m = logged.up up in
     let end = goes_named NoneEnded (λ c. IsRowing m.disk c × AreFromOne c.sent) (one_keeps m.disk) m moment i choice.refused (no_input i) u.bound u.names u.ready

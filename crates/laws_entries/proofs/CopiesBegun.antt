@@ -234,8 +234,8 @@ ends_shown m d choice (Stops made) up n h = inl refl
 pub step_shows : (m : MasterState) (moment : ℕ) (i : NodeInput) (choice : Choice) → IsLogged IsFoundRows IsRowedLog rows_kept m → WaitsHere m → ShowsLittle m (master_step m moment i choice)
 step_shows m moment i choice logged waits =
     let d : MasterDoing = master_goes m moment i choice.refused in
-    on_cond (ShowsLittle m) m.up (master_bounded m d choice) (no_step m)
-    (λ up. on_cond (ShowsLittle m) (may_end d choice.ending) (master_ends m d choice choice.ending) (no_step m)
+    on_cond (ShowsLittle m) m.up (master_bounded m i d choice) (no_step m)
+    (λ up. on_cond (ShowsLittle m) (may_end m i d choice.ending) (master_ends m d choice choice.ending) (no_step m)
     (λ _. ends_shown m d choice choice.ending up (rowed_gone m moment choice.refused logged waits up i) (goes_fine m moment choice.refused logged waits up i))
     (λ _. inl refl))
     (λ _. inl refl)

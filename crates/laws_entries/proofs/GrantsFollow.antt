@@ -220,8 +220,8 @@ module _ (handle version : ℕ) where
   step_passed m moment i choice logged waits h =
       let d : MasterDoing = master_goes m moment i choice.refused in
       let good : Taken MasterState → Type 0 = λ t. Sends t.out.sent × HasPassed handle version t.state in
-      on_cond good m.up (master_bounded m d choice) (no_step m)
-      (λ up. on_cond good (may_end d choice.ending) (master_ends m d choice choice.ending) (no_step m)
+      on_cond good m.up (master_bounded m i d choice) (no_step m)
+      (λ up. on_cond good (may_end m i d choice.ending) (master_ends m d choice choice.ending) (no_step m)
       (λ _.
       let u : IsUpToLog IsFoundRows IsRowedLog rows_kept m = logged.up up in
       let end =

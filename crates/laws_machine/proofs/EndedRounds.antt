@@ -182,8 +182,8 @@ ends_silent m d choice (Stops made) up down = refl
 stopped_silent : (m : MasterState) (moment : ℕ) (i : NodeInput) (choice : Choice) → IsTrue m.up → IsSilent (master_step m moment i choice)
 stopped_silent m moment i choice up =
     let d : MasterDoing = master_goes m moment i choice.refused in
-    on_cond IsSilent m.up (master_bounded m d choice) (no_step m)
-    (λ _. on_cond IsSilent (may_end d choice.ending) (master_ends m d choice choice.ending) (no_step m) (λ _. ends_silent m d choice choice.ending (goes_keeps (λ c. c.up ≡ true) up_keeps m moment i choice.refused up)) (λ _ down. refl)) (λ _ down. refl)
+    on_cond IsSilent m.up (master_bounded m i d choice) (no_step m)
+    (λ _. on_cond IsSilent (may_end m i d choice.ending) (master_ends m d choice choice.ending) (no_step m) (λ _. ends_silent m d choice choice.ending (goes_keeps (λ c. c.up ≡ true) up_keeps m moment i choice.refused up)) (λ _ down. refl)) (λ _ down. refl)
 
 module _ (w : WorldState) (handle version : ℕ) where
   abbrev pub GrantsNoMore : WorldState → Type 0

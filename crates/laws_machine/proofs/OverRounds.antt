@@ -185,7 +185,7 @@ module _ (config : Config) (servers clients : ℕ) (w : WorldState) (r : IsReach
   reached : (made : ℕ) → IsReached config servers clients (stopped made)
   reached made =
       subst (λ (v : WorldState). IsReached config servers clients v)
-      (event (stop made) ∙ ap (λ (b : Bool). (after_master w moment (cond b (master_bounded w.master goes (stop made)) (no_step w.master))).world) up)
+      (event (stop made) ∙ ap (λ (b : Bool). (after_master w moment (cond b (master_bounded w.master i goes (stop made)) (no_step w.master))).world) up)
       (r.0 ++ (e, stop made) ∷ [], events_append (new_world config servers clients) r.0 ((e, stop made) ∷ []) ∙ ap (λ (v : WorldState). (happens v e (stop made)).world) r.1)
 
   sound : (made : ℕ) → IsFoundRows (state_of (disk_at made))
@@ -274,8 +274,8 @@ stopped_steps_keep_rounds config servers clients w r up e moment i event clocks 
 
     same : left_world ≡ (happens w e choice).world
     same = sym (
-        event choice ∙ ap (λ (b : Bool). (after_master w moment (cond b (master_bounded w.master (master_goes w.master moment i choice.refused) choice) (no_step w.master))).world) up
-        ∙ ap (λ (x : Ending). (after_master w moment (cond (may_end (master_goes w.master moment i choice.refused) x) (master_ends w.master (master_goes w.master moment i choice.refused) choice x) (no_step w.master))).world) ends)
+        event choice ∙ ap (λ (b : Bool). (after_master w moment (cond b (master_bounded w.master i (master_goes w.master moment i choice.refused) choice) (no_step w.master))).world) up
+        ∙ ap (λ (x : Ending). (after_master w moment (cond (may_end w.master i (master_goes w.master moment i choice.refused) x) (master_ends w.master (master_goes w.master moment i choice.refused) choice x) (no_step w.master))).world) ends)
 
     kept_later : IsTrue (happens w e choice).world.observer.are_clocks_kept
     kept_later = subst (λ (v : WorldState). IsTrue v.observer.are_clocks_kept) same clocks
@@ -334,17 +334,17 @@ rounds_that_end_stay_over config servers clients w r up e moment i event clocks 
     goes_now : MasterDoing
     goes_now = master_goes w.master moment i choice.refused
 
-    same : world_by w moment (cond (may_end goes_now Goes) (master_ends w.master goes_now choice Goes) (no_step w.master)) ≡ (happens w e choice).world
+    same : world_by w moment (cond (may_end w.master i goes_now Goes) (master_ends w.master goes_now choice Goes) (no_step w.master)) ≡ (happens w e choice).world
     same = sym (
-        event choice ∙ ap (λ (b : Bool). world_by w moment (cond b (master_bounded w.master goes_now choice) (no_step w.master))) up
-        ∙ ap (λ (x : Ending). world_by w moment (cond (may_end goes_now x) (master_ends w.master goes_now choice x) (no_step w.master))) ends)
+        event choice ∙ ap (λ (b : Bool). world_by w moment (cond b (master_bounded w.master i goes_now choice) (no_step w.master))) up
+        ∙ ap (λ (x : Ending). world_by w moment (cond (may_end w.master i goes_now x) (master_ends w.master goes_now choice x) (no_step w.master))) ends)
 
     over_here : AreLeasesOver (passed w moment) handle
     over_here = rounds_that_end_are_over config servers clients w r up e moment i event clocks choice handle over
 
     -- no Grant of it is sent, so it is over after the step
     over_after : ((version : ℕ) → 1 ≤ grants_of handle version goes_now.sent → ⊥) → AreLeasesOver (happens w e choice).world handle
-    over_after none = subst (λ (v : WorldState). AreLeasesOver v handle) same (by_limits (may_end goes_now Goes))
+    over_after none = subst (λ (v : WorldState). AreLeasesOver v handle) same (by_limits (may_end w.master i goes_now Goes))
       where
         none_sent : (version : ℕ) (n : ℕ) → grants_of handle version goes_now.sent ≡ n → n ≡ 0
         none_sent version zero is = refl
@@ -393,15 +393,15 @@ steps_keep_rounds config servers clients w r up e moment i event clocks choice e
     ] in
     let new : NewRoundsAreOpen w (happens w e choice).world j =
     λ handle version before now. open_at_end j handle version changes w.master.disk end.4 last (sent_grants_are_logged config servers clients w r up moment i choice.refused handle version (granted_now handle version before now)) in
-    (j, end.1, end.2, end.3, rounds_go_with_leases config servers clients w r e choice (subst (λ (v : WorldState). IsTrue v.observer.are_clocks_kept) same (clocks_of (may_end goes_now Goes))) k j rounds over new, end.5)
+    (j, end.1, end.2, end.3, rounds_go_with_leases config servers clients w r e choice (subst (λ (v : WorldState). IsTrue v.observer.are_clocks_kept) same (clocks_of (may_end w.master i goes_now Goes))) k j rounds over new, end.5)
   where
     goes_now : MasterDoing
     goes_now = master_goes w.master moment i choice.refused
 
-    same : world_by w moment (cond (may_end goes_now Goes) (master_ends w.master goes_now choice Goes) (no_step w.master)) ≡ (happens w e choice).world
+    same : world_by w moment (cond (may_end w.master i goes_now Goes) (master_ends w.master goes_now choice Goes) (no_step w.master)) ≡ (happens w e choice).world
     same = sym (
-        event choice ∙ ap (λ (b : Bool). world_by w moment (cond b (master_bounded w.master goes_now choice) (no_step w.master))) up
-        ∙ ap (λ (x : Ending). world_by w moment (cond (may_end goes_now x) (master_ends w.master goes_now choice x) (no_step w.master))) ends)
+        event choice ∙ ap (λ (b : Bool). world_by w moment (cond b (master_bounded w.master i goes_now choice) (no_step w.master))) up
+        ∙ ap (λ (x : Ending). world_by w moment (cond (may_end w.master i goes_now x) (master_ends w.master goes_now choice x) (no_step w.master))) ends)
 
     clocks_of : (b : Bool) → IsTrue (world_by w moment (cond b (master_ends w.master goes_now choice Goes) (no_step w.master))).observer.are_clocks_kept
     clocks_of true = clocks
@@ -417,7 +417,7 @@ steps_keep_rounds config servers clients w r up e moment i event clocks choice e
       where
         by_count : (count : ℕ) → grants_of handle version goes_now.sent ≡ count → 1 ≤ grants_of handle version goes_now.sent
         by_count zero none =
-            let few = none_sent handle version none (may_end goes_now Goes) in
+            let few = none_sent handle version none (may_end w.master i goes_now Goes) in
             let as_sent = ap (λ (v : WorldState). grants_of handle version v.sent) same in
             absurd (omega (arith, few, as_sent, before, now))
         by_count (suc count) some = omega (arith, some)

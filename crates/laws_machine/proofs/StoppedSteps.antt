@@ -70,7 +70,7 @@ module _ (config : Config) (servers clients : ℕ) (w : WorldState) (r : IsReach
   then_ = (happens w e choice).world
 
   step_is : master_step w.master moment i stopping ≡ master_ends w.master (master_goes w.master moment i choice.refused) stopping (Stops made)
-  step_is = ap (λ (b : Bool). cond b (master_bounded w.master (master_goes w.master moment i choice.refused) stopping) (no_step w.master)) up
+  step_is = ap (λ (b : Bool). cond b (master_bounded w.master i (master_goes w.master moment i choice.refused) stopping) (no_step w.master)) up
 
   stopped_is : stopped ≡ (after_master w moment (master_ends w.master (master_goes w.master moment i choice.refused) stopping (Stops made))).world
   stopped_is = ap (λ (h : Happened). h.world) (it_is stopping) ∙ ap (λ (t : Taken MasterState). (after_master w moment t).world) step_is

@@ -89,8 +89,8 @@ step_asked : (sent : List Message) (m : MasterState) (moment : ℕ) (i : NodeInp
 step_asked sent m moment i choice there logged h =
     let d : MasterDoing = master_goes m moment i choice.refused in
     let good : Taken MasterState → Type 0 = λ t. WasAsked sent t.state in
-    on_cond good m.up (master_bounded m d choice) (no_step m)
-    (λ up. on_cond good (may_end d choice.ending) (master_ends m d choice choice.ending) (no_step m)
+    on_cond good m.up (master_bounded m i d choice) (no_step m)
+    (λ up. on_cond good (may_end m i d choice.ending) (master_ends m d choice choice.ending) (no_step m)
     (λ _.
     let u : IsUpToLog IsFoundCounts IsCountedLog counts_kept m = logged.up up in
     let naming = (goes_named NoneEnded (IsNaming IsFoundCounts IsCountedLog counts_kept m.disk) (naming_keeps IsFoundCounts IsCountedLog counts_kept m.disk NoneEnded) m moment i choice.refused (no_input i) u.bound u.names u.ready

@@ -257,8 +257,8 @@ module _ (config : Config) (servers clients : ℕ) (w : WorldState) (r : IsReach
 
       pub step_beside : BesideMaster w.config trace greatest w.clients (w.sent ++ stamped k (master_step w.master moment i choice).out.sent) (master_step w.master moment i choice).state
       step_beside =
-          on_cond Good w.master.up (master_bounded w.master d choice) (no_step w.master)
-          (λ _. on_cond Good (may_end d choice.ending) (master_ends w.master d choice choice.ending) (no_step w.master) (λ _. by_ending choice.ending) (λ _. same_master)) (λ _. same_master)
+          on_cond Good w.master.up (master_bounded w.master i d choice) (no_step w.master)
+          (λ _. on_cond Good (may_end w.master i d choice.ending) (master_ends w.master d choice choice.ending) (no_step w.master) (λ _. by_ending choice.ending) (λ _. same_master)) (λ _. same_master)
           (λ x is. all_at (λ y. IsUnasked y.body) (master_step w.master moment i choice).out.sent is.0 x (master_asks_nothing w.master moment i choice) is.1)
 
   -- a restart

@@ -54,8 +54,8 @@ module _ (m : MasterState) (i : NodeInput) where
       let good : Taken MasterState → Type 0 = λ t. AllOf (IsAnswered Asked) t.out.sent in
       let begun : At Asked (master_begins (master_at m moment) choice.refused) = (tt, live_waiting (max m.now moment) m.snapshots (waiting m.snapshots (λ s there. there))) in
       let end : At Asked d = goes_at Asked (master_begins (master_at m moment) choice.refused) i copied asked begun in
-      on_cond good m.up (master_bounded m d choice) (no_step m)
-      (λ _. on_cond good (may_end d choice.ending) (master_ends m d choice choice.ending) (no_step m) (λ _. ends_answered d choice choice.ending end) (λ _. tt)) (λ _. tt)
+      on_cond good m.up (master_bounded m i d choice) (no_step m)
+      (λ _. on_cond good (may_end m i d choice.ending) (master_ends m d choice choice.ending) (no_step m) (λ _. ends_answered d choice choice.ending end) (λ _. tt)) (λ _. tt)
 
   was_asked : (client : ℕ) (b : Body) → IsAnswer Asked client b → WasAsked i m.snapshots client b
   was_asked client (body.Named number reply) is = is

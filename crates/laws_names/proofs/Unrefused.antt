@@ -39,8 +39,8 @@ step_waits : (m : MasterState) (moment : ℕ) (i : NodeInput) (choice : Choice) 
 step_waits m moment i choice log h =
     let d : MasterDoing = master_goes m moment i choice.refused in
     let good : Taken MasterState → Type 0 = λ t. AreWaiting t.state in
-    on_cond good m.up (master_bounded m d choice) (no_step m)
-    (λ up. on_cond good (may_end d choice.ending) (master_ends m d choice choice.ending) (no_step m)
+    on_cond good m.up (master_bounded m i d choice) (no_step m)
+    (λ up. on_cond good (may_end m i d choice.ending) (master_ends m d choice choice.ending) (no_step m)
     (λ _. ends_waits m d choice choice.ending
     (steps_leave_snapshots_unrefused m moment i choice.refused (λ file one other at too. (log.1.up up).tied.base.here.named.one one other file at too) (h up)))
     (λ _. h))

@@ -139,8 +139,8 @@ module _ (P : PendingSnapshot → Type 0) where
   step_at : (m : MasterState) (moment : ℕ) (i : NodeInput) (choice : Choice) → IsInputAsking i → (IsTrue m.up → AllByRecursion P m.snapshots) → IsUp (master_step m moment i choice)
   step_at m moment i choice may h =
       let d : MasterDoing = master_does (master_begins (master_at m moment) choice.refused) i in
-      on_cond IsUp m.up (master_bounded m (master_goes m moment i choice.refused) choice) (no_step m)
-      (λ up. on_cond IsUp (may_end (master_goes m moment i choice.refused) choice.ending) (master_ends m (master_goes m moment i choice.refused) choice choice.ending) (no_step m)
+      on_cond IsUp m.up (master_bounded m i (master_goes m moment i choice.refused) choice) (no_step m)
+      (λ up. on_cond IsUp (may_end m i (master_goes m moment i choice.refused) choice.ending) (master_ends m (master_goes m moment i choice.refused) choice choice.ending) (no_step m)
       (λ _. ends_at m (master_goes m moment i choice.refused) choice choice.ending
       (ready_at d d.master.snapshots (does_at (master_begins (master_at m moment) choice.refused) i may (all_some P (λ s. nat_lt (max m.now moment) s.deadline) m.snapshots (h up)))))
       (λ _. h))

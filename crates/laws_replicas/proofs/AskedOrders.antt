@@ -499,8 +499,8 @@ module _ (m : MasterState) (low : IsLow m) (apart : AreOwn m) (moment : ℕ) whe
   step_asked : (x : Message) (choice : Choice) → IsAskBody x.body → AreHigher (master_at m moment) (master_step m moment (input.Deliver x) choice)
   step_asked x choice ask =
       let d : MasterDoing = master_goes m moment (input.Deliver x) choice.refused in
-      on_cond (AreHigher (master_at m moment)) m.up (master_bounded m d choice) (no_step m)
-      (λ _. on_cond (AreHigher (master_at m moment)) (may_end d choice.ending) (master_ends m d choice choice.ending) (no_step m) (λ _. ends_higher d choice choice.ending (asked_higher x choice.refused x.body refl ask)) (λ _. tt))
+      on_cond (AreHigher (master_at m moment)) m.up (master_bounded m (input.Deliver x) d choice) (no_step m)
+      (λ _. on_cond (AreHigher (master_at m moment)) (may_end m (input.Deliver x) d choice.ending) (master_ends m d choice choice.ending) (no_step m) (λ _. ends_higher d choice choice.ending (asked_higher x choice.refused x.body refl ask)) (λ _. tt))
       (λ _. tt)
 
 -- other messages order no version

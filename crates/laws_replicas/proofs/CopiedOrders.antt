@@ -248,8 +248,8 @@ module _ (config : Config) (servers clients : ℕ) (w : WorldState) (r : IsReach
     stepped : (moment : ℕ) (i : NodeInput) (choice : Choice) → IsStepped (master_step w.master moment i choice)
     stepped moment i choice =
         let d : MasterDoing = master_goes w.master moment i choice.refused in
-        on_cond IsStepped w.master.up (master_bounded w.master d choice) (no_step w.master)
-        (λ up. on_cond IsStepped (may_end d choice.ending) (master_ends w.master d choice choice.ending) (no_step w.master) (λ _. by_ending up choice.ending) (λ _. still)) (λ _. still)
+        on_cond IsStepped w.master.up (master_bounded w.master i d choice) (no_step w.master)
+        (λ up. on_cond IsStepped (may_end w.master i d choice.ending) (master_ends w.master d choice choice.ending) (no_step w.master) (λ _. by_ending up choice.ending) (λ _. still)) (λ _. still)
       where
         still : IsStepped (no_step w.master)
         still up = ((h clocks up).0, λ copy c is. inl is)

@@ -135,8 +135,8 @@ ends_started m d choice (Stops made) n h source copy is = silent_starts (master_
 pub step_starts : (m : MasterState) (moment : ℕ) (i : NodeInput) (choice : Choice) → IsLogged IsFoundRows IsRowedLog rows_kept m → WaitsHere m → StartsCopies (master_step m moment i choice)
 step_starts m moment i choice logged waits =
     let d : MasterDoing = master_goes m moment i choice.refused in
-    on_cond StartsCopies m.up (master_bounded m d choice) (no_step m)
-    (λ up. on_cond StartsCopies (may_end d choice.ending) (master_ends m d choice choice.ending) (no_step m)
+    on_cond StartsCopies m.up (master_bounded m i d choice) (no_step m)
+    (λ up. on_cond StartsCopies (may_end m i d choice.ending) (master_ends m d choice choice.ending) (no_step m)
     (λ _. ends_started m d choice choice.ending (rowed_gone m moment choice.refused logged waits up i) (goes_fine m moment choice.refused logged waits up i))
     (λ _. silent_starts (no_step m) refl))
     (λ _. silent_starts (no_step m) refl)

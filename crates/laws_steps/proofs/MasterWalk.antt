@@ -685,8 +685,8 @@ module _ (m : MasterState) (moment : ℕ) (i : NodeInput) (choice : Choice) (A :
       → Q (master_step m moment i choice)
   from_end Q none some =
       let d : MasterDoing = master_goes m moment i choice.refused in
-      on_cond Q m.up (master_bounded m d choice) (no_step m)
-      (λ _. on_cond Q (may_end d choice.ending) (master_ends m d choice choice.ending) (no_step m) (λ _. some) (λ _. none)) (λ _. none)
+      on_cond Q m.up (master_bounded m i d choice) (no_step m)
+      (λ _. on_cond Q (may_end m i d choice.ending) (master_ends m d choice choice.ending) (no_step m) (λ _. some) (λ _. none)) (λ _. none)
 
   -- each message of a step
   pub step_says : (W : Message → Type 0) → MasterSays m.logged i A W → AllOf W (master_step m moment i choice).out.sent

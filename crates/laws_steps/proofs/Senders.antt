@@ -84,8 +84,8 @@ ends_master m d choice (Stops made) h = tt
 pub master_sends : (m : MasterState) (moment : ℕ) (i : NodeInput) (choice : Choice) → AreNotClients (master_step m moment i choice).out.sent
 master_sends m moment i choice =
     let d : MasterDoing = master_goes m moment i choice.refused in
-    on_cond (λ (t : Taken MasterState). AreNotClients t.out.sent) m.up (master_bounded m d choice) (no_step m)
-    (λ _. on_cond (λ (t : Taken MasterState). AreNotClients t.out.sent) (may_end d choice.ending) (master_ends m d choice choice.ending) (no_step m)
+    on_cond (λ (t : Taken MasterState). AreNotClients t.out.sent) m.up (master_bounded m i d choice) (no_step m)
+    (λ _. on_cond (λ (t : Taken MasterState). AreNotClients t.out.sent) (may_end m i d choice.ending) (master_ends m d choice choice.ending) (no_step m)
     (λ _. ends_master m d choice choice.ending (goes_keeps (λ c. AreNotClients c.sent) master_keeps m moment i choice.refused tt)) (λ _. tt)) (λ _. tt)
 
 opens_sends : (m started : MasterState) (d : MasterDoing) (choice : Choice) (e : Ending) → AreNotClients (opens_as m started d choice e).out.sent

@@ -25,7 +25,7 @@ use Rattle.laws_steps.proofs.NewCopies.{IsCopyFrom, step_copies}
 
 pub new_copies_have_no_lease : NewCopiesHaveNoLease
 new_copies_have_no_lease config servers clients w r moment i choice place handle copy shown =
-    on_cond (λ (t : Taken MasterState). element_at t.seen place ≡ Some (CopyStarted handle copy) → HasNoLease w copy) w.master.up (master_bounded w.master (master_goes w.master moment i choice.refused) choice) (no_step w.master)
+    on_cond (λ (t : Taken MasterState). element_at t.seen place ≡ Some (CopyStarted handle copy) → HasNoLease w copy) w.master.up (master_bounded w.master i (master_goes w.master moment i choice.refused) choice) (no_step w.master)
     (λ up _. record { ungranted = λ at m there order version end_moment members is. ungranted up at m there order version end_moment members (says_grant is); unheld = λ index s at. unheld up index s at (table.get s.leases copy.0) refl }) (λ _ g. none_some (CopyStarted handle copy) g) shown
   where
     new : (w.master).logged.next_handle ≤ copy.0

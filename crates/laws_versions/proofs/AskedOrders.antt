@@ -413,8 +413,8 @@ module _ (l : Logged) (now : ℕ) (ready : (handle : ℕ) (c : Copy) → table.g
   asked_step : (m : MasterState) (moment : ℕ) (x : Message) (choice : Choice) → m.logged ≡ l → max m.now moment ≡ now → (number : ℕ) (file : FileId) (w : Wanted) (deadline : Moment) (lost : Bool) → x.body ≡ body.Ask number file w deadline lost
       → IsAskedStep (master_step m moment (input.Deliver x) choice)
   asked_step m moment x choice same time number file w deadline lost is =
-      on_cond IsAskedStep m.up (master_bounded m (master_goes m moment (input.Deliver x) choice.refused) choice) (no_step m)
-      (λ _. on_cond IsAskedStep (may_end (master_goes m moment (input.Deliver x) choice.refused) choice.ending) (master_ends m (master_goes m moment (input.Deliver x) choice.refused) choice choice.ending) (no_step m)
+      on_cond IsAskedStep m.up (master_bounded m (input.Deliver x) (master_goes m moment (input.Deliver x) choice.refused) choice) (no_step m)
+      (λ _. on_cond IsAskedStep (may_end m (input.Deliver x) (master_goes m moment (input.Deliver x) choice.refused) choice.ending) (master_ends m (master_goes m moment (input.Deliver x) choice.refused) choice choice.ending) (no_step m)
       (λ _. ends_asked m (master_goes m moment (input.Deliver x) choice.refused) choice choice.ending goes) (λ _. inl (tt, refl))) (λ _. inl (tt, refl))
     where
       begun : IsKept (master_begins (master_at m moment) choice.refused)

@@ -447,8 +447,8 @@ module _ (config : Config) (servers clients : ℕ) (w : WorldState) (r : IsReach
   steps_last : (moment : ℕ) (i : NodeInput) (choice : Choice) → AreLastHere (master_step w.master moment i choice).state
   steps_last moment i choice =
       let d : MasterDoing = master_goes w.master moment i choice.refused in
-      on_cond (λ (t : Taken MasterState). AreLastHere t.state) w.master.up (master_bounded w.master d choice) (no_step w.master)
-      (λ up. on_cond (λ (t : Taken MasterState). AreLastHere t.state) (may_end d choice.ending) (master_ends w.master d choice choice.ending) (no_step w.master) (λ _. by_ending up choice.ending) (λ _. h)) (λ _. h)
+      on_cond (λ (t : Taken MasterState). AreLastHere t.state) w.master.up (master_bounded w.master i d choice) (no_step w.master)
+      (λ up. on_cond (λ (t : Taken MasterState). AreLastHere t.state) (may_end w.master i d choice.ending) (master_ends w.master d choice choice.ending) (no_step w.master) (λ _. by_ending up choice.ending) (λ _. h)) (λ _. h)
     where
       by_ending : IsTrue w.master.up → (e : Ending) → AreLastHere (master_ends w.master (master_goes w.master moment i choice.refused) choice e).state
       by_ending up Goes = λ _. let end = goes_last w.master (begins_last up) moment i choice.refused in (end.tried_used, end.last)

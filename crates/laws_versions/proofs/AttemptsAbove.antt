@@ -146,8 +146,8 @@ module _ (handle : ℕ) where
   pub step_above : (m : MasterState) (moment : ℕ) (i : NodeInput) (choice : Choice) → IsLogged IsFoundRows IsRowedLog rows_kept m → WaitsHere m → ((a : VersionAttempt) → table.get m.attempts handle ≡ Some a → IsPassed handle a.version m.logged)
       → (x : Message) → IsSent (master_step m moment i choice).out.sent x → (n : ℕ) → version_given x.body ≡ Some (handle, n) → (a : VersionAttempt) → table.get (master_step m moment i choice).state.attempts handle ≡ Some a → n ≤ a.version
   step_above m moment i choice logged waits tried x said n given =
-      on_cond good m.up (master_bounded m d choice) (no_step m)
-      (λ up. on_cond good (may_end d choice.ending) (master_ends m d choice choice.ending) (no_step m) (λ _. by_ending (goes up) choice.ending) (λ _ s. none_some x s.1))
+      on_cond good m.up (master_bounded m i d choice) (no_step m)
+      (λ up. on_cond good (may_end m i d choice.ending) (master_ends m d choice choice.ending) (no_step m) (λ _. by_ending (goes up) choice.ending) (λ _ s. none_some x s.1))
       (λ _ s. none_some x s.1) said
     where
       d : MasterDoing

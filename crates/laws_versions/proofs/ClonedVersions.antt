@@ -215,8 +215,8 @@ module _ (w : WorldState) (moment : ℕ) where
   step_known : (i : NodeInput) (choice : Choice) → AreHeld w.sent w.master.holders → IsTrue w.master.up → IsOfTimes (scene_of w) → BringsKnown (master_step w.master moment i choice)
   step_known i choice held up times =
       let d : MasterDoing = master_goes w.master moment i choice.refused in
-      on_cond BringsKnown w.master.up (master_bounded w.master d choice) (no_step w.master)
-      (λ _. on_cond BringsKnown (may_end d choice.ending) (master_ends w.master d choice choice.ending) (no_step w.master) (λ _. ends_known d choice choice.ending (by_input i choice.refused))
+      on_cond BringsKnown w.master.up (master_bounded w.master i d choice) (no_step w.master)
+      (λ _. on_cond BringsKnown (may_end w.master i d choice.ending) (master_ends w.master d choice choice.ending) (no_step w.master) (λ _. ends_known d choice choice.ending (by_input i choice.refused))
       (λ _. silent_known (no_step w.master) refl))
       (λ _. silent_known (no_step w.master) refl)
     where

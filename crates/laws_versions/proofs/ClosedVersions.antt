@@ -213,8 +213,8 @@ module _ (handle version : ℕ) where
       let good : Taken MasterState → Type 0 = λ t. AreShut count (sent ++ stamped k t.out.sent) t.state in
       let low = h.few in
       let same : AreShut count (sent ++ stamped k []) m = let none = still sent k [] [] refl in record { few = omega (arith, none, low); found = h.found; up = h.up } in
-      on_cond good m.up (master_bounded m d choice) (no_step m)
-      (λ up. on_cond good (may_end d choice.ending) (master_ends m d choice choice.ending) (no_step m)
+      on_cond good m.up (master_bounded m i d choice) (no_step m)
+      (λ up. on_cond good (may_end m i d choice.ending) (master_ends m d choice choice.ending) (no_step m)
       (λ _.
       let u : IsUpToLog IsFoundRows IsRowedLog rows_kept m = logged.up up in
       let end =

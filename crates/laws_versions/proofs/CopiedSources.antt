@@ -189,8 +189,8 @@ module _ (config : Config) (servers clients : ℕ) (w : WorldState) (r : IsReach
   steps_free : (moment : ℕ) (i : NodeInput) (choice : Choice) → IsTrue w.master.up → IsFreeHere (master_step w.master moment i choice).state
   steps_free moment i choice up =
       let d : MasterDoing = master_goes w.master moment i choice.refused in
-      on_cond (λ (t : Taken MasterState). IsFreeHere t.state) w.master.up (master_bounded w.master d choice) (no_step w.master)
-      (λ _. on_cond (λ (t : Taken MasterState). IsFreeHere t.state) (may_end d choice.ending) (master_ends w.master d choice choice.ending) (no_step w.master) (λ _. by_ending choice.ending) (λ _. h)) (λ _. h)
+      on_cond (λ (t : Taken MasterState). IsFreeHere t.state) w.master.up (master_bounded w.master i d choice) (no_step w.master)
+      (λ _. on_cond (λ (t : Taken MasterState). IsFreeHere t.state) (may_end w.master i d choice.ending) (master_ends w.master d choice choice.ending) (no_step w.master) (λ _. by_ending choice.ending) (λ _. h)) (λ _. h)
     where
       by_ending : (e : Ending) → IsFreeHere (master_ends w.master (master_goes w.master moment i choice.refused) choice e).state
       by_ending Goes = λ _. goes_free config servers clients w r clocks up (h up) moment i choice.refused

@@ -184,8 +184,8 @@ ends_begun m d choice (Stops made) h = inl refl
 pub step_begun : (m : MasterState) (moment : ℕ) (i : NodeInput) (choice : Choice) → (IsTrue m.up → Below m.logged) → ShowsBegun m (master_step m moment i choice)
 step_begun m moment i choice below =
     let d : MasterDoing = master_goes m moment i choice.refused in
-    on_cond (ShowsBegun m) m.up (master_bounded m d choice) (no_step m)
-    (λ up. on_cond (ShowsBegun m) (may_end d choice.ending) (master_ends m d choice choice.ending) (no_step m) (λ _. ends_begun m d choice choice.ending (goes_fine m moment choice.refused (below up) up i)) (λ _. inl refl))
+    on_cond (ShowsBegun m) m.up (master_bounded m i d choice) (no_step m)
+    (λ up. on_cond (ShowsBegun m) (may_end m i d choice.ending) (master_ends m d choice choice.ending) (no_step m) (λ _. ends_begun m d choice choice.ending (goes_fine m moment choice.refused (below up) up i)) (λ _. inl refl))
     (λ _. inl refl)
 
 -- in reached worlds

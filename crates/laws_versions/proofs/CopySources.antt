@@ -175,8 +175,8 @@ module _ (w : WorldState) (moment : ℕ) where
   step_known : (i : NodeInput) (choice : Choice) → IsTrue w.master.up → BringsKnown (master_step w.master moment i choice)
   step_known i choice up =
       let d : MasterDoing = master_goes w.master moment i choice.refused in
-      on_cond BringsKnown w.master.up (master_bounded w.master d choice) (no_step w.master)
-      (λ _. on_cond BringsKnown (may_end d choice.ending) (master_ends w.master d choice choice.ending) (no_step w.master) (λ _. ends_known i choice choice.ending up)
+      on_cond BringsKnown w.master.up (master_bounded w.master i d choice) (no_step w.master)
+      (λ _. on_cond BringsKnown (may_end w.master i d choice.ending) (master_ends w.master d choice choice.ending) (no_step w.master) (λ _. ends_known i choice choice.ending up)
       (λ _. silent_known (no_step w.master) refl))
       (λ _. silent_known (no_step w.master) refl)
 

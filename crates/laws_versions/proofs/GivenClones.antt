@@ -64,8 +64,8 @@ goes_held m moment input.Tick choice x said handle version is =
 step_held : (m : MasterState) (moment : ℕ) (i : NodeInput) (choice : Choice) → ClonesHeld m (master_step m moment i choice)
 step_held m moment i choice =
     let d : MasterDoing = master_goes m moment i choice.refused in
-    on_cond (ClonesHeld m) m.up (master_bounded m d choice) (no_step m)
-    (λ _. on_cond (ClonesHeld m) (may_end d choice.ending) (master_ends m d choice choice.ending) (no_step m) (λ _. by_ending choice.ending) (λ _ x said. none_some x said.1))
+    on_cond (ClonesHeld m) m.up (master_bounded m i d choice) (no_step m)
+    (λ _. on_cond (ClonesHeld m) (may_end m i d choice.ending) (master_ends m d choice choice.ending) (no_step m) (λ _. by_ending choice.ending) (λ _ x said. none_some x said.1))
     (λ _ x said. none_some x said.1)
   where
     by_ending : (e : Ending) → ClonesHeld m (master_ends m (master_goes m moment i choice.refused) choice e)

@@ -292,8 +292,8 @@ module _ (taker chunk issued : ℕ) where
   asked_once : (m : MasterState) (moment : ℕ) (x : Message) (choice : Choice) (number : ℕ) (file : FileId) (w : Wanted) (deadline : Moment) (lost : Bool) → x.body ≡ body.Ask number file w deadline lost → IsOnce (master_step m moment (input.Deliver x) choice)
   asked_once m moment x choice number file w deadline lost is =
       let d : MasterDoing = master_goes m moment (input.Deliver x) choice.refused in
-      on_cond IsOnce m.up (master_bounded m d choice) (no_step m)
-      (λ _. on_cond IsOnce (may_end d choice.ending) (master_ends m d choice choice.ending) (no_step m) (λ _. ends_once m d choice choice.ending (goes_asked m moment x choice.refused number file w deadline lost is)) (λ _. omega arith))
+      on_cond IsOnce m.up (master_bounded m (input.Deliver x) d choice) (no_step m)
+      (λ _. on_cond IsOnce (may_end m (input.Deliver x) d choice.ending) (master_ends m d choice choice.ending) (no_step m) (λ _. ends_once m d choice choice.ending (goes_asked m moment x choice.refused number file w deadline lost is)) (λ _. omega arith))
       (λ _. omega arith)
 
   none_counted : (ms : List Message) → AllOf (λ (m : Message). version_given m.body ≡ None) ms → count_by (gives taker chunk issued) ms ≡ 0

@@ -92,8 +92,8 @@ AreNoClones t = AllOf (IsMastersMessage IsNoClone) t.out.sent
 delivered_none : (m : MasterState) (moment : ℕ) (x : Message) (choice : Choice) → AreNoClones (master_step m moment (input.Deliver x) choice)
 delivered_none m moment x choice =
     let d : MasterDoing = master_goes m moment (input.Deliver x) choice.refused in
-    on_cond AreNoClones m.up (master_bounded m d choice) (no_step m)
-    (λ _. on_cond AreNoClones (may_end d choice.ending) (master_ends m d choice choice.ending) (no_step m) (λ _. by_ending choice.ending) (λ _. tt)) (λ _. tt)
+    on_cond AreNoClones m.up (master_bounded m (input.Deliver x) d choice) (no_step m)
+    (λ _. on_cond AreNoClones (may_end m (input.Deliver x) d choice.ending) (master_ends m d choice choice.ending) (no_step m) (λ _. by_ending choice.ending) (λ _. tt)) (λ _. tt)
   where
     by_ending : (e : Ending) → AreNoClones (master_ends m (master_goes m moment (input.Deliver x) choice.refused) choice e)
     by_ending Goes = all_in_order (IsMastersMessage IsNoClone) choice.order (master_goes m moment (input.Deliver x) choice.refused).sent (delivery_says m moment x choice.refused)

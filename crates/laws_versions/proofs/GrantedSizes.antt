@@ -220,8 +220,8 @@ module _ (config : Config) (servers clients : ℕ) (w : WorldState) (r : IsReach
       let m : MasterState = w.master in
       let d : MasterDoing = master_goes m moment i choice.refused in
       let good : Taken MasterState → Type 0 = λ t. AreTellingSizes now t.out.sent in
-      on_cond good m.up (master_bounded m d choice) (no_step m)
-      (λ _. on_cond good (may_end d choice.ending) (master_ends m d choice choice.ending) (no_step m) (λ _. ends_sized now m d choice choice.ending (goes_sized moment i choice.refused).1) (λ _. tt))
+      on_cond good m.up (master_bounded m i d choice) (no_step m)
+      (λ _. on_cond good (may_end m i d choice.ending) (master_ends m d choice choice.ending) (no_step m) (λ _. ends_sized now m d choice choice.ending (goes_sized moment i choice.refused).1) (λ _. tt))
       (λ _. tt)
 
   -- a handle that stands in a file, or is a copy's, is not new

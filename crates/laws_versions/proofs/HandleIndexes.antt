@@ -420,8 +420,8 @@ module _ (S L : Logged → Type 0) (keeps : KeepsFiles S L) where
       goes_acts NoneEnded (IsKnowing m.disk) (Filing m.disk) m moment i choice.refused (knowing_keeps m.disk) (λ c n. n.0) (filing_acts m.disk) (any_input i) logged up waits
       (record { none = u.idle; disk = refl; same = u.same; tied = u.tied; stops = logged.found [] }, record { none = t.idle; disk = refl; same = t.same; tied = t.tied; stops = told.found [] })
       (record { state = h.up up; stops = h.found [] }) in
-      on_cond good m.up (master_bounded m d choice) (no_step m)
-      (λ _. on_cond good (may_end d choice.ending) (master_ends m d choice choice.ending) (no_step m) (λ _. ends_filed m d choice choice.ending h end.0 end.2.state end.2.stops) (λ _. h))
+      on_cond good m.up (master_bounded m i d choice) (no_step m)
+      (λ _. on_cond good (may_end m i d choice.ending) (master_ends m d choice choice.ending) (no_step m) (λ _. ends_filed m d choice choice.ending h end.0 end.2.state end.2.stops) (λ _. h))
       (λ _. h)
 
   -- a master that opens

@@ -109,8 +109,8 @@ module _ (T : ℕ → ℕ → ℕ → Type 0) where
   step_known m moment i choice said h =
       let d : MasterDoing = master_goes m moment i choice.refused in
       let first : MasterDoing = master_begins (master_at m moment) choice.refused in
-      on_cond IsKnownAfter m.up (master_bounded m d choice) (no_step m)
-      (λ up. on_cond IsKnownAfter (may_end d choice.ending) (master_ends m d choice choice.ending) (no_step m)
+      on_cond IsKnownAfter m.up (master_bounded m i d choice) (no_step m)
+      (λ up. on_cond IsKnownAfter (may_end m i d choice.ending) (master_ends m d choice choice.ending) (no_step m)
       (λ _. ends_known m d choice choice.ending (goes_here m.logged i AnyDoing AreEffects (keeps m.logged i said) any_kept first refl tt (h up))) (λ _. h))
       (λ _. h)
 

@@ -472,8 +472,8 @@ step_said sent k m moment i choice logged h =
     let d : MasterDoing = master_goes m moment i choice.refused in
     let good : Taken MasterState → Type 0 = λ t. AreSaid (sent ++ stamped k t.out.sent) t.state in
     let same : AreSaid (sent ++ stamped k []) m = still_said sent [] k m tt h in
-    on_cond good m.up (master_bounded m d choice) (no_step m)
-    (λ up. on_cond good (may_end d choice.ending) (master_ends m d choice choice.ending) (no_step m)
+    on_cond good m.up (master_bounded m i d choice) (no_step m)
+    (λ up. on_cond good (may_end m i d choice.ending) (master_ends m d choice choice.ending) (no_step m)
     (λ _.
     let u : IsUpToLog IsFoundRows IsRowedLog rows_kept m = logged.up up in
     let first : Core = core_of (master_begins (master_at m moment) choice.refused) in

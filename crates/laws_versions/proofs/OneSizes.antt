@@ -156,8 +156,8 @@ ends_gone m d choice (Stops made) place x none = none_some x none
 goes_on : (m : MasterState) (moment : ℕ) (i : NodeInput) (choice : Choice) → HasGone (master_goes m moment i choice.refused) (master_step m moment i choice)
 goes_on m moment i choice =
     let d : MasterDoing = master_goes m moment i choice.refused in
-    on_cond (HasGone d) m.up (master_bounded m d choice) (no_step m)
-    (λ _. on_cond (HasGone d) (may_end d choice.ending) (master_ends m d choice choice.ending) (no_step m) (λ _. ends_gone m d choice choice.ending) (λ _ place x none. none_some x none))
+    on_cond (HasGone d) m.up (master_bounded m i d choice) (no_step m)
+    (λ _. on_cond (HasGone d) (may_end m i d choice.ending) (master_ends m d choice choice.ending) (no_step m) (λ _. ends_gone m d choice choice.ending) (λ _ place x none. none_some x none))
     (λ _ place x none. none_some x none)
 
 -- at a master that is up, the chunk's row has this size

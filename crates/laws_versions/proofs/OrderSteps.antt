@@ -131,8 +131,8 @@ AreAboveCount m t = (x : Message) → IsSent t.out.sent x → IsAboveCount m x
 
 step_above_count : (sent : List Message) (m : MasterState) (moment : ℕ) (i : NodeInput) (choice : Choice) → AreNumbered sent m → AreAboveCount m (master_step m moment i choice)
 step_above_count sent m moment i choice h =
-    on_cond (AreAboveCount m) m.up (master_bounded m d choice) (no_step m)
-    (λ up. on_cond (AreAboveCount m) (may_end d choice.ending) (master_ends m d choice choice.ending) (no_step m) (λ _. by_ending up choice.ending) (λ _. none))
+    on_cond (AreAboveCount m) m.up (master_bounded m i d choice) (no_step m)
+    (λ up. on_cond (AreAboveCount m) (may_end m i d choice.ending) (master_ends m d choice choice.ending) (no_step m) (λ _. by_ending up choice.ending) (λ _. none))
     (λ _. none)
   where
     d : MasterDoing

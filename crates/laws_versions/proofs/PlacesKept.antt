@@ -276,8 +276,8 @@ module _ (file index handle : ℕ) where
       goes_acts NoneEnded (IsRowing m.disk) (Placing m.disk m.logged) m moment i choice.refused (rowing_keeps m.disk) (λ c n. n) (placing_acts m.disk m.logged) (any_input i) logged up waits
       (record { none = u.idle; disk = refl; same = u.same; tied = u.tied; stops = logged.found [] })
       (record { copies = λ none copy c is. is; kept = inl (h.up up, h.found []) }) in
-      on_cond good m.up (master_bounded m d choice) (no_step m)
-      (λ _. on_cond good (may_end d choice.ending) (master_ends m d choice choice.ending) (no_step m)
+      on_cond good m.up (master_bounded m i d choice) (no_step m)
+      (λ _. on_cond good (may_end m i d choice.ending) (master_ends m d choice choice.ending) (no_step m)
       (λ _. elim (end.2.kept) [
         | inl both ↦ inl (ends_places m d choice choice.ending h end.0 both.0 both.1)
         | inr taken ↦ elim (kind) [ inl no_grants ↦ absurd (taken.0 no_grants) | inr no_starts ↦ inr (taken.1 no_starts) ]

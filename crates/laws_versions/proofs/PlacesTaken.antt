@@ -209,8 +209,8 @@ module _ (file index : ℕ) (R : ℕ → Type 0) where
       (record { none = u.idle; disk = refl; same = u.same; tied = u.tied; stops = logged.found [] })
       (record { copies = λ none copy c is. is; unstarted = λ _. (h.up up, h.found []); ungranted = λ _. (h.up up, h.found []) }) in
       let kept : IsTaken d.master.logged × AllStops IsLogTaken m.disk d.changes = elim (kind) [ inl no_grants ↦ end.2.ungranted no_grants | inr no_starts ↦ end.2.unstarted no_starts ] in
-      on_cond good m.up (master_bounded m d choice) (no_step m)
-      (λ _. on_cond good (may_end d choice.ending) (master_ends m d choice choice.ending) (no_step m) (λ _. ends_places m d choice choice.ending h end.0 kept.0 kept.1) (λ _. h))
+      on_cond good m.up (master_bounded m i d choice) (no_step m)
+      (λ _. on_cond good (may_end m i d choice.ending) (master_ends m d choice choice.ending) (no_step m) (λ _. ends_places m d choice choice.ending h end.0 kept.0 kept.1) (λ _. h))
       (λ _. h)
 
   -- a master that opens

@@ -105,8 +105,8 @@ step_recorded : (sent : List Message) (k : ℕ) (m : MasterState) (moment : ℕ)
 step_recorded sent k m moment i choice is h =
     let d : MasterDoing = master_goes m moment i choice.refused in
     let good : Taken MasterState → Type 0 = λ t. AreRecorded (sent ++ stamped k t.out.sent) t.state in
-    on_cond good m.up (master_bounded m d choice) (no_step m)
-    (λ _. on_cond good (may_end d choice.ending) (master_ends m d choice choice.ending) (no_step m) (λ _. by_ending choice.ending) (λ _. more_recorded sent (stamped k []) m h)) (λ _. more_recorded sent (stamped k []) m h)
+    on_cond good m.up (master_bounded m i d choice) (no_step m)
+    (λ _. on_cond good (may_end m i d choice.ending) (master_ends m d choice choice.ending) (no_step m) (λ _. by_ending choice.ending) (λ _. more_recorded sent (stamped k []) m h)) (λ _. more_recorded sent (stamped k []) m h)
   where
     by_ending : (e : Ending)
         → AreRecorded (sent ++ stamped k (master_ends m (master_goes m moment i choice.refused) choice e).out.sent) (master_ends m (master_goes m moment i choice.refused) choice e).state

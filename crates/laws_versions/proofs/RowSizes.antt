@@ -46,8 +46,8 @@ module _ (config : Config) (servers clients : ℕ) (w : WorldState) (r : IsReach
 
   step_of_rows : IsTrue w.master.up → (moment : ℕ) (i : NodeInput) (choice : Choice) → IsOfRows (master_step w.master moment i choice)
   step_of_rows up moment i choice =
-      on_cond IsOfRows w.master.up (master_bounded w.master d choice) (no_step w.master)
-      (λ _. on_cond IsOfRows (may_end d choice.ending) (master_ends w.master d choice choice.ending) (no_step w.master) (λ _. by_ending choice.ending) (λ _ place x none. none_some x none))
+      on_cond IsOfRows w.master.up (master_bounded w.master i d choice) (no_step w.master)
+      (λ _. on_cond IsOfRows (may_end w.master i d choice.ending) (master_ends w.master d choice choice.ending) (no_step w.master) (λ _. by_ending choice.ending) (λ _ place x none. none_some x none))
       (λ _ place x none. none_some x none)
     where
       d : MasterDoing

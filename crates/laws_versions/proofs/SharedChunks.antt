@@ -202,8 +202,8 @@ module _ (x : Scene) (base : IsOfTimes x) where
       let good : Taken MasterState → Type 0 = λ t. IsOfTimes (after_master_step x k t) → AreShares (IsOverIn (after_master_step x k t)) t.state in
       let same : good (no_step m) = λ _. shares_stay (IsOverIn x) (IsOverIn (after_master_step x k (no_step m))) m (none_sent k) h in
       let timely : AreTimely x.sent x.greatest lease m = base.timely clocks in
-      on_cond good m.up (master_bounded m d choice) (no_step m)
-      (λ up. on_cond good (may_end d choice.ending) (master_ends m d choice choice.ending) (no_step m)
+      on_cond good m.up (master_bounded m i d choice) (no_step m)
+      (λ up. on_cond good (may_end m i d choice.ending) (master_ends m d choice choice.ending) (no_step m)
       (λ _.
       let logged : IsLogged IsFoundRows IsRowedLog rows_kept m = base.base.sent.logged in
       let u : IsUpToLog IsFoundRows IsRowedLog rows_kept m = logged.up up in

@@ -117,8 +117,8 @@ ends_sent W m d choice (Stops made) h = tt
 step_sent : (W : Message → Type 0) (m : MasterState) (moment : ℕ) (i : NodeInput) (choice : Choice) → AllOf W (master_goes m moment i choice.refused).sent → AllOf W (master_step m moment i choice).out.sent
 step_sent W m moment i choice h =
     let d : MasterDoing = master_goes m moment i choice.refused in
-    on_cond (λ (t : Taken MasterState). AllOf W t.out.sent) m.up (master_bounded m d choice) (no_step m)
-    (λ _. on_cond (λ (t : Taken MasterState). AllOf W t.out.sent) (may_end d choice.ending) (master_ends m d choice choice.ending) (no_step m) (λ _. ends_sent W m d choice choice.ending h) (λ _. tt)) (λ _. tt)
+    on_cond (λ (t : Taken MasterState). AllOf W t.out.sent) m.up (master_bounded m i d choice) (no_step m)
+    (λ _. on_cond (λ (t : Taken MasterState). AllOf W t.out.sent) (may_end m i d choice.ending) (master_ends m d choice choice.ending) (no_step m) (λ _. ends_sent W m d choice choice.ending h) (λ _. tt)) (λ _. tt)
 
 each_answered : (config : Config) (servers clients : ℕ) (u : WorldState) → IsReached config servers clients u → IsTrue u.observer.are_clocks_kept → HoldsAfter u (λ e x. AreAnswers u x.world)
 each_answered config servers clients u r clocks =

@@ -36,8 +36,8 @@ bounded_settings false m x kept = (refl, refl)
 step_settings : (m : MasterState) (moment : ℕ) (i : NodeInput) (choice : Choice) → KeepsSettings m (master_step m moment i choice).state
 step_settings m moment i choice =
     let d : MasterDoing = master_goes m moment i choice.refused in
-    bounded_settings m.up m (master_bounded m d choice)
-    (bounded_settings (may_end d choice.ending) m (master_ends m d choice choice.ending) (ends_settings m d choice choice.ending (settings_stay m moment i choice.refused)))
+    bounded_settings m.up m (master_bounded m i d choice)
+    (bounded_settings (may_end m i d choice.ending) m (master_ends m d choice choice.ending) (ends_settings m d choice choice.ending (settings_stay m moment i choice.refused)))
 
 pub steps_settings : (m : MasterState) (moment : ℕ) (i : NodeInput) (out : StepOut) (seen : List Seen) (new : MasterState) → MasterSteps m moment i out seen new → KeepsSettings m new
 steps_settings m moment i out seen new s =

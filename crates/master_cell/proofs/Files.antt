@@ -46,3 +46,7 @@ shown_before disk under_way config count p m files view shown =
 -- up: what is shown are its files
 pub shown_open : (m : MasterState) (files before : Table (List ℕ)) → files ≡ files_seen m before → m.up ≡ true → files ≡ m.logged.table.files
 shown_open m files before is up = is ∙ ap (λ (b : Bool). cond b m.logged.table.files before) up
+
+-- up, and nothing was changed
+pub shown_still : (m : MasterState) (files : Table (List ℕ)) → (m.up ≡ true → files ≡ m.logged.table.files) → m.up ≡ true → files ≡ files_seen m files
+shown_still m files shown up = shown up ∙ sym (ap (λ (b : Bool). cond b m.logged.table.files files) up)

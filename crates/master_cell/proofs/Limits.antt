@@ -1,12 +1,14 @@
 -- The counters that the table of chunks keeps within their limits.
 use Rattle.std.proofs.Common.{◌≡◌, ℕ, Bool, true, false, refl, ap, subst, ◌∙◌}
 use Rattle.std.specs.Prelude.{◌*◌, ◌&&◌, nat_le}
+use Rattle.messages.specs.declared.event.NodeInput.{NodeInput}
 use Rattle.std.specs.List.{list_all}
 use Rattle.std.specs.FinMap as table
 use Rattle.std.proofs.lemmas.Bool.{le-leb}
 use Rattle.chunk_table.specs.ChunkTable.{TableState}
 use Rattle.chunk_table.specs.Owners.{IsSound}
 use Rattle.gfs_types.specs.Counters.{counter_limit}
+use Rattle.protocol.specs.MasterLimits.{is_far, counts_on, can_count}
 use Rattle.protocol.specs.MasterStep.{is_within_limits}
 use Rattle.master_state.specs.Follows.{table_of}
 use Rattle.master_cell.proofs.StatedLimits.{issued_within_limit}
@@ -41,3 +43,9 @@ limits_are p t epoch orders handle chunk t_is e o h c sound =
     ∙ ap (λ n. (nat_le p.logged.epoch counter_limit && nat_le p.order_count counter_limit) && nat_le (n * chunk) counter_limit) (h ∙ ap (λ x. x.next_handle) t_is)
     ∙ ap (λ n. (nat_le p.logged.epoch counter_limit && nat_le p.order_count counter_limit) && nat_le (p.logged.next_handle * n) counter_limit) c
     ∙ by_sound p (subst IsSound t_is sound)
+
+pub counts_are : (p : PlanState) (t : TableState) (next orders : ℕ) (i : NodeInput) → t ≡ table_of p.logged → next ≡ t.next_file → orders ≡ p.order_count
+    → ((is_far next && is_far orders) && counts_on p.config p.logged i) ≡ can_count (known p) i
+counts_are p t next orders i t_is n o =
+    ap (λ k. (is_far k && is_far orders) && counts_on p.config p.logged i) (n ∙ ap (λ x. x.next_file) t_is)
+    ∙ ap (λ k. (is_far p.logged.next_file && is_far k) && counts_on p.config p.logged i) o

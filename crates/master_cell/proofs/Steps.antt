@@ -1,6 +1,6 @@
 -- What the master's code does is a step of the definitions.
 use Rattle.std.proofs.Common.{◌≡◌, ℕ, Bool, true, false, List, [], refl, sym, ap, ◌∙◌, subst, inl, inr}
-use Rattle.std.specs.Prelude.{if◌then◌else◌, ◌⊎◌}
+use Rattle.std.specs.Prelude.{if◌then◌else◌, ◌⊎◌, ◌&&◌}
 use Rattle.gfs_types.specs.declared.config.Config.{Config}
 use Rattle.messages.specs.declared.event.NodeInput.{NodeInput}
 use Rattle.messages.specs.declared.event.StepOut.{StepOut}
@@ -9,7 +9,8 @@ use Rattle.protocol.specs.declared.seen.Seen.{Seen}
 use Rattle.protocol.specs.Seen.{Taken, no_output, down_output, no_step}
 use Rattle.protocol.specs.Logged.{LogDisk, LogChange, log_changed_by_all}
 use Rattle.protocol.specs.Master.{MasterState, MasterDoing, stopped_master}
-use Rattle.protocol.specs.MasterStep.{master_goes, master_ends, master_bounded, master_step}
+use Rattle.protocol.specs.MasterLimits.{can_count}
+use Rattle.protocol.specs.MasterStep.{master_goes, master_ends, master_bounded, master_step, is_within_limits}
 use Rattle.protocol.specs.Conforms.{GivesMaster, IsLeftAs, MasterSteps}
 use Rattle.master_cell.proofs.Steady.{settings_of}
 use Rattle.master_cell.proofs.Settings.{settings_stay}
@@ -88,16 +89,16 @@ module _ (disk : LogDisk) (under_way : List LogChange) (config : Config) (count 
         from_old down_output [] (standing false new_disk new_under_way config count q)
         (record {
           choice = choice;
-          gives = gives (master_step m moment i choice) (master_bounded m (doing disk p1) choice) down_output [] (standing false new_disk new_under_way config count q)
-              (ap (λ (d : MasterDoing). master_bounded m d choice) goes.leads) refl refl
+          gives = gives (master_step m moment i choice) (master_bounded m i (doing disk p1) choice) down_output [] (standing false new_disk new_under_way config count q)
+              (ap (λ (d : MasterDoing). master_bounded m i d choice) goes.leads) refl refl
               (left_down config p0.config count p0.server_count p0 q (log_changed_by_all disk (made_changes stop.made p1.changes)) new_disk (change_under_way stop.made p1.changes) new_under_way
               rest.config_is rest.count_is stop.disk_is stop.begun);
         })
 
     -- all went through
-    pub went : AllMade disk p1 new_disk new_under_way
+    pub went : can_count (known p0) i ≡ true → AllMade disk p1 new_disk new_under_way
         → MasterSteps (standing true disk under_way config count p0) moment i (step_out p1) p1.seen (standing true new_disk new_under_way config count (resting p1))
-    went made =
+    went counts made =
         let choice : Choice = with_ending Ends goes.used in
         let m : MasterState = standing true disk [] config count p0 in
         let out : StepOut = step_out p1 in
@@ -105,8 +106,8 @@ module _ (disk : LogDisk) (under_way : List LogChange) (config : Config) (count 
         (record {
           choice = choice;
           gives = gives (master_step m moment i choice) (record { state = master_of disk p1; out = out; seen = p1.seen }) out p1.seen (standing true new_disk new_under_way config count (resting p1))
-              (ap (λ (d : MasterDoing). master_bounded m d choice) goes.leads
-              ∙ ap (λ (b : Bool). if b then master_ends m (doing disk p1) choice Ends else no_step m) made.within)
+              (ap (λ (d : MasterDoing). master_bounded m i d choice) goes.leads
+              ∙ ap (λ (b : Bool). if b then master_ends m (doing disk p1) choice Ends else no_step m) (ap (λ (b : Bool). b && is_within_limits (known p1)) counts ∙ made.within))
               refl refl
               (record { but_under_way = ap (λ (x : LogDisk). record (master_of disk p1) { disk = x }) made.disk_is; under_way = inl made.none });
         })
@@ -133,9 +134,9 @@ module _ (disk : LogDisk) (under_way : List LogChange) (config : Config) (count 
     rests_as p2 r p2_is r_is none = subst (λ (x : PlanState). IsResting new_under_way config count x) (sym (resting_as p2 r p2_is r_is)) (rests none)
 
     went_as : (p2 r : PlanState) (cs : List LogChange) (out : StepOut) (seen : List Seen) → cs ≡ p1.changes → p2 ≡ record p1 { changes = [] } → r ≡ record p2 { sent = []; seen = [] }
-        → out ≡ step_out p2 → seen ≡ p2.seen → AllMade disk (record p2 { changes = cs }) new_disk new_under_way
+        → out ≡ step_out p2 → seen ≡ p2.seen → can_count (known p0) i ≡ true → AllMade disk (record p2 { changes = cs }) new_disk new_under_way
         → MasterSteps (standing true disk under_way config count p0) moment i out seen (standing true new_disk new_under_way config count r)
-    went_as p2 r cs out seen cs_is p2_is r_is out_is seen_is made =
+    went_as p2 r cs out seen cs_is p2_is r_is out_is seen_is counts made =
         let planned : record p2 { changes = cs } ≡ record p1 { changes = p1.changes } =
         ap (λ (x : PlanState). record x { changes = cs }) p2_is ∙ ap (λ (x : List LogChange). record p1 { changes = x }) cs_is in
         let m : AllMade disk (record p1 { changes = p1.changes }) new_disk new_under_way = subst (λ (x : PlanState). AllMade disk x new_disk new_under_way) planned made in
@@ -145,7 +146,7 @@ module _ (disk : LogDisk) (under_way : List LogChange) (config : Config) (count 
         subst (λ (x : PlanState). MasterSteps (standing true disk under_way config count p0) moment i out seen (standing true new_disk new_under_way config count x)) (sym (resting_as p2 r p2_is r_is))
         (subst (λ (x : List Seen). MasterSteps (standing true disk under_way config count p0) moment i out x (standing true new_disk new_under_way config count (resting p1))) (sym seen_at)
         (subst (λ (x : StepOut). MasterSteps (standing true disk under_way config count p0) moment i x p1.seen (standing true new_disk new_under_way config count (resting p1))) (sym out_at)
-        (went all)))
+        (went counts all)))
 
 module _ (disk : LogDisk) (under_way : List LogChange) (config : Config) (count : ℕ) (p0 : PlanState) (moment : ℕ) (i : NodeInput) (rest : IsResting under_way config count p0) (cs : List LogChange) (p2 : PlanState) (d : Drafts disk p0 moment i cs p2)
     (new_disk : LogDisk) (new_under_way : List LogChange) where
@@ -155,19 +156,30 @@ module _ (disk : LogDisk) (under_way : List LogChange) (config : Config) (count 
   pub drafted_rests : (r : PlanState) → r ≡ record p2 { sent = []; seen = [] } → new_under_way ≡ [] → IsResting new_under_way config count r
   drafted_rests r r_is none = rests_as disk under_way config count p0 moment i rest d.planned d.goes new_disk new_under_way p2 r d.rest r_is none
 
-  pub drafted_went : (r : PlanState) (out : StepOut) (seen : List Seen) → r ≡ record p2 { sent = []; seen = [] } → out ≡ step_out p2 → seen ≡ p2.seen → AllMade disk (record p2 { changes = cs }) new_disk new_under_way
+  pub drafted_went : (r : PlanState) (out : StepOut) (seen : List Seen) → r ≡ record p2 { sent = []; seen = [] } → out ≡ step_out p2 → seen ≡ p2.seen → can_count (known p0) i ≡ true → AllMade disk (record p2 { changes = cs }) new_disk new_under_way
       → MasterSteps (standing true disk under_way config count p0) moment i out seen (standing true new_disk new_under_way config count r)
-  drafted_went r out seen r_is out_is seen_is made =
-      went_as disk under_way config count p0 moment i rest d.planned d.goes new_disk new_under_way p2 r cs out seen d.changes_are d.rest r_is out_is seen_is made
+  drafted_went r out seen r_is out_is seen_is counts made =
+      went_as disk under_way config count p0 moment i rest d.planned d.goes new_disk new_under_way p2 r cs out seen d.changes_are d.rest r_is out_is seen_is counts made
 
 -- a master that is down, as it was made, takes no step
 pub stays_down : (m : MasterState) (moment : ℕ) (i : NodeInput) (out : StepOut) (seen : List Seen) → m.up ≡ false → out ≡ no_output → seen ≡ [] → MasterSteps m moment i out seen m
 stays_down m moment i out seen down o s =
-    let same : master_step m moment i (with_ending Ends []) ≡ no_step m = ap (λ b. if b then master_bounded m (master_goes m moment i []) (with_ending Ends []) else no_step m) down in
+    let same : master_step m moment i (with_ending Ends []) ≡ no_step m = ap (λ b. if b then master_bounded m i (master_goes m moment i []) (with_ending Ends []) else no_step m) down in
     record {
       choice = with_ending Ends [];
       gives = gives (master_step m moment i (with_ending Ends [])) (no_step m) out seen m same (sym o) (sym s) (record { but_under_way = refl; under_way = inl refl });
     }
+
+-- a step that might raise a counter past its limit isn't taken
+pub not_counted : (m : MasterState) (moment : ℕ) (i : NodeInput) (out : StepOut) (seen : List Seen) → m.up ≡ true → can_count m i ≡ false → out ≡ no_output → seen ≡ []
+    → MasterSteps m moment i out seen m
+not_counted m moment i out seen up not o s =
+    let choice : Choice = with_ending Ends [] in
+    let d : MasterDoing = master_goes m moment i [] in
+    let same : master_step m moment i choice ≡ no_step m =
+    ap (λ (b : Bool). if b then master_bounded m i d choice else no_step m) up
+    ∙ ap (λ (b : Bool). if b && is_within_limits d.master then master_ends m d choice Ends else no_step m) not in
+    record { choice = choice; gives = gives (master_step m moment i choice) (no_step m) out seen m same (sym o) (sym s) (record { but_under_way = refl; under_way = inl refl }) }
 
 -- from the parts that a master is made of
 pub is_up_as : (up : Bool) (disk : LogDisk) (under_way : List LogChange) (config : Config) (count : ℕ) (p : PlanState) (m : MasterState) → up ≡ true → standing up disk under_way config count p ≡ m

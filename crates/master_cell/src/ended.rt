@@ -16,7 +16,7 @@ use operation_log::log::OperationLog;
 use std::alloc::Allocator;
 use step_outcome::Outcome;
 
-// Makes the changes of a plan on the log. False: a counter is past its limit, or a change failed, and the master is to go down.
+// Makes the changes of a plan on the log. False: a change failed, or a counter is past its limit, and the master is to go down.
 pub(crate) fn makes<L: OperationLog, A: Allocator + Clone>(log: &mut L, plan: &mut Plan<A>) -> bool
     requires decided { L.under_way log.old ≡ [] }
     ensures made { AreMade (L.disk log.old) plan.old result (L.disk log.new) (L.under_way log.new) }

@@ -5,6 +5,7 @@
 pub mod changed_files;
 pub mod commit;
 pub mod copy;
+mod counting;
 mod drafted;
 mod ended;
 pub mod fault;

@@ -12,6 +12,7 @@ ghost use Rattle.master_cell.specs.Shown.{shown_in};
 ghost use Rattle.master_cell.specs.Inputs.{input_of};
 ghost use Rattle.master_cell.specs.Opens.{Opens, OpensNot, OpensUp, down_over};
 
+use crate::counting::can_count;
 use crate::drafted::drafts;
 use crate::ended::{makes, makes_all, outcome_of};
 use crate::fault::MasterFault;
@@ -208,7 +209,8 @@ impl<L: OperationLog, A: Allocator + Clone> LoggedMaster<L, A> {
     }
 
     /// A step on a message, or on a tick. While the master is up the chunks of its files are shown. Where it is up after the
-    /// step, those that were changed are shown anew; else all that was shown stays.
+    /// step, those that were changed are shown anew; else all that was shown stays. A step that might raise a counter past its limit
+    /// changes nothing and gives nothing.
     #[tactic(auto, using(crate::proofs::Steps::stays, crate::proofs::Steps::lost, crate::proofs::Steps::drafted_cut_off, crate::proofs::Steps::drafted_rests))]
     pub fn step(
         &mut self,
@@ -223,6 +225,9 @@ impl<L: OperationLog, A: Allocator + Clone> LoggedMaster<L, A> {
     {
         let alloc = self.plan.alloc();
         if !self.up {
+            return Outcome::nothing(alloc);
+        }
+        if !can_count(&self.plan, message) {
             return Outcome::nothing(alloc);
         }
         self.up = false;

@@ -5,6 +5,7 @@ pub mod asker;
 pub mod asking;
 mod chunks;
 pub mod copying;
+pub mod counting;
 pub mod granting;
 pub mod held;
 pub mod issuing;

@@ -15,7 +15,7 @@ use std::fmt;
 pub enum PlanFault {
     /// Memory was refused.
     NoMemory,
-    /// A counter is at its limit.
+    /// A counter is at its limit. A step that is taken has room for more orders and files than lie in memory, so this is an opening's alone.
     Limit,
     /// A record doesn't follow the state, which no lawful master comes to.
     Damaged,

@@ -27,6 +27,7 @@ use Rattle.protocol.specs.MasterAsks.{takes_ask}
 use Rattle.protocol.specs.MasterReports.{takes_recorded, takes_cloned, takes_revoked, takes_report}
 use Rattle.protocol.specs.MasterVersions.{is_attempted}
 use Rattle.protocol.specs.MasterClones.{clones_next}
+use Rattle.protocol.specs.MasterLimits.{can_count}
 
 -- a version attempt that takes too long is given up
 abbrev pub is_in_time : MasterState → ℕ × VersionAttempt → Bool
@@ -133,17 +134,17 @@ master_ends m d choice (Stops made) =
       seen = [];
     }
 
--- A step that goes through raises no counter past its limit: one that would changes nothing. A master may be put down in any step.
-abbrev pub may_end : MasterDoing → Ending → Bool
-may_end d Goes = is_within_limits d.master
-may_end d other = true
+-- A step that goes through raises no counter past its limit: one that would, or that might, changes nothing. A master may be put down in any step.
+abbrev pub may_end : MasterState → NodeInput → MasterDoing → Ending → Bool
+may_end m i d Goes = can_count m i && is_within_limits d.master
+may_end m i d other = true
 
-abbrev pub master_bounded : MasterState → MasterDoing → Choice → Taken MasterState
-master_bounded m d choice = if may_end d choice.ending then master_ends m d choice choice.ending else no_step m
+abbrev pub master_bounded : MasterState → NodeInput → MasterDoing → Choice → Taken MasterState
+master_bounded m i d choice = if may_end m i d choice.ending then master_ends m d choice choice.ending else no_step m
 
 -- one that is down takes nothing
 abbrev pub master_step : MasterState → ℕ → NodeInput → Choice → Taken MasterState
-master_step m moment i choice = if m.up then master_bounded m (master_goes m moment i choice.refused) choice else no_step m
+master_step m moment i choice = if m.up then master_bounded m i (master_goes m moment i choice.refused) choice else no_step m
 
 -- what a restart finds on the disk
 abbrev pub found_log : MasterState → Choice → LogDisk

@@ -13,6 +13,8 @@ mod file;
 #[cfg(test)]
 mod late_grant;
 #[cfg(test)]
+mod limits;
+#[cfg(test)]
 mod lines;
 #[cfg(test)]
 mod model;

@@ -19,10 +19,18 @@ const NOW: Moment = Moment(0);
 
 const DEADLINE: Moment = Moment(1_000);
 
-type DiskMaster = Master<Global, FuseDisk>;
+pub(crate) type DiskMaster = Master<Global, FuseDisk>;
+
+/// A new disk; none where memory is refused.
+pub(crate) fn new_disk(alloc: Global) -> Option<FuseDisk> {
+    match MemDisk::new(alloc, SIZE) {
+        Ok(disk) => Some(FuseDisk::new(disk)),
+        Err(_) => None,
+    }
+}
 
 /// The master of three chunkservers over a disk; none where it can't be up.
-fn open_master(alloc: Global, disk: FuseDisk) -> Option<DiskMaster> {
+pub(crate) fn open_master(alloc: Global, disk: FuseDisk) -> Option<DiskMaster> {
     let config = Config {
         log_bytes: SIZE as u64,
         ..Config::default()
@@ -51,34 +59,50 @@ fn answer_in(out: &StepOut) -> Option<Answer> {
     None
 }
 
-/// What the master answers a client's message.
-fn ask(master: &mut DiskMaster, body: Body) -> Option<Answer> {
+/// What the master gives on a client's message.
+pub(crate) fn tell(master: &mut DiskMaster, body: Body) -> StepOut {
     let message = Message {
         number: 1,
         sender: Node::Client(ClientId(1)),
         receiver: Node::Master,
         body,
     };
-    let out = master.step(NOW, NodeInput::Deliver(message));
+    master.step(NOW, NodeInput::Deliver(message))
+}
+
+/// What the master answers a client's message.
+fn ask(master: &mut DiskMaster, body: Body) -> Option<Answer> {
+    let out = tell(master, body);
     answer_in(&out)
 }
 
-/// What a Mkdir is answered.
-fn make(
-    master: &mut DiskMaster,
-    alloc: Global,
-    call_number: u64,
-    path: &str,
-) -> Result<Option<Answer>, NoMemory> {
-    let call = Call::Mkdir(Text::from_str(path, alloc)?);
-    Ok(ask(
+/// What a changing call is answered.
+fn change(master: &mut DiskMaster, call_number: u64, call: Call) -> Option<Answer> {
+    ask(
         master,
         Body::Name {
             call_number,
             deadline: DEADLINE,
             call,
         },
-    ))
+    )
+}
+
+/// What a Mkdir is answered.
+pub(crate) fn make(
+    master: &mut DiskMaster,
+    alloc: Global,
+    call_number: u64,
+    path: &str,
+) -> Result<Option<Answer>, NoMemory> {
+    let call = Call::Mkdir(Text::from_str(path, alloc)?);
+    Ok(change(master, call_number, call))
+}
+
+/// What a first Create is answered.
+pub(crate) fn create(master: &mut DiskMaster, alloc: Global) -> Result<Option<Answer>, NoMemory> {
+    let call = Call::Create(Text::from_str("/f", alloc)?, None);
+    Ok(change(master, 1, call))
 }
 
 /// Whether the root lists just this name, beside the directory of deleted files.
@@ -102,10 +126,10 @@ fn lists_one(master: &mut DiskMaster, alloc: Global, name: &str) -> Result<bool,
 
 /// Whether a directory that was answered is there once its master was opened again, and one that its disk took no record of isn't.
 fn outlasts_a_stop(alloc: Global) -> Result<bool, NoMemory> {
-    let Ok(disk) = MemDisk::new(alloc, SIZE) else {
+    let Some(disk) = new_disk(alloc) else {
         return Ok(false);
     };
-    let Some(first) = open_master(alloc, FuseDisk::new(disk)) else {
+    let Some(first) = open_master(alloc, disk) else {
         return Ok(false);
     };
     let mut master = first;

@@ -1,13 +1,15 @@
-use Rattle.std.proofs.Common.{◌≡◌, true, false, subst, ◌∙◌, rules}
+use Rattle.std.proofs.Common.{◌≡◌, true, false, sym, ap, refl, subst, ◌∙◌, rules}
 use Rattle.std.specs.Option.{option_copied}
 use Rattle.protocol.specs.Master.{MasterState}
+use Rattle.protocol.specs.MasterLimits.{can_count}
 use Rattle.protocol.specs.Conforms.{MasterSteps}
+use Rattle.master_plan.specs.Plans.{known}
 use Rattle.master_plan.specs.Changes.{changes_of}
 use Rattle.master_cell.specs.Shown.{shown_in}
 use Rattle.master_cell.specs.Inputs.{input_of}
 use Rattle.master_cell.specs.Standing.{standing}
-use Rattle.master_cell.proofs.Steps.{stays_down, drafted_went, drafted_rests, is_up_as, up_is}
-use Rattle.master_cell.proofs.Files.{shown_down, shown_before, step_shows}
+use Rattle.master_cell.proofs.Steps.{stays_down, not_counted, drafted_went, drafted_rests, is_up_as, up_is}
+use Rattle.master_cell.proofs.Files.{shown_down, shown_still, shown_before, step_shows}
 use Rattle.master_cell.proofs.logged_master.LoggedMaster.step.Goals as goal
 
 pub returns-then-not-self-clause-steps : goal.returns-then-not-self-clause-steps
@@ -21,6 +23,28 @@ returns-then-not-self-clause-files g c =
     let down : c.args.self.now.up ≡ false =
     up_is c.self.inside.up (g.L.OperationLog.disk c.self.inside.log) (g.L.OperationLog.under_way c.self.inside.log) c.self.inside.config c.self.inside.server_count c.self.inside.plan c.args.self.now (search rules) c.self.view_is in
     shown_down c.args.self.now (shown_in c.args.shown.now) down
+
+pub returns-then-not-can_count-clause-steps : goal.returns-then-not-can_count-clause-steps
+returns-then-not-can_count-clause-steps g c =
+    let m = c.self.inside in
+    let disk = g.L.OperationLog.disk m.log in
+    let under_way = g.L.OperationLog.under_way m.log in
+    let i = input_of (option_copied c.args.message) in
+    let none = c.nothing-then-not-can_count in
+    let up : c.self.inside.up ≡ true = search rules in
+    let old = is_up_as m.up disk under_way m.config m.server_count m.plan c.args.self.now up c.self.view_is in
+    let not : can_count (known m.plan) i ≡ false = sym c.can_count.ensures ∙ c.if-not-can_count.true in
+    subst (λ (x : MasterState). MasterSteps x c.args.now.0 i none.result.out none.result.seen x) old
+    (not_counted (standing true disk under_way m.config m.server_count m.plan) c.args.now.0 i none.result.out none.result.seen refl not none.ensures.out none.ensures.seen)
+
+pub returns-then-not-can_count-clause-files : goal.returns-then-not-can_count-clause-files
+returns-then-not-can_count-clause-files g c =
+    let m = c.self.inside in
+    let disk = g.L.OperationLog.disk m.log in
+    let under_way = g.L.OperationLog.under_way m.log in
+    let up : c.self.inside.up ≡ true = search rules in
+    let old = is_up_as m.up disk under_way m.config m.server_count m.plan c.args.self.now up c.self.view_is in
+    shown_still c.args.self.now (shown_in c.args.shown.now) c.requires.shown (sym (ap (λ (x : MasterState). x.up) old))
 
 pub drafts-requires-clause-shown : goal.drafts-requires-clause-shown
 drafts-requires-clause-shown g c =
@@ -53,6 +77,7 @@ returns-clause-steps g c =
     let old = is_up_as c.self.inside.up disk under_way c.self.inside.config c.self.inside.server_count c.self.inside.plan c.args.self.now up c.self.view_is in
     let new_disk = g.L.OperationLog.disk c.makes_all.new.log in
     let new_under_way = g.L.OperationLog.under_way c.makes_all.new.log in
+    let counts : can_count (known c.self.inside.plan) i ≡ true = sym c.can_count.ensures ∙ c.if-not-can_count.false in
     subst (λ (m : MasterState). MasterSteps m c.args.now.0 i c.outcome_of.result.out c.outcome_of.result.seen (standing true new_disk new_under_way c.self.inside.config c.self.inside.server_count c.outcome_of.new.plan)) old
     (drafted_went disk under_way c.self.inside.config c.self.inside.server_count c.self.inside.plan c.args.now.0 i (search rules) (changes_of c.in-Ok.draft.changes) c.drafts.new.plan c.in-Ok.ensures.drafts new_disk new_under_way
-    c.outcome_of.new.plan c.outcome_of.result.out c.outcome_of.result.seen c.outcome_of.ensures.rest c.outcome_of.ensures.out c.outcome_of.ensures.seen c.if-not-makes_all.ensures)
+    c.outcome_of.new.plan c.outcome_of.result.out c.outcome_of.result.seen c.outcome_of.ensures.rest c.outcome_of.ensures.out c.outcome_of.ensures.seen counts c.if-not-makes_all.ensures)
