@@ -171,22 +171,28 @@ fn take_in<R: Wait + Clock, N: Stepper + Drop, G: Gate>(
     ensures ok { IfOk result (λ t. ActsOn journal.old.node journal.old.writer.me.0 journal.new.writer.me.0 input t.answer t.beginning t.count) }
     ensures err { OnErr result (IsLater journal.old.writer.me.0 journal.new.writer.me.0) }
 {
-    pass(rt, journal, input, gate);
+    if !pass(rt, journal, input, gate) {
+        return Err(Refusal::NoMemory);
+    }
     let message = journal.begin(rt, number_of(input))?;
     let cause = cause_on(input, message);
     steps(rt, alloc, journal, node, cause, None)
 }
 
-// The gate is told of the step, and lets it pass.
-fn pass<R: Wait, G: Gate>(rt: &R, journal: &mut NodeJournal, input: Input, gate: &G)
+// Whether the step may be taken: the gate was told of it, and let it pass. It isn't told where what the step would be taken on can't be read.
+fn pass<R: Wait, G: Gate>(rt: &R, journal: &mut NodeJournal, input: Input, gate: &G) -> bool
     ensures node { journal.new.node ≡ journal.old.node }
     ensures later { IsLater journal.old.writer.me.0 journal.new.writer.me.0 }
 {
     if gate.is_open() {
-        return;
+        return true;
     }
-    if let Some(kind) = journal.kind(rt, input) {
-        gate.before(journal.node, kind);
+    match journal.kind(rt, input) {
+        Some(kind) => {
+            gate.before(journal.node, kind);
+            true
+        }
+        None => false,
     }
 }
 

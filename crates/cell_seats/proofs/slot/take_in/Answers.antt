@@ -6,6 +6,9 @@ use Rattle.cell_journal.specs.Writers.{IsRead}
 use Rattle.cell_seats.proofs.Moving.{led_still, later_trans, acts_all, err_all, for_node, no_call_on}
 use Rattle.cell_seats.proofs.slot.take_in.Goals as goal
 
+pub returns-then-not-pass-clause-led : goal.returns-then-not-pass-clause-led
+returns-then-not-pass-clause-led g c = led_still c.args.node.now g.N.Stepper.stands _ _ _ _ c.pass.ensures.node c.pass.ensures.later c.requires.led
+
 pub returns-in_err-message-clause-led : goal.returns-in_err-message-clause-led
 returns-in_err-message-clause-led g c = led_still c.args.node.now g.N.Stepper.stands _ _ _ _ (c.in_err-message.ensures.node ∙ c.pass.ensures.node) (later_trans _ _ _ c.pass.ensures.later c.in_err-message.ensures.later) c.requires.led
 
