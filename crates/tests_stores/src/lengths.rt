@@ -27,6 +27,6 @@ fn a_replica_is_as_long_as_its_bytes(rt: HostRuntime) -> Result<(), Fail> {
     let mut store = store;
     let found = lengths(&mut store, alloc);
     drop(store.into_disk());
-    assert!(rt; found == Ok([None, Some(10)]));
+    assert_eq!(rt; found, Ok([None, Some(10)]));
     Ok(())
 }
