@@ -4,6 +4,8 @@
 #[cfg(test)]
 mod appends;
 #[cfg(test)]
+mod calls;
+#[cfg(test)]
 mod cells;
 #[cfg(test)]
 mod gate;

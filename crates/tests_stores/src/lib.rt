@@ -14,6 +14,8 @@ mod disk_stops;
 #[cfg(test)]
 mod entries;
 #[cfg(test)]
+mod lengths;
+#[cfg(test)]
 mod log_bytes;
 #[cfg(test)]
 mod log_calls;

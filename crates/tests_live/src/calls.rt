@@ -1,0 +1,66 @@
+//! Each call of a client, by its seat's own method.
+
+use crate::cells::small;
+use bytes::Bytes;
+use cell_run::cell::{Cell, ClientSeat};
+use cell_run::laws::meet;
+use cell_seats::gate::OpenGate;
+use gfs_types::lists::Text;
+use gfs_types::refusal::Refusal;
+use std::alloc::Global;
+use std::sync::Wait;
+use std::test::*;
+use std::time::Clock;
+
+fn text(alloc: Global, path: &str) -> Result<Text, Refusal> {
+    match Text::from_str(path, alloc) {
+        Ok(path) => Ok(path),
+        Err(_) => Err(Refusal::NoMemory),
+    }
+}
+
+// A file in a directory is written, measured and closed.
+fn write_file<R: Wait + Clock>(
+    rt: &R,
+    alloc: Global,
+    seat: &mut ClientSeat,
+) -> Result<u64, Refusal> {
+    seat.mkdir(rt, text(alloc, "/d")?)?;
+    seat.create(rt, text(alloc, "/d/f")?, None)?;
+    let fd = seat.open(rt, text(alloc, "/d/f")?)?;
+    seat.write(rt, fd, 0, Bytes::from_static(b"a record"))?;
+    let count = seat.length(rt, fd)?;
+    seat.close(rt, fd)?;
+    Ok(count)
+}
+
+// It is copied, leaves its directory, which goes then, and goes itself. Gives how many names `/` has in the end.
+fn move_file<R: Wait + Clock>(
+    rt: &R,
+    alloc: Global,
+    seat: &mut ClientSeat,
+) -> Result<usize, Refusal> {
+    seat.snapshot(rt, text(alloc, "/d/f")?, text(alloc, "/g")?)?;
+    seat.rename(rt, text(alloc, "/d/f")?, text(alloc, "/f")?)?;
+    seat.rmdir(rt, text(alloc, "/d")?)?;
+    seat.delete(rt, text(alloc, "/f")?)?;
+    let names = seat.list(rt, text(alloc, "/")?)?;
+    Ok(names.len())
+}
+
+#[test]
+fn each_call_has_its_method(rt: HostRuntime) -> Result<(), Fail> {
+    let alloc = rt.alloc();
+    let mut cell = Cell::start(rt, alloc, small(3), 3, OpenGate)?;
+    let mut seat = cell.client()?;
+    let other = cell.client()?;
+    meet(&seat, &other);
+    let written = write_file(&rt, alloc, &mut seat);
+    let names = move_file(&rt, alloc, &mut seat);
+    drop(other);
+    drop(cell.close(&rt));
+    assert!(rt; written == Ok(8));
+    // The copy, and `/.gone`.
+    assert!(rt; names == Ok(2));
+    Ok(())
+}
