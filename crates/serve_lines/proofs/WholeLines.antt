@@ -1,0 +1,74 @@
+-- Whole lines, as they are read and kept.
+use Rattle.std.proofs.Common.{◌≡◌, ◌<◌, ◌≤◌, ℕ, suc, Bool, true, false, not, List, [], ◌∷◌, ◌++◌, ⊎_elim, length, take, Option, Some, None, inl, inr, refl, sym, ap, subst, ◌∙◌, arith}
+use Rattle.std.specs.Prelude.{◌==◌, is_empty, nat_le}
+use Rattle.std.proofs.lemmas.Bool.{false≢true}
+use Rattle.std.proofs.lemmas.List.{append-nil, append_assoc, length-take, take_all, take-append-le}
+use Rattle.std.proofs.lemmas.List.Elements.{All-nil, All-push}
+use Rattle.std.proofs.lemmas.List.Splits.{slice_split_none, slice_split_at}
+use lib.ListN.{length-append}
+use Rattle.script.specs.Reading.{line_feed, lines_in, HasNoFeed, Gives, Loses, AreRead}
+use Rattle.script.proofs.Bytes.{loses_none, loses_one}
+use Rattle.serve_lines.specs.Input.{kept_of, ReadsWholeLine}
+
+-- so much was read of a line of the known bytes, and this is kept of it
+pub record HasKept (from to : Option (List ℕ)) (line : List ℕ) : Type 0 where
+  pub text : List ℕ
+  pub none : HasNoFeed text
+  pub bytes : Loses from to text
+  pub kept : line ≡ kept_of text
+
+pub none_kept : (known : Option (List ℕ)) (line : List ℕ) → line ≡ [] → HasKept known known line
+none_kept known line is = record { text = []; none = All-nil (λ c. (c == line_feed) ≡ false); bytes = loses_none known; kept = is }
+
+pub few_kept : (text : List ℕ) → length (kept_of text) ≤ 8193
+few_kept text = omega (arith, length-take 8193 text)
+
+-- keeping goes on by what was kept
+kept_on : (text : List ℕ) (byte : ℕ) → kept_of (kept_of text ++ byte ∷ []) ≡ kept_of (text ++ byte ∷ [])
+kept_on text byte = go (nat_le (length text) 8193) refl
+  where
+    go : (b : Bool) → nat_le (length text) 8193 ≡ b → kept_of (kept_of text ++ byte ∷ []) ≡ kept_of (text ++ byte ∷ [])
+    go true few = ap (λ (l : List ℕ). kept_of (l ++ byte ∷ [])) (take_all 8193 text (grind arith))
+    go false many =
+        let long : 8193 ≤ length text = grind arith in
+        take-append-le 8193 (kept_of text) (byte ∷ []) (omega (arith, length-take 8193 text))
+        ∙ take_all 8193 (kept_of text) (omega (arith, length-take 8193 text))
+        ∙ sym (take-append-le 8193 text (byte ∷ []) long)
+
+pub one_kept : (from to last : Option (List ℕ)) (line after : List ℕ) (byte : ℕ) → HasKept from to line → Gives to last (Some byte) → (byte == 10) ≡ false → after ≡ kept_of (line ++ byte ∷ []) → HasKept from last after
+one_kept from to last line after byte h gives is after_is = record {
+  text = h.text ++ byte ∷ [];
+  none = All-push (λ c. (c == line_feed) ≡ false) h.text byte h.none is;
+  bytes = loses_one from to last h.text byte h.bytes gives;
+  kept = after_is ∙ ap (λ (l : List ℕ). kept_of (l ++ byte ∷ [])) h.kept ∙ kept_on h.text byte;
+}
+
+-- a line that ends at its line feed
+pub whole_line : (from to last : Option (List ℕ)) (line : List ℕ) (byte : ℕ) → HasKept from to line → Gives to last (Some byte) → byte ≡ 10 → ReadsWholeLine from last line true
+whole_line None to last line byte h gives is = tt
+whole_line (Some xs) None last line byte h gives is = absurd h.bytes
+whole_line (Some xs) (Some ys) None line byte h gives is = absurd gives
+whole_line (Some xs) (Some ys) (Some zs) line byte h gives is =
+    let all : xs ≡ h.text ++ line_feed ∷ zs = h.bytes ∙ ap (λ (l : List ℕ). h.text ++ l) (gives ∙ ap (λ (b : ℕ). b ∷ zs) is) in
+    (h.text, h.kept, inl (ap (λ (t : List ℕ). lines_in t) all ∙ slice_split_at (λ c. c == line_feed) h.text line_feed zs h.none refl))
+
+some_kept : (text line : List ℕ) → line ≡ kept_of text → not (is_empty line) ≡ true → text ≡ [] → ⊥
+some_kept text line kept more is = let empty : line ≡ [] = kept ∙ ap kept_of is in false≢true (ap (λ (l : List ℕ). not (is_empty l)) (sym empty) ∙ more)
+
+none_left : (text line : List ℕ) → line ≡ kept_of text → not (is_empty line) ≡ false → text ≡ []
+none_left [] line kept none = refl
+none_left (x ∷ text) line kept none = absurd (false≢true (sym none ∙ ap (λ (l : List ℕ). not (is_empty l)) kept))
+
+-- the last line, which has no line feed, or no line
+pub last_line : (from to last : Option (List ℕ)) (line : List ℕ) → HasKept from to line → Gives to last None → ReadsWholeLine from last line (not (is_empty line))
+last_line None to last line h gives = tt
+last_line (Some xs) None last line h gives = absurd h.bytes
+last_line (Some xs) (Some ys) None line h gives = absurd gives
+last_line (Some xs) (Some ys) (Some zs) line h gives = go (not (is_empty line)) refl
+  where
+    all : xs ≡ h.text
+    all = h.bytes ∙ ap (λ (l : List ℕ). h.text ++ l) gives.0 ∙ append-nil h.text
+
+    go : (b : Bool) → not (is_empty line) ≡ b → ReadsWholeLine (Some xs) (Some zs) line b
+    go true more = (h.text, h.kept, inr (ap (λ (t : List ℕ). lines_in t) all ∙ slice_split_none (λ c. c == line_feed) h.text h.none, gives.1))
+    go false none = (all ∙ none_left h.text line h.kept none, gives.1)
