@@ -1,31 +1,63 @@
 //! What the threads of a served cell tell each other.
 
+ghost use Rattle.serve.specs.Messages.{Service, nothing_served, IsAsked, IsReply, AreAsked};
+
+use cell_journal::Beginning;
+use cell_journal::raised_entry::RaisedEntry;
 use gfs_types::answer::Answer;
 use gfs_types::call::Call;
 use gfs_types::ids::{ClientId, Node};
+use script::script_fault::ScriptFault;
+use std::marker::{Brand, PhantomData};
+
+/// Names what is served, for clauses alone: all threads speak of the same.
+pub trait Serving {
+    ghost of: { Service };
+}
+
+impl Serving for Brand {
+    ghost of = { nothing_served };
+}
 
 /// A client's call, and how many calls the lines have for this client before it.
 #[derive(Drop)]
-pub struct AskedCall {
+pub struct AskedCall<S: Serving> {
+    pub client: ClientId,
     pub number: u64,
     pub call: Call,
+    pub of: PhantomData<S>,
+    ghost asked: { IsAsked S.of client.0 number call },
 }
 
-/// What a client was answered, and how many answers it had before.
+/// What a client was answered, and how many answers it had before; whether the cell itself refused the call, and the cell's whole history up to the
+/// client's last answer, which clauses read.
 #[derive(Drop)]
-pub struct Reply {
+pub struct Reply<S: Serving> {
     pub client: ClientId,
     pub number: u64,
     pub answer: Answer,
+    pub is_lost: bool,
+    pub seen: Beginning<RaisedEntry>,
+    pub of: PhantomData<S>,
+    ghost answered: { IsReply S.of client.0 number answer seen is_lost },
 }
 
 /// What is to be done by whoever has the cell.
 #[derive(Drop)]
-pub enum Told {
+pub enum Told<S: Serving> {
     /// To print an answer.
-    Answered(Reply),
+    Answered(Reply<S>),
     /// To print for how many steps more there is room in the journal.
     Room,
     /// To ask a node to begin again.
     Restart(Node),
+}
+
+/// How many calls each client was asked for, and why no more lines were taken, if it was not for their end.
+#[derive(Drop)]
+pub struct Asked<S: Serving> {
+    pub asked: Vec<u64>,
+    pub outcome: Result<(), ScriptFault>,
+    pub of: PhantomData<S>,
+    ghost are: { AreAsked S.of outcome asked.items },
 }

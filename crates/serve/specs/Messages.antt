@@ -1,0 +1,122 @@
+-- What the threads of a served cell tell each other.
+use Rattle.std.specs.Prelude.{◌≡◌, ◌+◌, ◌-◌, ◌&&◌, nat_lt, nat_le, if◌then◌else◌, ℕ, suc, Bool, true, false, List, [], ◌∷◌, ◌++◌, length, slice_get, Option, Some, None, IfSome, Result, OnOk, IsTrue}
+use mathlib.Core.List.{IsPrefix}
+use Rattle.gfs_types.specs.declared.answer.Answer.{Answer}
+use Rattle.gfs_types.specs.declared.answer.Answer.TheVariants as answer
+use Rattle.gfs_types.specs.declared.call.Call.{Call}
+use Rattle.gfs_types.specs.declared.ids.Node.{Node}
+use Rattle.gfs_types.specs.declared.ids.Node.TheVariants.{Client}
+use Rattle.gfs_types.specs.Settings.{default_settings}
+use Rattle.gfs_types.specs.declared.refusal.Refusal.{Refusal}
+use Rattle.protocol_journal.specs.Journal.{Entry, own}
+use Rattle.journal_headline.specs.Journals.{AreExplained}
+use Rattle.cell_journal.specs.Clocks.{are_clocks_kept}
+use Rattle.cell_journal.specs.Identity.{Identity, identity}
+use Rattle.cell_journal.specs.Log.{Listed, listed}
+use Rattle.cell_journal.specs.WholeHistories.{IsHistoryOf}
+use Rattle.cell_seats.specs.Seats.{SeatState, IsAnswered, IsLost, is_the_cells}
+use Rattle.cell_seats.specs.Seen.{visible_of}
+use Rattle.live.specs.Playing.{calls_of, shown_as, AreOfTheCell}
+use Rattle.script.specs.Reading.{Leaves}
+use Rattle.script.specs.declared.live_lines.LiveLine.{LiveLine}
+use Rattle.script.specs.declared.script_fault.ScriptFault.{ScriptFault}
+use Rattle.serve.specs.Served.{calls_in, calls_served}
+
+-- What is served: the input, where its bytes are known, how many clients there are, and the cell.
+pub record Service : Type 0 where
+  pub input : Option (List ℕ)
+  pub clients : ℕ
+  pub cell : Identity
+
+-- where nothing is served
+abbrev pub nothing_served : Service
+nothing_served = record { input = None; clients = 0; cell = identity (record { number = 0; log_name = 0; cells_name = 0 }) default_settings 0 0 [] [] }
+
+-- the calls that the lines have for a client
+abbrev pub calls_for : ℕ → ℕ → List ℕ → List Call
+calls_for clients client input = calls_of client (calls_served clients input)
+
+-- the lines have this call for a client behind so many others of it
+abbrev pub IsAsked : Service → ℕ → ℕ → Call → Type 0
+IsAsked s client number call = IfSome s.input (λ input. slice_get (calls_for s.clients client input) number ≡ Some call)
+
+-- these are the first calls that the lines have for a client
+abbrev pub AreFirstCalls : Service → ℕ → List Call → Type 0
+AreFirstCalls s client calls = IfSome s.input (λ input. IsPrefix calls (calls_for s.clients client input))
+
+-- A history of the cell, in which clocks were kept, and whose calls and answers are a run of the machine.
+pub record IsSeenOf (s : Service) (seen : Listed Entry) : Type 0 where
+  pub name : seen.name ≡ s.cell.name
+  pub lawful : IsHistoryOf s.cell seen.items
+  pub clocks : IsTrue (are_clocks_kept s.cell seen.items)
+  pub explained : AreExplained s.cell.config seen.items
+
+-- a history in which a client made its first calls, and was answered so
+pub record HasAnswers (s : Service) (client : ℕ) (seen : Listed Entry) (replies : List Answer) : Type 0 where
+  pub of : IsSeenOf s seen
+  pub calls : List Call
+  pub are : AreFirstCalls s client calls
+  pub each : length calls ≡ length replies
+  pub shows : visible_of (own (Client (record { 0 = client })) seen.items) ≡ shown_as calls replies
+
+-- a client that made so many calls; as long as the cell itself refused none of them, it was answered each
+pub record IsServed (s : Service) (client made : ℕ) (seat : SeatState) : Type 0 where
+  pub node : seat.node ≡ Client (record { 0 = client })
+  pub earlier : seat.earlier ≡ []
+  pub cell : seat.cell ≡ s.cell
+  pub replies : List Answer
+  pub answered : HasAnswers s client (listed seat.cell.name seat.seen) replies
+  pub count : seat.is_lost ≡ false → length replies ≡ made
+
+-- A client's answer behind so many others of it: a history of the cell has it last, or it is a refusal of the cell itself.
+pub data IsReply (s : Service) (client number : ℕ) (reply : Answer) (seen : Listed Entry) : Bool → Type 0 where
+  Heard : (before : List Answer) → length before ≡ number → HasAnswers s client seen (before ++ reply ∷ []) → IsReply s client number reply seen false
+  Refused : (call : Call) → IsAsked s client number call → (refusal : Refusal) → reply ≡ answer.Refused refusal → IsTrue (is_the_cells refusal) → IsReply s client number reply seen true
+
+-- So many answers of a client were printed: those that this history of the cell has, and then refusals of the cell itself.
+pub record IsPrinted (s : Service) (client count : ℕ) (is_lost : Bool) (seen : Listed Entry) (printed : List Answer) : Type 0 where
+  pub replies : List Answer
+  pub refusals : List Answer
+  pub are : printed ≡ replies ++ refusals
+  pub count_is : length printed ≡ count
+  pub answered : HasAnswers s client seen replies
+  pub refused : List Call
+  pub each : length refused ≡ length refusals
+  pub asked : AreFirstCalls s client (answered.calls ++ refused)
+  pub of_the_cell : AreOfTheCell refusals
+  pub none_refused : is_lost ≡ false → refusals ≡ []
+
+-- so many calls were handed out to each client: all that these lines have
+abbrev pub AreCounts : List ℕ → List LiveLine → Type 0
+AreCounts counts lines = (k count : ℕ) → slice_get counts k ≡ Some count → count ≡ length (calls_of (suc k) lines)
+
+-- some lines of the input were read, and their calls were handed out
+pub record HaveAsked (s : Service) (from to : Option (List ℕ)) (counts : List ℕ) : Type 0 where
+  pub texts : List (List ℕ)
+  pub leaves : Leaves from to texts
+  pub are : AreCounts counts (calls_in s.clients texts)
+  pub clients : length counts ≡ s.clients
+
+-- each client was asked for so many calls: all that the lines have for it, where they were taken to their end
+pub record AreAsked (s : Service) (outcome : Result (Unit {0}) ScriptFault) (counts : List ℕ) : Type 0 where
+  pub clients : length counts ≡ s.clients
+  pub all : OnOk outcome (IfSome s.input (λ input. AreCounts counts (calls_served s.clients input)))
+
+-- the place of the client of this number, which is 1 for the first of so many
+abbrev pub place_of : ℕ → ℕ → Option ℕ
+place_of client clients = if nat_lt 0 client && nat_le client clients then Some (client - 1) else None
+
+-- of these calls the first of each client comes next, behind so many that were handed out
+pub record AreNext (s : Service) (counts : List ℕ) (lines : List LiveLine) : Type 0 where
+  pub clients : length counts ≡ s.clients
+  pub each : (k count : ℕ) (call : Call) → slice_get counts k ≡ Some count → slice_get (calls_of (suc k) lines) 0 ≡ Some call → IsAsked s (suc k) count call
+
+-- these calls more were handed out
+pub record AreTaken (old new : List ℕ) (lines : List LiveLine) : Type 0 where
+  pub clients : length new ≡ length old
+  pub each : (k count : ℕ) → slice_get old k ≡ Some count → slice_get new k ≡ Some (count + length (calls_of (suc k) lines))
+
+-- a call was answered, or the cell itself refused it
+pub data IsMade (old new : SeatState) (call : Call) (reply : Answer) : Bool → Type 0 where
+  IsHeard : IsAnswered old new call reply → IsMade old new call reply false
+  IsRefused : (refusal : Refusal) → reply ≡ answer.Refused refusal → IsLost old new refusal → IsMade old new call reply true
