@@ -1,9 +1,9 @@
 #!/usr/bin/env python3
 """A client of `gfscell serve` in another language: four producers append records to one file, and a reader follows it by the recipe of docs/TRUST.md.
 
-    examples/producers.py [--records N] [--program PROGRAM] [options of serve]
+    examples/producers.py [--records N] [--restarts] [--program PROGRAM] [options of serve]
 
-The program is ./gfscell of this repository, or PROGRAM. Each producer appends N records (100). At the end it prints how many records were answered, how many of them the reader
+The program is ./gfscell of this repository, or PROGRAM. Each producer appends N records (100). With --restarts the master and the servers begin again in turn meanwhile. At the end it prints how many records were answered, how many of them the reader
 has, and how many it took twice or from appends that failed. The exit status is 0 where the reader has each record that was answered."""
 import collections
 import os
@@ -17,6 +17,7 @@ import zlib
 TOP = os.path.dirname(os.path.dirname(os.path.abspath(__file__)))
 PRODUCERS = 4
 CHUNK = 65536
+NODES = ('master', 's1', 's2', 's3')
 FILE = '/log'
 MARK = b'\xf5REC'
 # behind the mark: the length of the text, the producer and its number, and the checksum of these and the text
@@ -206,7 +207,7 @@ def look_until_served(reader, is_whole):
                 raise
 
 
-def run(program, options, records):
+def run(program, options, records, restarts):
     cell = Cell(program, ['--chunk', str(CHUNK), '--block', '1024', *options], PRODUCERS + 1)
     reader = Reader(cell, PRODUCERS + 1)
     reader.client.create(FILE)
@@ -215,6 +216,8 @@ def run(program, options, records):
         producer.start()
     looks = 0
     while any(producer.is_alive() for producer in producers):
+        if restarts:
+            cell.send(f'restart {NODES[looks % len(NODES)]}')
         look_until_served(reader, is_whole=False)
         looks += 1
     for producer in producers:
@@ -239,7 +242,9 @@ def option(words, name, default):
 def main(words):
     records = int(option(words, '--records', '100'))
     program = option(words, '--program', os.path.join(TOP, 'gfscell'))
-    status, answered, followed, looks, reader, producers = run(program, words, records)
+    restarts = '--restarts' in words
+    options = [word for word in words if word != '--restarts']
+    status, answered, followed, looks, reader, producers = run(program, options, records, restarts)
     for producer in producers:
         if producer.fault is not None:
             print(f'producer {producer.number}: {type(producer.fault).__name__} {producer.fault}')
