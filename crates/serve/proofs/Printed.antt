@@ -35,7 +35,7 @@ answers_begin (c ∷ cs) (d ∷ ds) (r ∷ rs) (t ∷ ts) e f p =
     let rest = answers_begin cs ds rs ts (omega (arith, e)) (omega (arith, f)) (p.0, tail) in
     (rest.0, ap₂ (λ (x : Answer) (l : List Answer). x ∷ l) same rest.1)
 
-same_length : {X : Type 0} (xs ys : List X) → length xs ≡ length ys → IsPrefix xs ys → xs ≡ ys
+pub same_length : {X : Type 0} (xs ys : List X) → length xs ≡ length ys → IsPrefix xs ys → xs ≡ ys
 same_length [] [] e p = refl
 same_length [] (y ∷ ys) e p = absurd (omega (arith, e))
 same_length (x ∷ xs) [] e p = absurd (omega (arith, e))
@@ -124,8 +124,8 @@ module _ (s : Service) (client count : ℕ) (was : Bool) (seen : Listed Entry) (
         none_refused = λ _. refl;
       }
 
-  all_asked : length (h.answered.calls ++ h.refused) ≡ count
-  all_asked = omega (arith, length-append h.answered.calls h.refused, h.answered.each, h.each, h.count_is, ap length h.are, length-append h.replies h.refusals)
+  pub printed_count : length (h.answered.calls ++ h.refused) ≡ count
+  printed_count = omega (arith, length-append h.answered.calls h.refused, h.answered.each, h.each, h.count_is, ap length h.are, length-append h.replies h.refusals)
 
   pub refused_now : (reply : Answer) (now : Listed Entry) (number : ℕ) → number ≡ count → IsReply s client number reply now true → IsPrinted s client (count + 1) true seen (printed ++ reply ∷ [])
   refused_now reply now number same (Refused call asked refusal is own_one) = record {
@@ -137,7 +137,7 @@ module _ (s : Service) (client count : ℕ) (was : Bool) (seen : Listed Entry) (
     refused = h.refused ++ call ∷ [];
     each = longer h.refused call ∙ (ap (λ (k : ℕ). suc k) h.each ∙ sym (longer h.refusals reply));
     asked = subst (AreFirstCalls s client) (append_assoc h.answered.calls h.refused (call ∷ []))
-        (first_more s client number (h.answered.calls ++ h.refused) call (all_asked ∙ sym same) h.asked asked);
+        (first_more s client number (h.answered.calls ++ h.refused) call (printed_count ∙ sym same) h.asked asked);
     of_the_cell = subst (λ (r : Answer). AreOfTheCell (h.refusals ++ r ∷ [])) (sym is) (refused_more h.refusals refusal h.of_the_cell own_one);
     none_refused = λ is_open. absurd (let both : true ≡ false = is_open in cc);
   }

@@ -1,29 +1,53 @@
 -- What is printed, one thing after another.
-use Rattle.std.specs.Prelude.{◌≡◌, ◌≤◌, ◌+◌, ◌<◌, ◌^◌, ℕ, suc, false, List, [], ◌++◌, length, slice_get, Option, Some}
+use Rattle.std.specs.Prelude.{◌≡◌, ◌≤◌, ◌+◌, ◌<◌, ◌^◌, ℕ, suc, Bool, false, List, [], ◌++◌, length, map, slice_get, Option, Some}
 use Rattle.std.specs.List.{flat_map}
 use Rattle.std.specs.Io.KnownBytes.{Appends}
 use mathlib.Core.List.{IsPrefix}
+use Rattle.gfs_types.specs.declared.answer.Answer.{Answer}
 use Rattle.protocol_journal.specs.Journal.{Entry}
 use Rattle.cell_journal.specs.Log.{Listed}
 use Rattle.serve.specs.Served.{Printed, answers_to, printed_text}
-use Rattle.serve.specs.declared.printing.PrintedAnswers.{PrintedAnswers}
+use Rattle.serve.specs.Messages.{Service, IsPrinted}
 use Rattle.serve.specs.declared.messages.Reply.{Reply}
+use Rattle.serve.specs.declared.printing.PrintedAnswers.{PrintedAnswers}
+
+-- where a client stands: how many of its answers were printed, whether the cell itself refused a call of it, the history that has its calls, and these answers
+pub record Stand : Type 0 where
+  pub client : ℕ
+  pub count : ℕ
+  pub is_lost : Bool
+  pub seen : Listed Entry
+  pub answers : List Answer
+
+abbrev pub stand_of : {S : Type 0} → PrintedAnswers S → Stand
+stand_of p = record { client = p.client.0; count = p.count; is_lost = p.is_lost; seen = p.seen; answers = p.answers.items }
+
+abbrev pub stands_of : {S : Type 0} → List (PrintedAnswers S) → List Stand
+stands_of printed = map stand_of printed
+
+-- each client's stands at its place
+abbrev pub AreInOrder : List Stand → Type 0
+AreInOrder stands = (k : ℕ) (p : Stand) → slice_get stands k ≡ Some p → p.client ≡ suc k
+
+-- nothing was printed of any client
+abbrev pub AreNew : List Stand → Type 0
+AreNew stands = (k : ℕ) (p : Stand) → slice_get stands k ≡ Some p → p.answers ≡ []
+
+-- what was printed of each are its first answers
+abbrev pub AllPrinted : Service → List Stand → Type 0
+AllPrinted s stands = (k : ℕ) (p : Stand) → slice_get stands k ≡ Some p → IsPrinted s (suc k) p.count p.is_lost p.seen p.answers
 
 -- a client's answers among these were printed behind those that were
-pub record GoesOn {S : Type 0} (printed : List Printed) (old new : PrintedAnswers S) : Type 0 where
+pub record GoesOn (printed : List Printed) (old new : Stand) : Type 0 where
   pub client : new.client ≡ old.client
-  pub answers : new.answers.items ≡ old.answers.items ++ answers_to old.client.0 printed
+  pub answers : new.answers ≡ old.answers ++ answers_to old.client printed
 
 -- these were printed
-pub record PrintsOn {S : Type 0} (olds news : List (PrintedAnswers S)) (before after : Option (List ℕ)) : Type 0 where
+pub record PrintsOn (olds news : List Stand) (before after : Option (List ℕ)) : Type 0 where
   pub printed : List Printed
   pub text : Appends before after (flat_map printed_text printed)
   pub count : length news ≡ length olds
-  pub each : (k : ℕ) (old new : PrintedAnswers S) → slice_get olds k ≡ Some old → slice_get news k ≡ Some new → GoesOn printed old new
-
--- each client's stand at its place
-abbrev pub AreInOrder : {S : Type 0} → List (PrintedAnswers S) → Type 0
-AreInOrder {S} printed = (k : ℕ) (p : PrintedAnswers S) → slice_get printed k ≡ Some p → p.client.0 ≡ suc k
+  pub each : (k : ℕ) (old new : Stand) → slice_get olds k ≡ Some old → slice_get news k ≡ Some new → GoesOn printed old new
 
 -- it is the client's next answer
 pub record IsNextOf {S : Type 0} (p : PrintedAnswers S) (reply : Reply S) : Type 0 where
@@ -32,19 +56,15 @@ pub record IsNextOf {S : Type 0} (p : PrintedAnswers S) (reply : Reply S) : Type
   pub few : p.count + 1 < 2 ^ 64
   pub open_still : reply.is_lost ≡ false → p.is_lost ≡ false
 
--- nothing was printed of any client
-abbrev pub AreNew : {S : Type 0} → List (PrintedAnswers S) → Type 0
-AreNew {S} printed = (k : ℕ) (p : PrintedAnswers S) → slice_get printed k ≡ Some p → p.answers.items ≡ []
+-- where the history at this place is not longer than another one it begins that
+abbrev pub MeetsEach : List Stand → ℕ → Type 0
+MeetsEach stands i = (j : ℕ) (p q : Stand) → slice_get stands i ≡ Some p → slice_get stands j ≡ Some q → length p.seen.items ≤ length q.seen.items → IsPrefix p.seen.items q.seen.items
 
--- of each two the shorter begins the longer
-abbrev pub AreComparable : List (Listed Entry) → Type 0
-AreComparable xs = (i j : ℕ) (p q : Listed Entry) → slice_get xs i ≡ Some p → slice_get xs j ≡ Some q → length p.items ≤ length q.items → IsPrefix p.items q.items
-
--- where the one at this place is not longer than another one it begins that
-abbrev pub MeetsEach : List (Listed Entry) → ℕ → Type 0
-MeetsEach xs i = (j : ℕ) (p q : Listed Entry) → slice_get xs i ≡ Some p → slice_get xs j ≡ Some q → length p.items ≤ length q.items → IsPrefix p.items q.items
+-- of each two histories the shorter begins the longer
+abbrev pub AreComparable : List Stand → Type 0
+AreComparable stands = (i : ℕ) → MeetsEach stands i
 
 -- of each client so many answers were printed as it was asked for calls
-pub record AreAllPrinted {S : Type 0} (asked : List ℕ) (printed : List (PrintedAnswers S)) : Type 0 where
-  pub clients : length asked ≡ length printed
-  pub each : (k count : ℕ) (p : PrintedAnswers S) → slice_get asked k ≡ Some count → slice_get printed k ≡ Some p → p.count ≡ count
+pub record AreAllPrinted (asked : List ℕ) (stands : List Stand) : Type 0 where
+  pub clients : length asked ≡ length stands
+  pub each : (k count : ℕ) (p : Stand) → slice_get asked k ≡ Some count → slice_get stands k ≡ Some p → p.count ≡ count

@@ -5,7 +5,7 @@ ghost use Rattle.std.specs.Io.KnownBytes.{Appends, Keeps};
 ghost use Rattle.script.specs.ScriptFaults.{IsOfWrite};
 ghost use Rattle.serve.specs.Served.{room_line};
 ghost use Rattle.serve.specs.Messages.{IsPrinted};
-ghost use Rattle.serve.specs.Printing.{AreInOrder, PrintsOn, IsNextOf};
+ghost use Rattle.serve.specs.Printing.{AreInOrder, PrintsOn, IsNextOf, stands_of};
 
 use crate::messages::{Reply, Serving, Told};
 use crate::reading::place_of;
@@ -51,9 +51,9 @@ pub fn print_all<S: Serving, R: Wait, W: Write>(
     printed: &mut [PrintedAnswers<S>],
     writer: &mut W,
 ) -> Result<(), ScriptFault>
-    requires { AreInOrder printed.old }
+    requires { AreInOrder (stands_of printed.old) }
     ensures cell { cell.new.of ≡ cell.old.of }
-    ensures printed { OnOk result (PrintsOn printed.old printed.new (W.contents writer.old) (W.contents writer.new)) }
+    ensures printed { OnOk result (PrintsOn (stands_of printed.old) (stands_of printed.new) (W.contents writer.old) (W.contents writer.new)) }
     ensures fault { IfErr result IsOfWrite }
 {
     for _ in rt.forever() {
@@ -82,9 +82,9 @@ fn obey_waiting<S: Serving, R: Wait, W: Write>(
     printed: &mut [PrintedAnswers<S>],
     writer: &mut W,
 ) -> Result<(), ScriptFault>
-    requires { AreInOrder printed.old }
+    requires { AreInOrder (stands_of printed.old) }
     ensures cell { cell.new.of ≡ cell.old.of }
-    ensures printed { OnOk result (PrintsOn printed.old printed.new (W.contents writer.old) (W.contents writer.new)) }
+    ensures printed { OnOk result (PrintsOn (stands_of printed.old) (stands_of printed.new) (W.contents writer.old) (W.contents writer.new)) }
     ensures fault { IfErr result IsOfWrite }
 {
     for _ in 0..MOST_AT_ONCE {
@@ -103,9 +103,9 @@ fn obey<S: Serving, R: Wait, W: Write>(
     printed: &mut [PrintedAnswers<S>],
     writer: &mut W,
 ) -> Result<(), ScriptFault>
-    requires { AreInOrder printed.old }
+    requires { AreInOrder (stands_of printed.old) }
     ensures cell { cell.new.of ≡ cell.old.of }
-    ensures printed { OnOk result (PrintsOn printed.old printed.new (W.contents writer.old) (W.contents writer.new)) }
+    ensures printed { OnOk result (PrintsOn (stands_of printed.old) (stands_of printed.new) (W.contents writer.old) (W.contents writer.new)) }
     ensures fault { IfErr result IsOfWrite }
 {
     match one {
@@ -124,8 +124,8 @@ fn print_reply<S: Serving, W: Write>(
     printed: &mut [PrintedAnswers<S>],
     writer: &mut W,
 ) -> Result<(), ScriptFault>
-    requires { AreInOrder printed.old }
-    ensures printed { OnOk result (PrintsOn printed.old printed.new (W.contents writer.old) (W.contents writer.new)) }
+    requires { AreInOrder (stands_of printed.old) }
+    ensures printed { OnOk result (PrintsOn (stands_of printed.old) (stands_of printed.new) (W.contents writer.old) (W.contents writer.new)) }
     ensures fault { IfErr result IsOfWrite }
 {
     let Some(place) = place_of(reply.client.0, printed.len()) else {

@@ -1,11 +1,11 @@
 //! Serves a new cell.
 
-ghost use Rattle.std.specs.Prelude.{◌≡◌, ◌<◌, IfOk, IfErr, OnOk, length, map, replicate, true};
+ghost use Rattle.std.specs.Prelude.{◌≡◌, ◌<◌, IfOk, IfErr, OnOk, length, replicate, true};
 ghost use Rattle.cell_run.specs.Cells.{IsCellOf};
 ghost use Rattle.live.specs.Playing.{Each, IsNewPlayer};
 ghost use Rattle.serve.specs.Messages.{HaveAsked};
 ghost use Rattle.serve.specs.Outcomes.{Serves, Stops};
-ghost use Rattle.serve.specs.Printing.{AreAllPrinted, AreComparable, AreInOrder, AreNew, MeetsEach};
+ghost use Rattle.serve.specs.Printing.{AreAllPrinted, AreComparable, AreInOrder, AreNew, MeetsEach, stands_of};
 
 use crate::client::ServedClient;
 use crate::messages::{Asked, AskedCall, Serving, Told};
@@ -149,8 +149,8 @@ fn start_clients<S: Serving + Send + 'static, T: Threads + Wait + Clock + Copy +
     told: &Sender<Told<S>>,
 ) -> Result<Clients<S>, ScriptFault>
     ensures count { IfOk result (λ c. length c.printed.items ≡ length players.items) }
-    ensures order { IfOk result (λ c. AreInOrder c.printed.items) }
-    ensures new { IfOk result (λ c. AreNew c.printed.items) }
+    ensures order { IfOk result (λ c. AreInOrder (stands_of c.printed.items)) }
+    ensures new { IfOk result (λ c. AreNew (stands_of c.printed.items)) }
 {
     let mut all = Clients {
         calls: Vec::new(alloc),
@@ -279,7 +279,7 @@ fn read_on<S: Serving, T: Wait, R: Read + Drop, F: LineFaults>(
 
 // What the clients saw are beginnings of one history.
 fn meet_all<S: Serving>(printed: &[PrintedAnswers<S>])
-    ensures { AreComparable (map (λ p. p.seen) printed.now) }
+    ensures { AreComparable (stands_of printed.now) }
 {
     for before in 0..printed.len() {
         meet_each(printed, before);
@@ -289,7 +289,7 @@ fn meet_all<S: Serving>(printed: &[PrintedAnswers<S>])
 // What one of them saw, and what each of them saw.
 fn meet_each<S: Serving>(printed: &[PrintedAnswers<S>], one: usize)
     requires { one < length printed.now }
-    ensures { MeetsEach (map (λ p. p.seen) printed.now) one }
+    ensures { MeetsEach (stands_of printed.now) one }
 {
     for before in 0..printed.len() {
         meet(&printed[one].seen, &printed[before].seen);
@@ -298,7 +298,7 @@ fn meet_each<S: Serving>(printed: &[PrintedAnswers<S>], one: usize)
 
 // Whether each call that was asked was answered, and its answer printed.
 fn are_all_printed<S: Serving>(asked: &[u64], printed: &[PrintedAnswers<S>]) -> bool
-    ensures { result ≡ true → AreAllPrinted asked.now printed.now }
+    ensures { result ≡ true → AreAllPrinted asked.now (stands_of printed.now) }
 {
     if asked.len() != printed.len() {
         return false;

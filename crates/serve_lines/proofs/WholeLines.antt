@@ -1,6 +1,8 @@
 -- Whole lines, as they are read and kept.
 use Rattle.std.proofs.Common.{◌≡◌, ◌<◌, ◌≤◌, ℕ, suc, Bool, true, false, not, List, [], ◌∷◌, ◌++◌, ⊎_elim, length, take, Option, Some, None, inl, inr, refl, sym, ap, subst, ◌∙◌, arith}
-use Rattle.std.specs.Prelude.{◌==◌, is_empty, nat_le}
+use Rattle.std.specs.Prelude.{◌==◌, is_empty, nat_le, nat_lt, if◌then◌else◌, codes}
+use Rattle.std.specs.Str.{bytes_eq}
+use Rattle.std.proofs.lemmas.Bool.Decides.{nat_tests}
 use Rattle.std.proofs.lemmas.Bool.{false≢true}
 use Rattle.std.proofs.lemmas.List.{append-nil, append_assoc, length-take, take_all, take-append-le}
 use Rattle.std.proofs.lemmas.List.Elements.{All-nil, All-push}
@@ -8,7 +10,10 @@ use Rattle.std.proofs.lemmas.List.Splits.{slice_split_none, slice_split_at}
 use lib.ListN.{length-append}
 use Rattle.script.specs.Reading.{line_feed, lines_in, HasNoFeed, Gives, Loses, AreRead}
 use Rattle.script.proofs.Bytes.{loses_none, loses_one}
+use Rattle.script.specs.Lines.{is_skipped, words_of}
 use Rattle.serve_lines.specs.Input.{kept_of, ReadsWholeLine}
+use Rattle.serve_lines.specs.Lines.{line_for, served_line_of}
+use Rattle.serve_lines.specs.declared.lines.ServedLine.TheVariants.{Nothing, Room}
 
 -- so much was read of a line of the known bytes, and this is kept of it
 pub record HasKept (from to : Option (List ℕ)) (line : List ℕ) : Type 0 where
@@ -28,9 +33,9 @@ kept_on : (text : List ℕ) (byte : ℕ) → kept_of (kept_of text ++ byte ∷ [
 kept_on text byte = go (nat_le (length text) 8193) refl
   where
     go : (b : Bool) → nat_le (length text) 8193 ≡ b → kept_of (kept_of text ++ byte ∷ []) ≡ kept_of (text ++ byte ∷ [])
-    go true few = ap (λ (l : List ℕ). kept_of (l ++ byte ∷ [])) (take_all 8193 text (grind arith))
+    go true few = ap (λ (l : List ℕ). kept_of (l ++ byte ∷ [])) (take_all 8193 text (grind (arith, nat_tests, few)))
     go false many =
-        let long : 8193 ≤ length text = grind arith in
+        let long : 8193 ≤ length text = grind (arith, nat_tests, many) in
         take-append-le 8193 (kept_of text) (byte ∷ []) (omega (arith, length-take 8193 text))
         ∙ take_all 8193 (kept_of text) (omega (arith, length-take 8193 text))
         ∙ sym (take-append-le 8193 text (byte ∷ []) long)
@@ -43,6 +48,10 @@ one_kept from to last line after byte h gives is after_is = record {
   kept = after_is ∙ ap (λ (l : List ℕ). kept_of (l ++ byte ∷ [])) h.kept ∙ kept_on h.text byte;
 }
 
+no_feed : (text rest : List ℕ) → text ++ line_feed ∷ rest ≡ [] → ⊥
+no_feed [] rest e = absurd (cc)
+no_feed (x ∷ text) rest e = absurd (cc)
+
 -- a line that ends at its line feed
 pub whole_line : (from to last : Option (List ℕ)) (line : List ℕ) (byte : ℕ) → HasKept from to line → Gives to last (Some byte) → byte ≡ 10 → ReadsWholeLine from last line true
 whole_line None to last line byte h gives is = tt
@@ -50,7 +59,7 @@ whole_line (Some xs) None last line byte h gives is = absurd h.bytes
 whole_line (Some xs) (Some ys) None line byte h gives is = absurd gives
 whole_line (Some xs) (Some ys) (Some zs) line byte h gives is =
     let all : xs ≡ h.text ++ line_feed ∷ zs = h.bytes ∙ ap (λ (l : List ℕ). h.text ++ l) (gives ∙ ap (λ (b : ℕ). b ∷ zs) is) in
-    (h.text, h.kept, inl (ap (λ (t : List ℕ). lines_in t) all ∙ slice_split_at (λ c. c == line_feed) h.text line_feed zs h.none refl))
+    (λ none. no_feed h.text zs (sym all ∙ none), h.text, h.kept, inl (ap (λ (t : List ℕ). lines_in t) all ∙ slice_split_at (λ c. c == line_feed) h.text line_feed zs h.none refl))
 
 some_kept : (text line : List ℕ) → line ≡ kept_of text → not (is_empty line) ≡ true → text ≡ [] → ⊥
 some_kept text line kept more is = let empty : line ≡ [] = kept ∙ ap kept_of is in false≢true (ap (λ (l : List ℕ). not (is_empty l)) (sym empty) ∙ more)
@@ -70,5 +79,20 @@ last_line (Some xs) (Some ys) (Some zs) line h gives = go (not (is_empty line)) 
     all = h.bytes ∙ ap (λ (l : List ℕ). h.text ++ l) gives.0 ∙ append-nil h.text
 
     go : (b : Bool) → not (is_empty line) ≡ b → ReadsWholeLine (Some xs) (Some zs) line b
-    go true more = (h.text, h.kept, inr (ap (λ (t : List ℕ). lines_in t) all ∙ slice_split_none (λ c. c == line_feed) h.text h.none, gives.1))
+    go true more = (λ none. some_kept h.text line h.kept more (sym all ∙ none), h.text, h.kept, inr (ap (λ (t : List ℕ). lines_in t) all ∙ slice_split_none (λ c. c == line_feed) h.text h.none, gives.1))
     go false none = (all ∙ none_left h.text line h.kept none, gives.1)
+
+too_long : (text : List ℕ) → 8192 < length text → served_line_of text ≡ None
+too_long text long =
+    let over : nat_lt 8192 (length text) ≡ true = grind (arith, nat_tests) in
+    ap (λ (b : Bool). if b then None else if bytes_eq text (codes "room") then Some Room else if is_skipped text then Some Nothing else line_for text (words_of text)) over
+
+-- what is kept of a line asks for what the line asks for
+pub kept_asks : (text : List ℕ) → served_line_of (kept_of text) ≡ served_line_of text
+kept_asks text = go (nat_le (length text) 8192) refl
+  where
+    go : (b : Bool) → nat_le (length text) 8192 ≡ b → served_line_of (kept_of text) ≡ served_line_of text
+    go true few = ap served_line_of (take_all 8193 text (grind (arith, nat_tests, few)))
+    go false many =
+        let long : 8192 < length text = grind (arith, nat_tests, many) in
+        too_long (kept_of text) (omega (arith, length-take 8193 text, long)) ∙ sym (too_long text long)
