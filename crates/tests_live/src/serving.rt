@@ -7,9 +7,10 @@ use serve::reading::LineFaults;
 use serve::run::run_serve;
 use std::alloc::Global;
 use std::io::{self, Read, Write};
-use std::sync::Arc;
 use std::sync::atomic::{AtomicU64, Ordering};
+use std::sync::{Arc, Wait};
 use std::test::*;
+use std::thread::Threads;
 use std::time::{Clock, Duration};
 use std::{str, thread};
 
@@ -39,13 +40,13 @@ fn one_server(clients: u64) -> Options {
 }
 
 /// Serves these lines. Gives the outcome, and the numbers of bad lines, added up.
-fn served(
-    rt: HostRuntime,
+fn served<R: Threads + Wait + Clock + Copy + Send + 'static>(
+    rt: R,
+    alloc: Global,
     clients: u64,
     lines: &'static [u8],
     out: &mut Vec<u8>,
 ) -> Result<(Result<(), ScriptFault>, u64), Fail> {
-    let alloc = rt.alloc();
     let bad = Arc::new(alloc, AtomicU64::new(0))?;
     let faults = NotedFaults {
         lines: Arc::try_clone(&bad)?,
@@ -56,10 +57,11 @@ fn served(
 
 #[test]
 fn a_client_has_a_dialogue(rt: HostRuntime) -> Result<(), Fail> {
-    let mut out = Vec::new(rt.alloc());
+    let alloc = rt.alloc();
+    let mut out = Vec::new(alloc);
     let lines =
         b"# one client\nc1 create /f\nc1 open /f\n\nc1 append 1 0x00fF\nc1 append 1 abc\nc1 write 1 5 0x0a\nc1 append 1 0x\nc1 read 1 0 16\nrestart s1\nc1 close 2".as_slice();
-    let (outcome, bad) = served(rt, 1, lines, &mut out)?;
+    let (outcome, bad) = served(rt, alloc, 1, lines, &mut out)?;
     assert_eq!(rt; outcome, Ok(()));
     assert_eq!(rt; bad, 0);
     assert_eq!(rt;
@@ -71,10 +73,11 @@ fn a_client_has_a_dialogue(rt: HostRuntime) -> Result<(), Fail> {
 
 #[test]
 fn bad_lines_are_told_and_the_rest_goes_on(rt: HostRuntime) -> Result<(), Fail> {
-    let mut out = Vec::new(rt.alloc());
+    let alloc = rt.alloc();
+    let mut out = Vec::new(alloc);
     let lines =
         b"c2 mkdir /a\nwait 3\nc1 append 1 0xf\nc1 append 1 0xfg\nrestart s2\nrestart c1\nbarrier\nc1  mkdir /a\nc1 mkdir /b\nroom 1\n".as_slice();
-    let (outcome, bad) = served(rt, 1, lines, &mut out)?;
+    let (outcome, bad) = served(rt, alloc, 1, lines, &mut out)?;
     assert_eq!(rt; outcome, Ok(()));
     assert_eq!(rt; bad, 46);
     assert_eq!(rt; str::from_utf8(out.as_slice())?, "c1 done\n");
@@ -119,6 +122,7 @@ impl<R: Clock> Read for PatientReader<R> {
 }
 
 /// Counts the lines that were flushed.
+#[derive(Drop)]
 struct FlushedLines {
     lines: u64,
     flushed: Arc<AtomicU64>,
@@ -175,10 +179,11 @@ fn lines_of(text: &str, client: &str) -> usize {
 
 #[test]
 fn four_clients_are_served(rt: HostRuntime) -> Result<(), Fail> {
-    let mut out = Vec::new(rt.alloc());
+    let alloc = rt.alloc();
+    let mut out = Vec::new(alloc);
     let lines =
         b"c1 mkdir /d\nc2 mkdir /d\nc3 mkdir /d\nc4 mkdir /d\nc4 list /\nc3 list /\nc2 list /\nc1 list /\n".as_slice();
-    let (outcome, bad) = served(rt, 4, lines, &mut out)?;
+    let (outcome, bad) = served(rt, alloc, 4, lines, &mut out)?;
     assert_eq!(rt; outcome, Ok(()));
     assert_eq!(rt; bad, 0);
     let text = str::from_utf8(out.as_slice())?;
@@ -236,6 +241,7 @@ fn what_was_asked_before_the_reader_fails_is_answered(rt: HostRuntime) -> Result
 }
 
 /// Takes nothing.
+#[derive(Drop)]
 struct FailingWriter;
 
 impl Write for FailingWriter {
@@ -255,8 +261,9 @@ fn a_writer_that_fails_ends_it(rt: HostRuntime) -> Result<(), Fail> {
         lines: counter(alloc)?,
     };
     let lines = b"c1 mkdir /a\n".as_slice();
+    let mut writer = FailingWriter;
     assert_eq!(rt;
-        run_serve(rt, alloc, &one_server(1), lines, &mut FailingWriter, faults),
+        run_serve(rt, alloc, &one_server(1), lines, &mut writer, faults),
         Err(ScriptFault::Write)
     );
     Ok(())
