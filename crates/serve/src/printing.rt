@@ -23,9 +23,6 @@ use std::io::Write;
 use std::marker::PhantomData;
 use std::sync::Wait;
 
-/// How many lines wait for one flush at most.
-const MOST_AT_ONCE: u64 = 1_024;
-
 /// How many answers of a client were printed, and whether the cell itself refused a call of it. What they are, and the cell's history that has them,
 /// clauses read.
 #[derive(Drop)]
@@ -40,7 +37,7 @@ pub struct PrintedAnswers<S: Serving> {
 }
 
 /// Does what is told, and prints each answer, a line for each, until nobody tells more. Nothing that was printed waits in a buffer while it waits
-/// for more.
+/// for more: where more was told it goes on, and else it flushes first.
 ///
 /// - `Write`: the writer failed.
 /// - `NoMemory`: memory was refused, or an answer was told that does not follow those that were printed of its client.
@@ -57,12 +54,15 @@ pub fn print_all<S: Serving, R: Wait, W: Write>(
     ensures fault { IfErr result IsOfWrite }
 {
     for _ in rt.forever() {
-        let Ok(one) = told.recv(rt) else {
-            break;
-        };
-        obey(rt, one, cell, printed, writer)?;
-        obey_waiting(rt, told, cell, printed, writer)?;
-        flush(writer)?;
+        if let Ok(one) = told.try_recv(rt) {
+            obey(rt, one, cell, printed, writer)?;
+        } else {
+            flush(writer)?;
+            let Ok(one) = told.recv(rt) else {
+                break;
+            };
+            obey(rt, one, cell, printed, writer)?;
+        }
     }
     Ok(())
 }
@@ -74,28 +74,6 @@ fn flush<W: Write>(writer: &mut W) -> Result<(), ScriptFault>
     writer.flush().map_err(|e| ScriptFault::of_write(&e))
 }
 
-// Does what was told meanwhile.
-fn obey_waiting<S: Serving, R: Wait, W: Write>(
-    rt: &R,
-    told: &Receiver<Told<S>>,
-    cell: &mut Cell,
-    printed: &mut [PrintedAnswers<S>],
-    writer: &mut W,
-) -> Result<(), ScriptFault>
-    requires { AreInOrder (stands_of printed.old) }
-    ensures cell { cell.new.of ≡ cell.old.of }
-    ensures printed { OnOk result (PrintsOn (stands_of printed.old) (stands_of printed.new) (W.contents writer.old) (W.contents writer.new)) }
-    ensures fault { IfErr result IsOfWrite }
-{
-    for _ in 0..MOST_AT_ONCE {
-        let Ok(one) = told.try_recv(rt) else {
-            return Ok(());
-        };
-        obey(rt, one, cell, printed, writer)?;
-    }
-    Ok(())
-}
-
 fn obey<S: Serving, R: Wait, W: Write>(
     rt: &R,
     one: Told<S>,
@@ -104,9 +82,9 @@ fn obey<S: Serving, R: Wait, W: Write>(
     writer: &mut W,
 ) -> Result<(), ScriptFault>
     requires { AreInOrder (stands_of printed.old) }
-    ensures cell { cell.new.of ≡ cell.old.of }
     ensures printed { OnOk result (PrintsOn (stands_of printed.old) (stands_of printed.new) (W.contents writer.old) (W.contents writer.new)) }
     ensures fault { IfErr result IsOfWrite }
+    ensures cell { cell.new.of ≡ cell.old.of }
 {
     match one {
         Told::Answered(reply) => print_reply(reply, printed, writer),

@@ -57,7 +57,7 @@ pub fn run_serve<
     }
     let mut cell = start(rt, alloc, options)?;
     let players = new_players(alloc, &mut cell, options.clients)?;
-    serve::<Brand, T, R, W, F>(rt, alloc, options, cell, players, reader, writer, faults)
+    serve::<Brand, T, R, W, F>(rt, cell, players, alloc, options, reader, writer, faults)
 }
 
 // Serves a new cell with these clients.
@@ -69,10 +69,10 @@ fn serve<
     F: LineFaults + Send + Drop + 'static,
 >(
     rt: T,
-    alloc: Global,
-    options: &Options,
     cell: Cell,
     players: Vec<Player>,
+    alloc: Global,
+    options: &Options,
     reader: R,
     writer: &mut W,
     faults: F,
