@@ -16,7 +16,7 @@ use Rattle.cell_journal.specs.WholeHistories.{IsHistoryOf}
 use Rattle.cell_seats.specs.Seats.{SeatState, IsAnswered, IsLost}
 use Rattle.cell_seats.specs.Seen.{Visible, Asked, Answered, visible_of}
 use Rattle.live.specs.Playing.{shown_as}
-use Rattle.serve.specs.Messages.{Service, IsAsked, AreFirstCalls, IsSeenOf, HasAnswers, IsServed, IsReply, Heard, Refused, IsMade, IsHeard, IsRefused, calls_for}
+use Rattle.serve.specs.Messages.{Service, IsAsked, AreFirstCalls, IsSeenOf, HasAnswers, IsServed, IsReply, IsMade, calls_for}
 
 pub longer : {X : Type 0} (xs : List X) (x : X) → length (xs ++ x ∷ []) ≡ suc (length xs)
 longer [] x = refl
@@ -42,7 +42,7 @@ prefix_next {X} xs all x p at =
 
 -- the calls that were made, and the next one
 pub first_more : (s : Service) (client number : ℕ) (calls : List Call) (call : Call) → length calls ≡ number → AreFirstCalls s client calls → IsAsked s client number call → AreFirstCalls s client (calls ++ call ∷ [])
-first_more s client number calls call count first next = go s.input first next
+first_more s client number calls call count first next = go s.input first next.is
   where
     go : (input : Option (List ℕ)) → IfSome input (λ i. IsPrefix calls (calls_for s.clients client i)) → IfSome input (λ i. slice_get (calls_for s.clients client i) number ≡ Some call)
         → IfSome input (λ i. IsPrefix (calls ++ call ∷ []) (calls_for s.clients client i))
@@ -96,9 +96,11 @@ module _ (s : Service) (client made : ℕ) (old new : SeatState) (call : Call) (
 
   -- a call was made
   pub served_next : (reply : Answer) (is_lost : Bool) → IsAsked s client made call → IsMade old new call reply is_lost → IsServed s client (made + 1) new
-  served_next reply false asked (IsHeard a) = served_on reply asked a
-  served_next reply true asked (IsRefused refusal is a) = served_lost refusal a
+  served_next reply false asked m = served_on reply asked (m.heard refl)
+  served_next reply true asked m = let r = m.refused refl in served_lost r.0 r.2
 
   pub replied : (reply : Answer) (is_lost : Bool) → IsAsked s client made call → IsMade old new call reply is_lost → IsReply s client made reply (listed new.cell.name new.seen) is_lost
-  replied reply false asked (IsHeard a) = Heard w.replies (w.count a.was_open) (more_answers reply asked a)
-  replied reply true asked (IsRefused refusal is a) = Refused call asked refusal is a.refused
+  replied reply is_lost asked m = record {
+    heard = λ no. let a = m.heard no in record { before = w.replies; count = w.count a.was_open; answered = more_answers reply asked a };
+    refused = λ yes. let r = m.refused yes in record { call = call; asked = asked; refusal = r.0; is = r.1; of_the_cell = r.2.refused };
+  }

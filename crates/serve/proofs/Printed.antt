@@ -16,7 +16,7 @@ use Rattle.cell_journal.specs.Log.{Listed}
 use Rattle.cell_seats.specs.Seats.{is_the_cells}
 use Rattle.cell_seats.specs.Seen.{Visible, Asked, Answered, asked_in, answered_in, visible_of}
 use Rattle.live.specs.Playing.{shown_as, AreOfTheCell}
-use Rattle.serve.specs.Messages.{Service, AreFirstCalls, HasAnswers, IsReply, Heard, Refused, IsPrinted}
+use Rattle.serve.specs.Messages.{Service, AreFirstCalls, HasAnswers, IsReply, IsPrinted}
 use Rattle.serve.proofs.Answered.{first_more, longer}
 
 -- of two lists of calls with their answers one of which begins the other
@@ -106,20 +106,21 @@ module _ (s : Service) (client count : ℕ) (was : Bool) (seen : Listed Entry) (
   pub heard_more : (reply : Answer) (now : Listed Entry) (number : ℕ) → number ≡ count → was ≡ false → IsReply s client number reply now false
       → (length seen.items ≤ length now.items → IsPrefix seen.items now.items) → (length now.items ≤ length seen.items → IsPrefix now.items seen.items)
       → IsPrinted s client (count + 1) false now (printed ++ reply ∷ [])
-  heard_more reply now number same is_open (Heard before long answered) goes back =
+  heard_more reply now number same is_open r goes back =
+      let next = r.heard refl in
       let none : h.refusals ≡ [] = h.none_refused is_open in
       let all : printed ≡ h.replies = h.are ∙ ap (λ (l : List Answer). h.replies ++ l) none ∙ append-nil h.replies in
-      let counted : length before ≡ length h.replies = long ∙ same ∙ sym h.count_is ∙ ap length all in
-      let is : h.replies ≡ before = next_answer s client seen now h.replies before reply h.answered answered counted goes back in
+      let counted : length next.before ≡ length h.replies = next.count ∙ same ∙ sym h.count_is ∙ ap length all in
+      let is : h.replies ≡ next.before = next_answer s client seen now h.replies next.before reply h.answered next.answered counted goes back in
       record {
-        replies = before ++ reply ∷ [];
+        replies = next.before ++ reply ∷ [];
         refusals = [];
-        are = ap (λ (l : List Answer). l ++ reply ∷ []) (all ∙ is) ∙ sym (append-nil (before ++ reply ∷ []));
+        are = ap (λ (l : List Answer). l ++ reply ∷ []) (all ∙ is) ∙ sym (append-nil (next.before ++ reply ∷ []));
         count_is = one_more reply;
-        answered = answered;
+        answered = next.answered;
         refused = [];
         each = refl;
-        asked = subst (AreFirstCalls s client) (sym (append-nil answered.calls)) answered.are;
+        asked = subst (AreFirstCalls s client) (sym (append-nil next.answered.calls)) next.answered.are;
         of_the_cell = tt;
         none_refused = λ _. refl;
       }
@@ -128,16 +129,18 @@ module _ (s : Service) (client count : ℕ) (was : Bool) (seen : Listed Entry) (
   printed_count = omega (arith, length-append h.answered.calls h.refused, h.answered.each, h.each, h.count_is, ap length h.are, length-append h.replies h.refusals)
 
   pub refused_now : (reply : Answer) (now : Listed Entry) (number : ℕ) → number ≡ count → IsReply s client number reply now true → IsPrinted s client (count + 1) true seen (printed ++ reply ∷ [])
-  refused_now reply now number same (Refused call asked refusal is own_one) = record {
-    replies = h.replies;
-    refusals = h.refusals ++ reply ∷ [];
-    are = ap (λ (l : List Answer). l ++ reply ∷ []) h.are ∙ append_assoc h.replies h.refusals (reply ∷ []);
-    count_is = one_more reply;
-    answered = h.answered;
-    refused = h.refused ++ call ∷ [];
-    each = longer h.refused call ∙ (ap (λ (k : ℕ). suc k) h.each ∙ sym (longer h.refusals reply));
-    asked = subst (AreFirstCalls s client) (append_assoc h.answered.calls h.refused (call ∷ []))
-        (first_more s client number (h.answered.calls ++ h.refused) call (printed_count ∙ sym same) h.asked asked);
-    of_the_cell = subst (λ (r : Answer). AreOfTheCell (h.refusals ++ r ∷ [])) (sym is) (refused_more h.refusals refusal h.of_the_cell own_one);
-    none_refused = λ is_open. absurd (let both : true ≡ false = is_open in cc);
-  }
+  refused_now reply now number same r =
+      let next = r.refused refl in
+      record {
+        replies = h.replies;
+        refusals = h.refusals ++ reply ∷ [];
+        are = ap (λ (l : List Answer). l ++ reply ∷ []) h.are ∙ append_assoc h.replies h.refusals (reply ∷ []);
+        count_is = one_more reply;
+        answered = h.answered;
+        refused = h.refused ++ next.call ∷ [];
+        each = longer h.refused next.call ∙ (ap (λ (k : ℕ). suc k) h.each ∙ sym (longer h.refusals reply));
+        asked = subst (AreFirstCalls s client) (append_assoc h.answered.calls h.refused (next.call ∷ []))
+            (first_more s client number (h.answered.calls ++ h.refused) next.call (printed_count ∙ sym same) h.asked next.asked);
+        of_the_cell = subst (λ (a : Answer). AreOfTheCell (h.refusals ++ a ∷ [])) (sym next.is) (refused_more h.refusals next.refusal h.of_the_cell next.of_the_cell);
+        none_refused = λ is_open. absurd (let both : true ≡ false = is_open in cc);
+      }

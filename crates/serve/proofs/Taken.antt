@@ -44,7 +44,7 @@ next_line xs ys zs texts text h some next = ⊎_elim
 pub next_asked : (s : Service) (from to last : Option (List ℕ)) (counts line : List ℕ) → s.input ≡ from → HaveAsked s from to counts → ReadsWholeLine to last line true → AreNext s counts (call_in s.clients (served_line_of line))
 next_asked s from to last counts line is h reads = record {
   clients = h.clients;
-  each = λ k count call at first. subst (λ (o : Option (List ℕ)). IfSome o (λ input. slice_get (calls_for s.clients (suc k) input) count ≡ Some call)) (sym is) (go from to last k count call at first h.leaves reads);
+  each = λ k count call at first. record { is = subst (λ (o : Option (List ℕ)). IfSome o (λ input. slice_get (calls_for s.clients (suc k) input) count ≡ Some call)) (sym is) (go from to last k count call at first h.leaves reads) };
 }
   where
     go : (from to last : Option (List ℕ)) (k count : ℕ) (call : Call) → slice_get counts k ≡ Some count → slice_get (calls_of (suc k) (call_in s.clients (served_line_of line))) 0 ≡ Some call → Leaves from to h.texts

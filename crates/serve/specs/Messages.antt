@@ -37,8 +37,8 @@ abbrev pub calls_for : ℕ → ℕ → List ℕ → List Call
 calls_for clients client input = calls_of client (calls_served clients input)
 
 -- the lines have this call for a client behind so many others of it
-abbrev pub IsAsked : Service → ℕ → ℕ → Call → Type 0
-IsAsked s client number call = IfSome s.input (λ input. slice_get (calls_for s.clients client input) number ≡ Some call)
+pub record IsAsked (s : Service) (client number : ℕ) (call : Call) : Type 0 where
+  pub is : IfSome s.input (λ input. slice_get (calls_for s.clients client input) number ≡ Some call)
 
 -- these are the first calls that the lines have for a client
 abbrev pub AreFirstCalls : Service → ℕ → List Call → Type 0
@@ -68,10 +68,24 @@ pub record IsServed (s : Service) (client made : ℕ) (seat : SeatState) : Type 
   pub answered : HasAnswers s client (listed seat.cell.name seat.seen) replies
   pub count : seat.is_lost ≡ false → length replies ≡ made
 
--- A client's answer behind so many others of it: a history of the cell has it last, or it is a refusal of the cell itself.
-pub data IsReply (s : Service) (client number : ℕ) (reply : Answer) (seen : Listed Entry) : Bool → Type 0 where
-  Heard : (before : List Answer) → length before ≡ number → HasAnswers s client seen (before ++ reply ∷ []) → IsReply s client number reply seen false
-  Refused : (call : Call) → IsAsked s client number call → (refusal : Refusal) → reply ≡ answer.Refused refusal → IsTrue (is_the_cells refusal) → IsReply s client number reply seen true
+-- a history of the cell has this answer to a client last, behind so many others of it
+pub record IsHeard (s : Service) (client number : ℕ) (reply : Answer) (seen : Listed Entry) : Type 0 where
+  pub before : List Answer
+  pub count : length before ≡ number
+  pub answered : HasAnswers s client seen (before ++ reply ∷ [])
+
+-- the cell itself refused the client's call behind so many others of it
+pub record IsRefused (s : Service) (client number : ℕ) (reply : Answer) : Type 0 where
+  pub call : Call
+  pub asked : IsAsked s client number call
+  pub refusal : Refusal
+  pub is : reply ≡ answer.Refused refusal
+  pub of_the_cell : IsTrue (is_the_cells refusal)
+
+-- a client's answer behind so many others of it
+pub record IsReply (s : Service) (client number : ℕ) (reply : Answer) (seen : Listed Entry) (is_lost : Bool) : Type 0 where
+  pub heard : is_lost ≡ false → IsHeard s client number reply seen
+  pub refused : is_lost ≡ true → IsRefused s client number reply
 
 -- So many answers of a client were printed: those that this history of the cell has, and then refusals of the cell itself.
 pub record IsPrinted (s : Service) (client count : ℕ) (is_lost : Bool) (seen : Listed Entry) (printed : List Answer) : Type 0 where
@@ -117,6 +131,6 @@ pub record AreTaken (old new : List ℕ) (lines : List LiveLine) : Type 0 where
   pub each : (k count : ℕ) → slice_get old k ≡ Some count → slice_get new k ≡ Some (count + length (calls_of (suc k) lines))
 
 -- a call was answered, or the cell itself refused it
-pub data IsMade (old new : SeatState) (call : Call) (reply : Answer) : Bool → Type 0 where
-  IsHeard : IsAnswered old new call reply → IsMade old new call reply false
-  IsRefused : (refusal : Refusal) → reply ≡ answer.Refused refusal → IsLost old new refusal → IsMade old new call reply true
+pub record IsMade (old new : SeatState) (call : Call) (reply : Answer) (is_lost : Bool) : Type 0 where
+  pub heard : is_lost ≡ false → IsAnswered old new call reply
+  pub refused : is_lost ≡ true → (refusal : Refusal) × (reply ≡ answer.Refused refusal) × IsLost old new refusal

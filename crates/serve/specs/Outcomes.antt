@@ -1,5 +1,5 @@
 -- What serving a cell comes to.
-use Rattle.std.specs.Prelude.{◌≡◌, ⊤, ⊥, ℕ, suc, List, length, slice_get, Option, Some, IfSome, IsTrue}
+use Rattle.std.specs.Prelude.{◌≡◌, ⊤, ℕ, suc, List, length, slice_get, Option, Some, IfSome, IsTrue}
 use Rattle.std.specs.List.{flat_map}
 use Rattle.std.specs.Io.KnownBytes.{Appends, Keeps}
 use mathlib.Core.List.{IsPrefix}

@@ -1,5 +1,5 @@
 -- How the lines that are served are read.
-use Rattle.std.specs.Prelude.{◌≡◌, ⊤, ⊥, ℕ, suc, Bool, true, false, List, [], ◌∷◌, take, Option, Some, None}
+use Rattle.std.specs.Prelude.{◌≡◌, ⊤, ℕ, suc, Bool, true, false, List, [], ◌∷◌, take, Option, Some, None}
 use Rattle.script.specs.Reading.{longest_line, AreRead}
 
 -- what is kept of a line: all of it, or of one that is too long one byte more than the longest line has
