@@ -1,6 +1,6 @@
 -- Whole lines, as they are read and kept.
-use Rattle.std.proofs.Common.{◌≡◌, ◌<◌, ◌≤◌, ℕ, suc, Bool, true, false, not, List, [], ◌∷◌, ◌++◌, ⊎_elim, length, take, Option, Some, None, inl, inr, refl, sym, ap, subst, ◌∙◌, arith}
-use Rattle.std.specs.Prelude.{◌==◌, is_empty, nat_le, nat_lt, if◌then◌else◌, codes}
+use Rattle.std.proofs.Common.{◌≡◌, ◌<◌, ◌≤◌, ℕ, suc, Bool, true, false, List, [], ◌∷◌, ◌++◌, ⊎_elim, length, take, Option, Some, None, inl, inr, refl, sym, ap, subst, ◌∙◌, arith}
+use Rattle.std.specs.Prelude.{◌==◌, ◌↔◌, nat_le, nat_lt, if◌then◌else◌, codes}
 use Rattle.std.specs.Str.{bytes_eq}
 use Rattle.std.proofs.lemmas.Bool.Decides.{nat_tests}
 use Rattle.std.proofs.lemmas.Bool.{false≢true}
@@ -25,8 +25,8 @@ pub record HasKept (from to : Option (List ℕ)) (line : List ℕ) : Type 0 wher
 pub none_kept : (known : Option (List ℕ)) (line : List ℕ) → line ≡ [] → HasKept known known line
 none_kept known line is = record { text = []; none = All-nil (λ c. (c == line_feed) ≡ false); bytes = loses_none known; kept = is }
 
-pub few_kept : (text : List ℕ) → length (kept_of text) ≤ 8193
-few_kept text = omega (arith, length-take 8193 text)
+pub few_kept : (from to : Option (List ℕ)) (line : List ℕ) → HasKept from to line → length line ≤ 8193
+few_kept from to line h = omega (arith, ap length h.kept, length-take 8193 h.text)
 
 -- keeping goes on by what was kept
 kept_on : (text : List ℕ) (byte : ℕ) → kept_of (kept_of text ++ byte ∷ []) ≡ kept_of (text ++ byte ∷ [])
@@ -61,26 +61,26 @@ whole_line (Some xs) (Some ys) (Some zs) line byte h gives is =
     let all : xs ≡ h.text ++ line_feed ∷ zs = h.bytes ∙ ap (λ (l : List ℕ). h.text ++ l) (gives ∙ ap (λ (b : ℕ). b ∷ zs) is) in
     (λ none. no_feed h.text zs (sym all ∙ none), h.text, h.kept, inl (ap (λ (t : List ℕ). lines_in t) all ∙ slice_split_at (λ c. c == line_feed) h.text line_feed zs h.none refl))
 
-some_kept : (text line : List ℕ) → line ≡ kept_of text → not (is_empty line) ≡ true → text ≡ [] → ⊥
-some_kept text line kept more is = let empty : line ≡ [] = kept ∙ ap kept_of is in false≢true (ap (λ (l : List ℕ). not (is_empty l)) (sym empty) ∙ more)
-
-none_left : (text line : List ℕ) → line ≡ kept_of text → not (is_empty line) ≡ false → text ≡ []
+none_left : (text line : List ℕ) → line ≡ kept_of text → line ≡ [] → text ≡ []
 none_left [] line kept none = refl
-none_left (x ∷ text) line kept none = absurd (false≢true (sym none ∙ ap (λ (l : List ℕ). not (is_empty l)) kept))
+none_left (x ∷ text) line kept none = absurd (let both : kept_of (x ∷ text) ≡ [] = sym kept ∙ none in cc)
 
 -- the last line, which has no line feed, or no line
-pub last_line : (from to last : Option (List ℕ)) (line : List ℕ) → HasKept from to line → Gives to last None → ReadsWholeLine from last line (not (is_empty line))
-last_line None to last line h gives = tt
-last_line (Some xs) None last line h gives = absurd h.bytes
-last_line (Some xs) (Some ys) None line h gives = absurd gives
-last_line (Some xs) (Some ys) (Some zs) line h gives = go (not (is_empty line)) refl
+pub last_line : (from to last : Option (List ℕ)) (line : List ℕ) (is_there : Bool) → HasKept from to line → Gives to last None → (is_there ≡ false ↔ line ≡ []) → ReadsWholeLine from last line is_there
+last_line None to last line is_there h gives empty = tt
+last_line (Some xs) None last line is_there h gives empty = absurd h.bytes
+last_line (Some xs) (Some ys) None line is_there h gives empty = absurd gives
+last_line (Some xs) (Some ys) (Some zs) line is_there h gives empty = go is_there refl
   where
     all : xs ≡ h.text
     all = h.bytes ∙ ap (λ (l : List ℕ). h.text ++ l) gives.0 ∙ append-nil h.text
 
-    go : (b : Bool) → not (is_empty line) ≡ b → ReadsWholeLine (Some xs) (Some zs) line b
-    go true more = (λ none. some_kept h.text line h.kept more (sym all ∙ none), h.text, h.kept, inr (ap (λ (t : List ℕ). lines_in t) all ∙ slice_split_none (λ c. c == line_feed) h.text h.none, gives.1))
-    go false none = (all ∙ none_left h.text line h.kept none, gives.1)
+    some_kept : is_there ≡ true → h.text ≡ [] → ⊥
+    some_kept there none = false≢true (sym (empty.1 (h.kept ∙ ap kept_of none)) ∙ there)
+
+    go : (b : Bool) → is_there ≡ b → ReadsWholeLine (Some xs) (Some zs) line b
+    go true there = (λ none. some_kept there (sym all ∙ none), h.text, h.kept, inr (ap (λ (t : List ℕ). lines_in t) all ∙ slice_split_none (λ c. c == line_feed) h.text h.none, gives.1))
+    go false not_there = (all ∙ none_left h.text line h.kept (empty.0 not_there), gives.1)
 
 too_long : (text : List ℕ) → 8192 < length text → served_line_of text ≡ None
 too_long text long =
@@ -96,3 +96,16 @@ kept_asks text = go (nat_le (length text) 8192) refl
     go false many =
         let long : 8192 < length text = grind (arith, nat_tests, many) in
         too_long (kept_of text) (omega (arith, length-take 8193 text, long)) ∙ sym (too_long text long)
+
+-- one more byte is kept, or none where the line is too long
+pub kept_more : (items after : List ℕ) (byte : ℕ) → length items ≤ 8192 → after ≡ items ++ byte ∷ [] → after ≡ kept_of (items ++ byte ∷ [])
+kept_more items after byte few is = is ∙ sym (take_all 8193 (items ++ byte ∷ []) (omega (arith, length-append items (byte ∷ []))))
+
+pub kept_as_it_was : (items : List ℕ) (byte : ℕ) → length items ≤ 8193 → (length items ≤ 8192 → ⊥) → items ≡ kept_of (items ++ byte ∷ [])
+kept_as_it_was items byte few long =
+    let many : 8193 ≤ length items = by_length (nat_le (length items) 8192) refl in
+    sym (take-append-le 8193 items (byte ∷ []) many ∙ take_all 8193 items few)
+  where
+    by_length : (b : Bool) → nat_le (length items) 8192 ≡ b → 8193 ≤ length items
+    by_length true less = absurd (long (grind (arith, nat_tests, less)))
+    by_length false past = grind (arith, nat_tests, past)

@@ -28,6 +28,7 @@ fn next_byte<R: Read>(reader: &mut R) -> io::Result<Option<u8>>
 
 /// Reads a line into `line`, without its line feed, and tells whether there was one. Of a line that is too long it keeps one byte more than the
 /// longest line has, and leaves out the rest.
+#[tactic(auto, using(crate::proofs::WholeLines::last_line, crate::proofs::WholeLines::whole_line, crate::proofs::WholeLines::few_kept, crate::proofs::WholeLines::one_kept))]
 pub fn read_whole_line<R: Read>(reader: &mut R, line: &mut Vec<u8>) -> io::Result<bool>
     ensures { IfOk result (ReadsWholeLine (R.remaining reader.old) (R.remaining reader.new) line.new.items) }
 {
@@ -45,6 +46,7 @@ pub fn read_whole_line<R: Read>(reader: &mut R, line: &mut Vec<u8>) -> io::Resul
 }
 
 // Keeps one more byte of a line, if it isn't too long yet.
+#[tactic(auto, using(crate::proofs::WholeLines::kept_more, crate::proofs::WholeLines::kept_as_it_was))]
 fn keep(line: &mut Vec<u8>, byte: u8) -> io::Result<()>
     requires { length line.old.items ≤ 8193 }
     ensures { OnOk result (line.new.items ≡ take 8193 (line.old.items ++ byte ∷ [])) }
