@@ -57,21 +57,21 @@ meant_found a words m name rows is has n e =
 
 -- a subcommand that serves no cell runs a script
 run_asked : (name : Text) (rows : List Row) → is_served name ≡ false → asked_on (name, rows) ≡ option_map to_run (run_by (name, rows))
-run_asked name rows no = ap (λ (b : Bool). cond b (option_map to_serve (served_of rows)) (option_map to_run (run_by (name, rows)))) no
+run_asked name rows runs = ap (λ (b : Bool). cond b (option_map to_serve (served_of rows)) (option_map to_run (run_by (name, rows)))) runs
 
 -- where the rows give nothing to run
 pub run_none : (name : Text) (rows : List Row) → is_served name ≡ false → run_of rows ≡ None → asked_on (name, rows) ≡ None
-run_none name rows no none = run_asked name rows no ∙ ap (λ (o : Option (Text × Wanted)). option_map to_run (option_map (λ (run : Text × Wanted). (is_live name, run)) o)) none
+run_none name rows runs none = run_asked name rows runs ∙ ap (λ (o : Option (Text × Wanted)). option_map to_run (option_map (λ (run : Text × Wanted). (is_live name, run)) o)) none
 
 -- where they do
 pub run_some : (name : Text) (rows : List Row) (live : Bool) (file : Text) (wanted : Wanted) → is_served name ≡ false → is_live name ≡ live → run_of rows ≡ Some (file, wanted)
     → asked_on (name, rows) ≡ Some (to_run (live, (file, wanted)))
-run_some name rows live file wanted no is run =
-    run_asked name rows no ∙ ap₂ (λ (b : Bool) (o : Option (Text × Wanted)). option_map to_run (option_map (λ (r : Text × Wanted). (b, r)) o)) is run
+run_some name rows live file wanted runs is run =
+    run_asked name rows runs ∙ ap₂ (λ (b : Bool) (o : Option (Text × Wanted)). option_map to_run (option_map (λ (r : Text × Wanted). (b, r)) o)) is run
 
 -- where a cell is served
 serve_asked : (name : Text) (rows : List Row) → is_served name ≡ true → asked_on (name, rows) ≡ option_map to_serve (served_of rows)
-serve_asked name rows yes = ap (λ (b : Bool). cond b (option_map to_serve (served_of rows)) (option_map to_run (run_by (name, rows)))) yes
+serve_asked name rows serves = ap (λ (b : Bool). cond b (option_map to_serve (served_of rows)) (option_map to_run (run_by (name, rows)))) serves
 
 abbrev given : List Row → Bool → Option Text → Option (Text × Wanted)
 given rows b file = cond b (option_map (λ (f : Text). (f, wanted_by rows)) file) None
@@ -137,9 +137,9 @@ of_run words live file bytes tells options (Show text) is runs = absurd runs
 
 pub of_serve : (words : List Text) (name : Text) (rows : List Row) (r : Result Request CommandFault) → faults words ≡ [] → meant words ≡ asked_on (name, rows) → is_served name ≡ true → Serves rows r
     → Answers words r
-of_serve words name rows (Ok (Sim f b o)) none is yes serves = absurd serves
-of_serve words name rows (Ok (Live f t o)) none is yes serves = absurd serves
-of_serve words name rows (Ok (Serve o)) none is yes serves = ap₂ asked_by none (is ∙ serve_asked name rows yes ∙ ap (option_map to_serve) serves)
-of_serve words name rows (Ok (Show text)) none is yes serves = absurd serves
-of_serve words name rows (Err Bad) none is yes serves = ap₂ asked_by none (is ∙ serve_asked name rows yes ∙ ap (option_map to_serve) serves)
-of_serve words name rows (Err NoMemory) none is yes serves = tt
+of_serve words name rows (Ok (Sim f b o)) none is named serves = absurd serves
+of_serve words name rows (Ok (Live f t o)) none is named serves = absurd serves
+of_serve words name rows (Ok (Serve o)) none is named serves = ap₂ asked_by none (is ∙ serve_asked name rows named ∙ ap (option_map to_serve) serves)
+of_serve words name rows (Ok (Show text)) none is named serves = absurd serves
+of_serve words name rows (Err Bad) none is named serves = ap₂ asked_by none (is ∙ serve_asked name rows named ∙ ap (option_map to_serve) serves)
+of_serve words name rows (Err NoMemory) none is named serves = tt
