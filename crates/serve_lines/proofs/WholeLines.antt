@@ -63,7 +63,7 @@ whole_line (Some xs) (Some ys) (Some zs) line byte h gives is =
 
 none_left : (text line : List ℕ) → line ≡ kept_of text → line ≡ [] → text ≡ []
 none_left [] line kept none = refl
-none_left (x ∷ text) line kept none = absurd (let both : kept_of (x ∷ text) ≡ [] = sym kept ∙ none in cc)
+none_left (x ∷ text) line kept none = absurd (omega (arith, ap length kept, ap length none, length-take 8193 (x ∷ text)))
 
 -- the last line, which has no line feed, or no line
 pub last_line : (from to last : Option (List ℕ)) (line : List ℕ) (is_there : Bool) → HasKept from to line → Gives to last None → (is_there ≡ false ↔ line ≡ []) → ReadsWholeLine from last line is_there
@@ -81,6 +81,21 @@ last_line (Some xs) (Some ys) (Some zs) line is_there h gives empty = go is_ther
     go : (b : Bool) → is_there ≡ b → ReadsWholeLine (Some xs) (Some zs) line b
     go true there = (λ none. some_kept there (sym all ∙ none), h.text, h.kept, inr (ap (λ (t : List ℕ). lines_in t) all ∙ slice_split_none (λ c. c == line_feed) h.text h.none, gives.1))
     go false not_there = (all ∙ none_left h.text line h.kept (empty.0 not_there), gives.1)
+
+-- the same of what the reader gave
+module _ (from to last : Option (List ℕ)) (line : List ℕ) (given : Option ℕ) (h : HasKept from to line) (gives : Gives to last given) where
+  pub kept_with : (after : List ℕ) (byte : ℕ) → given ≡ Some byte → (byte == 10) ≡ false → after ≡ kept_of (line ++ byte ∷ []) → HasKept from last after
+  kept_with after byte is other more = one_kept from to last line after byte h (subst (Gives to last) is gives) other more
+
+  pub ended_with : (byte : ℕ) → given ≡ Some byte → byte ≡ 10 → ReadsWholeLine from last line true
+  ended_with byte is feed = whole_line from to last line byte h (subst (Gives to last) is gives) feed
+
+  pub ended : (is_there : Bool) → ((byte : ℕ) → given ≡ Some byte → ⊥) → (is_there ≡ false ↔ line ≡ []) → ReadsWholeLine from last line is_there
+  ended is_there none empty = last_line from to last line is_there h (subst (Gives to last) (nothing given none) gives) empty
+    where
+      nothing : (o : Option ℕ) → ((byte : ℕ) → o ≡ Some byte → ⊥) → o ≡ None
+      nothing None none = refl
+      nothing (Some byte) none = absurd (none byte refl)
 
 too_long : (text : List ℕ) → 8192 < length text → served_line_of text ≡ None
 too_long text long =

@@ -28,7 +28,6 @@ fn next_byte<R: Read>(reader: &mut R) -> io::Result<Option<u8>>
 
 /// Reads a line into `line`, without its line feed, and tells whether there was one. Of a line that is too long it keeps one byte more than the
 /// longest line has, and leaves out the rest.
-#[tactic(auto, using(crate::proofs::WholeLines::last_line, crate::proofs::WholeLines::whole_line, crate::proofs::WholeLines::few_kept, crate::proofs::WholeLines::one_kept))]
 pub fn read_whole_line<R: Read>(reader: &mut R, line: &mut Vec<u8>) -> io::Result<bool>
     ensures { IfOk result (ReadsWholeLine (R.remaining reader.old) (R.remaining reader.new) line.new.items) }
 {
