@@ -101,6 +101,6 @@ module _ (s : Service) (client made : ℕ) (old new : SeatState) (call : Call) (
 
   pub replied : (reply : Answer) (is_lost : Bool) → IsAsked s client made call → IsMade old new call reply is_lost → IsReply s client made reply (listed new.cell.name new.seen) is_lost
   replied reply is_lost asked m = record {
-    heard = λ no. let a = m.heard no in record { before = w.replies; count = w.count a.was_open; answered = more_answers reply asked a };
-    refused = λ yes. let r = m.refused yes in record { call = call; asked = asked; refusal = r.0; is = r.1; of_the_cell = r.2.refused };
+    heard = λ is_open. let a = m.heard is_open in record { before = w.replies; count = w.count a.was_open; answered = more_answers reply asked a };
+    refused = λ lost. let r = m.refused lost in record { call = call; asked = asked; refusal = r.0; is = r.1; of_the_cell = r.2.refused };
   }

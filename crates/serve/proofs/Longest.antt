@@ -58,7 +58,7 @@ longest_of s (x ∷ xs) in_range all meet =
 
     go : (longest : List Entry) → IsLongest s xs longest → (xs ≡ []) ⊎ ((k : ℕ) × (l : Stand) × (slice_get xs k ≡ Some l) × (l.seen.items ≡ longest)) → (more : List Entry) × IsLongest s (x ∷ xs) more
     go longest is (inl none) =
-        (x.seen.items, first_longest s x xs here (λ k l at. absurd (let at_none : slice_get [] k ≡ Some l = ap (λ ys. slice_get ys k) (sym none) ∙ at in let no : None ≡ Some l = at_none in cc)))
+        (x.seen.items, first_longest s x xs here (λ k l at. absurd (let at_none : slice_get [] k ≡ Some l = ap (λ ys. slice_get ys k) (sym none) ∙ at in let both : None ≡ Some l = at_none in cc)))
     go longest is (inr found) = by_length (nat_le (length x.seen.items) (length longest)) refl
       where
         by_length : (b : Bool) → nat_le (length x.seen.items) (length longest) ≡ b → (more : List Entry) × IsLongest s (x ∷ xs) more
