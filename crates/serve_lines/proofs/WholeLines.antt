@@ -1,5 +1,5 @@
 -- Whole lines, as they are read and kept.
-use Rattle.std.proofs.Common.{◌≡◌, ◌<◌, ◌≤◌, ℕ, suc, Bool, true, false, List, [], ◌∷◌, ◌++◌, ⊎_elim, length, take, Option, Some, None, inl, inr, refl, sym, ap, subst, ◌∙◌, arith}
+use Rattle.std.proofs.Common.{◌≡◌, ◌<◌, ◌≤◌, ℕ, suc, Bool, true, false, not, List, [], ◌∷◌, ◌++◌, ⊎_elim, length, take, Option, Some, None, inl, inr, refl, sym, ap, subst, ◌∙◌, arith}
 use Rattle.std.specs.Prelude.{◌==◌, ◌↔◌, nat_le, nat_lt, if◌then◌else◌, codes}
 use Rattle.std.specs.Str.{bytes_eq}
 use Rattle.std.proofs.lemmas.Bool.Decides.{nat_tests}
@@ -81,6 +81,12 @@ last_line (Some xs) (Some ys) (Some zs) line is_there h gives empty = go is_ther
     go : (b : Bool) → is_there ≡ b → ReadsWholeLine (Some xs) (Some zs) line b
     go true there = (λ none. some_kept there (sym all ∙ none), h.text, h.kept, inr (ap (λ (t : List ℕ). lines_in t) all ∙ slice_split_none (λ c. c == line_feed) h.text h.none, gives.1))
     go false not_there = (all ∙ none_left h.text line h.kept (empty.0 not_there), gives.1)
+
+-- whether nothing was kept
+pub is_none : (line : List ℕ) (n : ℕ) (b : Bool) → n ≡ length line → b ≡ (n == 0) → (not b ≡ false ↔ line ≡ [])
+is_none [] n b count is = (λ _. refl, λ _. ap not (is ∙ ap (λ (k : ℕ). k == 0) count))
+is_none (x ∷ xs) n b count is =
+    (λ h. absurd (false≢true (sym h ∙ ap not (is ∙ ap (λ (k : ℕ). k == 0) count))), λ (h : x ∷ xs ≡ []). absurd (cc h))
 
 -- the same of what the reader gave
 module _ (from to last : Option (List ℕ)) (line : List ℕ) (given : Option ℕ) (h : HasKept from to line) (gives : Gives to last given) where
