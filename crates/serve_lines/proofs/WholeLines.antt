@@ -86,7 +86,8 @@ last_line (Some xs) (Some ys) (Some zs) line is_there h gives empty = go is_ther
 pub is_none : (line : List ℕ) (n : ℕ) (b : Bool) → n ≡ length line → b ≡ (n == 0) → (not b ≡ false ↔ line ≡ [])
 is_none [] n b count is = (λ _. refl, λ _. ap not (is ∙ ap (λ (k : ℕ). k == 0) count))
 is_none (x ∷ xs) n b count is =
-    (λ h. absurd (false≢true (sym h ∙ ap not (is ∙ ap (λ (k : ℕ). k == 0) count))), λ (h : x ∷ xs ≡ []). absurd (cc h))
+    let more : (n == 0) ≡ false = grind (arith, nat_tests, count) in
+    (λ h. absurd (false≢true (sym h ∙ ap not (is ∙ more))), λ (h : x ∷ xs ≡ []). absurd (cc h))
 
 -- the same of what the reader gave
 module _ (from to last : Option (List ℕ)) (line : List ℕ) (given : Option ℕ) (h : HasKept from to line) (gives : Gives to last given) where

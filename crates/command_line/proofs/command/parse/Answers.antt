@@ -72,4 +72,4 @@ returns c =
     ∙ ap₂ (λ b w. Some (c.in_ok-file.file.now, (b, w))) (sym c.in_ok-names_heap.ensures.ok)
     (ap₂ (λ t o. (t, o)) (sym c.is_given-tells_progress.ensures) (sym c.in_ok-options.ensures.ok)) in
     of_run words (is_live name) c.in_ok-file.file.now heap tells options c.request_for.result
-    (ap₂ asked_by none (run ∙ run_some name rows (sym c.is_serve.ensures ∙ c.if-is_serve.false) (is_live name) c.in_ok-file.file.now (heap, (tells, options)) refl found)) c.request_for.ensures
+    (ap₂ asked_by none (run ∙ run_some name rows (is_live name) c.in_ok-file.file.now (heap, (tells, options)) (sym c.is_serve.ensures ∙ c.if-is_serve.false) refl found)) c.request_for.ensures
