@@ -21,7 +21,6 @@ pub mod running_master;
 pub mod running_server;
 pub mod seat_fault;
 mod seating;
-pub mod server_stepper;
 pub mod start_fault;
 mod step_message;
 mod threads;

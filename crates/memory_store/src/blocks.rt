@@ -1,6 +1,6 @@
 //! Blocks and their digests.
 
-ghost use Rattle.std.specs.Prelude.{◌≡◌, ◌≤◌, ◌/◌, length, IfOk, IsErrOf};
+ghost use Rattle.std.specs.Prelude.{◌≡◌, ◌≤◌, ◌/◌, length, IfOk, IsErrOf, OnOk, OnErr};
 ghost use Rattle.std.specs.Str.{bytes_eq};
 ghost use Rattle.sha2.specs.Sha256.{sha256};
 ghost use Rattle.replica_store.specs.Replicas.{block_in, digest_in, digests_of, renewed_digests, touched as touched_value};
@@ -56,24 +56,24 @@ pub(crate) fn all_digests(
     digests_of_blocks(alloc, hashed, block as usize, count as usize, bytes)
 }
 
-/// The digests, with those of the blocks that hold a place of this range made anew.
-pub(crate) fn renewed(
+/// Makes the digests of the blocks anew that hold a place of this range. At an error nothing changed.
+pub(crate) fn renew(
     alloc: Global,
     hashed: &mut HashedBlock,
     block: u64,
-    digests: &[u8],
+    digests: &mut Vec<u8>,
     bytes: &[u8],
     offset: u64,
     end: u64,
-) -> Result<Vec<u8>, ReplicaStoreFault>
+) -> Result<(), ReplicaStoreFault>
     requires { 1 ≤ block }
-    ensures value { IfOk result (λ v. v.items ≡ renewed_digests block digests.now bytes.now offset end) }
+    ensures value { OnOk result (digests.new.items ≡ renewed_digests block digests.old.items bytes.now offset end) }
+    ensures err { OnErr result (digests.new.items ≡ digests.old.items) }
     ensures disk { IsErrOf result faults.DiskFailed → ⊥ }
     ensures undamaged { IsErrOf result faults.Damaged → ⊥ }
 {
-    let mut renewed = Vec::from_slice(alloc, digests)?;
     if end <= offset {
-        return Ok(renewed);
+        return Ok(());
     }
     let count = touched(block, offset, end);
     let size = count.checked_mul(block).ok_or(ReplicaStoreFault::NoRoom)?;
@@ -91,9 +91,9 @@ pub(crate) fn renewed(
     let after = place
         .checked_add(new.len() as u64)
         .ok_or(ReplicaStoreFault::NoRoom)?;
-    if (renewed.len() as u64) < after {
+    if (digests.len() as u64) < after {
         return Err(ReplicaStoreFault::NoRoom);
     }
-    put(&mut renewed, place as usize, new.as_slice());
-    Ok(renewed)
+    put(digests, place as usize, new.as_slice());
+    Ok(())
 }

@@ -4,7 +4,7 @@ ghost use Rattle.std.specs.Prelude.{◌≡◌, ◌≤◌, ◌+◌, Some, length,
 ghost use Rattle.replica_store.specs.Replicas.{block_matches, blocks_match, is_readable, is_writable, own_bytes, read_bytes, read_end, rotten_replica, row_of, stored_replica, written_replica, raised_replica};
 ghost use Rattle.server_store.specs.declared.fault.ReplicaStoreFault.TheVariants as faults;
 
-use crate::blocks::{all_digests, has_digest, renewed, touched};
+use crate::blocks::{all_digests, has_digest, renew, touched};
 use crate::parts::{filled, part_of, put, zeros};
 use bytes::Bytes;
 use gfs_types::ids::{Serial, Version};
@@ -235,19 +235,23 @@ impl MemoryReplica {
         ensures undamaged { IsErrOf result faults.Damaged → ⊥ }
     {
         let end = self.end_of(offset, content.len() as u64)?;
-        let mut bytes = Vec::from_slice(alloc, self.bytes.as_slice())?;
-        put(&mut bytes, offset as usize, content);
-        let digests = renewed(
+        let before = Vec::from_slice(
+            alloc,
+            part_of(self.bytes.as_slice(), offset, content.len() as u64),
+        )?;
+        put(&mut self.bytes, offset as usize, content);
+        if let Err(fault) = renew(
             alloc,
             hashed,
             block,
-            self.digests.as_slice(),
-            bytes.as_slice(),
+            &mut self.digests,
+            self.bytes.as_slice(),
             offset,
             end,
-        )?;
-        self.bytes = bytes;
-        self.digests = digests;
+        ) {
+            put(&mut self.bytes, offset as usize, before.as_slice());
+            return Err(fault);
+        }
         self.serial = serial;
         if self.count < end {
             self.count = end;
