@@ -1,5 +1,5 @@
 -- What the threads of a served cell tell each other.
-use Rattle.std.specs.Prelude.{◌≡◌, ◌+◌, ◌-◌, ◌&&◌, nat_lt, nat_le, if◌then◌else◌, ℕ, suc, Bool, true, false, List, [], ◌∷◌, ◌++◌, length, slice_get, Option, Some, None, IfSome, Result, OnOk, IsTrue}
+use Rattle.std.specs.Prelude.{◌≡◌, ◌+◌, ⊤, ℕ, suc, Bool, true, false, List, [], ◌∷◌, ◌++◌, length, slice_get, Option, Some, None, IfSome, Result, OnOk, IfErr, IsTrue}
 use mathlib.Core.List.{IsPrefix}
 use Rattle.gfs_types.specs.declared.answer.Answer.{Answer}
 use Rattle.gfs_types.specs.declared.answer.Answer.TheVariants as answer
@@ -20,6 +20,7 @@ use Rattle.live.specs.Playing.{calls_of, shown_as, AreOfTheCell}
 use Rattle.script.specs.Reading.{Leaves}
 use Rattle.script.specs.declared.live_lines.LiveLine.{LiveLine}
 use Rattle.script.specs.declared.script_fault.ScriptFault.{ScriptFault}
+use Rattle.script.specs.declared.script_fault.ScriptFault.TheVariants as fault
 use Rattle.serve.specs.Served.{calls_in, calls_served}
 
 -- What is served: the input, where its bytes are known, how many clients there are, and the cell.
@@ -35,6 +36,34 @@ nothing_served = record { input = None; clients = 0; cell = identity (record { n
 -- the calls that the lines have for a client
 abbrev pub calls_for : ℕ → ℕ → List ℕ → List Call
 calls_for clients client input = calls_of client (calls_served clients input)
+
+-- a call of a client, behind so many others of it
+pub record CallAsked : Type 0 where
+  pub client : ℕ
+  pub number : ℕ
+  pub call : Call
+
+abbrev pub call_asked : ℕ → ℕ → Call → CallAsked
+call_asked client number call = record { client = client; number = number; call = call }
+
+-- an answer of a client behind so many others of it, whether the cell itself refused the call, and the cell's history up to the client's last answer
+pub record Replied : Type 0 where
+  pub client : ℕ
+  pub number : ℕ
+  pub answer : Answer
+  pub is_lost : Bool
+  pub seen : Listed Entry
+
+abbrev pub replied : ℕ → ℕ → Answer → Bool → Listed Entry → Replied
+replied client number answer is_lost seen = record { client = client; number = number; answer = answer; is_lost = is_lost; seen = seen }
+
+-- how many calls each client was asked for, and what taking the lines came to
+pub record CallsAsked : Type 0 where
+  pub counts : List ℕ
+  pub outcome : Result (Unit {0}) ScriptFault
+
+abbrev pub calls_asked : List ℕ → Result (Unit {0}) ScriptFault → CallsAsked
+calls_asked counts outcome = record { counts = counts; outcome = outcome }
 
 -- the lines have this call for a client behind so many others of it
 pub record IsAsked (s : Service) (client number : ℕ) (call : Call) : Type 0 where
@@ -111,14 +140,18 @@ pub record HaveAsked (s : Service) (from to : Option (List ℕ)) (counts : List 
   pub are : AreCounts counts (calls_in s.clients texts)
   pub clients : length counts ≡ s.clients
 
+-- why no more lines are taken: memory was refused, the reader failed, or nobody hears of what is asked any more
+abbrev pub IsOfReading : ScriptFault → Type 0
+IsOfReading fault.NoMemory = ⊤
+IsOfReading fault.Read = ⊤
+IsOfReading fault.Write = ⊤
+IsOfReading other = ⊥
+
 -- each client was asked for so many calls: all that the lines have for it, where they were taken to their end
 pub record AreAsked (s : Service) (outcome : Result (Unit {0}) ScriptFault) (counts : List ℕ) : Type 0 where
   pub clients : length counts ≡ s.clients
   pub all : OnOk outcome (IfSome s.input (λ input. AreCounts counts (calls_served s.clients input)))
-
--- the place of the client of this number, which is 1 for the first of so many
-abbrev pub place_of : ℕ → ℕ → Option ℕ
-place_of client clients = if nat_lt 0 client && nat_le client clients then Some (client - 1) else None
+  pub stops : IfErr outcome IsOfReading
 
 -- of these calls the first of each client comes next, behind so many that were handed out
 pub record AreNext (s : Service) (counts : List ℕ) (lines : List LiveLine) : Type 0 where

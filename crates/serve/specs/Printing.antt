@@ -1,5 +1,5 @@
 -- What is printed, one thing after another.
-use Rattle.std.specs.Prelude.{◌≡◌, ◌≤◌, ◌+◌, ◌<◌, ◌^◌, ℕ, suc, Bool, false, List, [], ◌++◌, length, map, slice_get, Option, Some}
+use Rattle.std.specs.Prelude.{◌≡◌, ◌≤◌, ◌+◌, ◌<◌, ◌^◌, ℕ, suc, Bool, false, List, [], ◌++◌, length, slice_get, Option, Some}
 use Rattle.std.specs.List.{flat_map}
 use Rattle.std.specs.Io.KnownBytes.{Appends}
 use mathlib.Core.List.{IsPrefix}
@@ -7,9 +7,7 @@ use Rattle.gfs_types.specs.declared.answer.Answer.{Answer}
 use Rattle.protocol_journal.specs.Journal.{Entry}
 use Rattle.cell_journal.specs.Log.{Listed}
 use Rattle.serve.specs.Served.{Printed, answers_to, printed_text}
-use Rattle.serve.specs.Messages.{Service, IsPrinted}
-use Rattle.serve.specs.declared.messages.Reply.{Reply}
-use Rattle.serve.specs.declared.printing.PrintedAnswers.{PrintedAnswers}
+use Rattle.serve.specs.Messages.{Service, IsPrinted, Replied}
 
 -- where a client stands: how many of its answers were printed, whether the cell itself refused a call of it, the history that has its calls, and these answers
 pub record Stand : Type 0 where
@@ -19,11 +17,8 @@ pub record Stand : Type 0 where
   pub seen : Listed Entry
   pub answers : List Answer
 
-abbrev pub stand_of : {S : Type 0} → PrintedAnswers S → Stand
-stand_of p = record { client = p.client.0; count = p.count; is_lost = p.is_lost; seen = p.seen; answers = p.answers.items }
-
-abbrev pub stands_of : {S : Type 0} → List (PrintedAnswers S) → List Stand
-stands_of printed = map stand_of printed
+abbrev pub stand : ℕ → ℕ → Bool → Listed Entry → List Answer → Stand
+stand client count is_lost seen answers = record { client = client; count = count; is_lost = is_lost; seen = seen; answers = answers }
 
 -- each client's stands at its place
 abbrev pub AreInOrder : List Stand → Type 0
@@ -33,9 +28,12 @@ AreInOrder stands = (k : ℕ) (p : Stand) → slice_get stands k ≡ Some p → 
 abbrev pub AreNew : List Stand → Type 0
 AreNew stands = (k : ℕ) (p : Stand) → slice_get stands k ≡ Some p → p.answers ≡ []
 
--- what was printed of each are its first answers
+-- what was printed of it are its first answers
+abbrev pub IsPrintedOf : Service → Stand → Type 0
+IsPrintedOf s p = IsPrinted s p.client p.count p.is_lost p.seen p.answers
+
 abbrev pub AllPrinted : Service → List Stand → Type 0
-AllPrinted s stands = (k : ℕ) (p : Stand) → slice_get stands k ≡ Some p → IsPrinted s (suc k) p.count p.is_lost p.seen p.answers
+AllPrinted s stands = (k : ℕ) (p : Stand) → slice_get stands k ≡ Some p → IsPrintedOf s p
 
 -- a client's answers among these were printed behind those that were
 pub record GoesOn (printed : List Printed) (old new : Stand) : Type 0 where
@@ -50,8 +48,8 @@ pub record PrintsOn (olds news : List Stand) (before after : Option (List ℕ)) 
   pub each : (k : ℕ) (old new : Stand) → slice_get olds k ≡ Some old → slice_get news k ≡ Some new → GoesOn printed old new
 
 -- it is the client's next answer
-pub record IsNextOf {S : Type 0} (p : PrintedAnswers S) (reply : Reply S) : Type 0 where
-  pub client : reply.client.0 ≡ p.client.0
+pub record IsNextOf (p : Stand) (reply : Replied) : Type 0 where
+  pub client : reply.client ≡ p.client
   pub number : reply.number ≡ p.count
   pub few : p.count + 1 < 2 ^ 64
   pub open_still : reply.is_lost ≡ false → p.is_lost ≡ false

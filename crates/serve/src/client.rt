@@ -1,7 +1,6 @@
 //! A client of a served cell, which makes its calls one after another.
 
-ghost use Rattle.std.specs.Prelude.{◌≡◌, ◌+◌, ◌<◌, ◌^◌};
-ghost use Rattle.serve.specs.Messages.{IsServed, IsMade};
+ghost use Rattle.serve.specs.Messages.{IsMade};
 
 use crate::messages::{AskedCall, Reply, Serving, Told};
 use cell_run::cell::ClientSeat;
@@ -9,7 +8,7 @@ use crossbeam_channel::{Receiver, Sender};
 use gfs_types::answer::Answer;
 use gfs_types::call::Call;
 use gfs_types::ids::ClientId;
-use std::marker::PhantomData;
+use std::marker::{Model, PhantomData};
 use std::sync::Wait;
 use std::time::Clock;
 
@@ -20,7 +19,17 @@ pub struct ServedClient<S: Serving> {
     pub seat: ClientSeat,
     pub made: u64,
     pub of: PhantomData<S>,
-    ghost served: { IsServed S.of id.0 made seat },
+}
+
+impl<S: Serving> Model for ServedClient<S> {
+    ghost use Rattle.cell_seats.specs.Seats.{SeatState};
+    ghost use Rattle.serve.specs.Messages.{IsServed};
+
+    ghost Value = { SeatState };
+
+    ghost view = { λ c. c.seat };
+
+    ghost invariant = { λ c. IsServed S.of c.id.0 c.made c.seat };
 }
 
 /// An answer, and whether it is a refusal of the cell itself.
@@ -42,39 +51,43 @@ impl<S: Serving> ServedClient<S> {
             let Ok(asked) = calls.recv(rt) else {
                 break;
             };
-            if asked.client.0 != self.id.0 || asked.number != self.made || self.made == u64::MAX {
+            let Some(reply) = self.answer(rt, asked) else {
                 break;
-            }
-            let reply = self.answer(rt, asked);
+            };
             if told.send(rt, Told::Answered(reply)).is_err() {
                 break;
             }
         }
     }
 
-    // Makes its next call.
-    fn answer<R: Wait + Clock>(&mut self, rt: &R, asked: AskedCall<S>) -> Reply<S>
-        requires client { asked.client.0 ≡ self.old.id.0 }
-        requires number { asked.number ≡ self.old.made }
-        requires few { self.old.made + 1 < 2 ^ 64 }
-        ensures { self.new.id ≡ self.old.id }
-    {
+    // Makes a call, if it is its next one.
+    fn answer<R: Wait + Clock>(&mut self, rt: &R, asked: AskedCall<S>) -> Option<Reply<S>> {
         let AskedCall {
             client,
             number,
             call,
             of: _,
         } = asked;
+        if client.0 != self.id.0 {
+            return None;
+        }
+        if number != self.made {
+            return None;
+        }
+        if number == u64::MAX {
+            return None;
+        }
         let Made { answer, is_lost } = make(rt, &mut self.seat, call);
         self.made = number + 1;
-        Reply {
+        let reply = Reply {
             client,
             number,
             answer,
             is_lost,
             seen: self.seat.view().again(),
             of: PhantomData,
-        }
+        };
+        Some(reply)
     }
 }
 

@@ -1,21 +1,23 @@
 //! What the threads of a served cell tell each other.
 
-ghost use Rattle.serve.specs.Messages.{Service, nothing_served, IsAsked, IsReply, AreAsked};
-
 use cell_journal::Beginning;
 use cell_journal::raised_entry::RaisedEntry;
 use gfs_types::answer::Answer;
 use gfs_types::call::Call;
 use gfs_types::ids::{ClientId, Node};
 use script::script_fault::ScriptFault;
-use std::marker::{Brand, PhantomData};
+use std::marker::{Brand, Model, PhantomData};
 
 /// Names what is served, for clauses alone: all threads speak of the same.
 pub trait Serving {
+    ghost use Rattle.serve.specs.Messages.{Service};
+
     ghost of: { Service };
 }
 
 impl Serving for Brand {
+    ghost use Rattle.serve.specs.Messages.{nothing_served};
+
     ghost of = { nothing_served };
 }
 
@@ -26,7 +28,16 @@ pub struct AskedCall<S: Serving> {
     pub number: u64,
     pub call: Call,
     pub of: PhantomData<S>,
-    ghost asked: { IsAsked S.of client.0 number call },
+}
+
+impl<S: Serving> Model for AskedCall<S> {
+    ghost use Rattle.serve.specs.Messages.{CallAsked, call_asked, IsAsked};
+
+    ghost Value = { CallAsked };
+
+    ghost view = { λ a. call_asked a.client.0 a.number a.call };
+
+    ghost invariant = { λ a. IsAsked S.of a.client.0 a.number a.call };
 }
 
 /// What a client was answered, and how many answers it had before; whether the cell itself refused the call, and the cell's whole history up to the
@@ -39,7 +50,16 @@ pub struct Reply<S: Serving> {
     pub is_lost: bool,
     pub seen: Beginning<RaisedEntry>,
     pub of: PhantomData<S>,
-    ghost answered: { IsReply S.of client.0 number answer seen is_lost },
+}
+
+impl<S: Serving> Model for Reply<S> {
+    ghost use Rattle.serve.specs.Messages.{Replied, replied, IsReply};
+
+    ghost Value = { Replied };
+
+    ghost view = { λ r. replied r.client.0 r.number r.answer r.is_lost r.seen };
+
+    ghost invariant = { λ r. IsReply S.of r.client.0 r.number r.answer r.seen r.is_lost };
 }
 
 /// What is to be done by whoever has the cell.
@@ -59,5 +79,14 @@ pub struct Asked<S: Serving> {
     pub asked: Vec<u64>,
     pub outcome: Result<(), ScriptFault>,
     pub of: PhantomData<S>,
-    ghost are: { AreAsked S.of outcome asked.items },
+}
+
+impl<S: Serving> Model for Asked<S> {
+    ghost use Rattle.serve.specs.Messages.{CallsAsked, calls_asked, AreAsked};
+
+    ghost Value = { CallsAsked };
+
+    ghost view = { λ a. calls_asked a.asked.items a.outcome };
+
+    ghost invariant = { λ a. AreAsked S.of a.outcome a.asked.items };
 }

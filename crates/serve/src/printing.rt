@@ -1,11 +1,12 @@
 //! Prints what is told, as it comes.
 
-ghost use Rattle.std.specs.Prelude.{◌≡◌, ◌++◌, ◌∷◌, [], Some, OnOk, IfErr, IfSome, true};
+ghost use Rattle.std.specs.Prelude.{◌≡◌, ◌++◌, ◌∷◌, [], ℕ, Some, OnOk, IfErr, IfSome, length, ◌≤◌, true};
 ghost use Rattle.std.specs.Io.KnownBytes.{Appends, Keeps};
+ghost use mathlib.Core.List.{IsPrefix};
 ghost use Rattle.script.specs.ScriptFaults.{IsOfWrite};
+ghost use Rattle.live.specs.Live.{told_line};
 ghost use Rattle.serve.specs.Served.{room_line};
-ghost use Rattle.serve.specs.Messages.{IsPrinted};
-ghost use Rattle.serve.specs.Printing.{AreInOrder, PrintsOn, IsNextOf, stands_of};
+ghost use Rattle.serve.specs.Printing.{AreInOrder, PrintsOn, IsNextOf, IsPrintedOf};
 
 use crate::messages::{Reply, Serving, Told};
 use crate::reading::place_of;
@@ -20,7 +21,7 @@ use script::answers::AnswerLine;
 use script::script_fault::ScriptFault;
 use std::fmt;
 use std::io::Write;
-use std::marker::PhantomData;
+use std::marker::{Model, PhantomData};
 use std::sync::Wait;
 
 /// How many answers of a client were printed, and whether the cell itself refused a call of it. What they are, and the cell's history that has them,
@@ -33,7 +34,17 @@ pub struct PrintedAnswers<S: Serving> {
     pub seen: Beginning<RaisedEntry>,
     pub answers: GhostList<Answer>,
     pub of: PhantomData<S>,
-    ghost printed: { IsPrinted S.of client.0 count is_lost seen answers.items },
+}
+
+impl<S: Serving> Model for PrintedAnswers<S> {
+    ghost use Rattle.serve.specs.Messages.{IsPrinted};
+    ghost use Rattle.serve.specs.Printing.{Stand, stand};
+
+    ghost Value = { Stand };
+
+    ghost view = { λ p. stand p.client.0 p.count p.is_lost p.seen p.answers.items };
+
+    ghost invariant = { λ p. IsPrinted S.of p.client.0 p.count p.is_lost p.seen p.answers.items };
 }
 
 /// Does what is told, and prints each answer, a line for each, until nobody tells more. Nothing that was printed waits in a buffer while it waits
@@ -48,23 +59,34 @@ pub fn print_all<S: Serving, R: Wait, W: Write>(
     printed: &mut [PrintedAnswers<S>],
     writer: &mut W,
 ) -> Result<(), ScriptFault>
-    requires { AreInOrder (stands_of printed.old) }
+    requires { AreInOrder printed.old }
     ensures cell { cell.new.of ≡ cell.old.of }
-    ensures printed { OnOk result (PrintsOn (stands_of printed.old) (stands_of printed.new) (W.contents writer.old) (W.contents writer.new)) }
+    ensures printed { OnOk result (PrintsOn printed.old printed.new (W.contents writer.old) (W.contents writer.new)) }
     ensures fault { IfErr result IsOfWrite }
 {
     for _ in rt.forever() {
-        if let Ok(one) = told.try_recv(rt) {
-            obey(rt, one, cell, printed, writer)?;
-        } else {
-            flush(writer)?;
-            let Ok(one) = told.recv(rt) else {
-                break;
-            };
-            obey(rt, one, cell, printed, writer)?;
-        }
+        let Some(one) = next(rt, told, writer)? else {
+            return Ok(());
+        };
+        obey(rt, one, cell, printed, writer)?;
     }
-    Ok(())
+    unreachable!()
+}
+
+// What is told next, if somebody tells more. It flushes before it waits.
+fn next<S: Serving, R: Wait, W: Write>(
+    rt: &R,
+    told: &Receiver<Told<S>>,
+    writer: &mut W,
+) -> Result<Option<Told<S>>, ScriptFault>
+    ensures keeps { OnOk result (Keeps (W.contents writer.old) (W.contents writer.new)) }
+    ensures fault { IfErr result IsOfWrite }
+{
+    if let Ok(one) = told.try_recv(rt) {
+        return Ok(Some(one));
+    }
+    flush(writer)?;
+    Ok(told.recv(rt).ok())
 }
 
 fn flush<W: Write>(writer: &mut W) -> Result<(), ScriptFault>
@@ -74,6 +96,7 @@ fn flush<W: Write>(writer: &mut W) -> Result<(), ScriptFault>
     writer.flush().map_err(|e| ScriptFault::of_write(&e))
 }
 
+// Does what is told.
 fn obey<S: Serving, R: Wait, W: Write>(
     rt: &R,
     one: Told<S>,
@@ -81,14 +104,14 @@ fn obey<S: Serving, R: Wait, W: Write>(
     printed: &mut [PrintedAnswers<S>],
     writer: &mut W,
 ) -> Result<(), ScriptFault>
-    requires { AreInOrder (stands_of printed.old) }
-    ensures printed { OnOk result (PrintsOn (stands_of printed.old) (stands_of printed.new) (W.contents writer.old) (W.contents writer.new)) }
-    ensures fault { IfErr result IsOfWrite }
+    requires { AreInOrder printed.old }
     ensures cell { cell.new.of ≡ cell.old.of }
+    ensures printed { OnOk result (PrintsOn printed.old printed.new (W.contents writer.old) (W.contents writer.new)) }
+    ensures fault { IfErr result IsOfWrite }
 {
     match one {
         Told::Answered(reply) => print_reply(reply, printed, writer),
-        Told::Room => print_line(&RoomLine { steps: cell.room() }, writer),
+        Told::Room => print_room(cell.room(), writer),
         Told::Restart(node) => {
             cell.restart(rt, node);
             Ok(())
@@ -102,23 +125,27 @@ fn print_reply<S: Serving, W: Write>(
     printed: &mut [PrintedAnswers<S>],
     writer: &mut W,
 ) -> Result<(), ScriptFault>
-    requires { AreInOrder (stands_of printed.old) }
-    ensures printed { OnOk result (PrintsOn (stands_of printed.old) (stands_of printed.new) (W.contents writer.old) (W.contents writer.new)) }
+    requires { AreInOrder printed.old }
+    ensures printed { OnOk result (PrintsOn printed.old printed.new (W.contents writer.old) (W.contents writer.new)) }
     ensures fault { IfErr result IsOfWrite }
 {
-    let Some(place) = place_of(reply.client.0, printed.len()) else {
+    let Some(place) = place_of(reply.client(), printed.len()) else {
         return Err(ScriptFault::NoMemory);
     };
     if !printed[place].is_followed_by(&reply) {
         return Err(ScriptFault::NoMemory);
     }
-    let line = AnswerLine {
-        client: reply.client,
-        answer: &reply.answer,
-    };
-    print_line(&line, writer)?;
+    print_answer(&reply, writer)?;
     printed[place].keep(reply);
     Ok(())
+}
+
+impl<S: Serving> Reply<S> {
+    fn client(&self) -> u64
+        ensures { result ≡ self.now.client }
+    {
+        self.client.0
+    }
 }
 
 impl<S: Serving> PrintedAnswers<S> {
@@ -126,17 +153,26 @@ impl<S: Serving> PrintedAnswers<S> {
     fn is_followed_by(&self, reply: &Reply<S>) -> bool
         ensures { result ≡ true → IsNextOf self.now reply.now }
     {
-        self.client.0 == reply.client.0
-            && self.count == reply.number
-            && self.count < u64::MAX
-            && (reply.is_lost || !self.is_lost)
+        if self.client.0 != reply.client.0 {
+            return false;
+        }
+        if self.count != reply.number {
+            return false;
+        }
+        if self.count == u64::MAX {
+            return false;
+        }
+        if self.is_lost {
+            return reply.is_lost;
+        }
+        true
     }
 
     // Keeps that the client's next answer was printed.
     fn keep(&mut self, reply: Reply<S>)
         requires { IsNextOf self.old reply }
         ensures client { self.new.client ≡ self.old.client }
-        ensures answers { self.new.answers.items ≡ self.old.answers.items ++ reply.answer ∷ [] }
+        ensures answers { self.new.answers ≡ self.old.answers ++ reply.answer ∷ [] }
     {
         let Reply {
             client: _,
@@ -149,11 +185,27 @@ impl<S: Serving> PrintedAnswers<S> {
         self.answers = self.answers.and(&answer);
         self.count = number + 1;
         self.is_lost = is_lost;
-        if !is_lost {
-            meet(&self.seen, &seen);
-            meet(&seen, &self.seen);
-            self.seen = seen;
+        if is_lost {
+            return;
         }
+        meet(&self.seen, &seen);
+        meet(&seen, &self.seen);
+        self.seen = seen;
+    }
+
+    /// How many answers were printed. They are the client's first ones.
+    pub fn count(&self) -> u64
+        ensures count { result ≡ self.now.count }
+        ensures printed { IsPrintedOf S.of self.now }
+    {
+        self.count
+    }
+
+    /// Of the histories that two clients have seen the shorter begins the longer.
+    pub fn meet(&self, other: &PrintedAnswers<S>)
+        ensures { length self.now.seen.items ≤ length other.now.seen.items → IsPrefix self.now.seen.items other.now.seen.items }
+    {
+        meet(&self.seen, &other.seen);
     }
 }
 
@@ -170,6 +222,24 @@ impl fmt::Display for RoomLine {
         let steps = self.steps;
         write!(f, "room {steps}")
     }
+}
+
+fn print_room<W: Write>(steps: u64, writer: &mut W) -> Result<(), ScriptFault>
+    ensures printed { OnOk result (Appends (W.contents writer.old) (W.contents writer.new) (room_line steps ++ 10 ∷ [])) }
+    ensures fault { IfErr result IsOfWrite }
+{
+    print_line(&RoomLine { steps }, writer)
+}
+
+fn print_answer<S: Serving, W: Write>(reply: &Reply<S>, writer: &mut W) -> Result<(), ScriptFault>
+    ensures printed { OnOk result (Appends (W.contents writer.old) (W.contents writer.new) (told_line reply.now.client reply.now.answer)) }
+    ensures fault { IfErr result IsOfWrite }
+{
+    let line = AnswerLine {
+        client: reply.client,
+        answer: &reply.answer,
+    };
+    print_line(&line, writer)
 }
 
 fn print_line<L: fmt::Display, W: Write>(line: &L, writer: &mut W) -> Result<(), ScriptFault>

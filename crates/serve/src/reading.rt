@@ -1,10 +1,13 @@
 //! Takes the lines, and hands out the calls.
 
-ghost use Rattle.std.specs.Prelude.{◌≡◌, ◌+◌, ◌<◌, IfErr, IfSome, OnOk, Some};
+ghost use Rattle.std.specs.Prelude.{◌≡◌, ◌⊎◌, ◌+◌, ◌<◌, IfOk, IfErr, IfSome, IfNone, OnOk, Some, length, slice_get};
+ghost use Rattle.serve_lines.specs.Input.{ReadsWholeLine};
 ghost use Rattle.serve_lines.specs.Lines.{served_line_of};
-ghost use Rattle.serve.specs.Served.{call_in};
+ghost use Rattle.script.specs.ScriptFaults.{IsOfRead};
+ghost use Rattle.script.specs.declared.fault.LineFault.TheVariants.{Bad};
+ghost use Rattle.serve.specs.Served.{call_in, calls_served};
 ghost use Rattle.serve_lines.specs.declared.lines.ServedLine.TheVariants as served;
-ghost use Rattle.serve.specs.Messages.{AreAsked, AreNext, AreTaken, HaveAsked, place_of};
+ghost use Rattle.serve.specs.Messages.{AreCounts, AreNext, AreTaken, HaveAsked, IsOfReading};
 
 use crate::messages::{AskedCall, Serving, Told};
 use crossbeam_channel::Sender;
@@ -50,18 +53,17 @@ impl<S: Serving> Receivers<S> {
     ) -> Result<(), ScriptFault>
         requires input { R.remaining reader.old ≡ S.of.input }
         requires asked { HaveAsked S.of S.of.input S.of.input self.old.asked.items }
-        ensures { AreAsked S.of result self.new.asked.items }
+        ensures clients { length self.new.asked.items ≡ S.of.clients }
+        ensures all { OnOk result (IfSome S.of.input (λ input. AreCounts self.new.asked.items (calls_served S.of.clients input))) }
+        ensures fault { IfErr result IsOfReading }
     {
         let mut text = Vec::new(alloc);
         for before in 0..u64::MAX {
-            match read_whole_line(reader, &mut text) {
-                Ok(true) => {
-                    if !self.take(rt, alloc, text.as_slice())? {
-                        faults.tell(ScriptFault::Line(before + 1));
-                    }
-                }
-                Ok(false) => return Ok(()),
-                Err(error) => return Err(ScriptFault::of_read(&error)),
+            if !next_line(reader, &mut text)? {
+                return Ok(());
+            }
+            if !self.take(rt, alloc, text.as_slice())? {
+                faults.tell(ScriptFault::Line(before + 1));
             }
         }
         // No input has so many lines.
@@ -73,18 +75,32 @@ impl<S: Serving> Receivers<S> {
         requires { AreNext S.of self.old.asked.items (call_in S.of.clients (served_line_of text.now)) }
         ensures taken { OnOk result (AreTaken self.old.asked.items self.new.asked.items (call_in S.of.clients (served_line_of text.now))) }
         ensures stays { IfErr result (λ _. self.new.asked.items ≡ self.old.asked.items) }
+        ensures fault { IfErr result IsOfReading }
     {
         match parse(alloc, text) {
-            Ok(ServedLine::Nothing) => Ok(true),
-            Ok(ServedLine::Room) => self.tell(rt, Told::Room),
-            Ok(ServedLine::Restart(node)) => self.restart(rt, node),
-            Ok(ServedLine::Call(asked)) => self.hand_out(rt, asked),
-            Err(LineFault::Bad) => Ok(false),
-            Err(LineFault::NoMemory) => Err(ScriptFault::NoMemory),
+            Ok(line) => self.obey(rt, line),
+            Err(refusal) => refuse(refusal),
         }
     }
 
-    fn tell<W: Wait>(&self, rt: &W, told: Told<S>) -> Result<bool, ScriptFault> {
+    // Does what a line asks for.
+    fn obey<W: Wait>(&mut self, rt: &W, line: ServedLine) -> Result<bool, ScriptFault>
+        requires { AreNext S.of self.old.asked.items (call_in S.of.clients (Some line)) }
+        ensures taken { OnOk result (AreTaken self.old.asked.items self.new.asked.items (call_in S.of.clients (Some line))) }
+        ensures stays { IfErr result (λ _. self.new.asked.items ≡ self.old.asked.items) }
+        ensures fault { IfErr result IsOfReading }
+    {
+        match line {
+            ServedLine::Nothing => Ok(true),
+            ServedLine::Room => self.tell(rt, Told::Room),
+            ServedLine::Restart(node) => self.restart(rt, node),
+            ServedLine::Call(asked) => self.hand_out(rt, asked),
+        }
+    }
+
+    fn tell<W: Wait>(&self, rt: &W, told: Told<S>) -> Result<bool, ScriptFault>
+        ensures { IfErr result IsOfReading }
+    {
         match self.told.send(rt, told) {
             Ok(()) => Ok(true),
             Err(_) => Err(ScriptFault::Write),
@@ -92,7 +108,9 @@ impl<S: Serving> Receivers<S> {
     }
 
     // The master or a server is to begin again, if it is there.
-    fn restart<W: Wait>(&self, rt: &W, node: Node) -> Result<bool, ScriptFault> {
+    fn restart<W: Wait>(&self, rt: &W, node: Node) -> Result<bool, ScriptFault>
+        ensures { IfErr result IsOfReading }
+    {
         let is_there = match node {
             Node::Master => true,
             Node::Server(id) => u64::from(id.0) <= self.servers,
@@ -106,12 +124,13 @@ impl<S: Serving> Receivers<S> {
     }
 
     // A call goes to its client, if the client is there.
-    fn hand_out<W: Wait>(&mut self, rt: &W, asked: ClientCall) -> Result<bool, ScriptFault>
-        requires { AreNext S.of self.old.asked.items (call_in S.of.clients (Some (served.Call asked))) }
-        ensures taken { OnOk result (AreTaken self.old.asked.items self.new.asked.items (call_in S.of.clients (Some (served.Call asked)))) }
+    fn hand_out<W: Wait>(&mut self, rt: &W, line: ClientCall) -> Result<bool, ScriptFault>
+        requires { AreNext S.of self.old.asked.items (call_in S.of.clients (Some (served.Call line))) }
+        ensures taken { OnOk result (AreTaken self.old.asked.items self.new.asked.items (call_in S.of.clients (Some (served.Call line)))) }
         ensures stays { IfErr result (λ _. self.new.asked.items ≡ self.old.asked.items) }
+        ensures fault { IfErr result IsOfReading }
     {
-        let ClientCall { client, call } = asked;
+        let ClientCall { client, call } = line;
         let Some(place) = place_of(client.0, self.asked.len()) else {
             return Ok(false);
         };
@@ -128,22 +147,45 @@ impl<S: Serving> Receivers<S> {
             call,
             of: PhantomData,
         };
-        match self.calls[place].send(rt, asked) {
-            Ok(()) => {
-                self.asked[place] = number + 1;
-                Ok(true)
-            }
-            Err(_) => Err(ScriptFault::Write),
+        if self.calls[place].send(rt, asked).is_err() {
+            return Err(ScriptFault::Write);
         }
+        self.asked[place] = number + 1;
+        Ok(true)
+    }
+}
+
+// The next line, if there is one, is now in `text`.
+fn next_line<R: Read>(reader: &mut R, text: &mut Vec<u8>) -> Result<bool, ScriptFault>
+    ensures line { IfOk result (ReadsWholeLine (R.remaining reader.old) (R.remaining reader.new) text.new.items) }
+    ensures fault { IfErr result IsOfRead }
+{
+    match read_whole_line(reader, text) {
+        Ok(is_there) => Ok(is_there),
+        Err(error) => Err(ScriptFault::of_read(&error)),
+    }
+}
+
+// What is told of a line that asks for nothing.
+fn refuse(refusal: LineFault) -> Result<bool, ScriptFault>
+    ensures bad { OnOk result (refusal ≡ Bad) }
+    ensures fault { IfErr result IsOfReading }
+{
+    match refusal {
+        LineFault::Bad => Ok(false),
+        LineFault::NoMemory => Err(ScriptFault::NoMemory),
     }
 }
 
 /// The place of the client of this number, which is 1 for the first of so many.
 pub fn place_of(client: u64, clients: usize) -> Option<usize>
-    ensures value { result ≡ place_of client clients }
-    ensures within { IfSome result (λ place. (place < clients) × (place + 1 ≡ client)) }
+    ensures place { IfSome result (λ place. (place < clients) × (place + 1 ≡ client)) }
+    ensures none { IfNone result ((client ≡ 0) ⊎ (clients < client)) }
 {
-    if client == 0 || client > clients as u64 {
+    if client == 0 {
+        return None;
+    }
+    if client > clients as u64 {
         return None;
     }
     Some(client as usize - 1)

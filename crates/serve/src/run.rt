@@ -1,17 +1,19 @@
 //! Serves a new cell.
 
-ghost use Rattle.std.specs.Prelude.{◌≡◌, ◌<◌, IfOk, IfErr, OnOk, length, replicate, true};
+ghost use Rattle.std.specs.Prelude.{◌≡◌, ◌++◌, ◌∷◌, [], ◌<◌, IfOk, IfErr, OnOk, length, replicate, true};
 ghost use Rattle.cell_run.specs.Cells.{IsCellOf};
+ghost use Rattle.script.specs.ScriptFaults.{IsOfWrite};
+ghost use Rattle.script.specs.declared.script_fault.ScriptFault.TheVariants.{NoMemory as OutOfMemory};
+ghost use Rattle.live.specs.Faults.{IsOfRun};
 ghost use Rattle.live.specs.Playing.{Each, IsNewPlayer};
 ghost use Rattle.serve.specs.Messages.{HaveAsked};
 ghost use Rattle.serve.specs.Outcomes.{Serves, Stops};
-ghost use Rattle.serve.specs.Printing.{AreAllPrinted, AreComparable, AreInOrder, AreNew, MeetsEach, stands_of};
+ghost use Rattle.serve.specs.Printing.{AllPrinted, AreAllPrinted, AreComparable, AreInOrder, AreNew, MeetsEach, PrintsOn};
 
 use crate::client::ServedClient;
 use crate::messages::{Asked, AskedCall, Serving, Told};
 use crate::printing::{PrintedAnswers, print_all};
 use crate::reading::{LineFaults, Receivers};
-use cell_journal::meet;
 use cell_run::cell::Cell;
 use crossbeam_channel::{Receiver, Sender, bounded};
 use ghost_list::GhostList;
@@ -56,7 +58,10 @@ pub fn run_serve<
         return Err(ScriptFault::Start);
     }
     let mut cell = start(rt, alloc, options)?;
-    let players = new_players(alloc, &mut cell, options.clients)?;
+    let Ok(players) = new_players(alloc, &mut cell, options.clients) else {
+        cell.close(&rt);
+        return Err(ScriptFault::NoMemory);
+    };
     serve::<Brand, T, R, W, F>(rt, cell, players, alloc, options, reader, writer, faults)
 }
 
@@ -95,22 +100,21 @@ fn serve<
         threads,
         mut printed,
     } = start_clients::<S, T>(rt, alloc, players, &told)?;
+    let asked = zeros(alloc, options.clients)?;
     let receivers = Receivers {
         servers: options.servers,
         calls,
-        asked: zeros(alloc, options.clients)?,
+        asked,
         told,
     };
     let reading = start_reading(rt, alloc, receivers, reader, faults)?;
-    print_all(&rt, &heard, &mut cell, printed.as_mut_slice(), writer)?;
+    print_told(&rt, &heard, &mut cell, &mut printed, writer)?;
     let Asked {
         asked,
         outcome,
         of: _,
     } = reading.join(&rt);
-    for thread in threads {
-        thread.join(&rt);
-    }
+    join_all(&rt, threads);
     cell.close(&rt);
     meet_all(printed.as_slice());
     if are_all_printed(asked.as_slice(), printed.as_slice()) {
@@ -122,15 +126,24 @@ fn serve<
 
 // So many zeros.
 fn zeros(alloc: Global, count: u64) -> Result<Vec<u64>, ScriptFault>
-    ensures { IfOk result (λ v. v.items ≡ replicate count 0) }
+    ensures zeros { IfOk result (λ v. v.items ≡ replicate count 0) }
+    ensures fault { IfErr result IsOfRun }
 {
     let mut all = Vec::new(alloc);
     for _ in 0..count {
-        if all.push(0).is_err() {
-            return Err(ScriptFault::NoMemory);
-        }
+        push(&mut all, 0)?;
     }
     Ok(all)
+}
+
+fn push<X: Drop>(all: &mut Vec<X>, one: X) -> Result<(), ScriptFault>
+    ensures pushed { OnOk result (all.new.items ≡ all.old.items ++ one ∷ []) }
+    ensures fault { IfErr result (λ f. f ≡ OutOfMemory) }
+{
+    match all.push(one) {
+        Ok(()) => Ok(()),
+        Err(_) => Err(ScriptFault::NoMemory),
+    }
 }
 
 /// The clients' threads, their calls on their way to them, and what was printed of each.
@@ -148,9 +161,11 @@ fn start_clients<S: Serving + Send + 'static, T: Threads + Wait + Clock + Copy +
     players: Vec<Player>,
     told: &Sender<Told<S>>,
 ) -> Result<Clients<S>, ScriptFault>
+    requires { Each (IsNewPlayer S.of.cell) players.items }
     ensures count { IfOk result (λ c. length c.printed.items ≡ length players.items) }
-    ensures order { IfOk result (λ c. AreInOrder (stands_of c.printed.items)) }
-    ensures new { IfOk result (λ c. AreNew (stands_of c.printed.items)) }
+    ensures order { IfOk result (λ c. AreInOrder c.printed.items) }
+    ensures new { IfOk result (λ c. AreNew c.printed.items) }
+    ensures fault { IfErr result IsOfRun }
 {
     let mut all = Clients {
         calls: Vec::new(alloc),
@@ -158,19 +173,28 @@ fn start_clients<S: Serving + Send + 'static, T: Threads + Wait + Clock + Copy +
         printed: Vec::new(alloc),
     };
     for player in players {
+        let client = start_client(rt, alloc, player, told)?;
+        all.add(client)?;
+    }
+    Ok(all)
+}
+
+impl<S: Serving> Clients<S> {
+    // One client more.
+    fn add(&mut self, client: Client<S>) -> Result<(), ScriptFault>
+        ensures printed { OnOk result (self.new.printed.items ≡ self.old.printed.items ++ client.printed ∷ []) }
+        ensures fault { IfErr result IsOfRun }
+    {
         let Client {
             calls,
             thread,
             printed,
-        } = start_client(rt, alloc, player, told)?;
-        if all.calls.push(calls).is_err()
-            || all.threads.push(thread).is_err()
-            || all.printed.push(printed).is_err()
-        {
-            return Err(ScriptFault::NoMemory);
-        }
+        } = client;
+        push(&mut self.calls, calls)?;
+        push(&mut self.threads, thread)?;
+        push(&mut self.printed, printed)?;
+        Ok(())
     }
-    Ok(all)
 }
 
 /// A client's thread, its calls on their way to it, and what was printed of it.
@@ -181,19 +205,42 @@ struct Client<S: Serving> {
     printed: PrintedAnswers<S>,
 }
 
+// Starts a client on a thread of its own.
 fn start_client<S: Serving + Send + 'static, T: Threads + Wait + Clock + Copy + Send + 'static>(
     rt: T,
     alloc: Global,
     player: Player,
     told: &Sender<Told<S>>,
-) -> Result<Client<S>, ScriptFault> {
-    let Player { id, seat, .. } = player;
+) -> Result<Client<S>, ScriptFault>
+    requires { IsNewPlayer S.of.cell player.id.0 player }
+    ensures client { IfOk result (λ c. c.printed.client ≡ player.id.0) }
+    ensures new { IfOk result (λ c. c.printed.answers ≡ []) }
+    ensures fault { IfErr result IsOfRun }
+{
+    let (client, printed) = new_client::<S>(player);
     let Ok(told) = told.clone() else {
         return Err(ScriptFault::NoMemory);
     };
     let Ok((calls, inbox)) = bounded(alloc, MOST_WAITING) else {
         return Err(ScriptFault::NoMemory);
     };
+    match thread::spawn(&rt, move || answer_on(&rt, client, &inbox, &told)) {
+        Ok(thread) => Ok(Client {
+            calls,
+            thread,
+            printed,
+        }),
+        Err(_) => Err(ScriptFault::Start),
+    }
+}
+
+// A client that made no call yet, and of which nothing was printed.
+fn new_client<S: Serving>(player: Player) -> (ServedClient<S>, PrintedAnswers<S>)
+    requires { IsNewPlayer S.of.cell player.id.0 player }
+    ensures client { result.1.client ≡ player.id.0 }
+    ensures new { result.1.answers ≡ [] }
+{
+    let Player { id, seat, .. } = player;
     seat.seen();
     let printed = PrintedAnswers {
         client: id,
@@ -209,14 +256,7 @@ fn start_client<S: Serving + Send + 'static, T: Threads + Wait + Clock + Copy + 
         made: 0,
         of: PhantomData,
     };
-    match thread::spawn(&rt, move || answer_on(&rt, client, &inbox, &told)) {
-        Ok(thread) => Ok(Client {
-            calls,
-            thread,
-            printed,
-        }),
-        Err(_) => Err(ScriptFault::Start),
-    }
+    (client, printed)
 }
 
 // What a client's thread does.
@@ -245,6 +285,7 @@ fn start_reading<
 ) -> Result<JoinHandle<Asked<S>>, ScriptFault>
     requires input { R.remaining reader ≡ S.of.input }
     requires asked { HaveAsked S.of S.of.input S.of.input receivers.asked.items }
+    ensures { IfErr result IsOfRun }
 {
     let job = move || -> Asked<S>
         requires { (R.remaining reader ≡ S.of.input) × HaveAsked S.of S.of.input S.of.input receivers.asked.items }
@@ -277,11 +318,35 @@ fn read_on<S: Serving, T: Wait, R: Read + Drop, F: LineFaults>(
     }
 }
 
-// What the clients saw are beginnings of one history.
+// Prints what is told, until nobody tells more.
+fn print_told<S: Serving, T: Wait, W: Write>(
+    rt: &T,
+    heard: &Receiver<Told<S>>,
+    cell: &mut Cell,
+    printed: &mut Vec<PrintedAnswers<S>>,
+    writer: &mut W,
+) -> Result<(), ScriptFault>
+    requires { AreInOrder printed.old.items }
+    ensures printed { OnOk result (PrintsOn printed.old.items printed.new.items (W.contents writer.old) (W.contents writer.new)) }
+    ensures fault { IfErr result IsOfWrite }
+{
+    print_all(rt, heard, cell, printed.as_mut_slice(), writer)
+}
+
+// Waits until they have ended.
+fn join_all<T: Threads>(rt: &T, threads: Vec<JoinHandle<()>>) {
+    for thread in threads {
+        thread.join(rt);
+    }
+}
+
+// What the clients saw are beginnings of one history, and what was printed of each are its first answers.
 fn meet_all<S: Serving>(printed: &[PrintedAnswers<S>])
-    ensures { AreComparable (stands_of printed.now) }
+    ensures printed { AllPrinted S.of printed.now }
+    ensures meet { AreComparable printed.now }
 {
     for before in 0..printed.len() {
+        printed[before].count();
         meet_each(printed, before);
     }
 }
@@ -289,22 +354,22 @@ fn meet_all<S: Serving>(printed: &[PrintedAnswers<S>])
 // What one of them saw, and what each of them saw.
 fn meet_each<S: Serving>(printed: &[PrintedAnswers<S>], one: usize)
     requires { one < length printed.now }
-    ensures { MeetsEach (stands_of printed.now) one }
+    ensures { MeetsEach printed.now one }
 {
     for before in 0..printed.len() {
-        meet(&printed[one].seen, &printed[before].seen);
+        printed[one].meet(&printed[before]);
     }
 }
 
 // Whether each call that was asked was answered, and its answer printed.
 fn are_all_printed<S: Serving>(asked: &[u64], printed: &[PrintedAnswers<S>]) -> bool
-    ensures { result ≡ true → AreAllPrinted asked.now (stands_of printed.now) }
+    ensures { result ≡ true → AreAllPrinted asked.now printed.now }
 {
     if asked.len() != printed.len() {
         return false;
     }
     for before in 0..asked.len() {
-        if asked[before] != printed[before].count {
+        if asked[before] != printed[before].count() {
             return false;
         }
     }
