@@ -99,8 +99,22 @@ module _ (s : Service) (client made : ℕ) (old new : SeatState) (call : Call) (
   served_next reply false asked m = served_on reply asked (m.heard refl)
   served_next reply true asked m = let r = m.refused refl in served_lost r.0 r.2
 
-  pub replied : (reply : Answer) (is_lost : Bool) → IsAsked s client made call → IsMade old new call reply is_lost → IsReply s client made reply (listed new.cell.name new.seen) is_lost
-  replied reply is_lost asked m = record {
+  pub reply_made : (reply : Answer) (is_lost : Bool) → IsAsked s client made call → IsMade old new call reply is_lost → IsReply s client made reply (listed new.cell.name new.seen) is_lost
+  reply_made reply is_lost asked m = record {
     heard = λ is_open. let a = m.heard is_open in record { before = w.replies; count = w.count a.was_open; answered = more_answers reply asked a };
     refused = λ lost. let r = m.refused lost in record { call = call; asked = asked; refusal = r.0; is = r.1; of_the_cell = r.2.refused };
   }
+
+-- a client's next call, by the number that it has in the lines
+module _ (s : Service) (mine client made number : ℕ) (old new : SeatState) (call : Call) (reply : Answer) (is_lost : Bool) (same : client ≡ mine) (next : number ≡ made) (w : IsServed s mine made old)
+    (asked : IsAsked s client number call) (m : IsMade old new call reply is_lost) where
+  its_call : IsAsked s mine made call
+  its_call = subst (λ (n : ℕ). IsAsked s n made call) same (subst (λ (n : ℕ). IsAsked s client n call) next asked)
+
+  pub served_so : IsServed s mine (number + 1) new
+  served_so = subst (λ (n : ℕ). IsServed s mine (n + 1) new) (sym next) (served_next s mine made old new call w reply is_lost its_call m)
+
+  pub replied_so : (seen : Listed Entry) → seen ≡ listed new.cell.name new.seen → IsReply s client number reply seen is_lost
+  replied_so seen is =
+      subst (λ (n : ℕ). IsReply s n number reply seen is_lost) (sym same)
+      (subst (λ (n : ℕ). IsReply s mine n reply seen is_lost) (sym next) (subst (λ (l : Listed Entry). IsReply s mine made reply l is_lost) (sym is) (reply_made s mine made old new call w reply is_lost its_call m)))

@@ -23,6 +23,7 @@ use Rattle.serve.specs.Messages.{Service, IsPrinted, AreAsked, AreCounts, calls_
 use Rattle.serve.specs.Outcomes.{AreServedAnswers, PrintsAnswers, Serves, ServesFirst}
 use Rattle.serve.specs.Printing.{Stand, AreInOrder, AreNew, AllPrinted, PrintsOn, AreComparable, AreAllPrinted}
 use Rattle.serve.proofs.Longest.{IsLongest, longest_of}
+use Rattle.serve.proofs.Places.{there}
 use Rattle.serve.proofs.Printed.{same_length, printed_count}
 
 -- something of each of a list, as a list
@@ -44,39 +45,35 @@ collect {X} Holds (p ∷ ps) all = (here.0 ∷ rest.0, ap (λ (n : ℕ). suc n) 
         subst (λ (r : Stand). Holds zero r x) same_one (subst (λ (y : X). Holds zero p y) same here.1)
     each (suc k) q x at to = rest.2 k q x at to
 
--- the one that stands at a place
-there : {X Y : Type 0} (xs : List X) (ys : List Y) (k : ℕ) (y : Y) → length xs ≡ length ys → slice_get ys k ≡ Some y → (x : X) × (slice_get xs k ≡ Some x)
-there xs [] k y same at = absurd (let none : None ≡ Some y = at in cc)
-there [] (y' ∷ ys) k y same at = absurd (omega (arith, same))
-there (x ∷ xs) (y' ∷ ys) zero y same at = (x, refl)
-there (x ∷ xs) (y' ∷ ys) (suc k) y same at = there xs ys k y (let e : length xs ≡ length ys = omega (arith, same) in e) at
-
 mapped_at : {X Y : Type 0} (f : X → Y) (xs : List X) (k : ℕ) (y : Y) → slice_get (map f xs) k ≡ Some y → (x : X) × (slice_get xs k ≡ Some x) × (f x ≡ y)
 mapped_at f [] k y h = absurd (let none : None ≡ Some y = h in cc)
 mapped_at f (x ∷ xs) zero y h = (x, refl, (let both : Some (f x) ≡ Some y = h in cc))
 mapped_at f (x ∷ xs) (suc k) y h = mapped_at f xs k y h
 
-module _ (options : Options) (s : Service) (same_clients : s.clients ≡ options.clients) (cell_is : IsCellOf options.config options.servers s.cell) (stands : List Stand) (many : length stands ≡ options.clients)
-    (all : AllPrinted s stands) (meet : AreComparable stands) where
-  -- the calls of a client whose answers were printed
-  record IsAskedAt (k : ℕ) (p : Stand) (calls : List Call) : Type 0 where
-    pub printed : IsPrinted s (suc k) p.count p.is_lost p.seen p.answers
-    pub are : calls ≡ printed.answered.calls ++ printed.refused
+-- the calls of a client whose answers were printed
+record IsAskedAt (s : Service) (k : ℕ) (p : Stand) (calls : List Call) : Type 0 where
+  pub printed : IsPrinted s (suc k) p.count p.is_lost p.seen p.answers
+  pub are : calls ≡ printed.answered.calls ++ printed.refused
 
-  asked : (xs : List (List Call)) × (length xs ≡ length stands) × ((k : ℕ) (p : Stand) (calls : List Call) → slice_get stands k ≡ Some p → slice_get xs k ≡ Some calls → IsAskedAt k p calls)
-  asked = collect IsAskedAt stands (λ k p at. ((all k p at).answered.calls ++ (all k p at).refused, record { printed = all k p at; are = refl }))
+abbrev stretch_at : (s : Service) (k : ℕ) (p : Stand) (calls : List Call) → IsAskedAt s k p calls → Stretch
+stretch_at s k p calls a = record { heard = a.printed.answered.calls; answers = a.printed.replies; refused = a.printed.refused; refusals = a.printed.refusals }
+
+is_stretch : (s : Service) (k : ℕ) (p : Stand) (calls : List Call) (a : IsAskedAt s k p calls) → IsStretch (stretch_at s k p calls a)
+is_stretch s k p calls a = record { each = sym a.printed.answered.each; all = sym a.printed.each; of_the_cell = a.printed.of_the_cell }
+
+module _ (options : Options) (s : Service) (same_clients : s.clients ≡ options.clients) (cell_is : IsCellOf options.config options.servers s.cell) (stands : List Stand) (many : length stands ≡ options.clients)
+    (places : AreInOrder stands) (all : AllPrinted s stands) (meet : AreComparable stands) where
+  placed : (k : ℕ) (p : Stand) → slice_get stands k ≡ Some p → IsPrinted s (suc k) p.count p.is_lost p.seen p.answers
+  placed k p at = subst (λ (n : ℕ). IsPrinted s n p.count p.is_lost p.seen p.answers) (places k p at) (all k p at)
+
+  asked : (xs : List (List Call)) × (length xs ≡ length stands) × ((k : ℕ) (p : Stand) (calls : List Call) → slice_get stands k ≡ Some p → slice_get xs k ≡ Some calls → IsAskedAt s k p calls)
+  asked = collect (IsAskedAt s) stands (λ k p at. ((placed k p at).answered.calls ++ (placed k p at).refused, record { printed = placed k p at; are = refl }))
 
   longest : (entries : List Entry) × IsLongest s stands entries
   longest =
-      longest_of s stands (subst (λ (c : Config). first_out_of_range c ≡ None) (sym cell_is.config_is) cell_is.in_range) (λ k p at. (all k p at).answered.of) meet
+      longest_of s stands (subst (λ (c : Config). first_out_of_range c ≡ None) (sym cell_is.config_is) cell_is.in_range) (λ k p at. (placed k p at).answered.of) meet
 
-  stretch_at : (k : ℕ) (p : Stand) (calls : List Call) → IsAskedAt k p calls → Stretch
-  stretch_at k p calls a = record { heard = a.printed.answered.calls; answers = a.printed.replies; refused = a.printed.refused; refusals = a.printed.refusals }
-
-  is_stretch : (k : ℕ) (p : Stand) (calls : List Call) (a : IsAskedAt k p calls) → IsStretch (stretch_at k p calls a)
-  is_stretch k p calls a = record { each = sym a.printed.answered.each; all = sym a.printed.each; of_the_cell = a.printed.of_the_cell }
-
-  has_answers : (k : ℕ) (p : Stand) (calls : List Call) (replies : List Answer) → slice_get stands k ≡ Some p → IsAskedAt k p calls → p.answers ≡ replies → HasAnswers longest.0 (suc k) 0 calls replies
+  has_answers : (k : ℕ) (p : Stand) (calls : List Call) (replies : List Answer) → slice_get stands k ≡ Some p → IsAskedAt s k p calls → p.answers ≡ replies → HasAnswers longest.0 (suc k) 0 calls replies
   has_answers k p calls replies at a same = record {
     seen = p.seen.items;
     begins = longest.1.all k p at;
@@ -85,12 +82,12 @@ module _ (options : Options) (s : Service) (same_clients : s.clients ≡ options
     first = refl;
     few = omega arith;
     answered = record {
-      stretches = stretch_at k p calls a ∷ [];
+      stretches = stretch_at s k p calls a ∷ [];
       count = omega arith;
-      are = All-cons IsStretch (stretch_at k p calls a) [] (is_stretch k p calls a) (All-nil IsStretch);
+      are = All-cons IsStretch (stretch_at s k p calls a) [] (is_stretch s k p calls a) (All-nil IsStretch);
       calls_are = a.are ∙ sym (append-nil (a.printed.answered.calls ++ a.printed.refused));
       replies_are = sym same ∙ a.printed.are ∙ sym (append-nil (a.printed.replies ++ a.printed.refusals));
-      shows = a.printed.answered.shows ∙ sym (append-nil (heard_in (stretch_at k p calls a)));
+      shows = a.printed.answered.shows ∙ sym (append-nil (heard_in (stretch_at s k p calls a)));
     };
   }
 

@@ -144,3 +144,25 @@ module _ (s : Service) (client count : ℕ) (was : Bool) (seen : Listed Entry) (
         of_the_cell = subst (λ (a : Answer). AreOfTheCell (h.refusals ++ a ∷ [])) (sym next.is) (refused_more h.refusals next.refusal h.of_the_cell next.of_the_cell);
         none_refused = λ is_open. absurd (let both : true ≡ false = is_open in cc);
       }
+
+-- the client's next answer, by what is known of it
+module _ (s : Service) (mine client count number : ℕ) (was is_lost : Bool) (seen now : Listed Entry) (printed : List Answer) (reply : Answer) (same : client ≡ mine) (next : number ≡ count)
+    (h : IsPrinted s mine count was seen printed) (r : IsReply s client number reply now is_lost) where
+  its_reply : IsReply s mine number reply now is_lost
+  its_reply = subst (λ (n : ℕ). IsReply s n number reply now is_lost) same r
+
+  pub same_names : is_lost ≡ false → seen.name ≡ now.name
+  same_names heard = h.answered.of.name ∙ sym (r.heard heard).answered.of.name
+
+  pub kept_heard : is_lost ≡ false → was ≡ false → (length seen.items ≤ length now.items → IsPrefix seen.items now.items) → (length now.items ≤ length seen.items → IsPrefix now.items seen.items)
+      → IsPrinted s mine (number + 1) is_lost now (printed ++ reply ∷ [])
+  kept_heard heard is_open goes back =
+      subst (λ (b : Bool). IsPrinted s mine (number + 1) b now (printed ++ reply ∷ [])) (sym heard)
+      (subst (λ (n : ℕ). IsPrinted s mine (n + 1) false now (printed ++ reply ∷ [])) (sym next)
+      (heard_more s mine count was seen printed h reply now number next is_open (subst (IsReply s mine number reply now) heard its_reply) goes back))
+
+  pub kept_lost : is_lost ≡ true → IsPrinted s mine (number + 1) is_lost seen (printed ++ reply ∷ [])
+  kept_lost lost =
+      subst (λ (b : Bool). IsPrinted s mine (number + 1) b seen (printed ++ reply ∷ [])) (sym lost)
+      (subst (λ (n : ℕ). IsPrinted s mine (n + 1) true seen (printed ++ reply ∷ [])) (sym next)
+      (refused_now s mine count was seen printed h reply now number next (subst (IsReply s mine number reply now) lost its_reply)))
