@@ -1,6 +1,6 @@
 -- The calls that a line asks for are handed out.
 use Rattle.std.proofs.Common.{◌≡◌, ◌⊎◌, ℕ, zero, suc, ◌+◌, ◌<◌, ◌≤◌, Bool, true, false, List, [], ◌∷◌, ◌++◌, ⊎_elim, length, set, Option, Some, None, refl, sym, ap, ap₂, subst, ◌∙◌, arith}
-use Rattle.std.specs.Prelude.{Result, Ok, Err, OnOk, IfErr, slice_get, replicate, nat_lt, nat_le, nat_eq, ◌==◌, ◌&&◌, if◌then◌else◌}
+use Rattle.std.specs.Prelude.{Result, Ok, Err, OnOk, slice_get, replicate, nat_lt, nat_le, nat_eq, ◌==◌, ◌&&◌, if◌then◌else◌}
 use Rattle.std.proofs.Math.Bool.{and-false}
 use Rattle.std.proofs.lemmas.Bool.Decides.{nat_tests}
 use Rattle.std.proofs.lemmas.List.{append-nil, length-set}
@@ -12,11 +12,14 @@ use Rattle.script.specs.declared.fault.LineFault.TheVariants.{Bad, NoMemory}
 use Rattle.script.specs.declared.live_lines.LiveLine.{LiveLine}
 use Rattle.script.specs.declared.live_lines.LiveLine.TheVariants as lines
 use Rattle.script.specs.Words.{Reads}
+use Rattle.script.specs.ScriptFaults.{IsOfRead}
+use Rattle.script.specs.declared.script_fault.ScriptFault.{ScriptFault}
+use Rattle.script.specs.declared.script_fault.ScriptFault.TheVariants as fault
 use Rattle.serve_lines.specs.declared.lines.ServedLine.{ServedLine}
 use Rattle.serve_lines.specs.declared.lines.ServedLine.TheVariants as served
 use Rattle.live.specs.Playing.{calls_of}
 use Rattle.serve.specs.Served.{call_in}
-use Rattle.serve.specs.Messages.{Service, IsAsked, AreNext, AreTaken}
+use Rattle.serve.specs.Messages.{Service, IsAsked, AreNext, AreTaken, IsOfReading}
 use Rattle.serve.proofs.Places.{set_here, set_there}
 
 -- whatever it was, this holds
@@ -24,9 +27,9 @@ pub on_ok : {T E : Type 0} (r : Result T E) (P : Type 0) → P → OnOk r P
 on_ok (Ok x) P h = h
 on_ok (Err e) P h = tt
 
-pub if_err : {T E : Type 0} (r : Result T E) (P : E → Type 0) → ((e : E) → P e) → IfErr r P
-if_err (Ok x) P h = tt
-if_err (Err e) P h = h e
+-- a reader that fails
+pub of_reading : (f : ScriptFault) → IsOfRead f → IsOfReading f
+of_reading f of = ⊎_elim (λ (is : f ≡ fault.NoMemory). subst IsOfReading (sym is) tt) (λ (is : f ≡ fault.Read). subst IsOfReading (sym is) tt) of
 
 -- a line that asks for no call
 pub taken_none : (old : List ℕ) (asked : List LiveLine) → asked ≡ [] → AreTaken old old asked

@@ -16,7 +16,8 @@ use Rattle.cell_journal.specs.Log.{Listed}
 use Rattle.cell_seats.specs.Seats.{is_the_cells}
 use Rattle.cell_seats.specs.Seen.{Visible, Asked, Answered, asked_in, answered_in, visible_of}
 use Rattle.live.specs.Playing.{shown_as, AreOfTheCell}
-use Rattle.serve.specs.Messages.{Service, AreFirstCalls, HasAnswers, IsReply, IsPrinted}
+use Rattle.serve.specs.Messages.{Service, Replied, AreFirstCalls, HasAnswers, IsReply, IsPrinted}
+use Rattle.serve.specs.Printing.{Stand, IsNextOf}
 use Rattle.serve.proofs.Answered.{first_more, longer}
 
 -- of two lists of calls with their answers one of which begins the other
@@ -154,15 +155,27 @@ module _ (s : Service) (mine client count number : ℕ) (was is_lost : Bool) (se
   pub same_names : is_lost ≡ false → seen.name ≡ now.name
   same_names heard = h.answered.of.name ∙ sym (r.heard heard).answered.of.name
 
-  pub kept_heard : is_lost ≡ false → was ≡ false → (length seen.items ≤ length now.items → IsPrefix seen.items now.items) → (length now.items ≤ length seen.items → IsPrefix now.items seen.items)
-      → IsPrinted s mine (number + 1) is_lost now (printed ++ reply ∷ [])
-  kept_heard heard is_open goes back =
-      subst (λ (b : Bool). IsPrinted s mine (number + 1) b now (printed ++ reply ∷ [])) (sym heard)
+  pub kept_heard : (all : List Answer) → all ≡ printed ++ reply ∷ [] → is_lost ≡ false → was ≡ false → (length seen.items ≤ length now.items → IsPrefix seen.items now.items)
+      → (length now.items ≤ length seen.items → IsPrefix now.items seen.items) → IsPrinted s mine (number + 1) is_lost now all
+  kept_heard all is heard is_open goes back =
+      subst (IsPrinted s mine (number + 1) is_lost now) (sym is)
+      (subst (λ (b : Bool). IsPrinted s mine (number + 1) b now (printed ++ reply ∷ [])) (sym heard)
       (subst (λ (n : ℕ). IsPrinted s mine (n + 1) false now (printed ++ reply ∷ [])) (sym next)
-      (heard_more s mine count was seen printed h reply now number next is_open (subst (IsReply s mine number reply now) heard its_reply) goes back))
+      (heard_more s mine count was seen printed h reply now number next is_open (subst (IsReply s mine number reply now) heard its_reply) goes back)))
 
-  pub kept_lost : is_lost ≡ true → IsPrinted s mine (number + 1) is_lost seen (printed ++ reply ∷ [])
-  kept_lost lost =
-      subst (λ (b : Bool). IsPrinted s mine (number + 1) b seen (printed ++ reply ∷ [])) (sym lost)
+  pub kept_lost : (all : List Answer) → all ≡ printed ++ reply ∷ [] → is_lost ≡ true → IsPrinted s mine (number + 1) is_lost seen all
+  kept_lost all is lost =
+      subst (IsPrinted s mine (number + 1) is_lost seen) (sym is)
+      (subst (λ (b : Bool). IsPrinted s mine (number + 1) b seen (printed ++ reply ∷ [])) (sym lost)
       (subst (λ (n : ℕ). IsPrinted s mine (n + 1) true seen (printed ++ reply ∷ [])) (sym next)
-      (refused_now s mine count was seen printed h reply now number next (subst (IsReply s mine number reply now) lost its_reply)))
+      (refused_now s mine count was seen printed h reply now number next (subst (IsReply s mine number reply now) lost its_reply))))
+
+-- by the fields of what was printed and of a reply
+pub next_inside : (p q : Stand) (r t : Replied) → p ≡ q → r ≡ t → IsNextOf q t → IsNextOf p r
+next_inside p q r t same_stand same_reply next = subst (λ (x : Stand). IsNextOf x r) (sym same_stand) (subst (IsNextOf q) (sym same_reply) next)
+
+pub meets_so : (p q one other : Stand) → p ≡ one → q ≡ other → (length p.seen.items ≤ length q.seen.items → IsPrefix p.seen.items q.seen.items) → length one.seen.items ≤ length other.seen.items
+    → IsPrefix one.seen.items other.seen.items
+meets_so p q one other same_one same_other meet =
+    subst (λ (x : Stand). length one.seen.items ≤ length x.seen.items → IsPrefix one.seen.items x.seen.items) same_other
+    (subst (λ (x : Stand). length x.seen.items ≤ length q.seen.items → IsPrefix x.seen.items q.seen.items) same_one meet)

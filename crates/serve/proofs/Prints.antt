@@ -1,5 +1,5 @@
 -- What is printed, one thing behind the other.
-use Rattle.std.proofs.Common.{◌≡◌, ℕ, zero, suc, ◌+◌, ◌<◌, Bool, true, false, List, [], ◌∷◌, ◌++◌, length, set, Option, Some, None, refl, sym, ap, subst, ◌∙◌, append_assoc, length-append, arith}
+use Rattle.std.proofs.Common.{◌≡◌, ℕ, zero, suc, ◌+◌, ◌<◌, ◌≤◌, Bool, true, false, List, [], ◌∷◌, ◌++◌, length, get_or, set, take, drop, Option, Some, None, refl, sym, ap, subst, ◌∙◌, append_assoc, length-append, arith}
 use Rattle.std.specs.Prelude.{slice_get, nat_eq, ◌==◌, if◌then◌else◌}
 use Rattle.std.specs.List.{flat_map}
 use Rattle.std.specs.Io.KnownBytes.{Appends, Keeps}
@@ -7,12 +7,13 @@ use Rattle.std.proofs.lemmas.Bool.Decides.{nat_tests}
 use Rattle.std.proofs.lemmas.Grind.{flat_map-append}
 use Rattle.std.proofs.lemmas.List.{append-nil, length-set}
 use Rattle.std.proofs.lemmas.Option.{slice_get_within}
+use mathlib.Core.List.{IsPrefix}
 use Rattle.gfs_types.specs.declared.answer.Answer.{Answer}
 use Rattle.live.specs.Live.{told_line}
 use Rattle.live.proofs.Telling.{appends_none, appends_twice, appends_kept}
 use Rattle.serve.specs.Served.{Printed, Answers, Room, answers_to, printed_text, room_line}
 use Rattle.serve.specs.Printing.{Stand, AreInOrder, GoesOn, PrintsOn}
-use Rattle.serve.proofs.Places.{there, set_here, set_there}
+use Rattle.serve.proofs.Places.{there, read_at, set_here, set_there}
 
 either_way : (b : Bool) (x : Answer) (xs ys : List Answer) → (if b then x ∷ (xs ++ ys) else xs ++ ys) ≡ (if b then x ∷ xs else xs) ++ ys
 either_way true x xs ys = refl
@@ -113,3 +114,24 @@ pub order_kept : (olds news : List Stand) (before after : Option (List ℕ)) →
 order_kept olds news before after prints order k q at =
     let old = there olds news k q (sym prints.count) at in
     (prints.each k old.0 q old.1 at).client ∙ order k old.0 old.1
+
+-- what one has seen, and what the one at a place has seen
+abbrev pub Meets : List Stand → ℕ → ℕ → Stand → Type 0
+Meets stands i k q = (p : Stand) → slice_get stands i ≡ Some p → length p.seen.items ≤ length q.seen.items → IsPrefix p.seen.items q.seen.items
+
+pub meets_there : (stands : List Stand) (i : ℕ) (p q : Stand) → i < length stands → p ≡ get_or stands i p → (length p.seen.items ≤ length q.seen.items → IsPrefix p.seen.items q.seen.items) → (k : ℕ) → Meets stands i k q
+meets_there stands i p q within is meet k r at = subst (λ (x : Stand). length x.seen.items ≤ length q.seen.items → IsPrefix x.seen.items q.seen.items) (same_at stands i p r (read_at stands i p within is) at) meet
+
+-- as many answers were printed as this client was asked for calls
+abbrev pub AsMany : List ℕ → ℕ → Stand → Type 0
+AsMany asked k p = (count : ℕ) → slice_get asked k ≡ Some count → p.count ≡ count
+
+pub as_many : (asked : List ℕ) (k number : ℕ) (p : Stand) → k < length asked → slice_get asked k ≡ Some number → number ≡ p.count → AsMany asked k p
+as_many asked k number p within here same count at = let both : Some number ≡ Some count = sym here ∙ at in (let is : number ≡ count = cc both in sym same ∙ is)
+
+take_front : {X : Type 0} (xs ys : List X) → take (length xs) (xs ++ ys) ≡ xs
+take_front [] ys = refl
+take_front {X} (x ∷ xs) ys = ap (λ (l : List X). x ∷ l) (take_front xs ys)
+
+pub written_back : {X : Type 0} (n : ℕ) (news olds : List X) → length news ≡ n → take n (news ++ drop (length news) olds) ≡ news
+written_back n news olds h = subst (λ (m : ℕ). take m (news ++ drop (length news) olds) ≡ news) h (take_front news (drop (length news) olds))

@@ -1,6 +1,6 @@
 //! Prints what is told, as it comes.
 
-ghost use Rattle.std.specs.Prelude.{◌≡◌, ◌++◌, ◌∷◌, [], ℕ, Some, OnOk, IfErr, IfSome, length, ◌≤◌, true};
+ghost use Rattle.std.specs.Prelude.{◌≡◌, ◌≤◌, ◌++◌, ◌∷◌, [], Some, OnOk, IfErr, IfSome, length, true};
 ghost use Rattle.std.specs.Io.KnownBytes.{Appends, Keeps};
 ghost use mathlib.Core.List.{IsPrefix};
 ghost use Rattle.script.specs.ScriptFaults.{IsOfWrite};
@@ -65,7 +65,8 @@ pub fn print_all<S: Serving, R: Wait, W: Write>(
     ensures fault { IfErr result IsOfWrite }
 {
     for _ in rt.forever() {
-        let Some(one) = next(rt, told, writer)? else {
+        let found = next(rt, told, writer)?;
+        let Some(one) = found else {
             return Ok(());
         };
         obey(rt, one, cell, printed, writer)?;

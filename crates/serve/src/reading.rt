@@ -1,9 +1,8 @@
 //! Takes the lines, and hands out the calls.
 
-ghost use Rattle.std.specs.Prelude.{◌≡◌, ◌⊎◌, ◌+◌, ◌<◌, IfOk, IfErr, IfSome, IfNone, OnOk, Some, length, slice_get};
+ghost use Rattle.std.specs.Prelude.{◌≡◌, ◌⊎◌, ◌+◌, ◌<◌, IfOk, IfErr, IfSome, IfNone, OnOk, Some, length};
 ghost use Rattle.serve_lines.specs.Input.{ReadsWholeLine};
 ghost use Rattle.serve_lines.specs.Lines.{served_line_of};
-ghost use Rattle.script.specs.ScriptFaults.{IsOfRead};
 ghost use Rattle.script.specs.declared.fault.LineFault.TheVariants.{Bad};
 ghost use Rattle.serve.specs.Served.{call_in, calls_served};
 ghost use Rattle.serve_lines.specs.declared.lines.ServedLine.TheVariants as served;
@@ -59,10 +58,12 @@ impl<S: Serving> Receivers<S> {
     {
         let mut text = Vec::new(alloc);
         for before in 0..u64::MAX {
-            if !next_line(reader, &mut text)? {
+            let is_there = next_line(reader, &mut text)?;
+            if !is_there {
                 return Ok(());
             }
-            if !self.take(rt, alloc, text.as_slice())? {
+            let is_known = self.take(rt, alloc, text.as_slice())?;
+            if !is_known {
                 faults.tell(ScriptFault::Line(before + 1));
             }
         }
@@ -74,7 +75,7 @@ impl<S: Serving> Receivers<S> {
     fn take<W: Wait>(&mut self, rt: &W, alloc: Global, text: &[u8]) -> Result<bool, ScriptFault>
         requires { AreNext S.of self.old.asked.items (call_in S.of.clients (served_line_of text.now)) }
         ensures taken { OnOk result (AreTaken self.old.asked.items self.new.asked.items (call_in S.of.clients (served_line_of text.now))) }
-        ensures stays { IfErr result (λ _. self.new.asked.items ≡ self.old.asked.items) }
+        ensures clients { length self.new.asked.items ≡ length self.old.asked.items }
         ensures fault { IfErr result IsOfReading }
     {
         match parse(alloc, text) {
@@ -87,7 +88,7 @@ impl<S: Serving> Receivers<S> {
     fn obey<W: Wait>(&mut self, rt: &W, line: ServedLine) -> Result<bool, ScriptFault>
         requires { AreNext S.of self.old.asked.items (call_in S.of.clients (Some line)) }
         ensures taken { OnOk result (AreTaken self.old.asked.items self.new.asked.items (call_in S.of.clients (Some line))) }
-        ensures stays { IfErr result (λ _. self.new.asked.items ≡ self.old.asked.items) }
+        ensures clients { length self.new.asked.items ≡ length self.old.asked.items }
         ensures fault { IfErr result IsOfReading }
     {
         match line {
@@ -127,7 +128,7 @@ impl<S: Serving> Receivers<S> {
     fn hand_out<W: Wait>(&mut self, rt: &W, line: ClientCall) -> Result<bool, ScriptFault>
         requires { AreNext S.of self.old.asked.items (call_in S.of.clients (Some (served.Call line))) }
         ensures taken { OnOk result (AreTaken self.old.asked.items self.new.asked.items (call_in S.of.clients (Some (served.Call line)))) }
-        ensures stays { IfErr result (λ _. self.new.asked.items ≡ self.old.asked.items) }
+        ensures clients { length self.new.asked.items ≡ length self.old.asked.items }
         ensures fault { IfErr result IsOfReading }
     {
         let ClientCall { client, call } = line;
@@ -158,7 +159,7 @@ impl<S: Serving> Receivers<S> {
 // The next line, if there is one, is now in `text`.
 fn next_line<R: Read>(reader: &mut R, text: &mut Vec<u8>) -> Result<bool, ScriptFault>
     ensures line { IfOk result (ReadsWholeLine (R.remaining reader.old) (R.remaining reader.new) text.new.items) }
-    ensures fault { IfErr result IsOfRead }
+    ensures fault { IfErr result IsOfReading }
 {
     match read_whole_line(reader, text) {
         Ok(is_there) => Ok(is_there),

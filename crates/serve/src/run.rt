@@ -130,7 +130,7 @@ fn zeros(alloc: Global, count: u64) -> Result<Vec<u64>, ScriptFault>
     ensures fault { IfErr result IsOfRun }
 {
     let mut all = Vec::new(alloc);
-    for _ in 0..count {
+    for _made in 0..count {
         push(&mut all, 0)?;
     }
     Ok(all)
