@@ -1,15 +1,13 @@
 -- What was printed in the end.
-use Rattle.std.proofs.Common.{◌≡◌, ◌≤◌, ℕ, zero, suc, Bool, true, false, List, [], ◌∷◌, ◌++◌, length, map, Option, Some, None, refl, sym, ap, subst, ◌∙◌, arith}
+use Rattle.std.proofs.Common.{◌≡◌, ◌<◌, ◌≤◌, ℕ, zero, suc, Bool, true, false, List, [], ◌∷◌, ◌++◌, length, map, Option, Some, None, refl, sym, ap, subst, ◌∙◌, arith}
 use Rattle.std.specs.Prelude.{Result, Ok, Err, OnOk, IfSome, IsTrue, slice_get, All}
 use Rattle.std.specs.List.{flat_map}
 use Rattle.std.specs.Io.KnownBytes.{Appends}
 use Rattle.std.proofs.lemmas.List.{append-nil, length-map}
 use Rattle.std.proofs.lemmas.List.Elements.{All-nil, All-cons}
 use mathlib.Core.List.{IsPrefix}
-use Rattle.gfs_types.specs.Settings.{first_out_of_range}
 use Rattle.gfs_types.specs.declared.answer.Answer.{Answer}
 use Rattle.gfs_types.specs.declared.call.Call.{Call}
-use Rattle.gfs_types.specs.declared.config.Config.{Config}
 use Rattle.gfs_types.specs.declared.ids.Node.TheVariants.{Client}
 use Rattle.protocol_journal.specs.Journal.{Entry}
 use Rattle.cell_seats.specs.Seen.{Visible}
@@ -61,7 +59,8 @@ stretch_at s k p calls a = record { heard = a.printed.answered.calls; answers = 
 is_stretch : (s : Service) (k : ℕ) (p : Stand) (calls : List Call) (a : IsAskedAt s k p calls) → IsStretch (stretch_at s k p calls a)
 is_stretch s k p calls a = record { each = sym a.printed.answered.each; all = sym a.printed.each; of_the_cell = a.printed.of_the_cell }
 
-module _ (options : Options) (s : Service) (same_clients : s.clients ≡ options.clients) (cell_is : IsCellOf options.config options.servers s.cell) (stands : List Stand) (many : length stands ≡ options.clients)
+module _ (options : Options) (s : Service) (same_clients : s.clients ≡ options.clients) (cell_is : IsCellOf options.config options.servers s.cell) (some : 0 < options.clients) (stands : List Stand)
+    (many : length stands ≡ options.clients)
     (places : AreInOrder stands) (all : AllPrinted s stands) (meet : AreComparable stands) where
   placed : (k : ℕ) (p : Stand) → slice_get stands k ≡ Some p → IsPrinted s (suc k) p.count p.is_lost p.seen p.answers
   placed k p at = subst (λ (n : ℕ). IsPrinted s n p.count p.is_lost p.seen p.answers) (places k p at) (all k p at)
@@ -70,8 +69,7 @@ module _ (options : Options) (s : Service) (same_clients : s.clients ≡ options
   asked = collect (IsAskedAt s) stands (λ k p at. ((placed k p at).answered.calls ++ (placed k p at).refused, record { printed = placed k p at; are = refl }))
 
   longest : (entries : List Entry) × IsLongest s stands entries
-  longest =
-      longest_of s stands (subst (λ (c : Config). first_out_of_range c ≡ None) (sym cell_is.config_is) cell_is.in_range) (λ k p at. (placed k p at).answered.of) meet
+  longest = longest_of s stands (omega (arith, some, many)) (λ k p at. (placed k p at).answered.of) meet
 
   has_answers : (k : ℕ) (p : Stand) (calls : List Call) (replies : List Answer) → slice_get stands k ≡ Some p → IsAskedAt s k p calls → p.answers ≡ replies → HasAnswers longest.0 (suc k) 0 calls replies
   has_answers k p calls replies at a same = record {

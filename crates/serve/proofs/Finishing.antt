@@ -1,6 +1,7 @@
 -- What serving comes to, once all threads have ended, or where it was not begun.
-use Rattle.std.proofs.Common.{◌≡◌, ◌≤◌, ℕ, suc, List, ⊎_elim, length, Option, Some, None, refl, sym, ap, subst, ◌∙◌}
-use Rattle.std.specs.Prelude.{Result, Ok, Err, OnOk, IfErr}
+use Rattle.std.proofs.Common.{◌≡◌, ◌<◌, ◌≤◌, ℕ, suc, List, ⊎_elim, length, Option, Some, None, refl, sym, ap, subst, ◌∙◌}
+use Rattle.std.specs.Prelude.{Result, OnOk, IfErr}
+use Rattle.std.proofs.lemmas.Result.{on_ok_weaker, IfErr-weaker}
 use Rattle.std.specs.Io.KnownBytes.{Keeps}
 use Rattle.cell_run.specs.Cells.{IsCellOf}
 use Rattle.script.proofs.Bytes.{keeps_all}
@@ -11,7 +12,7 @@ use Rattle.script.specs.declared.script_fault.ScriptFault.TheVariants as fault
 use Rattle.live.specs.Faults.{IsOfRun}
 use Rattle.serve.specs.Messages.{Service, AreAsked, IsOfReading}
 use Rattle.serve.specs.Outcomes.{Serves, Stops}
-use Rattle.serve.specs.Printing.{Stand, AreInOrder, AreNew, AllPrinted, PrintsOn, AreComparable, AreAllPrinted}
+use Rattle.serve.specs.Printing.{Stand, AreInOrder, AreNew, AllPrinted, PrintsOn, AreComparable, AreAllPrinted, AreAllDone}
 use Rattle.serve.proofs.Ending.{serves_all, serves_first}
 use Rattle.serve.proofs.Prints.{order_kept}
 
@@ -29,23 +30,27 @@ stops_writing options input before after f of = ⊎_elim
     (λ (is : f ≡ fault.Write). subst (λ (g : ScriptFault). Stops options input before after g) (sym is) tt)
     of
 
-module _ (options : Options) (s : Service) (same_clients : s.clients ≡ options.clients) (cell_is : IsCellOf options.config options.servers s.cell) (input before after : Option (List ℕ)) (input_is : s.input ≡ input)
+-- as many answers were printed as the lines have calls
+pub all_done : (s : Service) (outcome : Result (Unit {0}) ScriptFault) (counts : List ℕ) (ends : List Stand) → AreAsked s outcome counts → AreAllPrinted counts ends → OnOk outcome (AreAllDone s ends)
+all_done s outcome counts ends asked printed = on_ok_weaker outcome (λ of_all. record { counts = counts; asked = of_all; printed = printed }) asked.all
+
+module _ (options : Options) (s : Service) (same_clients : s.clients ≡ options.clients) (cell_is : IsCellOf options.config options.servers s.cell) (some : 0 < options.clients) (input before after : Option (List ℕ)) (input_is : s.input ≡ input)
     (news ends : List Stand) (many : length news ≡ options.clients) (order : AreInOrder news) (fresh : AreNew news) (prints : PrintsOn news ends before after) (all : AllPrinted s ends) (meet : AreComparable ends) where
   places : AreInOrder ends
   places = order_kept news ends before after prints order
 
-  pub ends_well : (outcome : Result (Unit {0}) ScriptFault) (counts : List ℕ) → AreAsked s outcome counts → AreAllPrinted counts ends → OnOk outcome (Serves options input before after)
-  ends_well (Ok u) counts asked printed = serves_all options s same_clients cell_is ends (prints.count ∙ many) places all meet news before after order fresh prints counts input input_is printed asked.all
-  ends_well (Err f) counts asked printed = tt
+  pub ends_well : (r : Result (Unit {0}) ScriptFault) → OnOk r (AreAllDone s ends) → OnOk r (Serves options input before after)
+  ends_well r done = on_ok_weaker r
+      (λ (d : AreAllDone s ends). serves_all options s same_clients cell_is some ends (prints.count ∙ many) places all meet news before after order fresh prints d.counts input input_is d.printed d.asked)
+      done
 
   stopped : (f : ScriptFault) → IsOfReading f → Stops options input before after f
   stopped (fault.Line number) of = absurd of
   stopped (fault.NoEnd number) of = absurd of
   stopped fault.Start of = absurd of
   stopped fault.NoMemory of = tt
-  stopped fault.Read of = serves_first options s same_clients cell_is ends (prints.count ∙ many) places all meet news before after order fresh prints input input_is
+  stopped fault.Read of = serves_first options s same_clients cell_is some ends (prints.count ∙ many) places all meet news before after order fresh prints input input_is
   stopped fault.Write of = tt
 
-  pub ends_badly : (outcome : Result (Unit {0}) ScriptFault) (counts : List ℕ) → AreAsked s outcome counts → IfErr outcome (Stops options input before after)
-  ends_badly (Ok u) counts asked = tt
-  ends_badly (Err f) counts asked = stopped f asked.stops
+  pub ends_badly : (r : Result (Unit {0}) ScriptFault) → IfErr r IsOfReading → IfErr r (Stops options input before after)
+  ends_badly r of = IfErr-weaker r IsOfReading (Stops options input before after) stopped of

@@ -1,6 +1,6 @@
 -- The calls that a line asks for are handed out.
 use Rattle.std.proofs.Common.{◌≡◌, ◌⊎◌, ℕ, zero, suc, ◌+◌, ◌<◌, ◌≤◌, Bool, true, false, List, [], ◌∷◌, ◌++◌, ⊎_elim, length, set, Option, Some, None, refl, sym, ap, ap₂, subst, ◌∙◌, arith}
-use Rattle.std.specs.Prelude.{Result, Ok, Err, OnOk, slice_get, replicate, nat_lt, nat_le, nat_eq, ◌==◌, ◌&&◌, if◌then◌else◌}
+use Rattle.std.specs.Prelude.{Result, Ok, Err, OnOk, IfNone, slice_get, replicate, nat_lt, nat_le, nat_eq, ◌==◌, ◌&&◌, if◌then◌else◌}
 use Rattle.std.proofs.Math.Bool.{and-false}
 use Rattle.std.proofs.lemmas.Bool.Decides.{nat_tests}
 use Rattle.std.proofs.lemmas.List.{append-nil, length-set}
@@ -27,6 +27,10 @@ pub on_ok : {T E : Type 0} (r : Result T E) (P : Type 0) → P → OnOk r P
 on_ok (Ok x) P h = h
 on_ok (Err e) P h = tt
 
+pub when_none : {X P : Type 0} (o : Option X) → ((x : X) → o ≡ Some x → ⊥) → IfNone o P → P
+when_none None none h = h
+when_none (Some x) none h = absurd (none x refl)
+
 -- a reader that fails
 pub of_reading : (f : ScriptFault) → IsOfRead f → IsOfReading f
 of_reading f of = ⊎_elim (λ (is : f ≡ fault.NoMemory). subst IsOfReading (sym is) tt) (λ (is : f ≡ fault.Read). subst IsOfReading (sym is) tt) of
@@ -44,15 +48,15 @@ none_in_bad clients Bad expected reads is = ap (call_in clients) reads
 none_in_bad clients NoMemory expected reads is = absurd (let both : NoMemory ≡ Bad = is in cc)
 
 -- a call by a client that isn't there
-pub none_there : (clients : ℕ) (line : ClientCall) → (line.client.0 ≡ 0) ⊎ (clients < line.client.0) → call_in clients (Some (served.Call line)) ≡ []
-none_there clients line h = ap (λ (b : Bool). if b then lines.Calls 1 line ∷ [] else []) (⊎_elim none past h)
+pub none_there : (clients n : ℕ) (line : ClientCall) → n ≡ clients → (line.client.0 ≡ 0) ⊎ (n < line.client.0) → call_in clients (Some (served.Call line)) ≡ []
+none_there clients n line count h = ap (λ (b : Bool). if b then lines.Calls 1 line ∷ [] else []) (⊎_elim none past h)
   where
     none : line.client.0 ≡ 0 → (nat_lt 0 line.client.0 && nat_le line.client.0 clients) ≡ false
     none is = let no : nat_lt 0 line.client.0 ≡ false = grind (arith, nat_tests, is) in ap (λ (b : Bool). b && nat_le line.client.0 clients) no
 
-    past : clients < line.client.0 → (nat_lt 0 line.client.0 && nat_le line.client.0 clients) ≡ false
+    past : n < line.client.0 → (nat_lt 0 line.client.0 && nat_le line.client.0 clients) ≡ false
     past more =
-        let no : nat_le line.client.0 clients ≡ false = grind (arith, nat_tests, more) in
+        let no : nat_le line.client.0 clients ≡ false = grind (arith, nat_tests, more, count) in
         ap (λ (b : Bool). nat_lt 0 line.client.0 && b) no ∙ and-false (nat_lt 0 line.client.0)
 
 module _ (s : Service) (counts : List ℕ) (line : ClientCall) (place : ℕ) (clients : length counts ≡ s.clients) (within : place < length counts) (is : place + 1 ≡ line.client.0) where

@@ -6,7 +6,7 @@ use Rattle.std.specs.Io.KnownBytes.{Appends, Keeps}
 use Rattle.std.proofs.lemmas.Bool.Decides.{nat_tests}
 use Rattle.std.proofs.lemmas.Grind.{flat_map-append}
 use Rattle.std.proofs.lemmas.List.{append-nil, length-set}
-use Rattle.std.proofs.lemmas.Option.{slice_get_within}
+use Rattle.std.proofs.lemmas.Option.{slice_get_within, get_or_from_slice_get}
 use mathlib.Core.List.{IsPrefix}
 use Rattle.gfs_types.specs.declared.answer.Answer.{Answer}
 use Rattle.live.specs.Live.{told_line}
@@ -126,8 +126,8 @@ meets_there stands i p q within is meet k r at = subst (λ (x : Stand). length x
 abbrev pub AsMany : List ℕ → ℕ → Stand → Type 0
 AsMany asked k p = (count : ℕ) → slice_get asked k ≡ Some count → p.count ≡ count
 
-pub as_many : (asked : List ℕ) (k number : ℕ) (p : Stand) → k < length asked → slice_get asked k ≡ Some number → number ≡ p.count → AsMany asked k p
-as_many asked k number p within here same count at = let both : Some number ≡ Some count = sym here ∙ at in (let is : number ≡ count = cc both in sym same ∙ is)
+pub as_many : (asked : List ℕ) (k : ℕ) (p : Stand) → get_or asked k 0 ≡ p.count → AsMany asked k p
+as_many asked k p same count at = sym same ∙ get_or_from_slice_get asked k count 0 at
 
 take_front : {X : Type 0} (xs ys : List X) → take (length xs) (xs ++ ys) ≡ xs
 take_front [] ys = refl

@@ -1,13 +1,13 @@
 -- What is printed, one thing after another.
-use Rattle.std.specs.Prelude.{◌≡◌, ◌≤◌, ◌+◌, ◌<◌, ◌^◌, ℕ, suc, Bool, false, List, [], ◌++◌, length, slice_get, Option, Some}
+use Rattle.std.specs.Prelude.{◌≡◌, ◌≤◌, ◌+◌, ◌<◌, ◌^◌, ℕ, suc, Bool, false, List, [], ◌++◌, length, slice_get, Option, Some, IfSome}
 use Rattle.std.specs.List.{flat_map}
 use Rattle.std.specs.Io.KnownBytes.{Appends}
 use mathlib.Core.List.{IsPrefix}
 use Rattle.gfs_types.specs.declared.answer.Answer.{Answer}
 use Rattle.protocol_journal.specs.Journal.{Entry}
 use Rattle.cell_journal.specs.Log.{Listed}
-use Rattle.serve.specs.Served.{Printed, answers_to, printed_text}
-use Rattle.serve.specs.Messages.{Service, IsPrinted, Replied}
+use Rattle.serve.specs.Served.{Printed, answers_to, calls_served, printed_text}
+use Rattle.serve.specs.Messages.{Service, IsPrinted, Replied, AreCounts}
 
 -- where a client stands: how many of its answers were printed, whether the cell itself refused a call of it, the history that has its calls, and these answers
 pub record Stand : Type 0 where
@@ -66,3 +66,9 @@ AreComparable stands = (i : ℕ) → MeetsEach stands i
 pub record AreAllPrinted (asked : List ℕ) (stands : List Stand) : Type 0 where
   pub clients : length asked ≡ length stands
   pub each : (k count : ℕ) (p : Stand) → slice_get asked k ≡ Some count → slice_get stands k ≡ Some p → p.count ≡ count
+
+-- all that the lines have for each client was answered and printed
+pub record AreAllDone (s : Service) (stands : List Stand) : Type 0 where
+  pub counts : List ℕ
+  pub asked : IfSome s.input (λ input. AreCounts counts (calls_served s.clients input))
+  pub printed : AreAllPrinted counts stands

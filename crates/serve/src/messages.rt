@@ -1,5 +1,7 @@
 //! What the threads of a served cell tell each other.
 
+ghost use Rattle.std.specs.Prelude.{◌≡◌};
+
 use cell_journal::Beginning;
 use cell_journal::raised_entry::RaisedEntry;
 use gfs_types::answer::Answer;
@@ -60,6 +62,15 @@ impl<S: Serving> Model for Reply<S> {
     ghost view = { λ r. replied r.client.0 r.number r.answer r.is_lost r.seen };
 
     ghost invariant = { λ r. IsReply S.of r.client.0 r.number r.answer r.seen r.is_lost };
+}
+
+impl<S: Serving> Reply<S> {
+    /// The client's number.
+    pub fn client(&self) -> u64
+        ensures { result ≡ self.now.client }
+    {
+        self.client.0
+    }
 }
 
 /// What is to be done by whoever has the cell.

@@ -141,14 +141,6 @@ fn print_reply<S: Serving, W: Write>(
     Ok(())
 }
 
-impl<S: Serving> Reply<S> {
-    fn client(&self) -> u64
-        ensures { result ≡ self.now.client }
-    {
-        self.client.0
-    }
-}
-
 impl<S: Serving> PrintedAnswers<S> {
     // Whether it is the client's next answer.
     fn is_followed_by(&self, reply: &Reply<S>) -> bool

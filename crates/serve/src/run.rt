@@ -6,9 +6,9 @@ ghost use Rattle.script.specs.ScriptFaults.{IsOfWrite};
 ghost use Rattle.script.specs.declared.script_fault.ScriptFault.TheVariants.{NoMemory as OutOfMemory};
 ghost use Rattle.live.specs.Faults.{IsOfRun};
 ghost use Rattle.live.specs.Playing.{Each, IsNewPlayer};
-ghost use Rattle.serve.specs.Messages.{HaveAsked};
+ghost use Rattle.serve.specs.Messages.{HaveAsked, IsOfReading};
 ghost use Rattle.serve.specs.Outcomes.{Serves, Stops};
-ghost use Rattle.serve.specs.Printing.{AllPrinted, AreAllPrinted, AreComparable, AreInOrder, AreNew, MeetsEach, PrintsOn};
+ghost use Rattle.serve.specs.Printing.{AllPrinted, AreAllDone, AreAllPrinted, AreComparable, AreInOrder, AreNew, MeetsEach, PrintsOn};
 
 use crate::client::ServedClient;
 use crate::messages::{Asked, AskedCall, Serving, Told};
@@ -84,6 +84,7 @@ fn serve<
 ) -> Result<(), ScriptFault>
     requires input { R.remaining reader ≡ S.of.input }
     requires clients { options.now.clients ≡ S.of.clients }
+    requires some { 0 < options.now.clients }
     requires cell { S.of.cell ≡ cell.of }
     requires new { IsCellOf options.now.config options.now.servers cell.of }
     requires count { length players.items ≡ options.now.clients }
@@ -95,11 +96,12 @@ fn serve<
     let Ok((told, heard)) = bounded(alloc, MOST_WAITING) else {
         return Err(ScriptFault::NoMemory);
     };
+    let clients = start_clients::<S, T>(rt, alloc, players, &told)?;
     let Clients {
         calls,
         threads,
-        mut printed,
-    } = start_clients::<S, T>(rt, alloc, players, &told)?;
+        printed,
+    } = clients;
     let asked = zeros(alloc, options.clients)?;
     let receivers = Receivers {
         servers: options.servers,
@@ -108,20 +110,13 @@ fn serve<
         told,
     };
     let reading = start_reading(rt, alloc, receivers, reader, faults)?;
+    let mut printed = printed;
     print_told(&rt, &heard, &mut cell, &mut printed, writer)?;
-    let Asked {
-        asked,
-        outcome,
-        of: _,
-    } = reading.join(&rt);
+    let taken = reading.join(&rt);
     join_all(&rt, threads);
     cell.close(&rt);
     meet_all(printed.as_slice());
-    if are_all_printed(asked.as_slice(), printed.as_slice()) {
-        outcome
-    } else {
-        Err(ScriptFault::NoMemory)
-    }
+    outcome_of(taken, printed.as_slice())
 }
 
 // So many zeros.
@@ -359,6 +354,22 @@ fn meet_each<S: Serving>(printed: &[PrintedAnswers<S>], one: usize)
     for before in 0..printed.len() {
         printed[one].meet(&printed[before]);
     }
+}
+
+// What the lines came to, if all that they asked for was printed.
+fn outcome_of<S: Serving>(taken: Asked<S>, printed: &[PrintedAnswers<S>]) -> Result<(), ScriptFault>
+    ensures done { OnOk result (AreAllDone S.of printed.now) }
+    ensures fault { IfErr result IsOfReading }
+{
+    let Asked {
+        asked,
+        outcome,
+        of: _,
+    } = taken;
+    if !are_all_printed(asked.as_slice(), printed) {
+        return Err(ScriptFault::NoMemory);
+    }
+    outcome
 }
 
 // Whether each call that was asked was answered, and its answer printed.

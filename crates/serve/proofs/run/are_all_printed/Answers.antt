@@ -1,4 +1,4 @@
-use Rattle.std.proofs.Common.{◌≡◌, ◌∙◌, refl, sym, ap, arith}
+use Rattle.std.proofs.Common.{◌≡◌, get_or, refl, arith}
 use Rattle.serve.proofs.Places.{first_none, first_more, first_all}
 use Rattle.serve.proofs.Prints.{AsMany, as_many}
 use Rattle.serve.proofs.run.are_all_printed.Goals as goal
@@ -9,8 +9,9 @@ loop-before-init g c = first_none (AsMany c.args.asked.now) c.args.printed.now 0
 pub loop-before-preserved : goal.loop-before-preserved
 loop-before-preserved g c =
     let at = c.index-printed-before in
-    first_more (AsMany c.args.asked.now) c.args.printed.now c.loop-before.before at.result (omega arith) at.is c.loop-before.invariant
-    (as_many c.args.asked.now c.loop-before.before at.result c.loop-before-test.true ?)
+    let here = c.loop-before.before in
+    let same : get_or c.args.asked.now here 0 ≡ at.result.count = omega (arith, c.count.ensures.count) in
+    first_more (AsMany c.args.asked.now) c.args.printed.now here at.result (omega arith) at.is c.loop-before.invariant (as_many c.args.asked.now here at.result same)
 
 pub returns : goal.returns
 returns g c = λ _. record {

@@ -2,5 +2,5 @@ use Rattle.std.proofs.Common.{◌≡◌, replicate}
 use Rattle.serve.proofs.run.zeros.Given as goal
 
 -- so many zeros are there
-abbrev pub invariant-loop-_made : goal.invariant-loop-_made
-invariant-loop-_made l = l.all.items ≡ replicate l._made 0
+abbrev pub invariant-loop-made : goal.invariant-loop-made
+invariant-loop-made l = l.all.items ≡ replicate l._made 0
