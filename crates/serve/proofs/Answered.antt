@@ -1,5 +1,5 @@
 -- What a client of a served cell was answered goes on with each call.
-use Rattle.std.proofs.Common.{◌≡◌, ℕ, zero, suc, ◌+◌, Bool, true, false, List, [], ◌∷◌, ◌++◌, length, Option, Some, None, refl, sym, ap, ap₂, subst, ◌∙◌, append_assoc, length-append, arith}
+use Rattle.std.proofs.Common.{◌≡◌, ℕ, suc, ◌+◌, Bool, true, false, List, [], ◌∷◌, ◌++◌, length, Option, Some, None, refl, sym, ap, ap₂, subst, ◌∙◌, append_assoc, arith}
 use Rattle.std.specs.Prelude.{IfSome, IsTrue, slice_get}
 use mathlib.Core.List.{IsPrefix}
 use Rattle.gfs_types.specs.declared.answer.Answer.{Answer}
@@ -49,7 +49,7 @@ first_more s client number calls call count first next = go s.input first next.i
     go None first next = tt
     go (Some i) first next = prefix_next calls (calls_for s.clients client i) call first (ap (slice_get (calls_for s.clients client i)) count ∙ next)
 
-seen_of : (s : Service) (cell : Identity) (seen : List Entry) → cell ≡ s.cell → IsHistoryOf cell seen → IsTrue (are_clocks_kept cell seen) → AreExplained cell.config seen → IsSeenOf s (listed cell.name seen)
+pub seen_of : (s : Service) (cell : Identity) (seen : List Entry) → cell ≡ s.cell → IsHistoryOf cell seen → IsTrue (are_clocks_kept cell seen) → AreExplained cell.config seen → IsSeenOf s (listed cell.name seen)
 seen_of s cell seen is lawful clocks explained = record {
   name = ap (λ (c : Identity). c.name) is;
   lawful = subst (λ (c : Identity). IsHistoryOf c seen) is lawful;

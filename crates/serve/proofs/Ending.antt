@@ -1,8 +1,6 @@
 -- What was printed in the end.
-use Rattle.std.proofs.Common.{◌≡◌, ◌<◌, ◌≤◌, ℕ, zero, suc, Bool, true, false, List, [], ◌∷◌, ◌++◌, length, map, Option, Some, None, refl, sym, ap, subst, ◌∙◌, arith}
-use Rattle.std.specs.Prelude.{Result, Ok, Err, OnOk, IfSome, IsTrue, slice_get, All}
-use Rattle.std.specs.List.{flat_map}
-use Rattle.std.specs.Io.KnownBytes.{Appends}
+use Rattle.std.proofs.Common.{◌≡◌, ◌<◌, ℕ, zero, suc, List, [], ◌∷◌, ◌++◌, length, map, Option, Some, None, refl, sym, ap, subst, ◌∙◌, arith}
+use Rattle.std.specs.Prelude.{IfSome, slice_get}
 use Rattle.std.proofs.lemmas.List.{append-nil, length-map}
 use Rattle.std.proofs.lemmas.List.Elements.{All-nil, All-cons}
 use mathlib.Core.List.{IsPrefix}
@@ -10,14 +8,12 @@ use Rattle.gfs_types.specs.declared.answer.Answer.{Answer}
 use Rattle.gfs_types.specs.declared.call.Call.{Call}
 use Rattle.gfs_types.specs.declared.ids.Node.TheVariants.{Client}
 use Rattle.protocol_journal.specs.Journal.{Entry}
-use Rattle.cell_seats.specs.Seen.{Visible}
 use Rattle.cell_run.specs.Cells.{IsCellOf}
 use Rattle.script.specs.declared.options.Options.{Options}
-use Rattle.script.specs.declared.script_fault.ScriptFault.{ScriptFault}
 use Rattle.live.specs.Live.{HasAnswers}
-use Rattle.live.specs.Playing.{Stretch, IsStretch, calls_in, replies_in, heard_in, AreAnswered}
-use Rattle.serve.specs.Served.{Printed, answers_to, calls_served, printed_text}
-use Rattle.serve.specs.Messages.{Service, IsPrinted, AreAsked, AreCounts, calls_for}
+use Rattle.live.specs.Playing.{Stretch, IsStretch, heard_in}
+use Rattle.serve.specs.Served.{answers_to, calls_served}
+use Rattle.serve.specs.Messages.{Service, IsPrinted, AreCounts, calls_for}
 use Rattle.serve.specs.Outcomes.{AreServedAnswers, PrintsAnswers, Serves, ServesFirst}
 use Rattle.serve.specs.Printing.{Stand, AreInOrder, AreNew, AllPrinted, PrintsOn, AreComparable, AreAllPrinted}
 use Rattle.serve.proofs.Longest.{IsLongest, longest_of}

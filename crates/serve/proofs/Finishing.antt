@@ -1,8 +1,7 @@
 -- What serving comes to, once all threads have ended, or where it was not begun.
-use Rattle.std.proofs.Common.{◌≡◌, ◌<◌, ◌≤◌, ℕ, suc, List, ⊎_elim, length, Option, Some, None, refl, sym, ap, subst, ◌∙◌}
+use Rattle.std.proofs.Common.{◌≡◌, ◌<◌, ℕ, List, ⊎_elim, length, Option, sym, subst, ◌∙◌}
 use Rattle.std.specs.Prelude.{Result, OnOk, IfErr}
 use Rattle.std.proofs.lemmas.Result.{on_ok_weaker, IfErr-weaker}
-use Rattle.std.specs.Io.KnownBytes.{Keeps}
 use Rattle.cell_run.specs.Cells.{IsCellOf}
 use Rattle.script.proofs.Bytes.{keeps_all}
 use Rattle.script.specs.ScriptFaults.{IsOfWrite}

@@ -1,5 +1,5 @@
 -- What is printed, one thing behind the other.
-use Rattle.std.proofs.Common.{◌≡◌, ℕ, zero, suc, ◌+◌, ◌<◌, ◌≤◌, Bool, true, false, List, [], ◌∷◌, ◌++◌, length, get_or, set, take, drop, Option, Some, None, refl, sym, ap, subst, ◌∙◌, append_assoc, length-append, arith}
+use Rattle.std.proofs.Common.{◌≡◌, ℕ, suc, ◌+◌, ◌<◌, ◌≤◌, Bool, true, false, List, [], ◌∷◌, ◌++◌, length, get_or, set, take, drop, Option, Some, None, refl, sym, ap, subst, ◌∙◌, append_assoc, arith}
 use Rattle.std.specs.Prelude.{slice_get, nat_eq, ◌==◌, if◌then◌else◌}
 use Rattle.std.specs.List.{flat_map}
 use Rattle.std.specs.Io.KnownBytes.{Appends, Keeps}
@@ -10,7 +10,7 @@ use Rattle.std.proofs.lemmas.Option.{slice_get_within, get_or_from_slice_get}
 use mathlib.Core.List.{IsPrefix}
 use Rattle.gfs_types.specs.declared.answer.Answer.{Answer}
 use Rattle.live.specs.Live.{told_line}
-use Rattle.live.proofs.Telling.{appends_none, appends_twice, appends_kept}
+use Rattle.live.proofs.Telling.{appends_twice}
 use Rattle.serve.specs.Served.{Printed, Answers, Room, answers_to, printed_text, room_line}
 use Rattle.serve.specs.Printing.{Stand, AreInOrder, GoesOn, PrintsOn}
 use Rattle.serve.proofs.Places.{there, read_at, set_here, set_there}
@@ -25,6 +25,11 @@ answers_append client (Answers who answer ∷ rest) ys =
     ap (λ (l : List Answer). if who == client then answer ∷ l else l) (answers_append client rest ys) ∙ either_way (who == client) answer (answers_to client rest) (answers_to client ys)
 answers_append client (Room steps ∷ rest) ys = answers_append client rest ys
 
+keeps_none : (before after : Option (List ℕ)) → Keeps before after → Appends before after []
+keeps_none None after keeps = tt
+keeps_none (Some xs) None keeps = absurd keeps
+keeps_none (Some xs) (Some ys) keeps = keeps ∙ sym (append-nil xs)
+
 -- nothing was printed
 goes_nowhere : (p q : Stand) → p ≡ q → GoesOn [] p q
 goes_nowhere p q same = record { client = ap (λ (s : Stand). s.client) (sym same); answers = ap (λ (s : Stand). s.answers) (sym same) ∙ sym (append-nil p.answers) }
@@ -35,7 +40,7 @@ same_at xs k p q here there' = let both : Some p ≡ Some q = sym here ∙ there
 pub prints_none : (stands : List Stand) (before after : Option (List ℕ)) → Keeps before after → PrintsOn stands stands before after
 prints_none stands before after keeps = record {
   printed = [];
-  text = appends_kept before before after [] (appends_none before) keeps;
+  text = keeps_none before after keeps;
   count = refl;
   each = λ k p q at to. goes_nowhere p q (same_at stands k p q at to);
 }

@@ -1,12 +1,12 @@
 -- The lines that are taken, one after another, and their calls.
-use Rattle.std.proofs.Common.{◌≡◌, ℕ, zero, suc, ◌+◌, Bool, true, false, List, [], ◌∷◌, ◌++◌, ⊎_elim, length, Option, Some, None, inl, inr, refl, sym, ap, subst, ◌∙◌, append_assoc, length-append, arith}
-use Rattle.std.specs.Prelude.{Result, Ok, Err, OnOk, IfSome, slice_get, replicate}
+use Rattle.std.proofs.Common.{◌≡◌, ℕ, zero, suc, ◌+◌, true, false, List, [], ◌∷◌, ◌++◌, ⊎_elim, length, Option, Some, None, inl, inr, refl, sym, ap, subst, ◌∙◌, append_assoc, length-append, arith}
+use Rattle.std.specs.Prelude.{IfSome, slice_get, replicate}
 use Rattle.std.proofs.lemmas.List.{append-nil, length-replicate}
 use Rattle.gfs_types.specs.declared.call.Call.{Call}
 use Rattle.script.specs.declared.live_lines.LiveLine.{LiveLine}
 use Rattle.script.specs.Reading.{lines_in, AreRead, Leaves}
 use Rattle.script.proofs.LinesRead.{all_left, leaves_all}
-use Rattle.serve_lines.specs.Input.{kept_of, ReadsWholeLine}
+use Rattle.serve_lines.specs.Input.{ReadsWholeLine}
 use Rattle.serve_lines.specs.Lines.{served_line_of}
 use Rattle.serve_lines.proofs.WholeLines.{kept_asks}
 use Rattle.live.specs.Playing.{calls_of}

@@ -4,7 +4,6 @@ use mathlib.Core.List.{IsPrefix}
 use Rattle.gfs_types.specs.declared.answer.Answer.{Answer}
 use Rattle.gfs_types.specs.declared.answer.Answer.TheVariants as answer
 use Rattle.gfs_types.specs.declared.call.Call.{Call}
-use Rattle.gfs_types.specs.declared.ids.Node.{Node}
 use Rattle.gfs_types.specs.declared.ids.Node.TheVariants.{Client}
 use Rattle.gfs_types.specs.Settings.{default_settings}
 use Rattle.gfs_types.specs.declared.refusal.Refusal.{Refusal}

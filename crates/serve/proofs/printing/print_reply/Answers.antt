@@ -1,4 +1,4 @@
-use Rattle.std.proofs.Common.{◌∙◌, sym, ap, arith}
+use Rattle.std.proofs.Common.{sym, arith}
 use Rattle.serve.proofs.Places.{read_at}
 use Rattle.serve.proofs.Prints.{prints_answer}
 use Rattle.serve.proofs.printing.print_reply.Goals as goal

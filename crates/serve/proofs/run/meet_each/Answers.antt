@@ -1,8 +1,5 @@
-use Rattle.std.proofs.Common.{◌≡◌, ◌≤◌, ◌∙◌, ℕ, Some, length, refl, sym, subst}
-use Rattle.std.specs.Prelude.{slice_get}
-use mathlib.Core.List.{IsPrefix}
-use Rattle.serve.specs.Printing.{Stand}
-use Rattle.serve.proofs.Places.{first_none, first_more, first_all, read_at}
+use Rattle.std.proofs.Common.{refl}
+use Rattle.serve.proofs.Places.{first_none, first_more, first_all}
 use Rattle.serve.proofs.Prints.{Meets, meets_there}
 use Rattle.serve.proofs.run.meet_each.Goals as goal
 

@@ -1,5 +1,4 @@
 use Rattle.std.proofs.Common.{sym, subst}
-use Rattle.script.proofs.Bytes.{keeps_all}
 use Rattle.script.proofs.ReadPlans.{handed_on}
 use Rattle.cell_run.specs.Cells.{IsCellOf}
 use Rattle.cell_journal.specs.Identity.{Identity}

@@ -1,5 +1,5 @@
-use Rattle.std.proofs.Common.{◌≡◌, ◌∙◌, ℕ, List, length, replicate, sym, ap, subst}
-use Rattle.std.specs.Io.KnownBytes.{Appends}
+use Rattle.std.proofs.Common.{◌∙◌, ℕ, List, replicate, sym, ap, subst}
+use Rattle.std.specs.Prelude.{OnOk}
 use Rattle.script.proofs.ReadPlans.{handed_on}
 use Rattle.cell_run.specs.Cells.{IsCellOf}
 use Rattle.cell_journal.specs.Identity.{Identity}
@@ -49,7 +49,8 @@ returns-clause-serves g c =
     let all = subst (AllPrinted s) c.as_slice.ensures.value c.meet_all.ensures.printed in
     let meet = subst AreComparable c.as_slice.ensures.value c.meet_all.ensures.meet in
     ends_well options s (sym c.requires.clients) cell c.requires.some (g.R.Read.remaining c.args.reader) (g.W.Write.contents c.args.writer.now) (g.W.Write.contents c.print_told.new.writer) (sym c.requires.input)
-    c.in_ok-clients.clients.printed.items ends (c.in_ok-clients.ensures.count ∙ c.requires.count) c.in_ok-clients.ensures.order c.in_ok-clients.ensures.new c.in_ok-print_told.ensures.printed all meet c.outcome_of.result ?
+    c.in_ok-clients.clients.printed.items ends (c.in_ok-clients.ensures.count ∙ c.requires.count) c.in_ok-clients.ensures.order c.in_ok-clients.ensures.new c.in_ok-print_told.ensures.printed all meet c.outcome_of.result
+    (subst (λ (l : List Stand). OnOk c.outcome_of.result (AreAllDone s l)) c.as_slice-2.ensures.value c.outcome_of.ensures.done)
 
 pub returns-clause-stops : goal.returns-clause-stops
 returns-clause-stops g c =

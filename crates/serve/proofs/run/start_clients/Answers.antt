@@ -1,4 +1,4 @@
-use Rattle.std.proofs.Common.{◌≡◌, ◌+◌, ◌∷◌, length, ap, arith, rules}
+use Rattle.std.proofs.Common.{◌≡◌, ◌∷◌, length, ap, arith, rules}
 use Rattle.std.specs.Vec.Iter.{into_iter_items}
 use Rattle.serve.proofs.Starting.{all_left, next_left, less_left, more_in_order, more_new, more_started, none_in_order, none_new}
 use Rattle.serve.proofs.run.start_clients.Goals as goal

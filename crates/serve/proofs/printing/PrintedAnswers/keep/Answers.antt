@@ -1,4 +1,4 @@
-use Rattle.std.proofs.Common.{◌∙◌, sym, subst, arith}
+use Rattle.std.proofs.Common.{sym}
 use Rattle.serve.proofs.Printed.{next_inside, same_names, kept_heard, kept_lost}
 use Rattle.serve.proofs.printing.PrintedAnswers.keep.Goals as goal
 

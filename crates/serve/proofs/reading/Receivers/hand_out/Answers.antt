@@ -1,4 +1,4 @@
-use Rattle.std.proofs.Common.{◌≡◌, ◌<◌, ℕ, length, arith}
+use Rattle.std.proofs.Common.{◌≡◌, ◌<◌, length, arith}
 use Rattle.serve.proofs.Places.{read_at}
 use Rattle.serve.proofs.Handing.{when_none, taken_none, none_there, is_asked, taken_one}
 use Rattle.serve.proofs.reading.Receivers.hand_out.Goals as goal

@@ -1,4 +1,4 @@
-use Rattle.std.proofs.Common.{◌≡◌, ◌∙◌, ℕ, List, Option, true, false, refl, sym, subst}
+use Rattle.std.proofs.Common.{◌∙◌, ℕ, List, Option, true, false, refl, sym, subst}
 use Rattle.serve_lines.specs.Input.{ReadsWholeLine}
 use Rattle.serve_lines.specs.Lines.{served_line_of}
 use Rattle.serve.specs.Served.{call_in}
