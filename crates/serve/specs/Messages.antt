@@ -36,33 +36,15 @@ nothing_served = record { input = None; clients = 0; cell = identity (record { n
 abbrev pub calls_for : ℕ → ℕ → List ℕ → List Call
 calls_for clients client input = calls_of client (calls_served clients input)
 
--- a call of a client, behind so many others of it
-pub record CallAsked : Type 0 where
-  pub client : ℕ
-  pub number : ℕ
-  pub call : Call
-
-abbrev pub call_asked : ℕ → ℕ → Call → CallAsked
-call_asked client number call = record { client = client; number = number; call = call }
-
--- an answer of a client behind so many others of it, whether the cell itself refused the call, and the cell's history up to the client's last answer
+-- an answer of a client behind so many others of it, and whether the cell itself refused the call
 pub record Replied : Type 0 where
   pub client : ℕ
   pub number : ℕ
   pub answer : Answer
   pub is_lost : Bool
-  pub seen : Listed Entry
 
-abbrev pub replied : ℕ → ℕ → Answer → Bool → Listed Entry → Replied
-replied client number answer is_lost seen = record { client = client; number = number; answer = answer; is_lost = is_lost; seen = seen }
-
--- how many calls each client was asked for, and what taking the lines came to
-pub record CallsAsked : Type 0 where
-  pub counts : List ℕ
-  pub outcome : Result (Unit {0}) ScriptFault
-
-abbrev pub calls_asked : List ℕ → Result (Unit {0}) ScriptFault → CallsAsked
-calls_asked counts outcome = record { counts = counts; outcome = outcome }
+abbrev pub replied : ℕ → ℕ → Answer → Bool → Replied
+replied client number answer is_lost = record { client = client; number = number; answer = answer; is_lost = is_lost }
 
 -- the lines have this call for a client behind so many others of it
 pub record IsAsked (s : Service) (client number : ℕ) (call : Call) : Type 0 where

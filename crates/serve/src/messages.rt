@@ -33,11 +33,12 @@ pub struct AskedCall<S: Serving> {
 }
 
 impl<S: Serving> Model for AskedCall<S> {
-    ghost use Rattle.serve.specs.Messages.{CallAsked, call_asked, IsAsked};
+    ghost use Rattle.gfs_types.specs.declared.call.Call.{Call};
+    ghost use Rattle.serve.specs.Messages.{IsAsked};
 
-    ghost Value = { CallAsked };
+    ghost Value = { Call };
 
-    ghost view = { λ a. call_asked a.client.0 a.number a.call };
+    ghost view = { λ a. a.call };
 
     ghost invariant = { λ a. IsAsked S.of a.client.0 a.number a.call };
 }
@@ -59,7 +60,7 @@ impl<S: Serving> Model for Reply<S> {
 
     ghost Value = { Replied };
 
-    ghost view = { λ r. replied r.client.0 r.number r.answer r.is_lost r.seen };
+    ghost view = { λ r. replied r.client.0 r.number r.answer r.is_lost };
 
     ghost invariant = { λ r. IsReply S.of r.client.0 r.number r.answer r.seen r.is_lost };
 }
@@ -93,11 +94,12 @@ pub struct Asked<S: Serving> {
 }
 
 impl<S: Serving> Model for Asked<S> {
-    ghost use Rattle.serve.specs.Messages.{CallsAsked, calls_asked, AreAsked};
+    ghost use Rattle.std.specs.Prelude.{List, ℕ};
+    ghost use Rattle.serve.specs.Messages.{AreAsked};
 
-    ghost Value = { CallsAsked };
+    ghost Value = { List ℕ };
 
-    ghost view = { λ a. calls_asked a.asked.items a.outcome };
+    ghost view = { λ a. a.asked.items };
 
     ghost invariant = { λ a. AreAsked S.of a.outcome a.asked.items };
 }
