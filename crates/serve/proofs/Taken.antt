@@ -9,6 +9,7 @@ use Rattle.script.proofs.LinesRead.{all_left, leaves_all}
 use Rattle.serve_lines.specs.Input.{ReadsWholeLine}
 use Rattle.serve_lines.specs.Lines.{served_line_of}
 use Rattle.serve_lines.proofs.WholeLines.{kept_asks}
+use Rattle.serve_lines.specs.declared.lines.ServedLine.{ServedLine}
 use Rattle.live.specs.Playing.{calls_of}
 use Rattle.live.proofs.Playing.{calls_append}
 use Rattle.serve.specs.Served.{call_in, calls_in, calls_served}
@@ -56,7 +57,7 @@ next_asked s from to last counts line is h reads = record {
         let text = reads.1 in
         let left = next_line xs ys zs h.texts text leaves reads.0 reads.3 in
         let same : served_line_of line ≡ served_line_of text = ap served_line_of reads.2 ∙ kept_asks text in
-        let of_text : slice_get (calls_of (suc k) (call_in s.clients (served_line_of text))) 0 ≡ Some call = subst (λ o. slice_get (calls_of (suc k) (call_in s.clients o)) 0 ≡ Some call) same first in
+        let of_text : slice_get (calls_of (suc k) (call_in s.clients (served_line_of text))) 0 ≡ Some call = subst (λ (o : Option ServedLine). slice_get (calls_of (suc k) (call_in s.clients o)) 0 ≡ Some call) same first in
         let all : calls_for s.clients (suc k) xs ≡ calls_of (suc k) (calls_in s.clients (h.texts ++ text ∷ left.0)) = ap (λ (l : List (List ℕ)). calls_of (suc k) (calls_in s.clients l)) left.1 in
         ap (slice_get (calls_for s.clients (suc k) xs)) (h.are k count at)
         ∙ ap (λ (l : List Call). slice_get l (length (calls_of (suc k) (calls_in s.clients h.texts)))) (all ∙ calls_around s.clients (suc k) h.texts left.0 text)
@@ -81,7 +82,7 @@ counted_on s old new line text texts same are long each k count at =
     let is : count ≡ before.0 + length (calls_of (suc k) (call_in s.clients (served_line_of line))) = cc now in
     is
     ∙ ap (λ (n : ℕ). n + length (calls_of (suc k) (call_in s.clients (served_line_of line)))) (are k before.0 before.1)
-    ∙ ap (λ o. length (calls_of (suc k) (calls_in s.clients texts)) + length (calls_of (suc k) (call_in s.clients o))) same
+    ∙ ap (λ (o : Option ServedLine). length (calls_of (suc k) (calls_in s.clients texts)) + length (calls_of (suc k) (call_in s.clients o))) same
     ∙ sym
     (ap length (calls_around s.clients (suc k) texts [] text)
     ∙ length-append (calls_of (suc k) (calls_in s.clients texts)) (calls_of (suc k) (call_in s.clients (served_line_of text)) ++ [])

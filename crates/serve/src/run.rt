@@ -3,7 +3,6 @@
 ghost use Rattle.std.specs.Prelude.{◌≡◌, ◌++◌, ◌∷◌, [], ◌<◌, IfOk, IfErr, OnOk, length, replicate, true};
 ghost use Rattle.cell_run.specs.Cells.{IsCellOf};
 ghost use Rattle.script.specs.ScriptFaults.{IsOfWrite};
-ghost use Rattle.script.specs.declared.script_fault.ScriptFault.TheVariants.{NoMemory as OutOfMemory};
 ghost use Rattle.live.specs.Faults.{IsOfRun};
 ghost use Rattle.live.specs.Playing.{Each, IsNewPlayer};
 ghost use Rattle.serve.specs.Messages.{HaveAsked, IsOfReading};
@@ -133,7 +132,7 @@ fn zeros(alloc: Global, count: u64) -> Result<Vec<u64>, ScriptFault>
 
 fn push<X: Drop>(all: &mut Vec<X>, one: X) -> Result<(), ScriptFault>
     ensures pushed { OnOk result (all.new.items ≡ all.old.items ++ one ∷ []) }
-    ensures fault { IfErr result (λ f. f ≡ OutOfMemory) }
+    ensures fault { IfErr result IsOfRun }
 {
     match all.push(one) {
         Ok(()) => Ok(()),
