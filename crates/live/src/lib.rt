@@ -1,7 +1,7 @@
 //! Runs scripts of calls on a running cell, each client's calls on a thread of its own.
 #![tactic(auto)]
 
-pub mod play;
+mod play;
 mod printing;
 mod reopen;
 pub mod run;

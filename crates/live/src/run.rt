@@ -30,7 +30,7 @@ use std::thread::Threads;
 use std::time::Clock;
 
 /// The clients that a cell may have.
-pub const MOST_CLIENTS: u64 = 64;
+const MOST_CLIENTS: u64 = 64;
 
 /// Is told nothing.
 #[derive(Drop)]
@@ -195,8 +195,7 @@ fn lack_memory(players: &[Player]) -> bool
     false
 }
 
-/// A new cell of these options.
-pub fn start<T: Threads + Wait + Clock + Copy + Send + 'static>(
+fn start<T: Threads + Wait + Clock + Copy + Send + 'static>(
     rt: T,
     alloc: Global,
     options: &Options,
@@ -214,8 +213,8 @@ pub fn start<T: Threads + Wait + Clock + Copy + Send + 'static>(
     }
 }
 
-/// A new cell's first clients.
-pub fn new_players(alloc: Global, cell: &mut Cell, clients: u64) -> Result<Vec<Player>, NoMemory>
+// A new cell's first clients.
+fn new_players(alloc: Global, cell: &mut Cell, clients: u64) -> Result<Vec<Player>, NoMemory>
     requires { cell.old.made ≡ 0 }
     ensures cell { cell.new.of ≡ cell.old.of }
     ensures count { IfOk result (λ players. length players.items ≡ clients) }

@@ -13,7 +13,7 @@ use Rattle.cell_journal.specs.Clocks.{are_clocks_kept}
 use Rattle.cell_journal.specs.Identity.{Identity, identity}
 use Rattle.cell_journal.specs.Log.{Listed, listed}
 use Rattle.cell_journal.specs.WholeHistories.{IsHistoryOf}
-use Rattle.cell_seats.specs.Seats.{SeatState, IsAnswered, IsLost, is_the_cells}
+use Rattle.cell_seats.specs.Seats.{SeatState, seat_state, IsAnswered, IsLost, is_the_cells}
 use Rattle.cell_seats.specs.Seen.{visible_of}
 use Rattle.live.specs.Playing.{calls_of, shown_as, AreOfTheCell}
 use Rattle.script.specs.Reading.{Leaves}
@@ -68,6 +68,10 @@ pub record HasAnswers (s : Service) (client : ℕ) (seen : Listed Entry) (replie
   pub are : AreFirstCalls s client calls
   pub each : length calls ≡ length replies
   pub shows : visible_of (own (Client (record { 0 = client })) seen.items) ≡ shown_as calls replies
+
+-- a seat of the cell, of a client of this number that made no call
+abbrev pub IsUnused : Service → ℕ → SeatState → Type 0
+IsUnused s client seat = seat ≡ seat_state (Client (record { 0 = client })) [] s.cell [] false false
 
 -- a client that made so many calls; as long as the cell itself refused none of them, it was answered each
 pub record IsServed (s : Service) (client made : ℕ) (seat : SeatState) : Type 0 where

@@ -1,11 +1,10 @@
 //! Serves a new cell.
 
-ghost use Rattle.std.specs.Prelude.{◌≡◌, ◌++◌, ◌∷◌, [], ◌<◌, IfOk, IfErr, OnOk, length, replicate, true};
-ghost use Rattle.cell_run.specs.Cells.{IsCellOf};
+ghost use Rattle.std.specs.Prelude.{◌≡◌, ◌+◌, ◌++◌, ◌∷◌, [], ◌<◌, IfOk, IfErr, OnOk, length, replicate, true};
+ghost use Rattle.cell_run.specs.Cells.{IsCellOf, IsNewCell};
 ghost use Rattle.script.specs.ScriptFaults.{IsOfWrite};
 ghost use Rattle.live.specs.Faults.{IsOfRun};
-ghost use Rattle.live.specs.Playing.{Each, IsNewPlayer};
-ghost use Rattle.serve.specs.Messages.{HaveAsked, IsOfReading};
+ghost use Rattle.serve.specs.Messages.{HaveAsked, IsOfReading, IsUnused};
 ghost use Rattle.serve.specs.Outcomes.{Serves, Stops};
 ghost use Rattle.serve.specs.Printing.{AllPrinted, AreAllDone, AreAllPrinted, AreComparable, AreInOrder, AreNew, MeetsEach, PrintsOn};
 
@@ -13,11 +12,12 @@ use crate::client::ServedClient;
 use crate::messages::{Asked, AskedCall, Serving, Told};
 use crate::printing::{PrintedAnswers, print_all};
 use crate::reading::{LineFaults, Receivers};
-use cell_run::cell::Cell;
+use cell_run::cell::{Cell, ClientSeat, StartFault};
+use cell_seats::gate::OpenGate;
+use cell_seats::shared_state::MOST_CLIENTS;
 use crossbeam_channel::{Receiver, Sender, bounded};
+use gfs_types::ids::ClientId;
 use ghost_list::GhostList;
-use live::play::Player;
-use live::run::{MOST_CLIENTS, new_players, start};
 use script::options::Options;
 use script::script_fault::ScriptFault;
 use std::alloc::Global;
@@ -56,15 +56,30 @@ pub fn run_serve<
     if options.clients == 0 || options.clients > MOST_CLIENTS {
         return Err(ScriptFault::Start);
     }
-    let mut cell = start(rt, alloc, options)?;
-    let Ok(players) = new_players(alloc, &mut cell, options.clients) else {
-        cell.close(&rt);
-        return Err(ScriptFault::NoMemory);
-    };
-    serve::<Brand, T, R, W, F>(rt, cell, players, alloc, options, reader, writer, faults)
+    let cell = start(rt, alloc, options)?;
+    serve::<Brand, T, R, W, F>(rt, cell, alloc, options, reader, writer, faults)
 }
 
-// Serves a new cell with these clients.
+// A new cell of these options.
+fn start<T: Threads + Wait + Clock + Copy + Send + 'static>(
+    rt: T,
+    alloc: Global,
+    options: &Options,
+) -> Result<Cell, ScriptFault>
+    ensures cell { IfOk result (λ cell. IsNewCell options.now.config options.now.servers cell) }
+    ensures fault { IfErr result IsOfRun }
+{
+    let Ok(servers) = u16::try_from(options.servers) else {
+        return Err(ScriptFault::Start);
+    };
+    match Cell::start(rt, alloc, options.config, servers, OpenGate) {
+        Ok(cell) => Ok(cell),
+        Err(StartFault::NoMemory) => Err(ScriptFault::NoMemory),
+        Err(_) => Err(ScriptFault::Start),
+    }
+}
+
+// Serves a new cell.
 fn serve<
     S: Serving + Send + 'static,
     T: Threads + Wait + Clock + Copy + Send + 'static,
@@ -74,7 +89,6 @@ fn serve<
 >(
     rt: T,
     cell: Cell,
-    players: Vec<Player>,
     alloc: Global,
     options: &Options,
     reader: R,
@@ -84,10 +98,9 @@ fn serve<
     requires input { R.remaining reader ≡ S.of.input }
     requires clients { options.now.clients ≡ S.of.clients }
     requires some { 0 < options.now.clients }
-    requires cell { S.of.cell ≡ cell.of }
+    requires cell { cell.of ≡ S.of.cell }
     requires new { IsCellOf options.now.config options.now.servers cell.of }
-    requires count { length players.items ≡ options.now.clients }
-    requires players { Each (IsNewPlayer cell.of) players.items }
+    requires made { cell.made ≡ 0 }
     ensures serves { OnOk result (Serves options.now (R.remaining reader) (W.contents writer.old) (W.contents writer.new)) }
     ensures stops { IfErr result (Stops options.now (R.remaining reader) (W.contents writer.old) (W.contents writer.new)) }
 {
@@ -95,7 +108,7 @@ fn serve<
     let Ok((told, heard)) = bounded(alloc, MOST_WAITING) else {
         return Err(ScriptFault::NoMemory);
     };
-    let clients = start_clients::<S, T>(rt, alloc, players, &told)?;
+    let clients = start_clients::<S, T>(rt, alloc, &mut cell, options.clients, &told)?;
     let Clients {
         calls,
         threads,
@@ -148,15 +161,17 @@ struct Clients<S: Serving> {
     printed: Vec<PrintedAnswers<S>>,
 }
 
-// Starts each client on a thread of its own.
+// Starts the cell's first clients, each on a thread of its own.
 fn start_clients<S: Serving + Send + 'static, T: Threads + Wait + Clock + Copy + Send + 'static>(
     rt: T,
     alloc: Global,
-    players: Vec<Player>,
+    cell: &mut Cell,
+    count: u64,
     told: &Sender<Told<S>>,
 ) -> Result<Clients<S>, ScriptFault>
-    requires { Each (IsNewPlayer S.of.cell) players.items }
-    ensures count { IfOk result (λ c. length c.printed.items ≡ length players.items) }
+    requires cell { cell.old.of ≡ S.of.cell }
+    requires made { cell.old.made ≡ 0 }
+    ensures count { IfOk result (λ c. length c.printed.items ≡ count) }
     ensures order { IfOk result (λ c. AreInOrder c.printed.items) }
     ensures new { IfOk result (λ c. AreNew c.printed.items) }
     ensures fault { IfErr result IsOfRun }
@@ -166,8 +181,8 @@ fn start_clients<S: Serving + Send + 'static, T: Threads + Wait + Clock + Copy +
         threads: Vec::new(alloc),
         printed: Vec::new(alloc),
     };
-    for player in players {
-        let client = start_client(rt, alloc, player, told)?;
+    for before in 0..count {
+        let client = start_client(rt, alloc, cell, before + 1, told)?;
         all.add(client)?;
     }
     Ok(all)
@@ -199,19 +214,26 @@ struct Client<S: Serving> {
     printed: PrintedAnswers<S>,
 }
 
-// Starts a client on a thread of its own.
+// Starts the cell's next client on a thread of its own.
 fn start_client<S: Serving + Send + 'static, T: Threads + Wait + Clock + Copy + Send + 'static>(
     rt: T,
     alloc: Global,
-    player: Player,
+    cell: &mut Cell,
+    number: u64,
     told: &Sender<Told<S>>,
 ) -> Result<Client<S>, ScriptFault>
-    requires { IsNewPlayer S.of.cell player.id.0 player }
-    ensures client { IfOk result (λ c. c.printed.client ≡ player.id.0) }
+    requires cell { cell.old.of ≡ S.of.cell }
+    requires number { number ≡ cell.old.made + 1 }
+    ensures cell { cell.new.of ≡ cell.old.of }
+    ensures made { OnOk result (cell.new.made ≡ number) }
+    ensures client { IfOk result (λ c. c.printed.client ≡ number) }
     ensures new { IfOk result (λ c. c.printed.answers ≡ []) }
     ensures fault { IfErr result IsOfRun }
 {
-    let (client, printed) = new_client::<S>(player);
+    let Ok(seat) = cell.client() else {
+        return Err(ScriptFault::NoMemory);
+    };
+    let (client, printed) = new_client::<S>(ClientId(number), seat);
     let Ok(told) = told.clone() else {
         return Err(ScriptFault::NoMemory);
     };
@@ -229,12 +251,11 @@ fn start_client<S: Serving + Send + 'static, T: Threads + Wait + Clock + Copy + 
 }
 
 // A client that made no call yet, and of which nothing was printed.
-fn new_client<S: Serving>(player: Player) -> (ServedClient<S>, PrintedAnswers<S>)
-    requires { IsNewPlayer S.of.cell player.id.0 player }
-    ensures client { result.1.client ≡ player.id.0 }
+fn new_client<S: Serving>(id: ClientId, seat: ClientSeat) -> (ServedClient<S>, PrintedAnswers<S>)
+    requires { IsUnused S.of id.0 seat }
+    ensures client { result.1.client ≡ id.0 }
     ensures new { result.1.answers ≡ [] }
 {
-    let Player { id, seat, .. } = player;
     seat.seen();
     let printed = PrintedAnswers {
         client: id,

@@ -2,15 +2,10 @@ use Rattle.std.proofs.Common.{◌∙◌, ℕ, List, replicate, sym, ap, subst}
 use Rattle.std.specs.Prelude.{OnOk}
 use Rattle.script.proofs.ReadPlans.{handed_on}
 use Rattle.cell_run.specs.Cells.{IsCellOf}
-use Rattle.cell_journal.specs.Identity.{Identity}
-use Rattle.live.specs.Playing.{Each, IsNewPlayer}
 use Rattle.serve.specs.Printing.{Stand, AllPrinted, AreComparable, AreAllDone}
 use Rattle.serve.proofs.Finishing.{stops_starting, stops_writing, ends_well, ends_badly}
 use Rattle.serve.proofs.Taken.{none_asked}
 use Rattle.serve.proofs.run.serve.Goals as goal
-
-pub start_clients-clients-requires : goal.start_clients-clients-requires
-start_clients-clients-requires g c κs lives = subst (λ (i : Identity). Each (IsNewPlayer i) c.args.players.items) (sym c.requires.cell) c.requires.players
 
 pub start_reading-reading-requires-clause-asked : goal.start_reading-reading-requires-clause-asked
 start_reading-reading-requires-clause-asked g c κs lives =
@@ -45,11 +40,11 @@ returns-clause-serves g c =
     let s = g.S.Serving.of in
     let ends = c.print_told.new.printed.items in
     let options = c.args.options.now in
-    let cell = subst (IsCellOf options.config options.servers) (sym c.requires.cell) c.requires.new in
+    let cell = subst (IsCellOf options.config options.servers) c.requires.cell c.requires.new in
     let all = subst (AllPrinted s) c.as_slice.ensures.value c.meet_all.ensures.printed in
     let meet = subst AreComparable c.as_slice.ensures.value c.meet_all.ensures.meet in
     ends_well options s (sym c.requires.clients) cell c.requires.some (g.R.Read.remaining c.args.reader) (g.W.Write.contents c.args.writer.now) (g.W.Write.contents c.print_told.new.writer) (sym c.requires.input)
-    c.in_ok-clients.clients.printed.items ends (c.in_ok-clients.ensures.count ∙ c.requires.count) c.in_ok-clients.ensures.order c.in_ok-clients.ensures.new c.in_ok-print_told.ensures.printed all meet c.outcome_of.result
+    c.in_ok-clients.clients.printed.items ends c.in_ok-clients.ensures.count c.in_ok-clients.ensures.order c.in_ok-clients.ensures.new c.in_ok-print_told.ensures.printed all meet c.outcome_of.result
     (subst (λ (l : List Stand). OnOk c.outcome_of.result (AreAllDone s l)) c.as_slice-2.ensures.value c.outcome_of.ensures.done)
 
 pub returns-clause-stops : goal.returns-clause-stops
@@ -57,8 +52,8 @@ returns-clause-stops g c =
     let s = g.S.Serving.of in
     let ends = c.print_told.new.printed.items in
     let options = c.args.options.now in
-    let cell = subst (IsCellOf options.config options.servers) (sym c.requires.cell) c.requires.new in
+    let cell = subst (IsCellOf options.config options.servers) c.requires.cell c.requires.new in
     let all = subst (AllPrinted s) c.as_slice.ensures.value c.meet_all.ensures.printed in
     let meet = subst AreComparable c.as_slice.ensures.value c.meet_all.ensures.meet in
     ends_badly options s (sym c.requires.clients) cell c.requires.some (g.R.Read.remaining c.args.reader) (g.W.Write.contents c.args.writer.now) (g.W.Write.contents c.print_told.new.writer) (sym c.requires.input)
-    c.in_ok-clients.clients.printed.items ends (c.in_ok-clients.ensures.count ∙ c.requires.count) c.in_ok-clients.ensures.order c.in_ok-clients.ensures.new c.in_ok-print_told.ensures.printed all meet c.outcome_of.result c.outcome_of.ensures.fault
+    c.in_ok-clients.clients.printed.items ends c.in_ok-clients.ensures.count c.in_ok-clients.ensures.order c.in_ok-clients.ensures.new c.in_ok-print_told.ensures.printed all meet c.outcome_of.result c.outcome_of.ensures.fault
