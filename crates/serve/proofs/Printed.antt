@@ -174,6 +174,9 @@ module _ (s : Service) (mine client count number : ℕ) (was is_lost : Bool) (se
 pub next_inside : (p q : Stand) (r t : Replied) → p ≡ q → r ≡ t → IsNextOf q t → IsNextOf p r
 next_inside p q r t same_stand same_reply next = subst (λ (x : Stand). IsNextOf x r) (sym same_stand) (subst (IsNextOf q) (sym same_reply) next)
 
+pub next_outside : (p q : Stand) (r t : Replied) → p ≡ q → r ≡ t → IsNextOf p r → IsNextOf q t
+next_outside p q r t same_stand same_reply next = next_inside q p t r (sym same_stand) (sym same_reply) next
+
 pub meets_so : (p q one other : Stand) → p ≡ one → q ≡ other → (length p.seen.items ≤ length q.seen.items → IsPrefix p.seen.items q.seen.items) → length one.seen.items ≤ length other.seen.items
     → IsPrefix one.seen.items other.seen.items
 meets_so p q one other same_one same_other meet =

@@ -1,12 +1,12 @@
 //! Prints what is told, as it comes.
 
-ghost use Rattle.std.specs.Prelude.{◌≡◌, ◌≤◌, ◌++◌, ◌∷◌, [], Some, OnOk, IfErr, IfSome, length, true};
+ghost use Rattle.std.specs.Prelude.{◌≡◌, ◌≤◌, ◌++◌, ◌∷◌, [], List, Some, OnOk, IfErr, IfSome, length, true};
 ghost use Rattle.std.specs.Io.KnownBytes.{Appends, Keeps};
 ghost use mathlib.Core.List.{IsPrefix};
 ghost use Rattle.script.specs.ScriptFaults.{IsOfWrite};
 ghost use Rattle.live.specs.Live.{told_line};
 ghost use Rattle.serve.specs.Served.{room_line};
-ghost use Rattle.serve.specs.Printing.{AreInOrder, PrintsOn, IsNextOf, IsPrintedOf};
+ghost use Rattle.serve.specs.Printing.{Stand, AreInOrder, PrintsOn, IsNextOf, IsPrintedOf};
 
 use crate::messages::{Reply, Serving, Told};
 use crate::reading::place_of;
@@ -110,11 +110,28 @@ fn obey<S: Serving, R: Wait, W: Write>(
     ensures printed { OnOk result (PrintsOn printed.old printed.new (W.contents writer.old) (W.contents writer.new)) }
     ensures fault { IfErr result IsOfWrite }
 {
+    if let Told::Answered(reply) = one {
+        return print_reply(reply, printed, writer);
+    }
+    tend_cell(rt, &one, cell, writer)
+}
+
+// Prints the room, or asks a node to begin again.
+fn tend_cell<S: Serving, R: Wait, W: Write>(
+    rt: &R,
+    one: &Told<S>,
+    cell: &mut Cell,
+    writer: &mut W,
+) -> Result<(), ScriptFault>
+    ensures cell { cell.new.of ≡ cell.old.of }
+    ensures printed { OnOk result ((stands : List Stand) → PrintsOn stands stands (W.contents writer.old) (W.contents writer.new)) }
+    ensures fault { IfErr result IsOfWrite }
+{
     match one {
-        Told::Answered(reply) => print_reply(reply, printed, writer),
+        Told::Answered(_) => Ok(()),
         Told::Room => print_room(cell.room(), writer),
         Told::Restart(node) => {
-            cell.restart(rt, node);
+            cell.restart(rt, *node);
             Ok(())
         }
     }

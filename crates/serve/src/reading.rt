@@ -91,11 +91,20 @@ impl<S: Serving> Receivers<S> {
         ensures clients { length self.new.asked.items ≡ length self.old.asked.items }
         ensures fault { IfErr result IsOfReading }
     {
+        if let ServedLine::Call(asked) = line {
+            return self.hand_out(rt, asked);
+        }
+        self.pass_on(rt, &line)
+    }
+
+    // Tells of what a line asks for that is no call.
+    fn pass_on<W: Wait>(&self, rt: &W, line: &ServedLine) -> Result<bool, ScriptFault>
+        ensures { IfErr result IsOfReading }
+    {
         match line {
-            ServedLine::Nothing => Ok(true),
             ServedLine::Room => self.tell(rt, Told::Room),
-            ServedLine::Restart(node) => self.restart(rt, node),
-            ServedLine::Call(asked) => self.hand_out(rt, asked),
+            ServedLine::Restart(node) => self.restart(rt, *node),
+            _ => Ok(true),
         }
     }
 
