@@ -183,7 +183,8 @@ def commands(_program):
 
 EXPECTED_TEXTS = {
     'help': lambda program: command_line.program_help(), 'help_sim': lambda program: command_line.subcommand_help('sim'),
-    'help_live': lambda program: command_line.subcommand_help('live'), 'lost_forward': lambda program: drawn('lost_forward', program),
+    'help_live': lambda program: command_line.subcommand_help('live'), 'help_serve': lambda program: command_line.subcommand_help('serve'),
+    'lost_forward': lambda program: drawn('lost_forward', program),
     'rotten_block': lambda program: drawn('rotten_block', program), 'cut_primary': lambda program: drawn('cut_primary', program)}
 
 

@@ -22,4 +22,6 @@ mod resuming;
 #[cfg(test)]
 mod scripts;
 #[cfg(test)]
+mod serving;
+#[cfg(test)]
 mod watching;
