@@ -65,7 +65,7 @@ pub fn print_all<S: Serving, R: Wait, W: Write>(
     ensures fault { IfErr result IsOfWrite }
 {
     for _ in rt.forever() {
-        let found = next(rt, told, writer)?;
+        let found = next_told(rt, told, writer)?;
         let Some(one) = found else {
             return Ok(());
         };
@@ -75,7 +75,7 @@ pub fn print_all<S: Serving, R: Wait, W: Write>(
 }
 
 // What is told next, if somebody tells more. It flushes before it waits.
-fn next<S: Serving, R: Wait, W: Write>(
+fn next_told<S: Serving, R: Wait, W: Write>(
     rt: &R,
     told: &Receiver<Told<S>>,
     writer: &mut W,
@@ -150,11 +150,12 @@ fn print_reply<S: Serving, W: Write>(
     let Some(place) = place_of(reply.client(), printed.len()) else {
         return Err(ScriptFault::NoMemory);
     };
-    if !printed[place].is_followed_by(&reply) {
+    let earlier = &mut printed[place];
+    if !earlier.is_followed_by(&reply) {
         return Err(ScriptFault::NoMemory);
     }
     print_answer(&reply, writer)?;
-    printed[place].keep(reply);
+    earlier.keep(reply);
     Ok(())
 }
 

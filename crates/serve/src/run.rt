@@ -53,22 +53,23 @@ pub fn run_serve<
     ensures serves { OnOk result (Serves options.now (R.remaining reader) (W.contents writer.old) (W.contents writer.new)) }
     ensures stops { IfErr result (Stops options.now (R.remaining reader) (W.contents writer.old) (W.contents writer.new)) }
 {
-    if options.clients == 0 || options.clients > MOST_CLIENTS {
-        return Err(ScriptFault::Start);
-    }
     let cell = start(rt, alloc, options)?;
     serve::<Brand, T, R, W, F>(rt, cell, alloc, options, reader, writer, faults)
 }
 
-// A new cell of these options.
+// A new cell of these options, which have a client at least.
 fn start<T: Threads + Wait + Clock + Copy + Send + 'static>(
     rt: T,
     alloc: Global,
     options: &Options,
 ) -> Result<Cell, ScriptFault>
+    ensures some { OnOk result (0 < options.now.clients) }
     ensures cell { IfOk result (λ cell. IsNewCell options.now.config options.now.servers cell) }
     ensures fault { IfErr result IsOfRun }
 {
+    if options.clients == 0 || options.clients > MOST_CLIENTS {
+        return Err(ScriptFault::Start);
+    }
     let Ok(servers) = u16::try_from(options.servers) else {
         return Err(ScriptFault::Start);
     };
@@ -240,14 +241,15 @@ fn start_client<S: Serving + Send + 'static, T: Threads + Wait + Clock + Copy + 
     let Ok((calls, inbox)) = bounded(alloc, MOST_WAITING) else {
         return Err(ScriptFault::NoMemory);
     };
-    match thread::spawn(&rt, move || answer_on(&rt, client, &inbox, &told)) {
-        Ok(thread) => Ok(Client {
-            calls,
-            thread,
-            printed,
-        }),
-        Err(_) => Err(ScriptFault::Start),
-    }
+    let job = move || answer_on(&rt, client, &inbox, &told);
+    let Ok(thread) = thread::spawn(&rt, job) else {
+        return Err(ScriptFault::Start);
+    };
+    Ok(Client {
+        calls,
+        thread,
+        printed,
+    })
 }
 
 // A client that made no call yet, and of which nothing was printed.

@@ -13,7 +13,7 @@ loop-preserved g c =
     let was = c.loop.printed in
     let first = g.W.Write.contents c.args.writer.now in
     let before = g.W.Write.contents c.loop.writer in
-    let flushed = g.W.Write.contents c.next-found.new.writer in
+    let flushed = g.W.Write.contents c.next_told.new.writer in
     let after = g.W.Write.contents c.obey.new.writer in
     let one = c.in_ok-obey.ensures.printed in
     let so_far = prints_more c.args.printed.now was was first before flushed c.loop.invariant.prints (prints_none was before flushed c.in_ok-found.ensures.keeps) in
@@ -28,5 +28,8 @@ returns-in_default-clause-printed g c =
     let was = c.loop.printed in
     let first = g.W.Write.contents c.args.writer.now in
     let before = g.W.Write.contents c.loop.writer in
-    let flushed = g.W.Write.contents c.next-found.new.writer in
+    let flushed = g.W.Write.contents c.next_told.new.writer in
     prints_more c.args.printed.now was was first before flushed c.loop.invariant.prints (prints_none was before flushed c.in_ok-found.ensures.keeps)
+
+pub returns-in_err-obey-clause-cell : goal.returns-in_err-obey-clause-cell
+returns-in_err-obey-clause-cell g c = c.obey.ensures.cell ∙ c.loop.invariant.cell

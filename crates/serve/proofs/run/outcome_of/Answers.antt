@@ -5,7 +5,7 @@ use Rattle.serve.proofs.run.outcome_of.Goals as goal
 
 pub returns-clause-done : goal.returns-clause-done
 returns-clause-done g c =
-    let printed = subst (λ (l : List ℕ). AreAllPrinted l c.args.printed.now) c.as_slice.ensures.value (c.are_all_printed.ensures c.if-are_all_printed.false) in
+    let printed = subst (λ (l : List ℕ). AreAllPrinted l c.args.printed.now) c.as_slice.ensures.value (c.are_all_printed.ensures c.if-not-are_all_printed.false) in
     all_done g.S.Serving.of c.taken.inside.outcome c.taken.inside.asked.items c.args.printed.now c.taken.invariant printed
 
 pub returns-clause-fault : goal.returns-clause-fault

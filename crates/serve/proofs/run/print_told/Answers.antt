@@ -14,7 +14,7 @@ returns-clause-printed g c =
     let before = g.W.Write.contents c.args.writer.now in
     let after = g.W.Write.contents c.print_all.new.writer in
     on_ok_weaker c.print_all.result
-    (λ prints.
+    (λ (prints : PrintsOn c.as_mut_slice.result.now news before after).
     let all = subst (λ (l : List Stand). PrintsOn l news before after) c.as_mut_slice.ensures.value prints in
     let count : length news ≡ c.args.printed.now.len = omega (arith, c.args.printed.now.ok.0, all.count) in
     subst (λ (l : List Stand). PrintsOn olds l before after) (sym (written_back c.args.printed.now.len news olds count)) all)

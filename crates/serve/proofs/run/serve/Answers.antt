@@ -7,8 +7,8 @@ use Rattle.serve.proofs.Finishing.{stops_starting, stops_writing, ends_well, end
 use Rattle.serve.proofs.Taken.{none_asked}
 use Rattle.serve.proofs.run.serve.Goals as goal
 
-pub start_reading-reading-requires-clause-asked : goal.start_reading-reading-requires-clause-asked
-start_reading-reading-requires-clause-asked g c κs lives =
+pub start_reading-requires-clause-asked : goal.start_reading-requires-clause-asked
+start_reading-requires-clause-asked g c κs lives =
     let s = g.S.Serving.of in
     none_asked s s.input c.in_ok-asked.asked.items (c.in_ok-asked.ensures.zeros ∙ ap (λ (n : ℕ). replicate n 0) c.requires.clients)
 

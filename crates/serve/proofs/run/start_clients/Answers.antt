@@ -7,8 +7,8 @@ loop-before-init g c =
     let none = c.new-3.ensures.items in
     record { cell = refl; made = c.requires.made; count = ap length none; order = none_in_order _ none; fresh = none_new _ none }
 
-pub start_client-client-requires-clause-cell : goal.start_client-client-requires-clause-cell
-start_client-client-requires-clause-cell g c κs lives = c.loop-before.invariant.cell ∙ c.requires.cell
+pub start_client-requires-clause-cell : goal.start_client-requires-clause-cell
+start_client-requires-clause-cell g c κs lives = c.loop-before.invariant.cell ∙ c.requires.cell
 
 pub loop-before-preserved : goal.loop-before-preserved
 loop-before-preserved g c =
@@ -20,7 +20,7 @@ loop-before-preserved g c =
     let added = c.in_ok-add.ensures.printed in
     let next : length was + 1 ≡ c.loop-before.before + 1 = omega (arith, inv.count) in
     record {
-      cell = c.start_client-client.ensures.cell ∙ inv.cell;
+      cell = c.start_client.ensures.cell ∙ inv.cell;
       made = told.made;
       count = count_more was now one c.loop-before.before added inv.count;
       order = more_in_order was now one (c.loop-before.before + 1) added next told.client inv.order;
