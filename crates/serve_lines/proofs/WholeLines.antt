@@ -1,14 +1,14 @@
 -- Whole lines, as they are read and kept.
-use Rattle.std.proofs.Common.{◌≡◌, ◌<◌, ◌≤◌, ℕ, suc, Bool, true, false, not, List, [], ◌∷◌, ◌++◌, ⊎_elim, length, take, Option, Some, None, inl, inr, refl, sym, ap, subst, ◌∙◌, arith}
+use Rattle.std.proofs.Common.{◌≡◌, ◌<◌, ◌≤◌, ℕ, Bool, true, false, not, List, [], ◌∷◌, ◌++◌, length, Option, Some, None, inl, inr, refl, sym, ap, subst, ◌∙◌, arith}
 use Rattle.std.specs.Prelude.{◌==◌, ◌↔◌, nat_le, nat_lt, if◌then◌else◌, codes}
 use Rattle.std.specs.Str.{bytes_eq}
 use Rattle.std.proofs.lemmas.Bool.Decides.{nat_tests}
 use Rattle.std.proofs.lemmas.Bool.{false≢true}
-use Rattle.std.proofs.lemmas.List.{append-nil, append_assoc, length-take, take_all, take-append-le}
+use Rattle.std.proofs.lemmas.List.{append-nil, length-take, take_all, take-append-le}
 use Rattle.std.proofs.lemmas.List.Elements.{All-nil, All-push}
 use Rattle.std.proofs.lemmas.List.Splits.{slice_split_none, slice_split_at}
 use lib.ListN.{length-append}
-use Rattle.script.specs.Reading.{line_feed, lines_in, HasNoFeed, Gives, Loses, AreRead}
+use Rattle.script.specs.Reading.{line_feed, lines_in, HasNoFeed, Gives, Loses}
 use Rattle.script.proofs.Bytes.{loses_none, loses_one}
 use Rattle.script.specs.Lines.{is_skipped, words_of}
 use Rattle.serve_lines.specs.Input.{kept_of, ReadsWholeLine}

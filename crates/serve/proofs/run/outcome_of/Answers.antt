@@ -1,4 +1,4 @@
-use Rattle.std.proofs.Common.{◌≡◌, ◌∙◌, List, ℕ, subst}
+use Rattle.std.proofs.Common.{List, ℕ, subst}
 use Rattle.serve.specs.Printing.{AreAllPrinted}
 use Rattle.serve.proofs.Finishing.{all_done}
 use Rattle.serve.proofs.run.outcome_of.Goals as goal
