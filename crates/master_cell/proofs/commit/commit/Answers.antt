@@ -1,4 +1,4 @@
-use Rattle.std.proofs.Common.{rules}
+use Rattle.std.proofs.Common.{rules, arith}
 use Rattle.master_cell.proofs.Committing.{changes_more, stopped_at}
 use Rattle.master_cell.proofs.commit.commit.Goals as goal
 
@@ -8,6 +8,8 @@ loop-change-preserved g c =
       disk = changes_more (g.L.OperationLog.disk c.args.log.now) c.args.changes.now c.loop-change.change-index c.change-item.result (g.L.OperationLog.disk c.loop-change.log) (g.L.OperationLog.disk c.make.new.log) (search rules)
           c.change-item.is c.loop-change.invariant.disk (search rules);
       under_way = search rules;
+      is_open = λ was. c.make.ensures.open (c.loop-change.invariant.is_open was) (λ e. absurd cc);
+      later = let so_far = c.loop-change.invariant.later in let more = (c.make.ensures.cause).later in omega (arith, so_far, more);
     }
 
 pub returns-in-Err-clause-err : goal.returns-in-Err-clause-err
