@@ -26,8 +26,9 @@ pub fn commit<L: OperationLog>(
     ensures cause { MayFail (L.is_open log.old) (L.failed log.old) (L.failed log.new) result }
 {
     for change in changes {
-        if let Err(fault) = make(log, change) {
-            return Err(fault);
+        match make(log, change) {
+            Ok(()) => {}
+            Err(fault) => return Err(fault),
         }
     }
     Ok(())
