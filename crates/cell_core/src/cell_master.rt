@@ -26,7 +26,7 @@ use step_outcome::Outcome;
 pub struct SeatedMaster<L: OperationLog, A: Allocator> {
     master: LoggedMaster<L, A>,
     files: ShownFiles,
-    ghost shown: { master.up ≡ true → shown_in files ≡ master.logged.table.files } by { →_prop (Coded-set (table.code coded_ℕ (coded_list coded_ℕ)) _ _) },
+    ghost shown: { master.state.up ≡ true → shown_in files ≡ master.state.logged.table.files } by { →_prop (Coded-set (table.code coded_ℕ (coded_list coded_ℕ)) _ _) },
 }
 
 // Stands here, once, so that no function that lets one go, here or above, takes its fields apart.
@@ -53,7 +53,7 @@ impl<L: OperationLog + Drop, A: Allocator + Clone> SeatedMaster<L, A> {
         requires skew { config.skew_ms ≤ 60000 }
         requires new { L.disk log ≡ new_log }
         requires decided { L.under_way log ≡ [] }
-        ensures master { IfOk result (λ m. m.master ≡ new_master config server_count) }
+        ensures master { IfOk result (λ m. m.master.state ≡ new_master config server_count) }
         ensures files { IfOk result (λ m. shown_in m.files ≡ table.empty) }
     {
         let master = LoggedMaster::new(alloc, config, server_count, log, names)?;
@@ -65,7 +65,7 @@ impl<L: OperationLog + Drop, A: Allocator + Clone> SeatedMaster<L, A> {
 }
 
 impl<L: OperationLog, A: Allocator + Clone> CellMaster for SeatedMaster<L, A> {
-    ghost state = { λ m. m.master };
+    ghost state = { λ m. m.master.state };
 
     ghost files = { λ m. shown_in m.files };
 

@@ -195,7 +195,9 @@ impl<L: OperationLog, A: Allocator + Clone> LoggedMaster<L, A> {
     #[tactic(auto, using(crate::proofs::Files::stopped))]
     pub fn stop(&mut self)
         requires { self.old.state.up ≡ true }
-        ensures { self.new ≡ record self.old { state = stopped_master self.old.state self.old.state.disk [] } }
+        ensures state { self.new.state ≡ stopped_master self.old.state self.old.state.disk [] }
+        ensures open { self.new.is_open ≡ self.old.is_open }
+        ensures failed { self.new.failed ≡ self.old.failed }
     {
         self.up = false;
     }
