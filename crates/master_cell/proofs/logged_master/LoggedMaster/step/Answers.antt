@@ -20,7 +20,7 @@ pub returns-then-not-self-clause-steps : goal.returns-then-not-self-clause-steps
 returns-then-not-self-clause-steps g c =
     let down : c.args.self.now.state.up ≡ false =
     up_is c.self.inside.up (g.L.OperationLog.disk c.self.inside.log) (g.L.OperationLog.under_way c.self.inside.log) c.self.inside.config c.self.inside.server_count c.self.inside.plan c.args.self.now.state (search rules) (ap (λ (x : LoggedMasterState). x.state) c.self.view_is) in
-    stays_down c.args.self.now.state c.args.now.0 (input_of (option_copied c.args.message)) c.nothing-then-not-self.result.out c.nothing-then-not-self.result.seen down c.nothing-then-not-self.ensures.out c.nothing-then-not-self.ensures.seen
+    stays_down c.args.self.now.state c.args.now.0 (input_of (option_copied c.args.message)) c.nothing.result.out c.nothing.result.seen down c.nothing.ensures.out c.nothing.ensures.seen
 
 pub returns-then-not-self-clause-files : goal.returns-then-not-self-clause-files
 returns-then-not-self-clause-files g c =
@@ -92,7 +92,7 @@ returns-then-not-self-clause-open g c was = was
 
 pub returns-then-not-self-clause-cause : goal.returns-then-not-self-clause-cause
 returns-then-not-self-clause-cause g c was =
-    let none = c.nothing-then-not-self in
+    let none = c.nothing in
     up_for _ _ none.result.out none.result.cause (ap (λ (o : StepOut). o.down) none.ensures.out) none.ensures.cause (omega arith)
 
 pub returns-then-not-can_count-clause-open : goal.returns-then-not-can_count-clause-open
