@@ -2,4 +2,5 @@ pub mod Listed
 pub mod Handles
 pub mod Trial
 pub mod Replays
+pub mod Failing
 pub mod Taken

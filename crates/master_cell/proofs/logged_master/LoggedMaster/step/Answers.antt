@@ -1,28 +1,32 @@
-use Rattle.std.proofs.Common.{◌≡◌, true, false, sym, ap, refl, subst, ◌∙◌, rules}
+use Rattle.std.proofs.Common.{◌≡◌, true, false, sym, ap, refl, subst, ◌∙◌, rules, arith}
 use Rattle.std.specs.Option.{option_copied}
+use Rattle.messages.specs.declared.event.StepOut.{StepOut}
 use Rattle.protocol.specs.Master.{MasterState}
 use Rattle.protocol.specs.MasterLimits.{can_count}
 use Rattle.protocol.specs.Conforms.{MasterSteps}
+use Rattle.step_outcome.specs.Causes.{IsDownFor}
+use Rattle.step_outcome.specs.declared.down_cause.DownCause.TheVariants.{Memory}
 use Rattle.master_plan.specs.Plans.{known}
 use Rattle.master_plan.specs.Changes.{changes_of}
 use Rattle.master_cell.specs.Shown.{shown_in}
 use Rattle.master_cell.specs.Inputs.{input_of}
-use Rattle.master_cell.specs.Standing.{standing}
-use Rattle.master_cell.proofs.Steps.{stays_down, not_counted, drafted_went, drafted_rests, is_up_as, up_is}
+use Rattle.master_cell.specs.Standing.{LoggedMasterState, standing}
+use Rattle.master_cell.proofs.Causes.{down_for, other_cause, up_for}
+use Rattle.master_cell.proofs.Steps.{stays_down, not_counted, drafted_went, drafted_rests, is_up_as, up_is, was_open}
 use Rattle.master_cell.proofs.Files.{shown_down, shown_still, shown_before, step_shows}
 use Rattle.master_cell.proofs.logged_master.LoggedMaster.step.Goals as goal
 
 pub returns-then-not-self-clause-steps : goal.returns-then-not-self-clause-steps
 returns-then-not-self-clause-steps g c =
-    let down : c.args.self.now.up ≡ false =
-    up_is c.self.inside.up (g.L.OperationLog.disk c.self.inside.log) (g.L.OperationLog.under_way c.self.inside.log) c.self.inside.config c.self.inside.server_count c.self.inside.plan c.args.self.now (search rules) c.self.view_is in
-    stays_down c.args.self.now c.args.now.0 (input_of (option_copied c.args.message)) c.nothing.result.out c.nothing.result.seen down c.nothing.ensures.out c.nothing.ensures.seen
+    let down : c.args.self.now.state.up ≡ false =
+    up_is c.self.inside.up (g.L.OperationLog.disk c.self.inside.log) (g.L.OperationLog.under_way c.self.inside.log) c.self.inside.config c.self.inside.server_count c.self.inside.plan c.args.self.now.state (search rules) (ap (λ (x : LoggedMasterState). x.state) c.self.view_is) in
+    stays_down c.args.self.now.state c.args.now.0 (input_of (option_copied c.args.message)) c.nothing.result.out c.nothing.result.seen down c.nothing.ensures.out c.nothing.ensures.seen
 
 pub returns-then-not-self-clause-files : goal.returns-then-not-self-clause-files
 returns-then-not-self-clause-files g c =
-    let down : c.args.self.now.up ≡ false =
-    up_is c.self.inside.up (g.L.OperationLog.disk c.self.inside.log) (g.L.OperationLog.under_way c.self.inside.log) c.self.inside.config c.self.inside.server_count c.self.inside.plan c.args.self.now (search rules) c.self.view_is in
-    shown_down c.args.self.now (shown_in c.args.shown.now) down
+    let down : c.args.self.now.state.up ≡ false =
+    up_is c.self.inside.up (g.L.OperationLog.disk c.self.inside.log) (g.L.OperationLog.under_way c.self.inside.log) c.self.inside.config c.self.inside.server_count c.self.inside.plan c.args.self.now.state (search rules) (ap (λ (x : LoggedMasterState). x.state) c.self.view_is) in
+    shown_down c.args.self.now.state (shown_in c.args.shown.now) down
 
 pub returns-then-not-can_count-clause-steps : goal.returns-then-not-can_count-clause-steps
 returns-then-not-can_count-clause-steps g c =
@@ -32,7 +36,7 @@ returns-then-not-can_count-clause-steps g c =
     let i = input_of (option_copied c.args.message) in
     let none = c.nothing-then-not-can_count in
     let up : m.up ≡ true = search rules in
-    let old = is_up_as m.up disk under_way m.config m.server_count m.plan c.args.self.now up c.self.view_is in
+    let old = is_up_as m.up disk under_way m.config m.server_count m.plan c.args.self.now.state up (ap (λ (x : LoggedMasterState). x.state) c.self.view_is) in
     let not : can_count (known m.plan) i ≡ false = sym c.can_count.ensures ∙ c.if-not-can_count.true in
     subst (λ (x : MasterState). MasterSteps x c.args.now.0 i none.result.out none.result.seen x) old
     (not_counted (standing true disk under_way m.config m.server_count m.plan) c.args.now.0 i none.result.out none.result.seen refl not none.ensures.out none.ensures.seen)
@@ -43,16 +47,16 @@ returns-then-not-can_count-clause-files g c =
     let disk = g.L.OperationLog.disk m.log in
     let under_way = g.L.OperationLog.under_way m.log in
     let up : m.up ≡ true = search rules in
-    let old = is_up_as m.up disk under_way m.config m.server_count m.plan c.args.self.now up c.self.view_is in
-    shown_still c.args.self.now (shown_in c.args.shown.now) c.requires.shown (sym (ap (λ (x : MasterState). x.up) old))
+    let old = is_up_as m.up disk under_way m.config m.server_count m.plan c.args.self.now.state up (ap (λ (x : LoggedMasterState). x.state) c.self.view_is) in
+    shown_still c.args.self.now.state (shown_in c.args.shown.now) c.requires.shown (sym (ap (λ (x : MasterState). x.up) old))
 
 pub drafts-requires-clause-shown : goal.drafts-requires-clause-shown
 drafts-requires-clause-shown g c =
     let disk = g.L.OperationLog.disk c.self.inside.log in
     let under_way = g.L.OperationLog.under_way c.self.inside.log in
     let up : c.self.inside.up ≡ true = search rules in
-    shown_before disk under_way c.self.inside.config c.self.inside.server_count c.self.inside.plan c.args.self.now (shown_in c.args.shown.now)
-    (is_up_as c.self.inside.up disk under_way c.self.inside.config c.self.inside.server_count c.self.inside.plan c.args.self.now up c.self.view_is) c.requires.shown
+    shown_before disk under_way c.self.inside.config c.self.inside.server_count c.self.inside.plan c.args.self.now.state (shown_in c.args.shown.now)
+    (is_up_as c.self.inside.up disk under_way c.self.inside.config c.self.inside.server_count c.self.inside.plan c.args.self.now.state up (ap (λ (x : LoggedMasterState). x.state) c.self.view_is)) c.requires.shown
 
 pub invariant_of-self-2 : goal.invariant_of-self-2
 invariant_of-self-2 g c =
@@ -60,7 +64,7 @@ invariant_of-self-2 g c =
     let under_way = g.L.OperationLog.under_way c.self.inside.log in
     let up : c.self.inside.up ≡ true = search rules in
     let rests = drafted_rests disk under_way c.self.inside.config c.self.inside.server_count c.self.inside.plan c.args.now.0 (input_of (option_copied c.args.message)) (c.self.invariant.2 up) (changes_of c.in-Ok.draft.changes) c.drafts.new.plan c.in-Ok.ensures.drafts
-    (g.L.OperationLog.disk c.makes_all.new.log) (g.L.OperationLog.under_way c.makes_all.new.log) c.outcome_of.new.plan c.outcome_of.ensures.rest c.if-not-makes_all.ensures.none in
+    (g.L.OperationLog.disk c.makes_all.new.log) (g.L.OperationLog.under_way c.makes_all.new.log) c.outcome_of.new.plan c.outcome_of.ensures.rest c.in-Ok-makes_all.ensures.ok.none in
     (c.self.invariant.0, c.self.invariant.1, λ _. rests)
 
 pub returns-clause-files : goal.returns-clause-files
@@ -74,10 +78,63 @@ returns-clause-steps g c =
     let under_way = g.L.OperationLog.under_way c.self.inside.log in
     let i = input_of (option_copied c.args.message) in
     let up : c.self.inside.up ≡ true = search rules in
-    let old = is_up_as c.self.inside.up disk under_way c.self.inside.config c.self.inside.server_count c.self.inside.plan c.args.self.now up c.self.view_is in
+    let old = is_up_as c.self.inside.up disk under_way c.self.inside.config c.self.inside.server_count c.self.inside.plan c.args.self.now.state up (ap (λ (x : LoggedMasterState). x.state) c.self.view_is) in
     let new_disk = g.L.OperationLog.disk c.makes_all.new.log in
     let new_under_way = g.L.OperationLog.under_way c.makes_all.new.log in
     let counts : can_count (known c.self.inside.plan) i ≡ true = sym c.can_count.ensures ∙ c.if-not-can_count.false in
     subst (λ (m : MasterState). MasterSteps m c.args.now.0 i c.outcome_of.result.out c.outcome_of.result.seen (standing true new_disk new_under_way c.self.inside.config c.self.inside.server_count c.outcome_of.new.plan)) old
     (drafted_went disk under_way c.self.inside.config c.self.inside.server_count c.self.inside.plan c.args.now.0 i (search rules) (changes_of c.in-Ok.draft.changes) c.drafts.new.plan c.in-Ok.ensures.drafts new_disk new_under_way
-    c.outcome_of.new.plan c.outcome_of.result.out c.outcome_of.result.seen c.outcome_of.ensures.rest c.outcome_of.ensures.out c.outcome_of.ensures.seen counts c.if-not-makes_all.ensures)
+    c.outcome_of.new.plan c.outcome_of.result.out c.outcome_of.result.seen c.outcome_of.ensures.rest c.outcome_of.ensures.out c.outcome_of.ensures.seen counts c.in-Ok-makes_all.ensures.ok)
+
+-- What is said of the cause: a step that isn't taken has none.
+pub returns-then-not-self-clause-open : goal.returns-then-not-self-clause-open
+returns-then-not-self-clause-open g c was = was
+
+pub returns-then-not-self-clause-cause : goal.returns-then-not-self-clause-cause
+returns-then-not-self-clause-cause g c was =
+    let none = c.nothing in
+    up_for _ _ none.result.out none.result.cause (ap (λ (o : StepOut). o.down) none.ensures.out) none.ensures.cause (omega arith)
+
+pub returns-then-not-can_count-clause-open : goal.returns-then-not-can_count-clause-open
+returns-then-not-can_count-clause-open g c was = was
+
+pub returns-then-not-can_count-clause-cause : goal.returns-then-not-can_count-clause-cause
+returns-then-not-can_count-clause-cause g c was =
+    let none = c.nothing-then-not-can_count in
+    up_for _ _ none.result.out none.result.cause (ap (λ (o : StepOut). o.down) none.ensures.out) none.ensures.cause (omega arith)
+
+-- there was no memory for what is planned
+pub returns-in_default-clause-open : goal.returns-in_default-clause-open
+returns-in_default-clause-open g c was up = absurd cc
+
+pub returns-in_default-clause-cause : goal.returns-in_default-clause-cause
+returns-in_default-clause-cause g c was =
+    let d = c.down_for in
+    subst (λ (m : LoggedMasterState). IsDownFor d.result.out.down d.result.cause m.failed (g.L.OperationLog.failed c.self.inside.log)) c.self.view_is
+    (down_for {T = Unit {0}} true _ _ d.result.out d.result.cause Memory refl d.ensures.out d.ensures.cause (other_cause _ _ _ Memory (omega arith) (λ e. absurd cc)))
+
+-- a change of its log failed
+pub returns-in-Err-clause-open : goal.returns-in-Err-clause-open
+returns-in-Err-clause-open g c was up = absurd cc
+
+pub returns-in-Err-clause-cause : goal.returns-in-Err-clause-cause
+returns-in-Err-clause-cause g c was =
+    let i = c.self.inside in
+    let d = c.down_for-in-Err in
+    let opened = was_open i.up (g.L.OperationLog.disk i.log) (g.L.OperationLog.under_way i.log) i.config i.server_count i.plan (g.L.OperationLog.is_open i.log) (g.L.OperationLog.failed i.log) c.args.self.now (search rules)
+    c.self.view_is was in
+    subst (λ (m : LoggedMasterState). IsDownFor d.result.out.down d.result.cause m.failed (g.L.OperationLog.failed c.makes_all.new.log)) c.self.view_is
+    (down_for (g.L.OperationLog.is_open c.self.inside.log) _ _ d.result.out d.result.cause c.in-Err.cause opened d.ensures.out d.ensures.cause c.in-Err.ensures.cause)
+
+-- it is up
+pub returns-clause-open : goal.returns-clause-open
+returns-clause-open g c was up =
+    let i = c.self.inside in
+    c.in-Ok-makes_all.ensures.open (was_open i.up (g.L.OperationLog.disk i.log) (g.L.OperationLog.under_way i.log) i.config i.server_count i.plan (g.L.OperationLog.is_open i.log) (g.L.OperationLog.failed i.log) c.args.self.now (search rules)
+    c.self.view_is was)
+
+pub returns-clause-cause : goal.returns-clause-cause
+returns-clause-cause g c was =
+    let r = c.outcome_of in
+    subst (λ (m : LoggedMasterState). IsDownFor r.result.out.down r.result.cause m.failed (g.L.OperationLog.failed c.makes_all.new.log)) c.self.view_is
+    (up_for _ _ r.result.out r.result.cause (ap (λ (o : StepOut). o.down) r.ensures.out) r.ensures.cause c.in-Ok-makes_all.ensures.cause.later)
