@@ -11,7 +11,7 @@ use Rattle.master_replay.specs.declared.restart.RestartFault.TheVariants.{Log, R
 use Rattle.protocol.specs.Seen.{down_output}
 use Rattle.step_outcome.specs.Causes.{FailsFor, IsDownFor}
 use Rattle.step_outcome.specs.declared.down_cause.DownCause.{DownCause}
-use Rattle.step_outcome.specs.declared.down_cause.DownCause.TheVariants.{Device, NoRoom}
+use Rattle.step_outcome.specs.declared.down_cause.DownCause.TheVariants.{Device, Memory, NoRoom}
 use Rattle.master_cell.specs.Causes.{cause_of, reading_cause}
 
 device_alone : (f : OperationLogFault) → cause_of f ≡ Device → f ≡ log.Device
@@ -79,16 +79,29 @@ no_cause is_open before now x later = record { later = later; device = λ o e. a
 -- A step.
 
 -- one that stays up
-pub up_for : (before now : ℕ) (out : StepOut) (cause : Option DownCause) → out.down ≡ false → cause ≡ None → before ≤ now → IsDownFor out.down cause before now
-up_for before now out cause stays none later =
-    record { told = ap (λ (c : Option DownCause). is_some c) none ∙ sym stays; later = later; device = λ e. let bad : None ≡ Some Device = sym none ∙ e in absurd cc }
+pub up_for : (before now : ℕ) (out : StepOut) (cause : Option DownCause) → out.down ≡ false → cause ≡ None → IsDownFor out.down cause before now
+up_for before now out cause stays none =
+    record {
+      told = ap (λ (c : Option DownCause). is_some c) none ∙ sym stays;
+      device = λ e. let bad : None ≡ Some Device = sym none ∙ e in absurd cc;
+      room = λ e. let bad : None ≡ Some NoRoom = sym none ∙ e in absurd cc;
+    }
 
 -- one that goes down for this, over an open log
-pub down_for : {T : Type 0} (is_open : Bool) (before now : ℕ) (out : StepOut) (cause : Option DownCause) (x : DownCause) → is_open ≡ true → out ≡ down_output → cause ≡ Some x
+pub down_for : {T : Type 0} (is_open : Bool) (before now : ℕ) (out : StepOut) (cause : Option DownCause) (x : DownCause) → is_open ≡ true → out ≡ down_output → cause ≡ Some x → (x ≡ NoRoom → ⊥)
     → FailsFor {T = T} is_open before now (Err x) → IsDownFor out.down cause before now
-down_for is_open before now out cause x opened down is fails =
+down_for is_open before now out cause x opened down is room fails =
     record {
       told = ap (λ (c : Option DownCause). is_some c) is ∙ ap (λ (o : StepOut). o.down) (sym down);
-      later = fails.later;
       device = λ e. let same : x ≡ Device = cc in fails.device opened (ap (λ (y : DownCause). Err y) same);
+      room = λ e. let same : x ≡ NoRoom = cc in room same;
+    }
+
+-- one for which memory was refused
+pub memory_for : (before now : ℕ) (out : StepOut) (cause : Option DownCause) → out ≡ down_output → cause ≡ Some Memory → IsDownFor out.down cause before now
+memory_for before now out cause down is =
+    record {
+      told = ap (λ (c : Option DownCause). is_some c) is ∙ ap (λ (o : StepOut). o.down) (sym down);
+      device = λ e. let bad : Memory ≡ Device = cc in absurd cc;
+      room = λ e. let bad : Memory ≡ NoRoom = cc in absurd cc;
     }

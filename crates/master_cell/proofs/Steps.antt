@@ -161,6 +161,11 @@ module _ (disk : LogDisk) (under_way : List LogChange) (config : Config) (count 
   drafted_went r out seen r_is out_is seen_is counts made =
       went_as disk under_way config count p0 moment i rest d.planned d.goes new_disk new_under_way p2 r cs out seen d.changes_are d.rest r_is out_is seen_is counts made
 
+-- a step that puts it down, as the code gives it
+pub as_down : (m new : MasterState) (moment : ℕ) (i : NodeInput) (out : StepOut) (seen : List Seen) → out ≡ down_output → seen ≡ [] → MasterSteps m moment i down_output [] new → MasterSteps m moment i out seen new
+as_down m new moment i out seen o s steps =
+    subst (λ (x : StepOut). MasterSteps m moment i x seen new) (sym o) (subst (λ (x : List Seen). MasterSteps m moment i down_output x new) (sym s) steps)
+
 -- a master that is down, as it was made, takes no step
 pub stays_down : (m : MasterState) (moment : ℕ) (i : NodeInput) (out : StepOut) (seen : List Seen) → m.up ≡ false → out ≡ no_output → seen ≡ [] → MasterSteps m moment i out seen m
 stays_down m moment i out seen down o s =
@@ -185,6 +190,11 @@ not_counted m moment i out seen up not o s =
 pub is_up_as : (up : Bool) (disk : LogDisk) (under_way : List LogChange) (config : Config) (count : ℕ) (p : PlanState) (m : MasterState) → up ≡ true → standing up disk under_way config count p ≡ m
     → standing true disk under_way config count p ≡ m
 is_up_as up disk under_way config count p m is view = ap (λ b. standing b disk under_way config count p) (sym is) ∙ view
+
+-- whether it is up
+pub is_standing : (up : Bool) (disk : LogDisk) (under_way : List LogChange) (config : Config) (count : ℕ) (p : PlanState) (m : MasterState) → standing up disk under_way config count p ≡ m → up ≡ m.up
+is_standing true disk under_way config count p m view = ap (λ (x : MasterState). x.up) view
+is_standing false disk under_way config count p m view = ap (λ (x : MasterState). x.up) view
 
 -- its log was open, where it is while the master is up
 pub was_open : (up : Bool) (disk : LogDisk) (under_way : List LogChange) (config : Config) (count : ℕ) (p : PlanState) (is_open : Bool) (failed : ℕ) (m : LoggedMasterState) → up ≡ true

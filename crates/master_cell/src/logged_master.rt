@@ -192,7 +192,6 @@ impl<L: OperationLog, A: Allocator + Clone> LoggedMaster<L, A> {
     }
 
     /// It is put down in a step, before it changed anything. Takes no memory.
-    #[tactic(auto, using(crate::proofs::Files::stopped))]
     pub fn stop(&mut self)
         requires { self.old.state.up ≡ true }
         ensures state { self.new.state ≡ stopped_master self.old.state self.old.state.disk [] }
@@ -205,7 +204,7 @@ impl<L: OperationLog, A: Allocator + Clone> LoggedMaster<L, A> {
     /// A step on a message, or on a tick. While the master is up the chunks of its files are shown. Where it is up after the
     /// step, those that were changed are shown anew; else all that was shown stays. A step that might raise a counter past its limit
     /// changes nothing and gives nothing.
-    #[tactic(auto, using(crate::proofs::Steps::stays, crate::proofs::Steps::lost, crate::proofs::Steps::drafted_cut_off, crate::proofs::Steps::drafted_rests))]
+    #[tactic(auto, using(crate::proofs::Steps::stays, crate::proofs::Steps::drafted_rests))]
     pub fn step(
         &mut self,
         now: Moment,
