@@ -1,14 +1,11 @@
 -- How a checkpoint is written, and changes are made in order.
-use Rattle.std.proofs.Common.{◌≡◌, ℕ, zero, suc, ◌+◌, ◌<◌, ◌≤◌, Bool, true, false, List, [], ◌∷◌, ◌++◌, take, length, get_or, refl, sym, ap, ◌∙◌, arith, Result, Ok, Err}
-use Rattle.std.specs.Prelude.{◌⊎◌, IsErrAnd, IsErrOf}
+use Rattle.std.proofs.Common.{◌≡◌, ℕ, zero, suc, ◌+◌, ◌<◌, Bool, true, false, List, [], ◌∷◌, ◌++◌, take, length, get_or, refl, sym, ap, ◌∙◌, arith}
+use Rattle.std.specs.Prelude.{◌⊎◌}
 use Rattle.std.proofs.Common.{inl, inr}
 use Rattle.std.proofs.lemmas.List.{map-append, take_more}
 use Rattle.protocol.specs.Choice.{made_changes, change_under_way}
 use Rattle.protocol.specs.Logged.{LogDisk, LogChange, log_changed, log_changed_by_all}
-use Rattle.operation_log.specs.Faults.{MayFail, StaysOpen}
 use Rattle.operation_log.specs.Logs.{MayBeUnderWay}
-use Rattle.operation_log.specs.declared.fault.OperationLogFault.{OperationLogFault}
-use Rattle.operation_log.specs.declared.fault.OperationLogFault.TheVariants.{Device}
 use Rattle.master_plan.specs.declared.change.PlannedChange.{PlannedChange}
 use Rattle.master_plan.specs.Changes.{change_of, changes_of}
 use Rattle.master_cell.specs.Commits.{IsStopped}
@@ -55,34 +52,3 @@ stopped_at disk changes i item before after under_way within is so_far same begu
     by_cases : MayBeUnderWay (change_of item) under_way → (under_way ≡ change_under_way i (changes_of changes)) ⊎ (under_way ≡ [])
     by_cases (inl none) = inr none
     by_cases (inr one) = inl (one ∙ ap (λ (x : PlannedChange). change_of x ∷ []) is ∙ sym (next_mapped changes i item within))
-
--- a fault that was handed on
-pub passed_cause : {T U : Type 0} (is_open : Bool) (before now : ℕ) (r : Result T OperationLogFault) (f : OperationLogFault) → IsErrAnd r (λ e. e ≡ f) → MayFail {T = U} is_open before now (Err f)
-    → MayFail is_open before now r
-passed_cause is_open before now (Ok x) f is may = absurd is
-passed_cause is_open before now (Err x) f is may = record {
-  later = may.later;
-  failed = λ o e. let same : f ≡ Device = cc in may.failed o (ap (λ (y : OperationLogFault). Err y) same);
-}
-
-pub passed_open : {T U : Type 0} (was now : Bool) (r : Result T OperationLogFault) (f : OperationLogFault) → IsErrAnd r (λ e. e ≡ f) → StaysOpen {T = U} was now (Err f) → StaysOpen was now r
-passed_open was now (Ok x) f is stays o other = absurd is
-passed_open was now (Err x) f is stays o other = stays o (λ e. let same : f ≡ Device = cc in other (ap (λ (y : OperationLogFault). Err y) (is ∙ same)))
-
--- a call after one that went through
-pub later_cause : {T : Type 0} (is_open between : Bool) (before then now : ℕ) (r : Result T OperationLogFault) → before ≤ then → (is_open ≡ true → between ≡ true) → MayFail between then now r
-    → MayFail is_open before now r
-later_cause is_open between before then now r later opened may = record {
-  later = omega (arith, later, may.later);
-  failed = λ o e. omega (arith, later, may.failed (opened o) e);
-}
-
-pub later_open : {T : Type 0} (was between now : Bool) (r : Result T OperationLogFault) → (was ≡ true → between ≡ true) → StaysOpen between now r → StaysOpen was now r
-later_open was between now r opened stays o other = stays (opened o) other
-
--- one that went through
-pub stays_after : {T : Type 0} (was now : Bool) (x : T) → StaysOpen was now (Ok x) → was ≡ true → now ≡ true
-stays_after was now x stays o = stays o (λ e. absurd cc)
-
-pub done_cause : {T : Type 0} (is_open : Bool) (before now : ℕ) (x : T) → before ≤ now → MayFail is_open before now (Ok x)
-done_cause is_open before now x later = record { later = later; failed = λ o e. absurd cc }

@@ -1,5 +1,5 @@
 -- An opening, from what was planned.
-use Rattle.std.proofs.Common.{◌≡◌, ◌==◌, ℕ, suc, ◌+◌, Bool, sym, ap, ◌∙◌, add-one}
+use Rattle.std.proofs.Common.{◌≡◌, ◌==◌, ℕ, suc, ◌+◌, sym, ap, ◌∙◌, add-one}
 use Rattle.gfs_types.specs.declared.config.Config.{Config}
 use Rattle.log_records.specs.declared.record.Record.TheVariants as log
 use Rattle.protocol.specs.Logged.{Logged, LogDisk, replayed}
@@ -22,11 +22,3 @@ pub logged_as : (config : Config) (count : ℕ) (disk : LogDisk) (now : ℕ) (lo
 logged_as config count disk now logged new epoch after logged_is epoch_is after_is =
     ap (λ n. n == epoch + 1) after_is
     ∙ ap (λ n. new.logged.epoch == n) (add-one epoch ∙ ap suc (epoch_is ∙ ap (λ (l : Logged). l.epoch) logged_is))
-
--- What is planned of an opening, over what its log has.
-
-abbrev pub IsPlanned : Config → ℕ → LogDisk → ℕ → PlanState → Type 0
-IsPlanned config count disk moment p = opening (started_master config count disk moment) ≡ doing disk p
-
-abbrev pub HasOpened : Config → ℕ → LogDisk → ℕ → PlanState → Bool → Type 0
-HasOpened config count disk moment p has = has_opened (started_master config count disk moment) (doing disk p) ≡ has

@@ -157,6 +157,19 @@ restarts_as m disk new_disk under_way config count moment out new s decided o =
     restarts m (down_over config count new_disk []) moment out new s.config_is s.count_is
     (subst (λ (d : LogDisk). IsDecided d m.under_way new_disk) s.disk_is (subst (λ (u : List LogChange). IsDecided disk u new_disk) s.under_way_is decided)) o
 
+-- what it is once it is down, from its parts
+pub down_of : (disk new_disk : LogDisk) (under_way new_under_way : List LogChange) (config : Config) (count : ℕ) (p : PlanState) (m : MasterState) → Shows disk under_way config count m
+    → new_disk ≡ disk → new_under_way ≡ under_way → standing false new_disk new_under_way config count p ≡ stopped_master m m.disk m.under_way
+down_of disk new_disk under_way new_under_way config count p m s d u =
+    ap (λ (x : Config). standing false new_disk new_under_way x count p) s.config_is
+    ∙ ap (λ (x : ℕ). standing false new_disk new_under_way m.config x p) s.count_is
+    ∙ ap (λ (x : LogDisk). standing false x new_under_way m.config m.server_count p) (d ∙ s.disk_is)
+    ∙ ap (λ (x : List LogChange). standing false m.disk x m.config m.server_count p) (u ∙ s.under_way_is)
+
+-- a restart that gave up before its log was opened
+pub gave_up : (m new : MasterState) (moment : ℕ) (out : StepOut) → out ≡ down_output → new ≡ stopped_master m m.disk m.under_way → MasterRestarts m moment out new
+gave_up m new moment out o same = subst (λ (x : StepOut). MasterRestarts m moment x new) (sym o) (not_begun m new moment same)
+
 -- what an opening gives is what is given
 pub gives_out : (old : MasterState) (moment : ℕ) (out given : StepOut) (new : MasterState) → given ≡ out → Opens old moment out new → Opens old moment given new
 gives_out old moment out given new same o = subst (λ (x : StepOut). Opens old moment x new) (sym same) o

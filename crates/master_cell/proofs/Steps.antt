@@ -16,13 +16,13 @@ use Rattle.master_cell.proofs.Steady.{settings_of}
 use Rattle.master_cell.proofs.Settings.{settings_stay}
 use Rattle.master_plan.specs.Plans.{PlanState, master_of, known, doing, resting}
 use Rattle.master_cell.specs.Commits.{IsStopped}
-use Rattle.master_cell.specs.Standing.{standing, logged_master, IsOpenWhileUp, IsResting, LoggedMasterState}
-use Rattle.master_cell.specs.Ends.{Goes, AllMade, step_out}
+use Rattle.master_cell.specs.Standing.{standing, IsResting}
+use Rattle.master_cell.specs.Ends.{Goes, AllMade, AreMade, step_out}
 use Rattle.master_cell.specs.Drafts.{Drafts}
 
 -- nothing was made of a plan
-pub none_made : (disk : LogDisk) (changes : List LogChange) (under_way : List LogChange) → under_way ≡ [] → IsStopped disk changes disk under_way
-none_made disk changes under_way none = record { made = 0; disk_is = refl; begun = inr none }
+pub none_made : (disk : LogDisk) (p : PlanState) (under_way : List LogChange) → under_way ≡ [] → AreMade disk p false disk under_way
+none_made disk p under_way none = record { made = 0; disk_is = refl; begun = inr none }
 
 abbrev pub with_ending : Ending → List Bool → Choice
 with_ending e used = record { ending = e; order = []; refused = used; decided = [] }
@@ -191,18 +191,11 @@ pub is_up_as : (up : Bool) (disk : LogDisk) (under_way : List LogChange) (config
     → standing true disk under_way config count p ≡ m
 is_up_as up disk under_way config count p m is view = ap (λ b. standing b disk under_way config count p) (sym is) ∙ view
 
+pub up_is : (up : Bool) (disk : LogDisk) (under_way : List LogChange) (config : Config) (count : ℕ) (p : PlanState) (m : MasterState) → up ≡ false → standing up disk under_way config count p ≡ m → m.up ≡ false
+up_is false disk under_way config count p m is view = ap (λ (x : MasterState). x.up) (sym view)
+up_is true disk under_way config count p m is view = absurd cc
+
 -- whether it is up
 pub is_standing : (up : Bool) (disk : LogDisk) (under_way : List LogChange) (config : Config) (count : ℕ) (p : PlanState) (m : MasterState) → standing up disk under_way config count p ≡ m → up ≡ m.up
 is_standing true disk under_way config count p m view = ap (λ (x : MasterState). x.up) view
 is_standing false disk under_way config count p m view = ap (λ (x : MasterState). x.up) view
-
--- its log was open, where it is while the master is up
-pub was_open : (up : Bool) (disk : LogDisk) (under_way : List LogChange) (config : Config) (count : ℕ) (p : PlanState) (is_open : Bool) (failed : ℕ) (m : LoggedMasterState) → up ≡ true
-    → logged_master up disk under_way config count p is_open failed ≡ m → IsOpenWhileUp m → is_open ≡ true
-was_open true disk under_way config count p is_open failed m is view was =
-    ap (λ (x : LoggedMasterState). x.is_open) view ∙ was (sym (ap (λ (x : LoggedMasterState). x.state.up) view))
-was_open false disk under_way config count p is_open failed m is view was = absurd cc
-
-pub up_is : (up : Bool) (disk : LogDisk) (under_way : List LogChange) (config : Config) (count : ℕ) (p : PlanState) (m : MasterState) → up ≡ false → standing up disk under_way config count p ≡ m → m.up ≡ false
-up_is false disk under_way config count p m is view = ap (λ (x : MasterState). x.up) (sym view)
-up_is true disk under_way config count p m is view = absurd cc

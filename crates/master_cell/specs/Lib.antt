@@ -4,7 +4,6 @@ pub mod Kinds
 pub mod ChangedFiles
 pub mod Files
 pub mod Faults
-pub mod Causes
 pub mod Commits
 pub mod Standing
 pub mod Ends

@@ -16,15 +16,10 @@ pub record IsResting (under_way : List LogChange) (config : Config) (server_coun
   pub config_is : p.config ≡ config
   pub count_is : p.server_count ≡ server_count
 
--- A master over a log: what it is, whether its log is open, and how often the disk of its log has failed.
+-- A master over a log: what it is, and how often the disk of its log has failed.
 pub record LoggedMasterState : Type 0 where
   pub state : MasterState
-  pub is_open : Bool
   pub failed : ℕ
 
-abbrev pub logged_master : Bool → LogDisk → List LogChange → Config → ℕ → PlanState → Bool → ℕ → LoggedMasterState
-logged_master up disk under_way config server_count p is_open failed = record { state = standing up disk under_way config server_count p; is_open = is_open; failed = failed }
-
--- While it is up its log is open.
-abbrev pub IsOpenWhileUp : LoggedMasterState → Type 0
-IsOpenWhileUp m = m.state.up ≡ true → m.is_open ≡ true
+abbrev pub logged_master : Bool → LogDisk → List LogChange → Config → ℕ → PlanState → ℕ → LoggedMasterState
+logged_master up disk under_way config server_count p failed = record { state = standing up disk under_way config server_count p; failed = failed }

@@ -4,7 +4,6 @@ ghost use Rattle.std.specs.Prelude.{◌≡◌, [], true, OnOk, OnErr};
 ghost use Rattle.protocol.specs.Logged.{WriteCheckpoint, log_changed, log_changed_by_all};
 ghost use Rattle.protocol.specs.LogSizes.{checkpoint_fits};
 ghost use Rattle.operation_log.specs.Logs.{MayBeUnderWay};
-ghost use Rattle.operation_log.specs.Faults.{MayFail, StaysOpen};
 ghost use Rattle.master_plan.specs.Changes.{change_of, changes_of};
 ghost use Rattle.master_cell.specs.Commits.{IsStopped};
 
@@ -22,13 +21,10 @@ pub fn commit<L: OperationLog>(
     ensures ok { OnOk result (L.disk log.new ≡ log_changed_by_all (L.disk log.old) (changes_of changes.now)) }
     ensures done { OnOk result (L.under_way log.new ≡ []) }
     ensures err { OnErr result (IsStopped (L.disk log.old) (changes_of changes.now) (L.disk log.new) (L.under_way log.new)) }
-    ensures open { StaysOpen (L.is_open log.old) (L.is_open log.new) result }
-    ensures cause { MayFail (L.is_open log.old) (L.failed log.old) (L.failed log.new) result }
 {
     for change in changes {
-        match make(log, change) {
-            Ok(()) => {}
-            Err(fault) => return Err(fault),
+        if let Err(fault) = make(log, change) {
+            return Err(fault);
         }
     }
     Ok(())
@@ -40,8 +36,6 @@ fn make<L: OperationLog>(log: &mut L, change: &PlannedChange) -> Result<(), Oper
     ensures done { OnOk result (L.under_way log.new ≡ []) }
     ensures err { OnErr result (L.disk log.new ≡ L.disk log.old) }
     ensures begun { OnErr result (MayBeUnderWay (change_of change.now) (L.under_way log.new)) }
-    ensures open { StaysOpen (L.is_open log.old) (L.is_open log.new) result }
-    ensures cause { MayFail (L.is_open log.old) (L.failed log.old) (L.failed log.new) result }
 {
     match change {
         PlannedChange::Append(entry) => log.append(entry),
@@ -55,8 +49,6 @@ fn write_checkpoint<L: OperationLog>(log: &mut L, items: &[Record]) -> Result<()
     ensures done { OnOk result (L.under_way log.new ≡ []) }
     ensures err { OnErr result (L.disk log.new ≡ L.disk log.old) }
     ensures begun { OnErr result (MayBeUnderWay (WriteCheckpoint items.now) (L.under_way log.new)) }
-    ensures open { StaysOpen (L.is_open log.old) (L.is_open log.new) result }
-    ensures cause { MayFail (L.is_open log.old) (L.failed log.old) (L.failed log.new) result }
 {
     add_items(log, items)?;
     log.end_checkpoint()
@@ -69,8 +61,6 @@ fn add_items<L: OperationLog>(log: &mut L, items: &[Record]) -> Result<(), Opera
     ensures fits { OnOk result (checkpoint_fits (L.log_bytes log.new) items.now ≡ true) }
     ensures disk { L.disk log.new ≡ L.disk log.old }
     ensures under_way { L.under_way log.new ≡ [] }
-    ensures open { StaysOpen (L.is_open log.old) (L.is_open log.new) result }
-    ensures cause { MayFail (L.is_open log.old) (L.failed log.old) (L.failed log.new) result }
 {
     log.begin_checkpoint()?;
     if items.is_empty() {

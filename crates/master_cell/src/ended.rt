@@ -1,39 +1,28 @@
 //! How a step ends: what was planned is made.
 
-ghost use Rattle.std.specs.Prelude.{◌≡◌, ◌*◌, ◌&&◌, nat_le, [], true, None, OnOk, OnErr, IsErrOf};
+ghost use Rattle.std.specs.Prelude.{◌≡◌, ◌<◌, ◌*◌, ◌&&◌, nat_le, [], None};
 ghost use Rattle.gfs_types.specs.Counters.{counter_limit};
 ghost use Rattle.protocol.specs.MasterStep.{is_within_limits};
 ghost use Rattle.master_plan.specs.Changes.{changes_of};
 ghost use Rattle.master_plan.specs.Plans.{known};
-ghost use Rattle.step_outcome.specs.Causes.{FailsFor};
 ghost use Rattle.step_outcome.specs.declared.down_cause.DownCause.TheVariants as causes;
-ghost use Rattle.master_cell.specs.Causes.{cause_of};
-ghost use Rattle.master_cell.specs.Commits.{IsStopped};
-ghost use Rattle.master_cell.specs.Ends.{AllMade, step_out};
+ghost use Rattle.master_cell.specs.Ends.{AreMade, step_out};
 
 use crate::commit::commit;
 use gfs_types::ids::{Handle, MAX_COUNTER};
 use master_plan::change::PlannedChangeList;
 use master_plan::plan::Plan;
 use messages::event::StepOut;
-use operation_log::fault::OperationLogFault;
 use operation_log::log::OperationLog;
 use std::alloc::Allocator;
 use step_outcome::Outcome;
 use step_outcome::down_cause::DownCause;
 
-// Makes the changes of a plan on the log. An error: a change failed, or a counter is past its limit, and the master is to go down.
-pub(crate) fn makes<L: OperationLog, A: Allocator + Clone>(
-    log: &mut L,
-    plan: &mut Plan<A>,
-) -> Result<(), DownCause>
+// Makes the changes of a plan on the log. False: a change failed, or a counter is past its limit, and the master is to go down.
+pub(crate) fn makes<L: OperationLog, A: Allocator + Clone>(log: &mut L, plan: &mut Plan<A>) -> bool
     requires decided { L.under_way log.old ≡ [] }
-    ensures ok { OnOk result (AllMade (L.disk log.old) plan.old (L.disk log.new) (L.under_way log.new)) }
-    ensures err { OnErr result (IsStopped (L.disk log.old) plan.old.changes (L.disk log.new) (L.under_way log.new)) }
+    ensures made { AreMade (L.disk log.old) plan.old result (L.disk log.new) (L.under_way log.new) }
     ensures rest { plan.new ≡ record plan.old { changes = [] } }
-    ensures open { OnOk result (L.is_open log.old ≡ true → L.is_open log.new ≡ true) }
-    ensures cause { FailsFor (L.is_open log.old) (L.failed log.old) (L.failed log.new) result }
-    ensures room { IsErrOf result causes.NoRoom → ⊥ }
 {
     let changes = plan.take_changes();
     makes_all(log, plan, &changes)
@@ -45,30 +34,22 @@ pub(crate) fn makes_all<L: OperationLog, A: Allocator + Clone>(
     log: &mut L,
     plan: &Plan<A>,
     changes: &PlannedChangeList,
-) -> Result<(), DownCause>
+) -> bool
     requires decided { L.under_way log.old ≡ [] }
-    ensures ok { OnOk result (AllMade (L.disk log.old) (record plan.now { changes = changes_of changes.now }) (L.disk log.new) (L.under_way log.new)) }
-    ensures err { OnErr result (IsStopped (L.disk log.old) (changes_of changes.now) (L.disk log.new) (L.under_way log.new)) }
-    ensures open { OnOk result (L.is_open log.old ≡ true → L.is_open log.new ≡ true) }
-    ensures cause { FailsFor (L.is_open log.old) (L.failed log.old) (L.failed log.new) result }
-    ensures room { IsErrOf result causes.NoRoom → ⊥ }
+    ensures { AreMade (L.disk log.old) (record plan.now { changes = changes_of changes.now }) result (L.disk log.new) (L.under_way log.new) }
 {
-    if !is_within_limits(plan) {
-        return Err(DownCause::Memory);
-    }
-    match commit(log, changes.as_slice()) {
-        Ok(()) => Ok(()),
-        Err(fault) => Err(cause_of(fault)),
-    }
+    is_within_limits(plan) && commit(log, changes.as_slice()).is_ok()
 }
 
-// Why it is to go down where a call of its log failed.
-pub(crate) fn cause_of(fault: OperationLogFault) -> DownCause
-    ensures { result ≡ cause_of fault }
+// Why it is to go down, where its log's disk had failed so often before.
+pub(crate) fn cause_since<L: OperationLog>(log: &L, before: u64) -> DownCause
+    ensures device { result ≡ causes.Device → before < L.failed log.now }
+    ensures room { result ≡ causes.NoRoom → ⊥ }
 {
-    match fault {
-        OperationLogFault::Device => DownCause::Device,
-        _ => DownCause::Memory,
+    if log.failures() > before {
+        DownCause::Device
+    } else {
+        DownCause::Memory
     }
 }
 

@@ -1,6 +1,6 @@
 //! The master.
 
-ghost use Rattle.std.specs.Prelude.{◌≡◌, ◌<◌, ◌≤◌, [], true, false, IfErr, IfOk, OnErr, if◌then◌else◌, Some, None};
+ghost use Rattle.std.specs.Prelude.{◌≡◌, ◌<◌, ◌≤◌, [], true, IfErr, IfOk, OnErr, if◌then◌else◌, Some, None};
 ghost use Rattle.std.specs.Option.{option_copied};
 ghost use Rattle.protocol.specs.Tables.{moment_limit};
 ghost use Rattle.protocol.specs.Logged.{new_log};
@@ -13,11 +13,10 @@ ghost use Rattle.step_outcome.specs.declared.down_cause.DownCause.TheVariants as
 ghost use Rattle.master_cell.specs.Shown.{shown_in};
 ghost use Rattle.master_cell.specs.Inputs.{input_of};
 ghost use Rattle.master_cell.specs.Opens.{HasNoRoom, OpensNot, OpensUp, down_over};
-ghost use Rattle.master_cell.specs.Standing.{IsOpenWhileUp};
 
 use crate::counting::can_count;
 use crate::drafted::drafts;
-use crate::ended::{makes_all, outcome_of};
+use crate::ended::{cause_since, makes_all, outcome_of};
 use crate::fault::MasterFault;
 use crate::shown::ShownFiles;
 use crate::started::{first_plan, opens_over};
@@ -71,7 +70,7 @@ impl<L: OperationLog, A: Allocator> Model for LoggedMaster<L, A> {
 
     ghost coded = { Prim.hlevel (codes, map.code, coded_list, coded_ℕ) };
 
-    ghost view = { λ m. logged_master m.up (L.disk m.log) (L.under_way m.log) m.config m.server_count m.plan (L.is_open m.log) (L.failed m.log) };
+    ghost view = { λ m. logged_master m.up (L.disk m.log) (L.under_way m.log) m.config m.server_count m.plan (L.failed m.log) };
 
     ghost invariant = { λ m. (m.config.lease_ms ≤ 3600000) × (m.config.skew_ms ≤ 60000) × (m.up ≡ true → IsResting (L.under_way m.log) m.config m.server_count m.plan) };
 }
@@ -131,8 +130,8 @@ impl<L: OperationLog + Drop, A: Allocator + Clone> LoggedMaster<L, A> {
         ensures fails { IfErr result (λ e. OpensNot (down_over config server_count (L.disk log) []) now.0 (L.disk e.0) (L.under_way e.0)) }
         ensures files { IfOk result (λ m. shown_in shown.new ≡ m.state.logged.table.files) }
         ensures files_of_error { OnErr result (shown_in shown.new ≡ shown_in shown.old) }
-        ensures open { L.is_open log ≡ true → IfOk result (λ m. m.is_open ≡ true) }
-        ensures device { L.is_open log ≡ true → IfErr result (λ e. e.1 ≡ causes.Device → L.failed log < L.failed e.0) }
+        // It is its disk's only where that has failed, and want of room only where the log has none for the new epoch.
+        ensures device { IfErr result (λ e. e.1 ≡ causes.Device → L.failed log < L.failed e.0) }
         ensures room { IfErr result (λ e. e.1 ≡ causes.NoRoom → HasNoRoom config server_count (L.disk log) now.0) }
     {
         let Ok(kept) = names.clone() else {
@@ -157,7 +156,6 @@ impl<L: OperationLog + Drop, A: Allocator + Clone> LoggedMaster<L, A> {
     pub fn into_log(self) -> L
         ensures disk { L.disk result ≡ self.state.disk }
         ensures under_way { L.under_way result ≡ self.state.under_way }
-        ensures open { L.is_open result ≡ self.is_open }
         ensures failed { L.failed result ≡ self.failed }
     {
         let Self {
@@ -195,7 +193,6 @@ impl<L: OperationLog, A: Allocator + Clone> LoggedMaster<L, A> {
     pub fn stop(&mut self)
         requires { self.old.state.up ≡ true }
         ensures state { self.new.state ≡ stopped_master self.old.state self.old.state.disk [] }
-        ensures open { self.new.is_open ≡ self.old.is_open }
         ensures failed { self.new.failed ≡ self.old.failed }
     {
         self.up = false;
@@ -203,7 +200,7 @@ impl<L: OperationLog, A: Allocator + Clone> LoggedMaster<L, A> {
 
     /// A step on a message, or on a tick. While the master is up the chunks of its files are shown. Where it is up after the
     /// step, those that were changed are shown anew; else all that was shown stays. A step that might raise a counter past its limit
-    /// changes nothing and gives nothing.
+    /// changes nothing and gives nothing. Where the master goes down in it, it says why.
     #[tactic(auto, using(crate::proofs::Steps::stays, crate::proofs::Steps::drafted_rests))]
     pub fn step(
         &mut self,
@@ -215,8 +212,7 @@ impl<L: OperationLog, A: Allocator + Clone> LoggedMaster<L, A> {
         requires shown { self.old.state.up ≡ true → shown_in shown.old ≡ self.old.state.logged.table.files }
         ensures steps { MasterSteps self.old.state now.0 (input_of (option_copied message.entry)) result.out result.seen self.new.state }
         ensures files { shown_in shown.new ≡ files_seen self.new.state (shown_in shown.old) }
-        ensures open { IsOpenWhileUp self.old → IsOpenWhileUp self.new }
-        ensures cause { IsOpenWhileUp self.old → IsDownFor result.out.down result.cause self.old.failed self.new.failed }
+        ensures cause { IsDownFor result.out.down result.cause self.old.failed self.new.failed }
     {
         let alloc = self.plan.alloc();
         if !self.up {
@@ -229,9 +225,9 @@ impl<L: OperationLog, A: Allocator + Clone> LoggedMaster<L, A> {
         let Ok(draft) = drafts(&self.log, &mut self.plan, now, message, shown) else {
             return Outcome::down_for(alloc, DownCause::Memory);
         };
-        match makes_all(&mut self.log, &self.plan, &draft.changes) {
-            Ok(()) => {}
-            Err(cause) => return Outcome::down_for(alloc, cause),
+        let before = self.log.failures();
+        if !makes_all(&mut self.log, &self.plan, &draft.changes) {
+            return Outcome::down_for(alloc, cause_since(&self.log, before));
         }
         self.up = true;
         shown.put(draft.copies);

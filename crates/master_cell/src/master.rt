@@ -53,7 +53,7 @@ impl<A: Allocator, D: Disk> Model for Master<A, D> {
     ghost use Rattle.std.specs.Coded.{codes, coded_ℕ, coded_list};
     ghost use Rattle.std.specs.FinMap as map;
     ghost use Rattle.master_cell.specs.Shown.{shown_in};
-    ghost use Rattle.master_cell.specs.Standing.{IsOpenWhileUp, LoggedMasterState};
+    ghost use Rattle.master_cell.specs.Standing.{LoggedMasterState};
 
     ghost Value = { LoggedMasterState };
 
@@ -61,7 +61,7 @@ impl<A: Allocator, D: Disk> Model for Master<A, D> {
 
     ghost view = { λ m. m.master };
 
-    ghost invariant = { λ m. (m.master.state.up ≡ true → shown_in m.files ≡ m.master.state.logged.table.files) × IsOpenWhileUp m.master };
+    ghost invariant = { λ m. m.master.state.up ≡ true → shown_in m.files ≡ m.master.state.logged.table.files };
 }
 
 impl<A: Allocator + Clone, D: Disk + Drop> Master<A, D> {

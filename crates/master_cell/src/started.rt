@@ -1,19 +1,17 @@
 //! How the master begins.
 
-ghost use Rattle.std.specs.Prelude.{◌≡◌, ◌≤◌, [], true, IfOk, IsErrOf, OnErr, OnOk};
+ghost use Rattle.std.specs.Prelude.{◌≡◌, ◌<◌, ◌≤◌, [], true, IfErr, IfOk, OnErr};
 ghost use Rattle.protocol.specs.Tables.{moment_limit};
-ghost use Rattle.protocol.specs.Logged.{first_logged, replayed};
+ghost use Rattle.protocol.specs.Logged.{first_logged};
 ghost use Rattle.protocol.specs.Seen.{no_output, down_output};
 ghost use Rattle.protocol.specs.MasterStep.{started_master, opening, has_opened};
 ghost use Rattle.master_plan.specs.Plans.{started, doing};
-ghost use Rattle.step_outcome.specs.Causes.{FailsFor};
 ghost use Rattle.step_outcome.specs.declared.down_cause.DownCause.TheVariants as causes;
-ghost use Rattle.master_cell.specs.Causes.{reading_cause};
 ghost use Rattle.master_cell.specs.Opens.{HasNoRoom, Opens, down_over};
 ghost use Rattle.master_cell.specs.Shown.{shown_in};
 ghost use Rattle.master_cell.specs.Standing.{standing, IsResting};
 
-use crate::ended::{cause_of, makes};
+use crate::ended::{cause_since, makes};
 use crate::shown::{ShownFiles, shown_of};
 use gfs_types::config::Config;
 use gfs_types::ids::{MAX_COUNTER, Moment};
@@ -22,7 +20,7 @@ use log_records::record::Record;
 use master_plan::fault::PlanFault;
 use master_plan::logging::logs;
 use master_plan::plan::Plan;
-use master_replay::restart::{RestartFault, replayed};
+use master_replay::restart::replayed;
 use master_state::state::State;
 use operation_log::log::OperationLog;
 use std::alloc::{Allocator, Global};
@@ -51,23 +49,27 @@ struct Opening<A: Allocator> {
     is_logged: bool,
 }
 
-// What a master knows that has read this from its log, with a new epoch to be logged.
+// What a master knows that has read its log, with a new epoch to be logged.
 fn opens<L: OperationLog, A: Allocator + Clone>(
-    log: &L,
+    log: &mut L,
     alloc: Global,
     config: Config,
     server_count: u16,
-    state: State<A>,
+    names: A,
     now: Moment,
 ) -> Result<Opening<A>, PlanFault>
-    requires state { state ≡ replayed (L.disk log.now) }
+    requires decided { L.under_way log.old ≡ [] }
     requires moment { now.0 ≤ moment_limit }
     requires skew { config.skew_ms ≤ 60000 }
     requires lease { config.lease_ms ≤ 3600000 }
-    ensures plan { IfOk result (λ o. opening (started_master config server_count (L.disk log.now) now.0) ≡ doing (L.disk log.now) o.plan) }
-    ensures logged { IfOk result (λ o. o.is_logged ≡ has_opened (started_master config server_count (L.disk log.now) now.0) (doing (L.disk log.now) o.plan)) }
+    ensures plan { IfOk result (λ o. opening (started_master config server_count (L.disk log.old) now.0) ≡ doing (L.disk log.old) o.plan) }
+    ensures logged { IfOk result (λ o. o.is_logged ≡ has_opened (started_master config server_count (L.disk log.old) now.0) (doing (L.disk log.old) o.plan)) }
+    ensures disk { L.disk log.new ≡ L.disk log.old }
+    ensures under_way { L.under_way log.new ≡ [] }
 {
-    let mut state = state;
+    let Ok(mut state) = replayed(log, alloc, names) else {
+        return Err(PlanFault::Damaged);
+    };
     let until = Moment(now.0 + config.skew_ms + config.lease_ms);
     state.restart(until, Shape::usual(&config));
     let epoch = state.epoch();
@@ -80,17 +82,8 @@ fn opens<L: OperationLog, A: Allocator + Clone>(
     Ok(Opening { plan, is_logged })
 }
 
-fn reading_cause(fault: RestartFault) -> DownCause
-    ensures { result ≡ reading_cause fault }
-{
-    match fault {
-        RestartFault::Log(fault) => cause_of(fault),
-        RestartFault::Replay(_) => DownCause::Memory,
-    }
-}
-
 /// Reads the log, and logs a new epoch: what the master then knows. The chunks of its files are put into `shown`. An error: it can't be up,
-/// and the log is as far as it came.
+/// and why; the log is as far as it came.
 pub(crate) fn opens_over<L: OperationLog, A: Allocator + Clone>(
     log: &mut L,
     alloc: Global,
@@ -109,25 +102,20 @@ pub(crate) fn opens_over<L: OperationLog, A: Allocator + Clone>(
     ensures down { OnErr result (Opens (down_over config server_count (L.disk log.old) []) now.0 down_output (down_over config server_count (L.disk log.new) (L.under_way log.new))) }
     ensures files { IfOk result (λ p. shown_in shown.new ≡ p.logged.table.files) }
     ensures files_of_error { OnErr result (shown_in shown.new ≡ shown_in shown.old) }
-    ensures open { OnOk result (L.is_open log.old ≡ true → L.is_open log.new ≡ true) }
-    ensures cause { FailsFor (L.is_open log.old) (L.failed log.old) (L.failed log.new) result }
-    ensures room { IsErrOf result causes.NoRoom → HasNoRoom config server_count (L.disk log.old) now.0 }
+    ensures device { IfErr result (λ cause. cause ≡ causes.Device → L.failed log.old < L.failed log.new) }
+    ensures room { IfErr result (λ cause. cause ≡ causes.NoRoom → HasNoRoom config server_count (L.disk log.old) now.0) }
 {
-    let state = match replayed(log, alloc, names) {
-        Ok(state) => state,
-        Err(fault) => return Err(reading_cause(fault)),
-    };
-    let Ok(opening) = opens(log, alloc, config, server_count, state, now) else {
-        return Err(DownCause::Memory);
+    let before = log.failures();
+    let Ok(opening) = opens(log, alloc, config, server_count, names, now) else {
+        return Err(cause_since(log, before));
     };
     let is_logged = opening.is_logged;
     let mut plan = opening.plan;
     let Ok(files) = shown_of(alloc, plan.state().table()) else {
         return Err(DownCause::Memory);
     };
-    match makes(log, &mut plan) {
-        Ok(()) => {}
-        Err(cause) => return Err(cause),
+    if !makes(log, &mut plan) {
+        return Err(cause_since(log, before));
     }
     if !is_logged {
         return Err(DownCause::NoRoom);

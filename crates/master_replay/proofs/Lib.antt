@@ -2,5 +2,4 @@ pub mod Listed
 pub mod Handles
 pub mod Trial
 pub mod Replays
-pub mod Failing
 pub mod Taken

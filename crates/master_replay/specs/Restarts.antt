@@ -1,10 +1,9 @@
 -- How the state follows a whole log.
-use Rattle.std.specs.Prelude.{◌≡◌, ℕ, ◌<◌, ◌≤◌, Bool, true, ◌&&◌, List, [], ◌∷◌, ◌++◌, Option, Some, None, Result, IsErrOf}
+use Rattle.std.specs.Prelude.{ℕ, Bool, true, ◌&&◌, List, [], ◌∷◌, ◌++◌, Option, Some, None}
 use Rattle.std.specs.FinMap as table
 use Rattle.log_records.specs.declared.record.Record.{Record}
 use Rattle.protocol.specs.Logged.{Logged, LogDisk, after_record, after_records, first_logged}
 use Rattle.operation_log.specs.Faults.{fault_text as log_text}
-use Rattle.operation_log.specs.declared.fault.OperationLogFault.TheVariants.{Device}
 use Rattle.master_state.specs.Faults.{fault_text as replay_text}
 use Rattle.master_state.specs.Follows.{follows, are_unowned}
 use Rattle.master_replay.specs.declared.restart.RestartFault.{RestartFault}
@@ -34,12 +33,3 @@ is_lawful disk =
 abbrev pub fault_text : RestartFault → List ℕ
 fault_text (Log fault) = log_text fault
 fault_text (Replay fault) = replay_text fault
-
--- An open log is told as one whose disk failed only where its disk has failed in this call.
-pub record MayFail {T : Type 0} (is_open : Bool) (before now : ℕ) (result : Result T RestartFault) : Type 0 where
-  pub later : before ≤ now
-  pub failed : is_open ≡ true → IsErrOf result (Log Device) → before < now
-
--- Nothing but that closes it.
-abbrev pub StaysOpen : {T : Type 0} → Bool → Bool → Result T RestartFault → Type 0
-StaysOpen was is result = was ≡ true → (IsErrOf result (Log Device) → ⊥) → is ≡ true

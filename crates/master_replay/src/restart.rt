@@ -3,7 +3,7 @@
 ghost use Rattle.std.specs.Prelude.{◌≡◌, ◌++◌, [], Some, slice_get, IfOk, OnOk, IsErrOf, IsTrue, IsFalse};
 ghost use Rattle.protocol.specs.Logged.{after_records, replayed};
 ghost use Rattle.master_state.specs.declared.fault.ReplayFault.TheVariants.{Damaged, NoMemory as OutOfMemory};
-ghost use Rattle.master_replay.specs.Restarts.{all_follow, is_lawful, after_some, some_follows, fault_text, MayFail, StaysOpen};
+ghost use Rattle.master_replay.specs.Restarts.{all_follow, is_lawful, after_some, some_follows, fault_text};
 ghost use Rattle.master_replay.specs.declared.restart.RestartFault.TheVariants.{Log, Replay};
 
 use crate::replay::replay;
@@ -75,8 +75,6 @@ pub fn replayed<L: OperationLog, A: Allocator + Clone>(
     ensures disk { L.disk log.new ≡ L.disk log.old }
     ensures under_way { L.under_way log.new ≡ [] }
     ensures size { L.log_bytes log.new ≡ L.log_bytes log.old }
-    ensures open { StaysOpen (L.is_open log.old) (L.is_open log.new) result }
-    ensures cause { MayFail (L.is_open log.old) (L.failed log.old) (L.failed log.new) result }
 {
     let mut state = State::new(global, alloc)?;
     replay_log(log, &mut state)?;
@@ -98,8 +96,6 @@ pub fn replay_log<L: OperationLog, A: Allocator + Clone>(
     ensures disk { L.disk log.new ≡ L.disk log.old }
     ensures under_way { L.under_way log.new ≡ [] }
     ensures size { L.log_bytes log.new ≡ L.log_bytes log.old }
-    ensures open { StaysOpen (L.is_open log.old) (L.is_open log.new) result }
-    ensures cause { MayFail (L.is_open log.old) (L.failed log.old) (L.failed log.new) result }
 {
     for place in 0..log.len() {
         match replay_place(log, state, place) {
@@ -123,8 +119,6 @@ fn replay_place<L: OperationLog, A: Allocator + Clone>(
     ensures disk { L.disk log.new ≡ L.disk log.old }
     ensures under_way { L.under_way log.new ≡ [] }
     ensures size { L.log_bytes log.new ≡ L.log_bytes log.old }
-    ensures open { StaysOpen (L.is_open log.old) (L.is_open log.new) result }
-    ensures cause { MayFail (L.is_open log.old) (L.failed log.old) (L.failed log.new) result }
 {
     match log.entry(place)? {
         Some(entry) => Ok(replay(state, &entry)?),

@@ -162,6 +162,13 @@ impl<D: Disk> Log<D> {
         self.volume.end
     }
 
+    /// How often its disk has failed.
+    pub fn failures(&self) -> u64
+        ensures { result ≡ D.failed self.now.disk }
+    {
+        self.volume.disk.failures()
+    }
+
     /// Whether the log is open and the record has room. Where an open log has none, `append` answers `Full`.
     pub fn fits(&self, logged: &Record) -> bool
         requires { IsWritable logged.now }

@@ -1,5 +1,5 @@
 -- When a node may say why it goes down.
-use Rattle.std.specs.Prelude.{◌≡◌, ℕ, ◌<◌, ◌≤◌, Bool, true, Option, Some, is_some, Result, IsErrOf}
+use Rattle.std.specs.Prelude.{◌≡◌, ℕ, ◌<◌, Bool, Option, Some, is_some}
 use Rattle.step_outcome.specs.declared.down_cause.DownCause.{DownCause}
 use Rattle.step_outcome.specs.declared.down_cause.DownCause.TheVariants.{Device, NoRoom}
 
@@ -8,8 +8,3 @@ pub record IsDownFor (down : Bool) (cause : Option DownCause) (before now : ℕ)
   pub told : is_some cause ≡ down
   pub device : cause ≡ Some Device → before < now
   pub room : cause ≡ Some NoRoom → ⊥
-
--- What a part of a step, or an opening, says of its device, where that is open before it.
-pub record FailsFor {T : Type 0} (is_open : Bool) (before now : ℕ) (result : Result T DownCause) : Type 0 where
-  pub later : before ≤ now
-  pub device : is_open ≡ true → IsErrOf result Device → before < now

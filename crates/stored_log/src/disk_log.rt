@@ -188,6 +188,10 @@ impl<D: Disk> OperationLog for DiskLog<D> {
         used_with(self.log_bytes, self.used, AROUND_RECORD, entry).is_some()
     }
 
+    fn failures(&self) -> u64 {
+        self.log.failures()
+    }
+
     // An item is no record: behind an open gate it would leave no log.
     fn append(&mut self, entry: &Record) -> Result<(), OperationLogFault> {
         let Some(used) = used_with(self.log_bytes, self.used, AROUND_RECORD, entry) else {

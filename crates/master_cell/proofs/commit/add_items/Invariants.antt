@@ -1,4 +1,4 @@
-use Rattle.std.proofs.Common.{◌≡◌, ◌<◌, ◌≤◌, [], true, take}
+use Rattle.std.proofs.Common.{◌≡◌, ◌<◌, [], true, take}
 use Rattle.protocol.specs.LogSizes.{checkpoint_fits}
 use Rattle.master_cell.proofs.commit.add_items.Given as goal
 
@@ -10,6 +10,4 @@ invariant-loop-item g l =
       fits : 0 < l.item-index → checkpoint_fits (g.L.OperationLog.log_bytes l.log) (take l.item-index l.items) ≡ true;
       disk : g.L.OperationLog.disk l.log ≡ g.L.OperationLog.disk l.fn.log;
       under_way : g.L.OperationLog.under_way l.log ≡ [];
-      is_open : g.L.OperationLog.is_open l.fn.log ≡ true → g.L.OperationLog.is_open l.log ≡ true;
-      later : g.L.OperationLog.failed l.fn.log ≤ g.L.OperationLog.failed l.log;
     }

@@ -1,4 +1,4 @@
-use Rattle.std.proofs.Common.{◌≡◌, ◌≤◌, [], true, take}
+use Rattle.std.proofs.Common.{◌≡◌, [], take}
 use Rattle.protocol.specs.Logged.{log_changed_by_all}
 use Rattle.master_plan.specs.Changes.{changes_of}
 use Rattle.master_cell.proofs.commit.commit.Given as goal
@@ -9,6 +9,4 @@ invariant-loop-change g l =
     record {
       disk : g.L.OperationLog.disk l.log ≡ log_changed_by_all (g.L.OperationLog.disk l.fn.log) (changes_of (take l.change-index l.changes));
       under_way : g.L.OperationLog.under_way l.log ≡ [];
-      is_open : g.L.OperationLog.is_open l.fn.log ≡ true → g.L.OperationLog.is_open l.log ≡ true;
-      later : g.L.OperationLog.failed l.fn.log ≤ g.L.OperationLog.failed l.log;
     }

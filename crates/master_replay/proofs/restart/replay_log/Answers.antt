@@ -3,7 +3,6 @@ use Rattle.std.specs.Prelude.{slice_get}
 use Rattle.log_records.specs.declared.record.Record.{Record}
 use Rattle.protocol.specs.Logged.{LogDisk}
 use Rattle.master_replay.specs.Restarts.{after_some, some_follows}
-use Rattle.master_replay.proofs.Failing.{done_cause}
 use Rattle.master_replay.proofs.Replays.{next_state, next_follows, next_fails, none_left, all_done, both}
 use Rattle.master_replay.proofs.restart.replay_log.Goals as goal
 
@@ -22,8 +21,6 @@ loop-place-preserved g c =
       disk = e.disk ∙ c.loop-place.invariant.disk;
       under_way = e.under_way;
       size = e.size ∙ c.loop-place.invariant.size;
-      is_open = λ was. e.open (c.loop-place.invariant.is_open was) (λ failed. absurd cc);
-      later = omega (arith, c.loop-place.invariant.later, e.cause.later);
     }
 
 pub returns-in-Err-clause-damaged : goal.returns-in-Err-clause-damaged
@@ -53,18 +50,3 @@ returns-clause-follows g c =
     let n = c.loop-place.place in
     let end : length whole ≤ n = omega (arith, c.len-place-end.ensures) in
     sym c.loop-place.invariant.follows ∙ all_done l whole n end
-
-pub returns-in-Err-clause-open : goal.returns-in-Err-clause-open
-returns-in-Err-clause-open g c was other = c.in-Err.ensures.open (c.loop-place.invariant.is_open was) other
-
-pub returns-in-Err-clause-cause : goal.returns-in-Err-clause-cause
-returns-in-Err-clause-cause g c = record {
-  later = omega (arith, c.loop-place.invariant.later, c.in-Err.ensures.cause.later);
-  failed = λ was e. omega (arith, c.loop-place.invariant.later, c.in-Err.ensures.cause.failed (c.loop-place.invariant.is_open was) e);
-}
-
-pub returns-clause-open : goal.returns-clause-open
-returns-clause-open g c was other = c.loop-place.invariant.is_open was
-
-pub returns-clause-cause : goal.returns-clause-cause
-returns-clause-cause g c = done_cause _ _ _ _ c.loop-place.invariant.later

@@ -1,4 +1,4 @@
-use Rattle.std.proofs.Common.{◌≡◌, ◌≤◌, true, List, [], ◌++◌, drop}
+use Rattle.std.proofs.Common.{◌≡◌, List, [], ◌++◌, drop}
 use Rattle.log_records.specs.declared.record.Record.{Record}
 use Rattle.protocol.specs.Logged.{after_records}
 use Rattle.master_replay.specs.Restarts.{all_follow}
@@ -14,6 +14,4 @@ invariant-loop-place g l =
       disk : g.L.OperationLog.disk l.log ≡ disk;
       under_way : g.L.OperationLog.under_way l.log ≡ [];
       size : g.L.OperationLog.log_bytes l.log ≡ g.L.OperationLog.log_bytes l.initial.log;
-      is_open : g.L.OperationLog.is_open l.initial.log ≡ true → g.L.OperationLog.is_open l.log ≡ true;
-      later : g.L.OperationLog.failed l.initial.log ≤ g.L.OperationLog.failed l.log;
     }

@@ -13,8 +13,5 @@ returns-clause-under_way g c =
     (shows c.self.inside.up (g.L.OperationLog.disk c.self.inside.log) (g.L.OperationLog.under_way c.self.inside.log) c.self.inside.config c.self.inside.server_count c.self.inside.plan c.args.self.state
     (ap (λ (x : LoggedMasterState). x.state) c.self.view_is) c.self.invariant.2).under_way_is
 
-pub returns-clause-open : goal.returns-clause-open
-returns-clause-open g c = ap (λ (x : LoggedMasterState). x.is_open) c.self.view_is
-
 pub returns-clause-failed : goal.returns-clause-failed
 returns-clause-failed g c = ap (λ (x : LoggedMasterState). x.failed) c.self.view_is

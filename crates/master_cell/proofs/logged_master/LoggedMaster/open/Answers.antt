@@ -1,7 +1,5 @@
-use Rattle.std.proofs.Common.{true, refl, ap}
-use Rattle.std.specs.Prelude.{Err}
+use Rattle.std.proofs.Common.{true, refl}
 use Rattle.protocol.specs.Seen.{no_output}
-use Rattle.step_outcome.specs.declared.down_cause.DownCause.{DownCause}
 use Rattle.master_cell.specs.Standing.{standing}
 use Rattle.master_cell.proofs.Restarts.{not_made, opens_not, opens_up}
 use Rattle.master_cell.proofs.logged_master.LoggedMaster.open.Goals as goal
@@ -12,7 +10,7 @@ returns-in_default-clause-fails g c =
     not_made c.args.config c.args.server_count (g.L.OperationLog.disk c.args.log) (g.L.OperationLog.disk c.args.log) (g.L.OperationLog.under_way c.args.log) c.args.now.0 refl c.requires.decided
 
 pub returns-in_default-clause-device : goal.returns-in_default-clause-device
-returns-in_default-clause-device g c was e = absurd cc
+returns-in_default-clause-device g c e = absurd cc
 
 pub returns-in_default-clause-room : goal.returns-in_default-clause-room
 returns-in_default-clause-room g c e = absurd cc
@@ -23,10 +21,10 @@ returns-in-Err-clause-fails g c =
     opens_not c.args.config c.args.server_count (g.L.OperationLog.disk c.args.log) c.args.now.0 (g.L.OperationLog.disk c.opens_over.new.log) (g.L.OperationLog.under_way c.opens_over.new.log) c.in-Err.ensures.down
 
 pub returns-in-Err-clause-device : goal.returns-in-Err-clause-device
-returns-in-Err-clause-device g c was e = c.in-Err.ensures.cause.device was (ap (λ (x : DownCause). Err x) e)
+returns-in-Err-clause-device g c e = c.in-Err.ensures.device e
 
 pub returns-in-Err-clause-room : goal.returns-in-Err-clause-room
-returns-in-Err-clause-room g c e = c.in-Err.ensures.room (ap (λ (x : DownCause). Err x) e)
+returns-in-Err-clause-room g c e = c.in-Err.ensures.room e
 
 -- it is up
 pub invariant_of-result : goal.invariant_of-result
@@ -37,5 +35,5 @@ returns-clause-opens g c =
     opens_up c.args.config c.args.server_count (g.L.OperationLog.disk c.args.log) c.args.now.0 no_output
     (standing true (g.L.OperationLog.disk c.opens_over.new.log) (g.L.OperationLog.under_way c.opens_over.new.log) c.args.config c.args.server_count c.in-Ok-opens_over.plan) c.in-Ok-opens_over.ensures.up refl
 
-pub returns-clause-open : goal.returns-clause-open
-returns-clause-open g c was = c.in-Ok-opens_over.ensures.open was
+pub returns-clause-files : goal.returns-clause-files
+returns-clause-files g c = c.in-Ok-opens_over.ensures.files

@@ -1,18 +1,17 @@
-use Rattle.std.proofs.Common.{◌≡◌, true, false, sym, ap, refl, subst, ◌∙◌, rules, Err}
+use Rattle.std.proofs.Common.{◌≡◌, true, false, sym, ap, refl, subst, ◌∙◌, rules}
 use Rattle.std.specs.Option.{option_copied}
 use Rattle.messages.specs.declared.event.StepOut.{StepOut}
 use Rattle.protocol.specs.Master.{MasterState}
 use Rattle.protocol.specs.MasterLimits.{can_count}
 use Rattle.protocol.specs.Conforms.{MasterSteps}
 use Rattle.step_outcome.specs.Causes.{IsDownFor}
-use Rattle.step_outcome.specs.declared.down_cause.DownCause.{DownCause}
 use Rattle.master_plan.specs.Plans.{known}
 use Rattle.master_plan.specs.Changes.{changes_of}
 use Rattle.master_cell.specs.Shown.{shown_in}
 use Rattle.master_cell.specs.Inputs.{input_of}
 use Rattle.master_cell.specs.Standing.{LoggedMasterState, standing}
-use Rattle.master_cell.proofs.Causes.{down_for, memory_for, up_for}
-use Rattle.master_cell.proofs.Steps.{as_down, stays_down, not_counted, lost, drafted_cut_off, drafted_went, drafted_rests, is_up_as, up_is, was_open}
+use Rattle.master_cell.proofs.Causes.{counted, down_for, memory_for, stays_for}
+use Rattle.master_cell.proofs.Steps.{as_down, stays_down, not_counted, lost, drafted_cut_off, drafted_went, drafted_rests, is_up_as, up_is}
 use Rattle.master_cell.proofs.Files.{shown_down, shown_still, shown_before, step_shows}
 use Rattle.master_cell.proofs.logged_master.LoggedMaster.step.Goals as goal
 
@@ -64,7 +63,7 @@ invariant_of-self-2 g c =
     let under_way = g.L.OperationLog.under_way c.self.inside.log in
     let up : c.self.inside.up ≡ true = search rules in
     let rests = drafted_rests disk under_way c.self.inside.config c.self.inside.server_count c.self.inside.plan c.args.now.0 (input_of (option_copied c.args.message)) (c.self.invariant.2 up) (changes_of c.in-Ok.draft.changes) c.drafts.new.plan c.in-Ok.ensures.drafts
-    (g.L.OperationLog.disk c.makes_all.new.log) (g.L.OperationLog.under_way c.makes_all.new.log) c.outcome_of.new.plan c.outcome_of.ensures.rest c.in-Ok-makes_all.ensures.ok.none in
+    (g.L.OperationLog.disk c.makes_all.new.log) (g.L.OperationLog.under_way c.makes_all.new.log) c.outcome_of.new.plan c.outcome_of.ensures.rest c.if-not-makes_all.ensures.none in
     (c.self.invariant.0, c.self.invariant.1, λ _. rests)
 
 pub returns-clause-files : goal.returns-clause-files
@@ -84,22 +83,7 @@ returns-clause-steps g c =
     let counts : can_count (known c.self.inside.plan) i ≡ true = sym c.can_count.ensures ∙ c.if-not-can_count.false in
     subst (λ (m : MasterState). MasterSteps m c.args.now.0 i c.outcome_of.result.out c.outcome_of.result.seen (standing true new_disk new_under_way c.self.inside.config c.self.inside.server_count c.outcome_of.new.plan)) old
     (drafted_went disk under_way c.self.inside.config c.self.inside.server_count c.self.inside.plan c.args.now.0 i (search rules) (changes_of c.in-Ok.draft.changes) c.drafts.new.plan c.in-Ok.ensures.drafts new_disk new_under_way
-    c.outcome_of.new.plan c.outcome_of.result.out c.outcome_of.result.seen c.outcome_of.ensures.rest c.outcome_of.ensures.out c.outcome_of.ensures.seen counts c.in-Ok-makes_all.ensures.ok)
-
--- What is said of the cause: a step that isn't taken has none.
-pub returns-then-not-self-clause-open : goal.returns-then-not-self-clause-open
-returns-then-not-self-clause-open g c was = was
-
-pub returns-then-not-self-clause-cause : goal.returns-then-not-self-clause-cause
-returns-then-not-self-clause-cause g c was = up_for _ _ c.nothing.result.out c.nothing.result.cause (ap (λ (o : StepOut). o.down) c.nothing.ensures.out) c.nothing.ensures.cause
-
-pub returns-then-not-can_count-clause-open : goal.returns-then-not-can_count-clause-open
-returns-then-not-can_count-clause-open g c was = was
-
-pub returns-then-not-can_count-clause-cause : goal.returns-then-not-can_count-clause-cause
-returns-then-not-can_count-clause-cause g c was =
-    let none = c.nothing-then-not-can_count in
-    up_for _ _ none.result.out none.result.cause (ap (λ (o : StepOut). o.down) none.ensures.out) none.ensures.cause
+    c.outcome_of.new.plan c.outcome_of.result.out c.outcome_of.result.seen c.outcome_of.ensures.rest c.outcome_of.ensures.out c.outcome_of.ensures.seen counts c.if-not-makes_all.ensures)
 
 -- there was no memory for what is planned
 pub returns-in_default-clause-steps : goal.returns-in_default-clause-steps
@@ -116,48 +100,44 @@ returns-in_default-clause-steps g c =
     (as_down (standing true disk under_way m.config m.server_count m.plan) new c.args.now.0 i d.result.out d.result.seen d.ensures.out d.ensures.seen
     (lost disk under_way m.config m.server_count m.plan c.args.now.0 i (c.self.invariant.2 up) c.drafts.new.plan))
 
-pub returns-in_default-clause-open : goal.returns-in_default-clause-open
-returns-in_default-clause-open g c was up = let both : false ≡ true = up in absurd cc
-
-pub returns-in_default-clause-cause : goal.returns-in_default-clause-cause
-returns-in_default-clause-cause g c was = memory_for _ _ c.down_for.result.out c.down_for.result.cause c.down_for.ensures.out c.down_for.ensures.cause
-
 -- a change of its log failed
-pub returns-in-Err-clause-steps : goal.returns-in-Err-clause-steps
-returns-in-Err-clause-steps g c =
+pub returns-then-not-makes_all-clause-steps : goal.returns-then-not-makes_all-clause-steps
+returns-then-not-makes_all-clause-steps g c =
     let m = c.self.inside in
     let disk = g.L.OperationLog.disk m.log in
     let under_way = g.L.OperationLog.under_way m.log in
     let new_disk = g.L.OperationLog.disk c.makes_all.new.log in
     let new_under_way = g.L.OperationLog.under_way c.makes_all.new.log in
     let i = input_of (option_copied c.args.message) in
-    let d = c.down_for-in-Err in
+    let d = c.down_for-then-not-makes_all in
     let up : c.self.inside.up ≡ true = search rules in
     let old = is_up_as m.up disk under_way m.config m.server_count m.plan c.args.self.now.state up (ap (λ (x : LoggedMasterState). x.state) c.self.view_is) in
     let new = standing false new_disk new_under_way m.config m.server_count c.drafts.new.plan in
     subst (λ (x : MasterState). MasterSteps x c.args.now.0 i d.result.out d.result.seen new) old
     (as_down (standing true disk under_way m.config m.server_count m.plan) new c.args.now.0 i d.result.out d.result.seen d.ensures.out d.ensures.seen
-    (drafted_cut_off disk under_way m.config m.server_count m.plan c.args.now.0 i (c.self.invariant.2 up) (changes_of c.in-Ok.draft.changes) c.drafts.new.plan c.in-Ok.ensures.drafts new_disk new_under_way c.drafts.new.plan c.in-Err.ensures.err))
+    (drafted_cut_off disk under_way m.config m.server_count m.plan c.args.now.0 i (c.self.invariant.2 up) (changes_of c.in-Ok.draft.changes) c.drafts.new.plan c.in-Ok.ensures.drafts new_disk new_under_way c.drafts.new.plan
+    c.if-not-makes_all.ensures))
 
-pub returns-in-Err-clause-open : goal.returns-in-Err-clause-open
-returns-in-Err-clause-open g c was up = let both : false ≡ true = up in absurd cc
+-- Why it goes down, where it does.
+pub returns-then-not-self-clause-cause : goal.returns-then-not-self-clause-cause
+returns-then-not-self-clause-cause g c = stays_for _ _ c.nothing.result.out c.nothing.result.cause (ap (λ (o : StepOut). o.down) c.nothing.ensures.out) c.nothing.ensures.cause
 
-pub returns-in-Err-clause-cause : goal.returns-in-Err-clause-cause
-returns-in-Err-clause-cause g c was =
-    let i = c.self.inside in
-    let d = c.down_for-in-Err in
-    let opened = was_open i.up (g.L.OperationLog.disk i.log) (g.L.OperationLog.under_way i.log) i.config i.server_count i.plan (g.L.OperationLog.is_open i.log) (g.L.OperationLog.failed i.log) c.args.self.now (search rules)
-    c.self.view_is was in
-    subst (λ (m : LoggedMasterState). IsDownFor d.result.out.down d.result.cause m.failed (g.L.OperationLog.failed c.makes_all.new.log)) c.self.view_is
-    (down_for (g.L.OperationLog.is_open c.self.inside.log) _ _ d.result.out d.result.cause c.in-Err.cause opened d.ensures.out d.ensures.cause (λ e. c.in-Err.ensures.room (ap (λ (x : DownCause). Err x) e))
-    c.in-Err.ensures.cause)
+pub returns-then-not-can_count-clause-cause : goal.returns-then-not-can_count-clause-cause
+returns-then-not-can_count-clause-cause g c =
+    let none = c.nothing-then-not-can_count in
+    stays_for _ _ none.result.out none.result.cause (ap (λ (o : StepOut). o.down) none.ensures.out) none.ensures.cause
 
--- it is up
-pub returns-clause-open : goal.returns-clause-open
-returns-clause-open g c was up =
-    let i = c.self.inside in
-    c.in-Ok-makes_all.ensures.open (was_open i.up (g.L.OperationLog.disk i.log) (g.L.OperationLog.under_way i.log) i.config i.server_count i.plan (g.L.OperationLog.is_open i.log) (g.L.OperationLog.failed i.log) c.args.self.now (search rules)
-    c.self.view_is was)
+pub returns-in_default-clause-cause : goal.returns-in_default-clause-cause
+returns-in_default-clause-cause g c = memory_for _ _ c.down_for.result.out c.down_for.result.cause c.down_for.ensures.out c.down_for.ensures.cause
+
+pub returns-then-not-makes_all-clause-cause : goal.returns-then-not-makes_all-clause-cause
+returns-then-not-makes_all-clause-cause g c =
+    let d = c.down_for-then-not-makes_all in
+    let failed = g.L.OperationLog.failed in
+    let why = c.cause_since in
+    subst (λ (m : LoggedMasterState). IsDownFor d.result.out.down d.result.cause m.failed (failed c.makes_all.new.log)) c.self.view_is
+    (down_for (failed c.self.inside.log) (failed c.makes_all.new.log) d.result.out d.result.cause why.result d.ensures.out d.ensures.cause
+    (counted why.result c.failures-before.result (failed c.self.inside.log) (failed c.makes_all.new.log) c.failures-before.ensures why.ensures.device) why.ensures.room)
 
 pub returns-clause-cause : goal.returns-clause-cause
-returns-clause-cause g c was = up_for _ _ c.outcome_of.result.out c.outcome_of.result.cause (ap (λ (o : StepOut). o.down) c.outcome_of.ensures.out) c.outcome_of.ensures.cause
+returns-clause-cause g c = stays_for _ _ c.outcome_of.result.out c.outcome_of.result.cause (ap (λ (o : StepOut). o.down) c.outcome_of.ensures.out) c.outcome_of.ensures.cause

@@ -8,8 +8,5 @@ returns-clause-state g c =
     let i = c.self.inside in
     stopped i.up (g.L.OperationLog.disk i.log) (g.L.OperationLog.under_way i.log) i.config i.server_count i.plan c.args.self.now.state c.requires (ap (λ (x : LoggedMasterState). x.state) c.self.view_is) c.self.invariant.2
 
-pub returns-clause-open : goal.returns-clause-open
-returns-clause-open g c = ap (λ (x : LoggedMasterState). x.is_open) c.self.view_is
-
 pub returns-clause-failed : goal.returns-clause-failed
 returns-clause-failed g c = ap (λ (x : LoggedMasterState). x.failed) c.self.view_is

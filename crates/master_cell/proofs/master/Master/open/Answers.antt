@@ -37,7 +37,7 @@ returns-in-Err-open-clause-undamaged g c items records stood e = absurd cc
 pub returns-in-Err-open-clause-device : goal.returns-in-Err-open-clause-device
 returns-in-Err-open-clause-device g c e =
     let same : c.in-Err-open.cause ≡ cause.Device = cc in
-    let more = c.in-Err-open.ensures.device c.in-Ok.ensures.open same in
+    let more = c.in-Err-open.ensures.device same in
     omega (arith, c.in-Ok.ensures.later, c.into_disk.ensures.failed, more)
 
 pub returns-in-Err-open-clause-room : goal.returns-in-Err-open-clause-room
@@ -46,9 +46,6 @@ returns-in-Err-open-clause-room g c e =
     record { log = c.in-Ok.log.disk; stood = c.in-Ok.ensures.opened; full = c.in-Err-open.ensures.room same }
 
 -- it is up
-pub invariant_of-result : goal.invariant_of-result
-invariant_of-result g c = (λ up. c.in-Ok-open.ensures.files, λ up. c.in-Ok-open.ensures.open c.in-Ok.ensures.open)
-
 pub returns-clause-opens : goal.returns-clause-opens
 returns-clause-opens g c =
     opens_over c.args.config c.args.servers (g.D.Disk.seen c.args.disk) c.args.now.0 c.in-Ok-open.master.state c.in-Ok.log.disk c.in-Ok.ensures.opened c.in-Ok-open.ensures.opens

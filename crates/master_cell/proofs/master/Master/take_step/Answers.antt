@@ -9,10 +9,7 @@ use Rattle.master_cell.proofs.Files.{shown_open}
 use Rattle.master_cell.proofs.master.Master.take_step.Goals as goal
 
 pub invariant_of-self : goal.invariant_of-self
-invariant_of-self g c = (
-  shown_open c.step.new.self.state (shown_in c.step.new.shown) (shown_in c.self.inside.files) c.step.ensures.files,
-  c.step.ensures.open c.self.invariant.1,
-)
+invariant_of-self g c = shown_open c.step.new.self.state (shown_in c.step.new.shown) (shown_in c.self.inside.files) c.step.ensures.files
 
 pub returns-clause-steps : goal.returns-clause-steps
 returns-clause-steps g c =
@@ -20,4 +17,4 @@ returns-clause-steps g c =
 
 pub returns-clause-cause : goal.returns-clause-cause
 returns-clause-cause g c =
-    subst (λ (m : LoggedMasterState). IsDownFor c.step.result.out.down c.step.result.cause m.failed c.step.new.self.failed) c.self.view_is (c.step.ensures.cause c.self.invariant.1)
+    subst (λ (m : LoggedMasterState). IsDownFor c.step.result.out.down c.step.result.cause m.failed c.step.new.self.failed) c.self.view_is c.step.ensures.cause
