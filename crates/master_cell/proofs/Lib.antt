@@ -15,6 +15,5 @@ pub mod Parts
 pub mod Limits
 pub mod Openings
 pub mod Committing
-pub mod Causes
 pub mod Files
 pub mod Drafting

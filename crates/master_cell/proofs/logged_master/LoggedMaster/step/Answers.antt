@@ -10,7 +10,7 @@ use Rattle.master_plan.specs.Changes.{changes_of}
 use Rattle.master_cell.specs.Shown.{shown_in}
 use Rattle.master_cell.specs.Inputs.{input_of}
 use Rattle.master_cell.specs.Standing.{LoggedMasterState, standing}
-use Rattle.master_cell.proofs.Causes.{counted, down_for, memory_for, stays_for}
+use Rattle.step_outcome.proofs.Causes.{counted, down_for, memory_for, stays_for}
 use Rattle.master_cell.proofs.Steps.{as_down, stays_down, not_counted, lost, drafted_cut_off, drafted_went, drafted_rests, is_up_as, up_is}
 use Rattle.master_cell.proofs.Files.{shown_down, shown_still, shown_before, step_shows}
 use Rattle.master_cell.proofs.logged_master.LoggedMaster.step.Goals as goal

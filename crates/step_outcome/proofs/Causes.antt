@@ -1,4 +1,4 @@
--- Why a master goes down.
+-- Why a node goes down, or that it doesn't.
 use Rattle.std.proofs.Common.{◌≡◌, ℕ, ◌<◌, false, Option, Some, None, sym, ap, subst, ◌∙◌}
 use Rattle.std.specs.Prelude.{is_some}
 use Rattle.messages.specs.declared.event.StepOut.{StepOut}
