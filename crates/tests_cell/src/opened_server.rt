@@ -10,6 +10,7 @@ use messages::event::{NodeInput, StepOut};
 use messages::message::{Body, Message};
 use server_cell::disk_server::Server;
 use std::alloc::Global;
+use step_outcome::down_cause::DownCause;
 use store_disk::Layout;
 
 const NOW: Moment = Moment(0);
@@ -36,7 +37,7 @@ fn settings() -> Config
 
 /// A server over a new disk; none where it can't be up.
 fn open_new(alloc: Global) -> Option<DiskServer>
-    ensures { IfSome result (λ s. (s.disk.chunk ≡ 64) × (s.disk.block ≡ 16) × (s.disk.slots ≡ 4)) }
+    ensures { IfSome result (λ s. (s.state.disk.chunk ≡ 64) × (s.state.disk.block ≡ 16) × (s.state.disk.slots ≡ 4)) }
 {
     let config = settings();
     if config.skew_ms > 60_000 {
@@ -55,8 +56,8 @@ fn open_new(alloc: Global) -> Option<DiskServer>
 
 /// The server over its disk once that has stopped.
 fn open_again(alloc: Global, server: DiskServer, torn: Torn) -> Option<DiskServer>
-    requires { (server.disk.chunk ≡ 64) × (server.disk.block ≡ 16) × (server.disk.slots ≡ 4) }
-    ensures { IfSome result (λ s. (s.disk.chunk ≡ 64) × (s.disk.block ≡ 16) × (s.disk.slots ≡ 4)) }
+    requires { (server.state.disk.chunk ≡ 64) × (server.state.disk.block ≡ 16) × (server.state.disk.slots ≡ 4) }
+    ensures { IfSome result (λ s. (s.state.disk.chunk ≡ 64) × (s.state.disk.block ≡ 16) × (s.state.disk.slots ≡ 4)) }
 {
     let config = settings();
     if config.skew_ms > 60_000 {
@@ -87,8 +88,8 @@ fn create() -> Message {
 
 // Whether it has a replica, takes the order, and has one then, which the master is told of.
 fn creates(server: &mut DiskServer) -> bool
-    requires { (server.old.disk.chunk ≡ 64) × (server.old.disk.block ≡ 16) × (server.old.disk.slots ≡ 4) }
-    ensures { (server.new.disk.chunk ≡ 64) × (server.new.disk.block ≡ 16) × (server.new.disk.slots ≡ 4) }
+    requires { (server.old.state.disk.chunk ≡ 64) × (server.old.state.disk.block ≡ 16) × (server.old.state.disk.slots ≡ 4) }
+    ensures { (server.new.state.disk.chunk ≡ 64) × (server.new.state.disk.block ≡ 16) × (server.new.state.disk.slots ≡ 4) }
 {
     let had = server.row(CHUNK).is_some();
     let StepOut { sent, down, .. } = server.step(NOW, NodeInput::Deliver(create()));
@@ -127,4 +128,17 @@ fn a_server_is_opened_over_the_disk_of_an_earlier_one(rt: HostRuntime) {
             );
         }
     }
+}
+
+// Why it goes down where its disk passes no more calls.
+fn cause_of_failing(alloc: Global) -> Option<DownCause> {
+    let mut server = open_new(alloc)?;
+    server.arm(0);
+    let message = create();
+    server.take_step(NOW, Some(&message)).cause
+}
+
+#[test]
+fn a_server_says_that_its_disk_failed(rt: HostRuntime) {
+    assert!(rt; matches!(cause_of_failing(rt.alloc()), Some(DownCause::Device)));
 }
