@@ -1,4 +1,4 @@
-//! What a step of a node gives, and what is seen of it.
+//! What a step of a node gives, what is seen of it, and why the node goes down.
 #![tactic(auto)]
 
 ghost use Rattle.std.specs.Prelude.{◌≡◌, [], Some, None, false};
