@@ -4,10 +4,10 @@ ghost use Rattle.std.specs.Prelude.{◌≡◌, IfSome};
 
 use disk::{FuseDisk, MemDisk, StopPlan};
 use gfs_types::config::Config;
-use gfs_types::ids::{Handle, Moment, Node, OrderNo, ServerId, Version};
+use gfs_types::ids::{ClientId, DataId, Handle, Moment, Node, OrderNo, ServerId, Version};
 use gfs_types::torn::Torn;
 use messages::event::{NodeInput, StepOut};
-use messages::message::{Body, Message};
+use messages::message::{Body, Message, Target};
 use server_cell::disk_server::Server;
 use std::alloc::Global;
 use step_outcome::down_cause::DownCause;
@@ -141,4 +141,58 @@ fn cause_of_failing(alloc: Global) -> Option<DownCause> {
 #[test]
 fn a_server_says_that_its_disk_failed(rt: HostRuntime) {
     assert!(rt; matches!(cause_of_failing(rt.alloc()), Some(DownCause::Device)));
+}
+
+// What a client asks.
+fn ask(body: Body) -> Message {
+    Message {
+        number: 2,
+        sender: Node::Client(ClientId(1)),
+        receiver: Node::Server(ID),
+        body,
+    }
+}
+
+// Whether it stays up in a step, and has no cause to go down.
+fn stays_up(server: &mut DiskServer, message: &Message) -> bool {
+    let outcome = server.take_step(NOW, Some(message));
+    outcome.cause.is_none() && server.is_up()
+}
+
+// An order that comes again, reads of no replica and of another version, and a mutation without a lease.
+fn outlasts_refusals(alloc: Global) -> Option<bool> {
+    let mut server = open_new(alloc)?;
+    let order = create();
+    let takes_orders = stays_up(&mut server, &order) && stays_up(&mut server, &order);
+    let read = ask(Body::Read {
+        number: 1,
+        handle: Handle(8),
+        version: Version(1),
+        offset: 0,
+        count: 1,
+    });
+    let len = ask(Body::Len {
+        number: 2,
+        handle: CHUNK,
+        version: Version(2),
+    });
+    let mutate = ask(Body::Mutate {
+        data: DataId {
+            client: ClientId(1),
+            seq: 3,
+        },
+        handle: CHUNK,
+        version: Version(1),
+        target: Target::Append,
+        deadline: Moment(1_000),
+    });
+    let refuses = stays_up(&mut server, &read)
+        && stays_up(&mut server, &len)
+        && stays_up(&mut server, &mutate);
+    Some(takes_orders && refuses)
+}
+
+#[test]
+fn a_server_that_refuses_has_no_cause_to_go_down(rt: HostRuntime) {
+    assert!(rt; matches!(outlasts_refusals(rt.alloc()), Some(true)));
 }
