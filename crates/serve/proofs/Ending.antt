@@ -20,24 +20,23 @@ use Rattle.serve.proofs.Longest.{IsLongest, longest_of}
 use Rattle.serve.proofs.Places.{there}
 use Rattle.serve.proofs.Printed.{same_length, printed_count}
 
--- something of each of a list, as a list
-collect : {X : Type 0} (Holds : ℕ → Stand → X → Type 0) (stands : List Stand) → ((k : ℕ) (p : Stand) → slice_get stands k ≡ Some p → (x : X) × Holds k p x)
-    → (xs : List X) × (length xs ≡ length stands) × ((k : ℕ) (p : Stand) (x : X) → slice_get stands k ≡ Some p → slice_get xs k ≡ Some x → Holds k p x)
-collect {X} Holds [] all = ([], refl, λ k p x at to. absurd (let none : None ≡ Some p = at in cc))
-collect {X} Holds (p ∷ ps) all = (here.0 ∷ rest.0, ap (λ (n : ℕ). suc n) rest.1, each)
+-- something of each of a list, as a list, by that of its first and those of the rest
+collected : {X : Type 0} (Holds : ℕ → Stand → X → Type 0) (p : Stand) (ps : List Stand) → (x : X) × Holds zero p x
+    → (xs : List X) × (length xs ≡ length ps) × ((k : ℕ) (q : Stand) (x : X) → slice_get ps k ≡ Some q → slice_get xs k ≡ Some x → Holds (suc k) q x)
+    → (xs : List X) × (length xs ≡ length (p ∷ ps)) × ((k : ℕ) (q : Stand) (x : X) → slice_get (p ∷ ps) k ≡ Some q → slice_get xs k ≡ Some x → Holds k q x)
+collected {X} Holds p ps here rest = (here.0 ∷ rest.0, ap (λ (n : ℕ). suc n) rest.1, each)
   where
-    here : (x : X) × Holds zero p x
-    here = all zero p refl
-
-    rest : (xs : List X) × (length xs ≡ length ps) × ((k : ℕ) (q : Stand) (x : X) → slice_get ps k ≡ Some q → slice_get xs k ≡ Some x → Holds (suc k) q x)
-    rest = collect (λ k q x. Holds (suc k) q x) ps (λ k q at. all (suc k) q at)
-
     each : (k : ℕ) (q : Stand) (x : X) → slice_get (p ∷ ps) k ≡ Some q → slice_get (here.0 ∷ rest.0) k ≡ Some x → Holds k q x
     each zero q x at to =
         let same_one : p ≡ q = (let both : Some p ≡ Some q = at in cc) in
         let same : here.0 ≡ x = (let both : Some here.0 ≡ Some x = to in cc) in
         subst (λ (r : Stand). Holds zero r x) same_one (subst (λ (y : X). Holds zero p y) same here.1)
     each (suc k) q x at to = rest.2 k q x at to
+
+collect : {X : Type 0} (Holds : ℕ → Stand → X → Type 0) (stands : List Stand) → ((k : ℕ) (p : Stand) → slice_get stands k ≡ Some p → (x : X) × Holds k p x)
+    → (xs : List X) × (length xs ≡ length stands) × ((k : ℕ) (p : Stand) (x : X) → slice_get stands k ≡ Some p → slice_get xs k ≡ Some x → Holds k p x)
+collect {X} Holds [] all = ([], refl, λ k p x at to. absurd (let none : None ≡ Some p = at in cc))
+collect {X} Holds (p ∷ ps) all = collected Holds p ps (all zero p refl) (collect (λ k q x. Holds (suc k) q x) ps (λ k q at. all (suc k) q at))
 
 mapped_at : {X Y : Type 0} (f : X → Y) (xs : List X) (k : ℕ) (y : Y) → slice_get (map f xs) k ≡ Some y → (x : X) × (slice_get xs k ≡ Some x) × (f x ≡ y)
 mapped_at f [] k y h = absurd (let none : None ≡ Some y = h in cc)

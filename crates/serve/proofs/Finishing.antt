@@ -1,6 +1,6 @@
 -- What serving comes to, once all threads have ended, or where it was not begun.
 use Rattle.std.proofs.Common.{◌≡◌, ◌<◌, ℕ, List, ⊎_elim, length, Option, sym, subst, ◌∙◌}
-use Rattle.std.specs.Prelude.{Result, OnOk, IfErr}
+use Rattle.std.specs.Prelude.{Result, OnOk, IfErr, IfSome}
 use Rattle.std.proofs.lemmas.Result.{on_ok_weaker, IfErr-weaker}
 use Rattle.cell_run.specs.Cells.{IsCellOf}
 use Rattle.script.proofs.Bytes.{keeps_all}
@@ -9,7 +9,8 @@ use Rattle.script.specs.declared.options.Options.{Options}
 use Rattle.script.specs.declared.script_fault.ScriptFault.{ScriptFault}
 use Rattle.script.specs.declared.script_fault.ScriptFault.TheVariants as fault
 use Rattle.live.specs.Faults.{IsOfRun}
-use Rattle.serve.specs.Messages.{Service, AreAsked, IsOfReading}
+use Rattle.serve.specs.Served.{calls_served}
+use Rattle.serve.specs.Messages.{Service, AreAsked, AreCounts, IsOfReading}
 use Rattle.serve.specs.Outcomes.{Serves, Stops}
 use Rattle.serve.specs.Printing.{Stand, AreInOrder, AreNew, AllPrinted, PrintsOn, AreComparable, AreAllPrinted, AreAllDone}
 use Rattle.serve.proofs.Ending.{serves_all, serves_first}
@@ -40,7 +41,8 @@ module _ (options : Options) (s : Service) (same_clients : s.clients ≡ options
 
   pub ends_well : (r : Result (Unit {0}) ScriptFault) → OnOk r (AreAllDone s ends) → OnOk r (Serves options input before after)
   ends_well r done = on_ok_weaker r
-      (λ (d : AreAllDone s ends). serves_all options s same_clients cell_is some ends (prints.count ∙ many) places all meet news before after order fresh prints d.counts input input_is d.printed d.asked)
+      (λ (d : AreAllDone s ends). serves_all options s same_clients cell_is some ends (prints.count ∙ many) places all meet news before after order fresh prints d.counts input input_is d.printed
+      (subst (λ (o : Option (List ℕ)). IfSome o (λ i. AreCounts d.counts (calls_served s.clients i))) input_is d.asked))
       done
 
   stopped : (f : ScriptFault) → IsOfReading f → Stops options input before after f

@@ -42,10 +42,10 @@ taken_none old asked is = subst (AreTaken old old) (sym is) none
     none = record { clients = refl; each = λ k count at. let same : count ≡ count + 0 = omega arith in at ∙ ap (λ (n : ℕ). Some n) same }
 
 pub no_call : (clients : ℕ) (line : ServedLine) → ((asked : ClientCall) → line ≡ served.Call asked → ⊥) → call_in clients (Some line) ≡ []
-no_call clients served.Nothing no = refl
-no_call clients served.Room no = refl
-no_call clients (served.Restart node) no = refl
-no_call clients (served.Call asked) no = absurd (no asked refl)
+no_call clients served.Nothing other = refl
+no_call clients served.Room other = refl
+no_call clients (served.Restart node) other = refl
+no_call clients (served.Call asked) other = absurd (other asked refl)
 
 -- a line that isn't in the language
 pub none_in_bad : (clients : ℕ) (refusal : LineFault) (expected : Option ServedLine) → Reads {A = ServedLine} (Err refusal) expected → refusal ≡ Bad → call_in clients expected ≡ []
