@@ -144,7 +144,11 @@ impl<D: Disk + Drop> Server<D> {
         ensures settings { KeepsSettings self.old self.new }
     {
         let message = message_in(&input);
-        let Outcome { out, seen: _seen } = self.take_step(now, message);
+        let Outcome {
+            out,
+            seen: _seen,
+            cause: _,
+        } = self.take_step(now, message);
         out
     }
 

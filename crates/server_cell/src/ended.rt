@@ -31,7 +31,11 @@ pub(crate) fn ends<S: ReplicaStore>(server: &mut Server<S>, effects: ServerEffec
                 answer: None,
                 down: false,
             };
-            Outcome { out, seen }
+            Outcome {
+                out,
+                seen,
+                cause: None,
+            }
         }
         Err(_) => {
             server.stop();
