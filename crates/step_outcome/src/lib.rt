@@ -17,7 +17,7 @@ use std::alloc::Global;
 pub struct Outcome {
     pub out: StepOut,
     pub seen: SeenList,
-    /// Why the node goes down. None where it stays up, or doesn't say why.
+    /// Why the node goes down; none where it doesn't.
     pub cause: Option<DownCause>,
 }
 
@@ -35,15 +35,16 @@ impl Outcome {
         }
     }
 
-    /// A step that puts the node down, of which this was seen. Takes no memory.
-    pub fn down(alloc: Global, seen: SeenList) -> Outcome
+    /// A step that puts the node down for a cause, of which this was seen. Takes no memory.
+    pub fn down(alloc: Global, cause: DownCause, seen: SeenList) -> Outcome
         ensures out { result.out ≡ down_output }
         ensures seen { result.seen ≡ seen }
+        ensures cause { result.cause ≡ Some cause }
     {
         Outcome {
             out: down_output(alloc),
             seen,
-            cause: None,
+            cause: Some(cause),
         }
     }
 
@@ -53,11 +54,7 @@ impl Outcome {
         ensures seen { result.seen ≡ [] }
         ensures cause { result.cause ≡ Some cause }
     {
-        Outcome {
-            out: down_output(alloc),
-            seen: Sequence::empty(alloc),
-            cause: Some(cause),
-        }
+        Outcome::down(alloc, cause, Sequence::empty(alloc))
     }
 }
 
