@@ -26,7 +26,7 @@ no_calls s client = go s.input
 
 module _ (s : Service) (client : ℕ) (seat : SeatState) (new : IsUnused s client seat) (lawful : IsHistoryOf seat.cell seat.seen) (clocks : IsTrue (are_clocks_kept seat.cell seat.seen))
     (explained : AreExplained seat.cell.config seat.seen) where
-  nothing_answered : HasAnswers s client (listed seat.cell.name seat.seen) []
+  abbrev nothing_answered : HasAnswers s client (listed seat.cell.name seat.seen) []
   nothing_answered = record {
     of = seen_of s seat.cell seat.seen (ap (λ (t : SeatState). t.cell) new) lawful clocks explained;
     calls = [];
