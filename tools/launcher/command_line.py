@@ -14,10 +14,11 @@ LARGEST_BLOCK = 65536
 NARROW = ('chunk', 'block', 'goal', 'attempts', 'cache_entries', 'push_entries', 'slots', 'journal')
 COUNTS = {'servers': 3, 'clients': 1}
 MOST_NODES = 64
+WAYS = ('sim', 'live', 'serve')
 
-# the subcommand, its file, and each option with a number that is given, by its name
+# the subcommand, its file, which `serve` has none of, and each option with a number that is given, by its name
 Asked = namedtuple('Asked', 'way file given')
-Texts = namedtuple('Texts', 'version about sim live options region progress')
+Texts = namedtuple('Texts', 'version about sim live serve options region progress')
 
 
 class Bad(Exception):
@@ -39,8 +40,10 @@ def texts():
     tables = [re.search(rf'const {name}: [^=]*= \[(.*?)\n?\];', source, re.S)[1] for name in ('OPTIONS', 'REGION')]
     options, region = [re.findall(r'\(\s*"([^"]+)",\s*"([^"]+)",?\s*\)', table) for table in tables]
     abouts = dict(re.findall(r'runner\(alloc, "(\w+)", "([^"]+)"\)', source))
+    serve = re.search(r'Command::new\(alloc, "serve"\)\s*\.about\(\s*"([^"]+)"', source)[1]
     progress = re.search(r'\(flag\(\s*alloc,\s*"([^"]+)",\s*"([^"]+)"', source).groups()
-    return Texts(re.search(r'\.version\("([^"]+)"\)', source)[1], re.search(r'\.about\("([^"]+)"\)', source)[1], abouts['sim'], abouts['live'], options, region, progress)
+    version, about = re.search(r'\.version\("([^"]+)"\)\s*\.about\("([^"]+)"\)', source).groups()
+    return Texts(version, about, abouts['sim'], abouts['live'], serve, options, region, progress)
 
 
 # ---- the help
@@ -51,10 +54,14 @@ def aligned(rows):
     return ''.join(f'  {first:<{width}}  {second}\n' for first, second in rows)
 
 
+def about_of(way):
+    return getattr(texts(), way)
+
+
 def program_help():
     said = texts()
     flags = [('-h, --help', 'Print help'), ('-V, --version', 'Print version')]
-    return (f'{said.about}\n\nUsage: gfscell <COMMAND>\n\nCommands:\n{aligned([("sim", said.sim), ("live", said.live)])}'
+    return (f'{said.about}\n\nUsage: gfscell <COMMAND>\n\nCommands:\n{aligned([(way, about_of(way)) for way in WAYS])}'
             f'\nOptions:\n{aligned(flags)}')
 
 
@@ -71,9 +78,8 @@ def flags_of(way):
 def subcommand_help(way):
     rows = [(f'    --{name} <N>', said) for name, said in options_of(way)]
     flags = rows + [(f'    --{name}', said) for name, said in flags_of(way)] + [('-h, --help', 'Print help')]
-    about = texts().sim if way == 'sim' else texts().live
-    return (f'{about}\n\nUsage: gfscell {way} [OPTIONS] <FILE>\n\nArguments:\n{aligned([("<FILE>", "The script, or - for standard input")])}'
-            f'\nOptions:\n{aligned(flags)}')
+    file = '' if way == 'serve' else f'Arguments:\n{aligned([("<FILE>", "The script, or - for standard input")])}\n'
+    return f'{about_of(way)}\n\nUsage: gfscell {way} [OPTIONS]{" <FILE>" if file else ""}\n\n{file}Options:\n{aligned(flags)}'
 
 
 def version():
@@ -145,6 +151,8 @@ class Words:
             self.settle()
 
     def positional(self, word):
+        if self.way == 'serve':
+            raise Bad(f'{word}: serve takes no FILE')
         if 'FILE' in self.given or (self.pending and self.pending[0] == 'FILE'):
             raise Bad(f'{word}: FILE stands already')
         self.settle()
@@ -171,7 +179,7 @@ class Words:
         for word in words[end + 1:]:
             self.positional(word)
         self.settle()
-        if 'FILE' not in self.given:
+        if 'FILE' not in self.given and self.way != 'serve':
             raise Bad('FILE is missing')
         return self.given
 
@@ -179,13 +187,13 @@ class Words:
 def subcommand(words):
     """The subcommand, which is the first word where the words ask for a run."""
     first = words[0] if words else ''
-    if first in ('sim', 'live'):
+    if first in WAYS:
         return first
     if first == '--help' or re.match('-h', first):
         raise Shown(program_help())
     if first == '--version' or re.match('-V', first):
         raise Shown(version())
-    raise Bad('sim or live is missing')
+    raise Bad('sim, live or serve is missing')
 
 
 def parse(words):
@@ -196,7 +204,7 @@ def parse(words):
         raise Bad('a word is no text') from None
     way = subcommand(words)
     given = Words(way).taken(words[1:])
-    file = given.pop('FILE')
+    file = given.pop('FILE', None)
     given = {name: value for name, value in given.items() if value is not None}
     for name, value in given.items():
         if number(value) is None:

@@ -28,6 +28,8 @@ def is_in_range(asked):
 
 def fault_of(asked):
     """What the program says before it makes a cell, or None. It looks at FILE's opening first, and `live` at all lines before the settings."""
+    if asked.way == 'serve':
+        return None if is_in_range(asked) else 'cannot start'
     if asked.file != '-' and not os.access(asked.file, os.R_OK):
         return 'cannot read'
     if asked.way == 'sim' and not is_in_range(asked):
@@ -81,7 +83,7 @@ def run_program(words):
     program, is_proved = building.program()
     if not is_proved:
         say(building.NOT_PROVED)
-    if is_explained:
+    if is_explained and asked.way != 'serve':
         from explain import run_explained
         return run_explained(program, words, asked)
     return become(program, words)

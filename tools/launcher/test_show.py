@@ -69,7 +69,7 @@ def side_by_side(program):
     """`example` lists them, prints each beside its answers, and knows no other."""
     first = answer(LAUNCHER, ['example', 'pad'], '/')
     names = [line.split()[0] for line in answer(LAUNCHER, ['example'], '/')[1].decode().splitlines()]
-    files = sorted(os.path.splitext(name)[0] for name in os.listdir(os.path.join(TOP, 'examples')) if not name.endswith('.out'))
+    files = sorted(os.path.splitext(name)[0] for name in os.listdir(os.path.join(TOP, 'examples')) if name.endswith(('.gfs', '.live')))
     faults = [] if names == files else [f'example lists {names}']
     if first[0] or b'c1 append 1 e*13' + b' ' * 50 + b'c1 at 64\n' not in first[1] or b'prints what examples/pad.out has' not in first[1]:
         faults.append(f'example pad: {first}')
@@ -170,7 +170,7 @@ def wrong_command(line):
         file = asked.file
     except command_line.Bad as cause:
         return str(cause)
-    return None if os.path.exists(os.path.join(TOP, file)) else f'{file} is not there'
+    return None if file is None or os.path.exists(os.path.join(TOP, file)) else f'{file} is not there'
 
 
 def commands(_program):
@@ -183,7 +183,8 @@ def commands(_program):
 
 EXPECTED_TEXTS = {
     'help': lambda program: command_line.program_help(), 'help_sim': lambda program: command_line.subcommand_help('sim'),
-    'help_live': lambda program: command_line.subcommand_help('live'), 'lost_forward': lambda program: drawn('lost_forward', program),
+    'help_live': lambda program: command_line.subcommand_help('live'), 'help_serve': lambda program: command_line.subcommand_help('serve'),
+    'lost_forward': lambda program: drawn('lost_forward', program),
     'rotten_block': lambda program: drawn('rotten_block', program), 'cut_primary': lambda program: drawn('cut_primary', program)}
 
 

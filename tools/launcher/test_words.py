@@ -14,8 +14,8 @@ BAD = (2, b'', b'gfscell: bad command line\n')
 MORE_BAD = [
     '--', '-- sim a', 'sim --', 'sim a --servers --help', 'sim a --servers 3 --servers 3 --help', 'sim a --help=x', '-x', 'sim a -x', 'sim a --=3', '-', 'live',
     'sim a --servers -- 3', 'sim a --chunk 99999999999999999999999', 'sim a -- b', 'sim --names-heap 1 --names-heap 1 a', 'simm a',
-    'sim a --servers\t3', '--version=1', '--help=', 'live a --progress=', 'live a --progress --progress', 'sim a --progress', 'live --servers --progress a']
-MORE_SHOWN = {'sim --servers x --help': 'sim', 'sim a b --help': None, 'live -h': 'live', 'live a.live -hx': 'live', '-hV': '', 'sim --servers=9 -h': 'sim'}
+    'sim a --servers\t3', '--version=1', '--help=', 'live a --progress=', 'serve a', 'serve -', 'serve --progress', 'serve --clients', 'live a --progress --progress', 'sim a --progress', 'live --servers --progress a']
+MORE_SHOWN = {'sim --servers x --help': 'sim', 'sim a b --help': None, 'live -h': 'live', 'serve -h': 'serve', 'serve --help a': 'serve', 'live a.live -hx': 'live', '-hV': '', 'sim --servers=9 -h': 'sim'}
 
 
 def settings(text):
@@ -51,7 +51,7 @@ def is_wanted(found, kind, text):
         return found[0] == kind
     if kind == 'Shows':
         return re.match(r'"(.*)"', text)[1] in found[1]
-    file = re.match(r'"(.*?)"', text)[1]
+    file = None if kind == 'Serve' else re.match(r'"(.*?)"', text)[1]
     heap = re.search(r'Some\(([\d_]+)\)', text)
     wanted = settings(text)
     if 'chunk' in wanted and 'block' not in wanted:
@@ -63,7 +63,7 @@ def is_wanted(found, kind, text):
 def tables():
     """How many command lines there are in the tables, and those that are taken otherwise."""
     count, faults = 0, []
-    for table, least in (('LINES', 13), ('REFUSED', 29), ('SHOWN', 6)):
+    for table, least in (('LINES', 15), ('REFUSED', 34), ('SHOWN', 7)):
         rows = [(row[0] or row[3], row[1] or row[4], row[2]) for row in expected_in(table)]
         if len(rows) != least:
             faults.append(f'{table} of {TESTS}: {len(rows)} command lines are read')
@@ -105,7 +105,8 @@ def at_once():
         ([], BAD), (['help'], BAD), (['sim'], BAD), (['sim', 'a.gfs', '--servers', '3', '--servers', '3'], BAD), (['sim', 'a.gfs', '--chunk', 'x'], BAD),
         (['sim', b'\xff'], BAD), (['sim', 'a.gfs', '--servers', ''], BAD), (['live', 'a.live', '--names-heap', '1'], BAD),
         (['--help'], (0, expected_text('help'), b'')), (['-h'], (0, expected_text('help'), b'')), (['sim', '--help'], (0, expected_text('help_sim'), b'')),
-        (['live', 'none', '-h'], (0, expected_text('help_live'), b'')), (['--version'], (0, b'gfscell 0.1.0\n', b'')), (['-V'], (0, b'gfscell 0.1.0\n', b'')),
+        (['live', 'none', '-h'], (0, expected_text('help_live'), b'')), (['serve', '-h'], (0, expected_text('help_serve'), b'')), (['serve', 'a'], BAD),
+        (['serve', '--servers', '0'], cannot['start']), (['--version'], (0, b'gfscell 0.1.0\n', b'')), (['-V'], (0, b'gfscell 0.1.0\n', b'')),
         (['sim', 'none'], cannot['read']), (['live', 'none', '--chunk', '63'], cannot['read']), (['sim', ''], cannot['read']), (['sim', '.'], cannot['read']),
         (['live', '.', '--chunk', '63'], cannot['read']), (['sim', '-', '--chunk', '63'], cannot['start']), (['sim', '--servers=0', '--', '-f'], cannot['start']),
         (['sim', '-f'], BAD), (['sim', '-', '--clients', '65'], cannot['start']), (['sim', '-', '--skew-ms', '5', '--lease-ms', '5'], cannot['start']),

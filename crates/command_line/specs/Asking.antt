@@ -17,7 +17,7 @@ use Rattle.script.specs.declared.options.Options.{Options}
 use Rattle.command_line.specs.declared.command.CommandFault.{CommandFault}
 use Rattle.command_line.specs.declared.command.CommandFault.TheVariants.{Bad, NoMemory}
 use Rattle.command_line.specs.declared.command.Request.{Request}
-use Rattle.command_line.specs.declared.command.Request.TheVariants.{Sim, Live, Show}
+use Rattle.command_line.specs.declared.command.Request.TheVariants.{Sim, Live, Serve, Show}
 
 -- ---- the options; rows are what the words gave to each name
 
@@ -91,9 +91,12 @@ is_live name = bytes_eq name (codes "live")
 abbrev pub run_by : Text × List Row → Option (Bool × (Text × Wanted))
 run_by sub = option_map (λ run. (is_live sub.0, run)) (run_of sub.1)
 
--- what the words would run, where they have no fault
-abbrev pub run_asked : List Text → Option (Bool × (Text × Wanted))
-run_asked words = option_and_then run_by (subcommand_of program words)
+-- the options of a cell that is to be served
+abbrev pub served_of : List Row → Option Options
+served_of rows = if all_numbered rows option_names then Some (options_of rows) else None
+
+abbrev pub is_served : Text → Bool
+is_served name = bytes_eq name (codes "serve")
 
 -- the faults that a parse of the words may name: the first step that fails has one kind, or a few that may come
 abbrev pub faults : List Text → Kinds
@@ -105,29 +108,39 @@ is_shown DisplayHelp = true
 is_shown DisplayVersion = true
 is_shown _ = false
 
--- to run a script's file by the simulator, with a region for the names or none, or on threads, with progress told or not, to be shown the help or the version, or nothing
+-- to run a script's file by the simulator, with a region for the names or none, or on threads, with progress told or not, to serve a cell, to be shown the help or the version, or nothing
 pub data Asked : Type 0 where
   to_simulate : Text → Option ℕ → Options → Asked
   to_play : Text → Bool → Options → Asked
+  to_serve : Options → Asked
   to_be_shown : Asked
   nothing : Asked
 
 abbrev pub to_run : Bool × (Text × Wanted) → Asked
 to_run run = if run.0 then to_play run.1.0 run.1.1.1.0 run.1.1.1.1 else to_simulate run.1.0 run.1.1.0 run.1.1.1.1
 
+-- what the rows of a subcommand ask for
+abbrev pub asked_on : Text × List Row → Option Asked
+asked_on sub = if is_served sub.0 then option_map to_serve (served_of sub.1) else option_map to_run (run_by sub)
+
+-- what the words would ask for, where they have no fault
+abbrev pub meant : List Text → Option Asked
+meant words = option_and_then asked_on (subcommand_of program words)
+
 -- faults come first; of the kinds that the first fault may have, all are to be shown or none is
-abbrev pub asked_by : Kinds → Option (Bool × (Text × Wanted)) → Asked
-asked_by [] (Some run) = to_run run
+abbrev pub asked_by : Kinds → Option Asked → Asked
+asked_by [] (Some asked) = asked
 asked_by [] None = nothing
-asked_by (kind ∷ kinds) run = if is_shown kind then to_be_shown else nothing
+asked_by (kind ∷ kinds) meant = if is_shown kind then to_be_shown else nothing
 
 abbrev pub asked : List Text → Asked
-asked words = asked_by (faults words) (run_asked words)
+asked words = asked_by (faults words) (meant words)
 
 -- the answer says what the words ask for, or memory ran out
 abbrev pub Answers : List Text → Result Request CommandFault → Type 0
 Answers words (Ok (Sim file bytes options)) = asked words ≡ to_simulate file.now bytes options
 Answers words (Ok (Live file tells options)) = asked words ≡ to_play file.now tells options
+Answers words (Ok (Serve options)) = asked words ≡ to_serve options
 Answers words (Ok (Show text)) = asked words ≡ to_be_shown
 Answers words (Err Bad) = asked words ≡ nothing
 Answers words (Err NoMemory) = ⊤
@@ -136,6 +149,7 @@ Answers words (Err NoMemory) = ⊤
 abbrev pub Becomes : ErrorKind → Result Request CommandFault → Type 0
 Becomes kind (Ok (Sim file bytes options)) = ⊥
 Becomes kind (Ok (Live file tells options)) = ⊥
+Becomes kind (Ok (Serve options)) = ⊥
 Becomes kind (Ok (Show text)) = is_shown kind ≡ true
 Becomes kind (Err Bad) = (is_shown kind ≡ false) × (kind ≡ OutOfMemory → ⊥)
 Becomes kind (Err NoMemory) = (is_shown kind ≡ true) ⊎ (kind ≡ OutOfMemory)
@@ -144,4 +158,12 @@ Becomes kind (Err NoMemory) = (is_shown kind ≡ true) ⊎ (kind ≡ OutOfMemory
 abbrev pub Runs : Bool → Text → Option ℕ → Bool → Options → Request → Type 0
 Runs live file bytes tells options (Sim f b o) = (live ≡ false) × (f.now ≡ file) × (b ≡ bytes) × (o ≡ options)
 Runs live file bytes tells options (Live f t o) = (live ≡ true) × (f.now ≡ file) × (t ≡ tells) × (o ≡ options)
+Runs live file bytes tells options (Serve o) = ⊥
 Runs live file bytes tells options (Show text) = ⊥
+
+-- to serve a cell, where each value that is given is a number
+abbrev pub Serves : List Row → Result Request CommandFault → Type 0
+Serves rows (Ok (Serve options)) = served_of rows ≡ Some options
+Serves rows (Ok other) = ⊥
+Serves rows (Err Bad) = served_of rows ≡ None
+Serves rows (Err NoMemory) = ⊥

@@ -51,6 +51,10 @@ progress = codes "progress"
 abbrev pub player : Shape
 player = record (runner (codes "live")) { rules = (runner (codes "live")).rules ++ (flag_named progress ∷ []) }
 
+-- the subcommand that serves a cell with threads
+abbrev pub server : Shape
+server = record (new_shape (codes "serve")) { rules = map option_named option_names }
+
 abbrev pub gfscell : Shape
 gfscell = record (new_shape (codes "gfscell")) {
   is_leaf = false;
@@ -60,4 +64,4 @@ gfscell = record (new_shape (codes "gfscell")) {
 }
 
 abbrev pub program : App
-program = record { top = gfscell; subs = simulator ∷ player ∷ [] }
+program = record { top = gfscell; subs = simulator ∷ player ∷ server ∷ [] }

@@ -2,8 +2,8 @@
 
 ghost use Rattle.std.specs.Prelude.{◌≡◌, Some, IfOk, IfErr, is_ok, map, string_bytes, false};
 ghost use Rattle.clap.specs.Words.{app_of, shape_of, found_of, kind_of, rows_of, rule_of};
-ghost use Rattle.command_line.specs.Program.{flag_named, names, names_heap, option_named, option_names, player, program, runner, setting_names, simulator, with_options};
-ghost use Rattle.command_line.specs.Asking.{Answers, Becomes, Runs, all_numbered, config_of, is_given, is_live, is_numbered, names_heap_of, narrow_for, number_for, options_of};
+ghost use Rattle.command_line.specs.Program.{flag_named, names, names_heap, option_named, option_names, player, program, runner, server, setting_names, simulator, with_options};
+ghost use Rattle.command_line.specs.Asking.{Answers, Becomes, Runs, Serves, all_numbered, config_of, is_given, is_live, is_numbered, is_served, names_heap_of, narrow_for, number_for, options_of};
 ghost use Rattle.command_line.specs.Faults.{fault_text};
 ghost use Rattle.command_line.specs.declared.command.CommandFault.TheVariants.{Bad, NoMemory};
 
@@ -30,6 +30,10 @@ pub enum Request<'a> {
     Live {
         file: &'a str,
         tells_progress: bool,
+        options: Options,
+    },
+    /// To serve a cell with threads.
+    Serve {
         options: Options,
     },
     /// To print this text: the help or the version.
@@ -150,6 +154,14 @@ fn with_options<'a>(
     Ok(command)
 }
 
+/// The subcommand that serves a cell with threads.
+fn server<'a>(alloc: Global) -> Result<Command<'a>, AllocError>
+    ensures { IfOk result (λ command. shape_of command ≡ server) }
+{
+    let command = Command::new(alloc, "serve").about("Serves a cell with threads through a pipe");
+    with_options(alloc, command, &OPTIONS)
+}
+
 /// A subcommand that runs a script.
 fn runner<'a>(alloc: Global, name: &'a str, about: &'a str) -> Result<Command<'a>, AllocError>
     ensures { IfOk result (λ command. shape_of command ≡ runner name.entry.now) }
@@ -190,7 +202,8 @@ fn command<'a>(alloc: Global) -> Result<Command<'a>, AllocError>
         .disable_help_subcommand(true)
         .subcommand_required(true)
         .subcommand(simulator(alloc)?)?
-        .subcommand(player(alloc)?)
+        .subcommand(player(alloc)?)?
+        .subcommand(server(alloc)?)
 }
 
 /// The value of an option, or `default` where it isn't given.
@@ -300,6 +313,9 @@ pub fn parse<'a>(alloc: Global, words: &'a [String]) -> Result<Request<'a>, Comm
     let Some((name, given)) = matches.subcommand() else {
         return Err(CommandFault::Bad);
     };
+    if is_serve(name) {
+        return serving(given);
+    }
     let file = given.get_str("FILE").ok_or(CommandFault::Bad)?;
     let names_heap = names_heap(given)?;
     let options = options(given)?;
@@ -307,7 +323,23 @@ pub fn parse<'a>(alloc: Global, words: &'a [String]) -> Result<Request<'a>, Comm
     Ok(request_for(name, file, names_heap, tells_progress, options))
 }
 
-/// What the subcommand of a name asks for.
+/// Whether it is the subcommand that serves a cell.
+fn is_serve(name: &str) -> bool
+    ensures { result ≡ is_served name.now }
+{
+    name == "serve"
+}
+
+/// What the subcommand asks for that serves a cell.
+fn serving<'a>(matches: &ArgMatches<'_>) -> Result<Request<'a>, CommandFault>
+    ensures { Serves (rows_of (found_of matches.now)) result }
+{
+    Ok(Request::Serve {
+        options: options(matches)?,
+    })
+}
+
+/// What the subcommand of a name asks for that runs a script.
 fn request_for<'a>(
     name: &str,
     file: &'a str,

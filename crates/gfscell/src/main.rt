@@ -12,6 +12,8 @@ use command_line::command::{CommandFault, Request, parse};
 use live::run::{run_live, run_live_watched};
 use script::options::Options;
 use script::script_fault::ScriptFault;
+use serve::reading::LineFaults;
+use serve::run::run_serve;
 use shell::run::{run_script, run_script_in_region};
 use std::error::Error;
 use std::fs::File;
@@ -126,6 +128,32 @@ fn play<T: Threads + Wait + Clock + Copy + Send + Sync + 'static, S: Read + Drop
     }
 }
 
+/// Tells of each bad line on standard error.
+#[derive(Drop)]
+struct ErrorFaults {
+    rt: HostRuntime,
+}
+
+impl LineFaults for ErrorFaults {
+    fn tell(&self, fault: ScriptFault) {
+        // Nothing can tell of a standard error that can't be written.
+        let _ = eprintln!(self.rt; "gfscell: {fault}");
+    }
+}
+
+/// Serves a cell with threads: its lines come from standard input.
+fn serve<T: Threads + Wait + Clock + Copy + Send + 'static>(
+    threads: T,
+    rt: &HostRuntime,
+    options: &Options,
+) -> Result<(), ScriptFault> {
+    let alloc = rt.alloc();
+    let reader = BufReader::new(alloc, rt.stdin()).map_err(|e| ScriptFault::of_read(&e))?;
+    let mut writer = BufWriter::new(alloc, io::writer(rt)).map_err(|e| ScriptFault::of_write(&e))?;
+    let faults = ErrorFaults { rt: *rt };
+    run_serve(threads, alloc, options, reader, &mut writer, faults)
+}
+
 /// The words of the command line. Words that are no text are a bad command line.
 fn words(rt: &HostRuntime) -> Result<Vec<String>, CommandFault> {
     match env::args(rt) {
@@ -171,6 +199,7 @@ fn run<T: Threads + Wait + Clock + Copy + Send + Sync + 'static>(
             let script = File::open(rt, file).map_err(|e| ScriptFault::of_read(&e))?;
             play(threads, rt, tells_progress, &options, script)?;
         }
+        Request::Serve { options } => serve(threads, rt, &options)?,
     }
     Ok(())
 }

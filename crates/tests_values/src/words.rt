@@ -88,11 +88,12 @@ fn words(alloc: Global, line: &str) -> Result<Vec<String>, AllocError> {
 }
 
 /// What a command line asks for: a script's file, the size of the names' region and the settings that aren't the defaults; the same of a cell with threads, that
-/// has no region, and whether progress is told; a text with these words in it; or nothing.
+/// has no region, and whether progress is told; the settings of such a cell that is served; a text with these words in it; or nothing.
 #[derive(Clone, Copy)]
 enum Command<'a> {
     Sim(&'a str, Option<u64>, &'a [(&'a str, u64)]),
     Live(&'a str, bool, &'a [(&'a str, u64)]),
+    Serve(&'a [(&'a str, u64)]),
     Shows(&'a str),
     Nothing,
 }
@@ -111,6 +112,13 @@ fn is_live(file: &str, tells_progress: bool, options: &Options, wanted: &Command
         Command::Live(name, tells, changes) => {
             file == *name && tells_progress == *tells && numbers(options) == changed(changes)
         }
+        _ => false,
+    }
+}
+
+fn is_serve(options: &Options, wanted: &Command) -> bool {
+    match wanted {
+        Command::Serve(changes) => numbers(options) == changed(changes),
         _ => false,
     }
 }
@@ -135,6 +143,7 @@ fn is_request(request: &Request, wanted: &Command) -> bool {
             tells_progress,
             options,
         } => is_live(file, *tells_progress, options, wanted),
+        Request::Serve { options } => is_serve(options, wanted),
         Request::Show(text) => shows(text.as_str(), wanted),
     }
 }
@@ -186,7 +195,7 @@ fn sets_each_option(rt: HostRuntime) -> Result<(), Fail> {
 }
 
 /// Command lines that ask for a region, for threads, or for settings together.
-const LINES: [(&str, Command); 13] = [
+const LINES: [(&str, Command); 15] = [
     (
         "gfscell sim a.gfs --names-heap 16384 --servers 5",
         Command::Sim("a.gfs", Some(16_384), &[("servers", 5)]),
@@ -198,6 +207,11 @@ const LINES: [(&str, Command); 13] = [
     (
         "gfscell live --progress a.live --servers 5",
         Command::Live("a.live", true, &[("servers", 5)]),
+    ),
+    ("gfscell serve", Command::Serve(&[])),
+    (
+        "gfscell serve --clients 4 --slots 64",
+        Command::Serve(&[("clients", 4), ("slots", 64)]),
     ),
     ("gfscell sim a.gfs", Command::Sim("a.gfs", None, &[])),
     // the greatest power of two that divides the chunk and is at most 65,536
@@ -242,11 +256,16 @@ fn sets_options_together(rt: HostRuntime) -> Result<(), Fail> {
     Ok(())
 }
 
-const REFUSED: [(&str, Command); 29] = [
+const REFUSED: [(&str, Command); 34] = [
     ("gfscell", Command::Nothing),
     ("gfscell help", Command::Nothing),
     ("gfscell live", Command::Nothing),
     ("gfscell live a.live b.live", Command::Nothing),
+    ("gfscell serve a.live", Command::Nothing),
+    ("gfscell serve -", Command::Nothing),
+    ("gfscell serve --progress", Command::Nothing),
+    ("gfscell serve --names-heap 16384", Command::Nothing),
+    ("gfscell serve --clients x", Command::Nothing),
     ("gfscell sim", Command::Nothing),
     ("gfscell a.gfs", Command::Nothing),
     ("gfscell sim a.gfs b.gfs", Command::Nothing),
@@ -290,11 +309,12 @@ fn refuses_other_words(rt: HostRuntime) -> Result<(), Fail> {
     Ok(())
 }
 
-const SHOWN: [(&str, Command); 6] = [
+const SHOWN: [(&str, Command); 7] = [
     ("gfscell --help", Command::Shows("sim")),
     ("gfscell -h", Command::Shows("live")),
     ("gfscell sim --help", Command::Shows("--lease-ms")),
     ("gfscell sim a.gfs --help", Command::Shows("--journal")),
+    ("gfscell serve --help", Command::Shows("--clients")),
     ("gfscell --version", Command::Shows("gfscell 0.1.0")),
     ("gfscell -V", Command::Shows("gfscell 0.1.0")),
 ];

@@ -14,5 +14,7 @@ returns c =
     let sim_is = c.in_ok-simulator.ensures in
     let first = c.in_ok-subcommand.ensures.shape (plain_fields c.in_ok-simulator.field-0 (ap (λ (s : Shape). s.is_plain) sim_is)).globals ∙ ap₂ with_subcommand top sim_is in
     let live_is = c.in_ok-player.ensures in
-    IfOk-weaker c.subcommand-2.result _ _ (λ r h.
-    h.shape (plain_fields c.in_ok-player.field-0 (ap (λ (s : Shape). s.is_plain) live_is)).globals ∙ ap₂ with_subcommand first live_is) c.subcommand-2.ensures
+    let second = c.in_ok-subcommand-2.ensures.shape (plain_fields c.in_ok-player.field-0 (ap (λ (s : Shape). s.is_plain) live_is)).globals ∙ ap₂ with_subcommand first live_is in
+    let serve_is = c.in_ok-server.ensures in
+    IfOk-weaker c.subcommand-3.result _ _ (λ r h.
+    h.shape (plain_fields c.in_ok-server.field-0 (ap (λ (s : Shape). s.is_plain) serve_is)).globals ∙ ap₂ with_subcommand second serve_is) c.subcommand-3.ensures

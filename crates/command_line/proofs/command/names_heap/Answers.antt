@@ -1,4 +1,4 @@
-use Rattle.std.proofs.Common.{◌≡◌, ◌∙◌, sym, ap, ok_or, option_map, Option, ℕ, Some, None, Err, Ok}
+use Rattle.std.proofs.Common.{◌∙◌, sym, ap, ok_or, option_map, ℕ, Some, Err, Ok}
 use Rattle.std.specs.Prelude.{unwrap_or}
 use Rattle.clap.specs.Walk.{Text}
 use Rattle.clap.specs.Words.{found_of, rows_of}

@@ -1,0 +1,10 @@
+pub mod Places
+pub mod Answered
+pub mod Printed
+pub mod Starting
+pub mod Longest
+pub mod Taken
+pub mod Handing
+pub mod Prints
+pub mod Ending
+pub mod Finishing

@@ -1,0 +1,4 @@
+pub mod Served
+pub mod Messages
+pub mod Printing
+pub mod Outcomes

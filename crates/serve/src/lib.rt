@@ -1,0 +1,9 @@
+//! Serves a running cell through a pipe: lines are taken as they come, each client's calls are made in order on a thread of its own, and each
+//! answer is printed when it comes.
+#![tactic(auto)]
+
+pub mod client;
+pub mod messages;
+pub mod printing;
+pub mod reading;
+pub mod run;

@@ -1,0 +1,3 @@
+mod Bytes
+mod Counts
+pub mod WholeLines
