@@ -1,6 +1,6 @@
 use Rattle.std.proofs.Common.{◌∙◌, arith}
 use Rattle.serve.proofs.Answered.{served_so, replied_so}
-use Rattle.serve.proofs.client.ServedClient.answer.Goals as goal
+use Rattle.serve.proofs.served_client.ServedClient.answer.Goals as goal
 
 pub invariant_of-self : goal.invariant_of-self
 invariant_of-self g c =

@@ -1,5 +1,5 @@
 use Rattle.std.proofs.Common.{◌≡◌, true, false, refl}
-use Rattle.serve.proofs.client.make.Goals as goal
+use Rattle.serve.proofs.served_client.make.Goals as goal
 
 pub returns-in-Ok : goal.returns-in-Ok
 returns-in-Ok g c = record { heard = λ _. c.in-Ok.ensures.ok; refused = λ lost. absurd (let both : false ≡ true = lost in cc) }
