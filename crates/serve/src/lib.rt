@@ -2,8 +2,8 @@
 //! answer is printed when it comes.
 #![tactic(auto)]
 
-pub mod messages;
 pub mod printing;
 pub mod reading;
 pub mod run;
 pub mod served_client;
+pub mod served_messages;

@@ -8,8 +8,8 @@ ghost use Rattle.live.specs.Live.{told_line};
 ghost use Rattle.serve.specs.Served.{room_line};
 ghost use Rattle.serve.specs.Printing.{Stand, AreInOrder, PrintsOn, IsNextOf, IsPrintedOf};
 
-use crate::messages::{Reply, Serving, Told};
 use crate::reading::place_of;
+use crate::served_messages::{Reply, Serving, Told};
 use cell_journal::raised_entry::RaisedEntry;
 use cell_journal::{Beginning, meet};
 use cell_run::cell::Cell;

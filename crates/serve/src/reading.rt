@@ -8,7 +8,7 @@ ghost use Rattle.serve.specs.Served.{call_in, calls_served};
 ghost use Rattle.serve_lines.specs.declared.lines.ServedLine.TheVariants as served;
 ghost use Rattle.serve.specs.Messages.{AreCounts, AreNext, AreTaken, HaveAsked, IsOfReading};
 
-use crate::messages::{AskedCall, Serving, Told};
+use crate::served_messages::{AskedCall, Serving, Told};
 use crossbeam_channel::Sender;
 use gfs_types::ids::Node;
 use script::cell_lines::ClientCall;

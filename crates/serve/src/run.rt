@@ -8,10 +8,10 @@ ghost use Rattle.serve.specs.Messages.{HaveAsked, IsOfReading, IsUnused};
 ghost use Rattle.serve.specs.Outcomes.{Serves, Stops};
 ghost use Rattle.serve.specs.Printing.{AllPrinted, AreAllDone, AreAllPrinted, AreComparable, AreInOrder, AreNew, MeetsEach, PrintsOn};
 
-use crate::messages::{Asked, AskedCall, Serving, Told};
 use crate::printing::{PrintedAnswers, print_all};
 use crate::reading::{LineFaults, Receivers};
 use crate::served_client::ServedClient;
+use crate::served_messages::{Asked, AskedCall, Serving, Told};
 use cell_run::cell::{Cell, ClientSeat, StartFault};
 use cell_seats::gate::OpenGate;
 use cell_seats::shared_state::MOST_CLIENTS;

@@ -2,7 +2,7 @@
 
 ghost use Rattle.serve.specs.Messages.{IsMade};
 
-use crate::messages::{AskedCall, Reply, Serving, Told};
+use crate::served_messages::{AskedCall, Reply, Serving, Told};
 use cell_run::cell::ClientSeat;
 use crossbeam_channel::{Receiver, Sender};
 use gfs_types::answer::Answer;
