@@ -229,11 +229,12 @@ def full_log_of_copies():
 
 
 def full_store():
-    """Each server has two slots. The third file with bytes gets no replica, and keeps its chunk without one; the others go on."""
+    """Each server has two slots. The third file with bytes gets no replica, and keeps its chunk without one; the others go on. Behind the `reopen` a server that
+    reports late is left out of a grant, and its slot is free once its replica is collected: so nothing is asked of the third file there."""
     return script_of('create /a', 'create /b', 'create /c', 'create /e', 'open /a', 'open /b', 'open /c', 'open /e', 'append 1 a*16', 'append 2 b*16',
                      'append 3 c*16', 'length 3', 'read 3 0 16', 'append 3 c*16', 'write 4 0 e', 'length 4', 'append 1 d*16', 'write 2 0 f*20', 'read 1 0 64', 'read 2 0 64',
                      'append 1 g*16', 'append 1 h*16', 'append 1 i*16', 'length 1', 'read 1 0 64', 'reopen',
-                     'read 1 0 64', 'read 2 0 64', 'append 2 k*16', 'read 2 0 64', 'append 3 l*16', 'length 3')
+                     'read 1 0 64', 'read 2 0 64', 'append 2 k*16', 'read 2 0 64')
 
 
 FULL = [
