@@ -45,7 +45,9 @@ pub fn options_of(alloc: Global, first: &[&str], script: &str) -> Result<Options
     }
     match parse(alloc, words.as_slice())? {
         Request::Sim { options, .. } => Ok(options),
-        Request::Live { .. } | Request::Show(_) => Err(anyhow!("the options ask for no script")),
+        Request::Live { .. } | Request::Serve { .. } | Request::Show(_) => {
+            Err(anyhow!("the options ask for no script"))
+        }
     }
 }
 
