@@ -1,20 +1,20 @@
 //! Cells that keep the last entries of their journals.
 
+use crate::appends::produced;
 use crate::cells::small;
-use crate::producers::{count_kept, produce_all, producers_of};
 use cell_run::Retention;
 use cell_run::cell::{Cell, ClientSeat};
 use cell_seats::gate::{Gate, Kind, OpenGate};
+use cell_seats::mailboxes::Policy;
 use gfs_types::config::Config;
 use gfs_types::ids::Node;
 use gfs_types::lists::Text;
 use script::kinds::Kind as MessageKind;
-use std::alloc::{AllocError, Global};
+use std::alloc::AllocError;
+use std::sync::Arc;
 use std::sync::atomic::{AtomicU64, Ordering};
-use std::sync::{Arc, Wait};
 use std::test::*;
 use std::thread;
-use std::thread::Threads;
 use std::time::{Clock, Duration};
 
 /// How many entries stay of a journal of which no message is lost, and how many records each of four producers appends: some 11 entries each.
@@ -49,19 +49,6 @@ impl<R: Clock + Copy + Drop> Gate for LookGate<R> {
     }
 }
 
-// How many records of four producers were answered, and read back (`count_kept`).
-fn produced<R: Threads + Wait + Clock + Sync>(
-    rt: &R,
-    alloc: Global,
-    cell: &mut Cell,
-    records: u64,
-) -> Option<usize> {
-    let mut reader = cell.client().ok()?;
-    let mut all = producers_of(rt, alloc, cell, &mut reader, 4)?;
-    produce_all(rt, alloc, all.as_mut_slice(), records);
-    count_kept(rt, alloc, &mut reader, all.as_slice())
-}
-
 #[test]
 fn a_cell_runs_past_its_journal(rt: HostRuntime) -> Result<(), Fail> {
     let alloc = rt.alloc();
@@ -73,7 +60,7 @@ fn a_cell_runs_past_its_journal(rt: HostRuntime) -> Result<(), Fail> {
     };
     let retention = Retention::Last(KEPT);
     let mut cell = Cell::start_retaining(rt, alloc, config, 3, retention, OpenGate)?;
-    let count = produced(&rt, alloc, &mut cell, RECORDS);
+    let count = produced(&rt, alloc, &mut cell, Policy::NONE, (4, RECORDS));
     let lost = cell.lost();
     let journal = cell.close(&rt);
     assert!(rt; count == Some(12_000));
@@ -123,7 +110,7 @@ fn clients_outlast_lost_messages(rt: HostRuntime) -> Result<(), Fail> {
     };
     let retention = Retention::Last(3);
     let mut cell = Cell::start_retaining(rt, alloc, config, 1, retention, OpenGate)?;
-    let count = produced(&rt, alloc, &mut cell, 5);
+    let count = produced(&rt, alloc, &mut cell, Policy::NONE, (4, 5));
     drop(cell.close(&rt));
     assert!(rt; count.is_some());
     Ok(())
