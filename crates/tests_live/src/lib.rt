@@ -10,8 +10,6 @@ mod gate;
 #[cfg(test)]
 mod parking;
 #[cfg(test)]
-mod parks;
-#[cfg(test)]
 mod producers;
 #[cfg(test)]
 mod refusals;
@@ -19,7 +17,5 @@ mod refusals;
 mod restarts;
 #[cfg(test)]
 mod resuming;
-#[cfg(test)]
-mod scripts;
 #[cfg(test)]
 mod watching;
