@@ -12,8 +12,6 @@ mod keeping;
 #[cfg(test)]
 mod parking;
 #[cfg(test)]
-mod parks;
-#[cfg(test)]
 mod producers;
 #[cfg(test)]
 mod refusals;
@@ -21,7 +19,5 @@ mod refusals;
 mod restarts;
 #[cfg(test)]
 mod resuming;
-#[cfg(test)]
-mod scripts;
 #[cfg(test)]
 mod watching;
