@@ -22,7 +22,12 @@ const KEPT: u32 = 100_000;
 
 const RECORDS: u64 = 3_000;
 
-/// Holds up the master once, before it takes a Look: for a second.
+/// How many entries stay where a message is to be lost, and for how many milliseconds the master is held up then: the ticks of that time are more.
+const FEW: u32 = 8;
+
+const HELD_MS: u64 = 500;
+
+/// Holds up the master once, before it takes a Look.
 #[derive(Drop)]
 struct LookGate<R: Clock + Copy + Drop> {
     clock: R,
@@ -44,7 +49,7 @@ impl<R: Clock + Copy + Drop> Gate for LookGate<R> {
             return;
         }
         if self.held.fetch_add(1, Ordering::SeqCst) == 0 {
-            thread::sleep(&self.clock, Duration::from_secs(1));
+            thread::sleep(&self.clock, Duration::from_millis(HELD_MS));
         }
     }
 }
@@ -87,7 +92,7 @@ fn a_message_that_comes_too_late_is_lost(rt: HostRuntime) -> Result<(), Fail> {
         clock: rt,
         held: Arc::new(alloc, AtomicU64::new(0))?,
     };
-    let retention = Retention::Last(4);
+    let retention = Retention::Last(FEW);
     let mut cell = Cell::start_retaining(rt, alloc, config, 1, retention, gate)?;
     let mut seat: ClientSeat = cell.client()?;
     // While the master is held up there are ticks of the client and the server; a later attempt is answered.
@@ -96,7 +101,7 @@ fn a_message_that_comes_too_late_is_lost(rt: HostRuntime) -> Result<(), Fail> {
     let journal = cell.close(&rt);
     assert!(rt; is_answered);
     assert!(rt; lost > 0);
-    assert!(rt; journal.first() == journal.len().saturating_sub(4));
+    assert!(rt; journal.first() == journal.len().saturating_sub(FEW as usize));
     Ok(())
 }
 
@@ -105,13 +110,16 @@ fn clients_outlast_lost_messages(rt: HostRuntime) -> Result<(), Fail> {
     let alloc = rt.alloc();
     let config = Config {
         attempt_ms: 100,
-        attempts: 2,
+        attempts: 10,
         ..small(1)
     };
     let retention = Retention::Last(3);
     let mut cell = Cell::start_retaining(rt, alloc, config, 1, retention, OpenGate)?;
     let count = produced(&rt, alloc, &mut cell, Policy::NONE, (4, 5));
+    let lost = cell.lost();
     drop(cell.close(&rt));
+    assert!(rt; lost > 0);
+    // No call was refused since its client was gone.
     assert!(rt; count.is_some());
     Ok(())
 }
