@@ -26,6 +26,7 @@ use Rattle.protocol.specs.Tables.{Table}
 use Rattle.protocol.specs.World.{files_seen}
 use Rattle.cell_world.specs.FileNames.{file_in}
 use Rattle.master_cell.specs.Opens.{OpensNot, OpensUp, down_over}
+use Rattle.master_cell.specs.Standing.{LoggedMasterState}
 use Rattle.master_cell.proofs.Again.{KeepsSettings, down_again, opened_settings, up_again}
 use Rattle.master_cell.proofs.Restarts.{not_begun, not_made}
 use Rattle.cell_core.specs.MasterSlots.{IsDiskLeft, IsLetGo, IsMasterOf, slot_state}
@@ -34,8 +35,8 @@ abbrev stopped : MasterState → MasterState
 stopped m = stopped_master m m.disk m.under_way
 
 -- the master that is held is the slot's
-pub held_is : (config : Config) (count : ℕ) (o : Option MasterState) (m : MasterState) (log : Option DiskLogState) (before : List DiskLogState) → o ≡ Some m → slot_state config count o log before ≡ m
-held_is config count o m log before is = ap (λ (x : Option MasterState). slot_state config count x log before) is
+pub held_is : (config : Config) (count : ℕ) (o : Option LoggedMasterState) (m : LoggedMasterState) (log : Option DiskLogState) (before : List DiskLogState) → o ≡ Some m → slot_state config count o log before ≡ m.state
+held_is config count o m log before is = ap (λ (x : Option LoggedMasterState). slot_state config count x log before) is
 
 -- one that isn't held is down
 none_up : (config : Config) (count : ℕ) (log : Option DiskLogState) (before : List DiskLogState) → (slot_state config count None log before).up ≡ false
@@ -43,10 +44,10 @@ none_up config count (Some l) before = refl
 none_up config count None [] = refl
 none_up config count None (l ∷ rest) = refl
 
-pub not_held : (config : Config) (count : ℕ) (o : Option MasterState) (log : Option DiskLogState) (before : List DiskLogState) → o ≡ None → (slot_state config count o log before).up ≡ false
-not_held config count o log before is = ap (λ (x : Option MasterState). (slot_state config count x log before).up) is ∙ none_up config count log before
+pub not_held : (config : Config) (count : ℕ) (o : Option LoggedMasterState) (log : Option DiskLogState) (before : List DiskLogState) → o ≡ None → (slot_state config count o log before).up ≡ false
+not_held config count o log before is = ap (λ (x : Option LoggedMasterState). (slot_state config count x log before).up) is ∙ none_up config count log before
 
-pub up_held : {P : Type 0} (config : Config) (count : ℕ) (o : Option MasterState) (log : Option DiskLogState) (before : List DiskLogState) (m : MasterState) → o ≡ None → slot_state config count o log before ≡ m → m.up ≡ true → P
+pub up_held : {P : Type 0} (config : Config) (count : ℕ) (o : Option LoggedMasterState) (log : Option DiskLogState) (before : List DiskLogState) (m : MasterState) → o ≡ None → slot_state config count o log before ≡ m → m.up ≡ true → P
 up_held config count o log before m is view up =
     let both : false ≡ true = sym (not_held config count o log before is) ∙ (ap (λ (x : MasterState). x.up) view ∙ up) in absurd cc
 
@@ -75,25 +76,25 @@ module _ (config : Config) (count : ℕ) (before now : List DiskLogState) (l : D
   of_log held is = after ∙ sym (ap (λ (x : Option DiskLogState). stopped (slot_state config count None x before)) is)
 
   -- its log was taken
-  pub log_taken : (o : Option MasterState) (held log : Option DiskLogState) → IsMasterOf config count (slot_state config count o held before) → IsLetGo o held log → log ≡ Some l
+  pub log_taken : (o : Option LoggedMasterState) (held log : Option DiskLogState) → IsMasterOf config count (slot_state config count o held before) → IsLetGo o held log → log ≡ Some l
       → slot_state config count None None now ≡ stopped (slot_state config count o held before)
   log_taken (Some m) held log of (x, found, disk, under_way) is =
       let same : x ≡ l = (let both = sym found ∙ is in cc) in
-      after ∙ down_is config count m l.disk l.under_way of (ap (λ (y : DiskLogState). y.disk) (sym same) ∙ disk) (ap (λ (y : DiskLogState). y.under_way) (sym same) ∙ under_way)
+      after ∙ down_is config count m.state l.disk l.under_way of (ap (λ (y : DiskLogState). y.disk) (sym same) ∙ disk) (ap (λ (y : DiskLogState). y.under_way) (sym same) ∙ under_way)
   log_taken None held log of go is = of_log held (sym go ∙ is)
 
   -- and so a stop leaves of its disk what it had
-  pub disk_taken : (f : FuseState) (o : Option MasterState) (held log : Option DiskLogState) → IsLetGo o held log → log ≡ Some l → LeavesDecided (λ (d : FuseState). LeftBy d.disk) f l.disk l.under_way
+  pub disk_taken : (f : FuseState) (o : Option LoggedMasterState) (held log : Option DiskLogState) → IsLetGo o held log → log ≡ Some l → LeavesDecided (λ (d : FuseState). LeftBy d.disk) f l.disk l.under_way
       → (let m = slot_state config count o held before in LeavesDecided (λ (d : FuseState). LeftBy d.disk) f m.disk m.under_way)
   disk_taken f (Some m) held log (x, found, disk, under_way) is leaves =
       let same : x ≡ l = (let both = sym found ∙ is in cc) in
-      subst (λ (d : LogDisk). LeavesDecided (λ (e : FuseState). LeftBy e.disk) f d m.under_way) (ap (λ (y : DiskLogState). y.disk) (sym same) ∙ disk)
+      subst (λ (d : LogDisk). LeavesDecided (λ (e : FuseState). LeftBy e.disk) f d m.state.under_way) (ap (λ (y : DiskLogState). y.disk) (sym same) ∙ disk)
       (subst (λ (u : List LogChange). LeavesDecided (λ (e : FuseState). LeftBy e.disk) f l.disk u) (ap (λ (y : DiskLogState). y.under_way) (sym same) ∙ under_way) leaves)
   disk_taken f None held log go is leaves =
       subst (λ (x : Option DiskLogState). (let m = slot_state config count None x before in LeavesDecided (λ (d : FuseState). LeftBy d.disk) f m.disk m.under_way)) (sym (sym go ∙ is)) leaves
 
 -- no log was there
-pub none_taken : (config : Config) (count : ℕ) (before : List DiskLogState) (o : Option MasterState) (held log : Option DiskLogState) → IsLetGo o held log → log ≡ None
+pub none_taken : (config : Config) (count : ℕ) (before : List DiskLogState) (o : Option LoggedMasterState) (held log : Option DiskLogState) → IsLetGo o held log → log ≡ None
     → (slot_state config count None None before ≡ stopped (slot_state config count o held before)) × (slot_state config count o held before ≡ slot_state config count None None before)
 none_taken config count before (Some m) held log (x, found, disk, under_way) is = absurd cc
 none_taken config count before None held log go is =
@@ -103,7 +104,7 @@ none_taken config count before None held log go is =
     )
 
 -- the disk of one that isn't held, nor its log
-pub disk_held : (config : Config) (count : ℕ) (before : List DiskLogState) (o : Option MasterState) (held log : Option DiskLogState) (disk : Option FuseState) → IsLetGo o held log → log ≡ None → IsDiskLeft config count o held before disk
+pub disk_held : (config : Config) (count : ℕ) (before : List DiskLogState) (o : Option LoggedMasterState) (held log : Option DiskLogState) (disk : Option FuseState) → IsLetGo o held log → log ≡ None → IsDiskLeft config count o held before disk
     → (let m = slot_state config count o held before in IfSome disk (λ f. LeavesDecided (λ (d : FuseState). LeftBy d.disk) f m.disk m.under_way))
 disk_held config count before (Some m) held log disk (x, found, d, u) is left = absurd cc
 disk_held config count before None (Some l) log disk go is left = absurd cc
@@ -111,7 +112,7 @@ disk_held config count before None None log None go is left = tt
 disk_held config count before None None log (Some f) go is left = left
 
 -- or of one that can't be opened
-pub disk_kept : (config : Config) (count : ℕ) (before : List DiskLogState) (o : Option MasterState) (log : Option DiskLogState) (f : FuseState) (m : MasterState) → slot_state config count o log before ≡ m
+pub disk_kept : (config : Config) (count : ℕ) (before : List DiskLogState) (o : Option LoggedMasterState) (log : Option DiskLogState) (f : FuseState) (m : MasterState) → slot_state config count o log before ≡ m
     → LeavesDecided (λ (d : FuseState). LeftBy d.disk) f m.disk m.under_way → IsDiskLeft config count o log before (Some f)
 disk_kept config count before (Some x) log f m view left = tt
 disk_kept config count before None (Some l) f m view left = tt

@@ -255,7 +255,7 @@ impl<A: Allocator + Clone> RestartedMaster for MasterSlot<A> {
                 self.master = Some(master);
                 no_output(self.alloc)
             }
-            Err(log) => {
+            Err((log, _cause)) => {
                 self.log = Some(log);
                 down_output(self.alloc)
             }

@@ -21,7 +21,7 @@ pub(crate) fn file_of<L: OperationLog, A: Allocator + Clone>(
     master: &LoggedMaster<L, A>,
     path: &Path,
 ) -> Option<FileId>
-    ensures { result ≡ option_map file_id (file_in master.now path.now) }
+    ensures { result ≡ option_map file_id (file_in master.now.state path.now) }
 {
     let Some(state) = master.state() else {
         return None;

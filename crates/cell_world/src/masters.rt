@@ -30,7 +30,11 @@ pub(crate) fn master_steps<M: CellMaster>(
         master.stop();
         return None;
     }
-    let Outcome { out, seen } = master.step(now, kept.network.named(given));
+    let Outcome {
+        out,
+        seen,
+        cause: _,
+    } = master.step(now, kept.network.named(given));
     let StepOut { sent, answer, .. } = out;
     kept.takes(sent, seen);
     answer

@@ -48,7 +48,11 @@ pub(crate) fn server_steps(
         servers[place].stop();
         return None;
     }
-    let Outcome { out, seen } = servers[place].step(now, kept.network.named(given));
+    let Outcome {
+        out,
+        seen,
+        cause: _,
+    } = servers[place].step(now, kept.network.named(given));
     let StepOut { sent, answer, .. } = out;
     kept.takes(sent, seen);
     answer

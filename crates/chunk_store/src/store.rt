@@ -111,6 +111,13 @@ impl<D: Disk> Store<D> {
         self.volume.into_disk()
     }
 
+    /// How often its disk has failed.
+    pub fn failures(&self) -> u64
+        ensures { result ≡ D.failed self.now.disk }
+    {
+        self.volume.failures()
+    }
+
     /// Lets that many calls of the disk pass and fails each later one, where the disk can be told to fail. The store stays as it is.
     pub fn arm(&mut self, calls: u64)
         ensures still_open { (d : ServerDisk) → IsOpen D.seen D.may_leave self.old d → IsOpen D.seen D.may_leave self.new d }

@@ -27,6 +27,12 @@ impl<D: Disk> StoreVolume<D> {
         self.disk
     }
 
+    pub(crate) fn failures(&self) -> u64
+        ensures { result ≡ D.failed self.now.disk }
+    {
+        self.disk.failures()
+    }
+
     pub(crate) fn arm(&mut self, calls: u64)
         ensures still_open { (d : ServerDisk) → IsOpen D.seen D.may_leave self.old d → IsOpen D.seen D.may_leave self.new d }
         ensures unchanged { self.new ≡ record self.old { disk = self.new.disk } }

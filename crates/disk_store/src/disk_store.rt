@@ -173,6 +173,10 @@ impl<D: Disk> ReplicaStore for DiskStore<D> {
 
     ghost failed = { λ s. s.failed };
 
+    fn failures(&self) -> u64 {
+        self.store.failures()
+    }
+
     fn row(&self, handle: Handle) -> Option<Row> {
         self.known.row(handle)
     }

@@ -161,6 +161,11 @@ module _ (disk : LogDisk) (under_way : List LogChange) (config : Config) (count 
   drafted_went r out seen r_is out_is seen_is counts made =
       went_as disk under_way config count p0 moment i rest d.planned d.goes new_disk new_under_way p2 r cs out seen d.changes_are d.rest r_is out_is seen_is counts made
 
+-- a step that puts it down, as the code gives it
+pub as_down : (m new : MasterState) (moment : ℕ) (i : NodeInput) (out : StepOut) (seen : List Seen) → out ≡ down_output → seen ≡ [] → MasterSteps m moment i down_output [] new → MasterSteps m moment i out seen new
+as_down m new moment i out seen o s steps =
+    subst (λ (x : StepOut). MasterSteps m moment i x seen new) (sym o) (subst (λ (x : List Seen). MasterSteps m moment i down_output x new) (sym s) steps)
+
 -- a master that is down, as it was made, takes no step
 pub stays_down : (m : MasterState) (moment : ℕ) (i : NodeInput) (out : StepOut) (seen : List Seen) → m.up ≡ false → out ≡ no_output → seen ≡ [] → MasterSteps m moment i out seen m
 stays_down m moment i out seen down o s =
@@ -186,11 +191,11 @@ pub is_up_as : (up : Bool) (disk : LogDisk) (under_way : List LogChange) (config
     → standing true disk under_way config count p ≡ m
 is_up_as up disk under_way config count p m is view = ap (λ b. standing b disk under_way config count p) (sym is) ∙ view
 
-pub is_down_as : (up : Bool) (disk : LogDisk) (under_way : List LogChange) (config : Config) (count : ℕ) (p : PlanState) (m : MasterState) → m.up ≡ false → standing up disk under_way config count p ≡ m
-    → standing false disk under_way config count p ≡ m
-is_down_as false disk under_way config count p m down view = view
-is_down_as true disk under_way config count p m down view = let bad : true ≡ false = ap (λ (x : MasterState). x.up) view ∙ down in absurd cc
-
 pub up_is : (up : Bool) (disk : LogDisk) (under_way : List LogChange) (config : Config) (count : ℕ) (p : PlanState) (m : MasterState) → up ≡ false → standing up disk under_way config count p ≡ m → m.up ≡ false
 up_is false disk under_way config count p m is view = ap (λ (x : MasterState). x.up) (sym view)
 up_is true disk under_way config count p m is view = absurd cc
+
+-- whether it is up
+pub is_standing : (up : Bool) (disk : LogDisk) (under_way : List LogChange) (config : Config) (count : ℕ) (p : PlanState) (m : MasterState) → standing up disk under_way config count p ≡ m → up ≡ m.up
+is_standing true disk under_way config count p m view = ap (λ (x : MasterState). x.up) view
+is_standing false disk under_way config count p m view = ap (λ (x : MasterState). x.up) view

@@ -8,7 +8,7 @@ use Rattle.oplog.specs.Reopening.{IsReopened}
 use Rattle.stored_log.specs.Kept.{LeavesDecided}
 use Rattle.protocol.specs.Logged.{LogDisk, LogChange}
 use Rattle.protocol.specs.Master.{MasterState}
-use Rattle.master_cell.specs.Opens.{OpensNot, OpensUp, down_over}
+use Rattle.master_cell.specs.Opens.{HasNoRoom, OpensNot, OpensUp, down_over}
 
 -- the log that stood on the disk was read, and the master is up over it
 pub record OpensOver (config : Config) (count : ℕ) (disk : List ℕ) (moment : ℕ) (new : MasterState) : Type 0 where
@@ -33,3 +33,9 @@ pub record NotRead {D : Type 0} (seen : D → List ℕ) (may_leave : D → List 
 -- The master could not be opened: its log couldn't, or it could not be up over it.
 abbrev pub FailsOver : {D : Type 0} (seen : D → List ℕ) (may_leave : D → List ℕ → Type 0) (moment_of : D → ℕ) (left_since : D → ℕ → List ℕ → Type 0) → Config → ℕ → (disk : D) (moment : ℕ) (left : D) → Type 0
 FailsOver seen may_leave moment_of left_since config count disk moment left = NotRead seen may_leave moment_of left_since disk left ⊎ StopsOver may_leave config count (seen disk) moment left
+
+-- The log that stands on the disk has no room for the epoch that an opening adds to it.
+pub record LacksRoom (config : Config) (count : ℕ) (disk : List ℕ) (moment : ℕ) : Type 0 where
+  pub log : LogDisk
+  pub stood : IsLogOf log.items log.records disk
+  pub full : HasNoRoom config count log moment

@@ -12,4 +12,4 @@ fault_text (Log fault) = log_text fault
 
 abbrev pub opening_fault_text : OpeningFault → List ℕ
 opening_fault_text (opening.Log fault) = log_text fault
-opening_fault_text opening.Down = codes "master is down"
+opening_fault_text (opening.Down cause) = codes "master is down"

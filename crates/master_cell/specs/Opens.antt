@@ -6,7 +6,7 @@ use Rattle.protocol.specs.Choice.{Ending, Goes, Stops}
 use Rattle.protocol.specs.Seen.{Taken}
 use Rattle.protocol.specs.Logged.{LogDisk, LogChange}
 use Rattle.protocol.specs.Master.{MasterState, stopped_master}
-use Rattle.protocol.specs.MasterStep.{started_master, opening, opens_as}
+use Rattle.protocol.specs.MasterStep.{started_master, opening, opens_as, has_opened}
 use Rattle.protocol.specs.Conforms.{GivesMaster}
 
 -- it went through, or stopped after so many changes
@@ -43,3 +43,9 @@ pub record OpensNot (old : MasterState) (moment : ℕ) (disk : LogDisk) (under_w
   pub opens : Opens old moment out new
   pub disk_is : disk ≡ new.disk
   pub under_way_is : under_way ≡ new.under_way
+
+-- The log has no room for the epoch that an opening over this disk adds to it.
+abbrev pub HasNoRoom : Config → ℕ → LogDisk → ℕ → Type 0
+HasNoRoom config count disk moment =
+    let started : MasterState = started_master config count disk moment in
+    has_opened started (opening started) ≡ false

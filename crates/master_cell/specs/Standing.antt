@@ -15,3 +15,11 @@ pub record IsResting (under_way : List LogChange) (config : Config) (server_coun
   pub none : under_way ≡ []
   pub config_is : p.config ≡ config
   pub count_is : p.server_count ≡ server_count
+
+-- A master over a log: what it is, and how often the disk of its log has failed.
+pub record LoggedMasterState : Type 0 where
+  pub state : MasterState
+  pub failed : ℕ
+
+abbrev pub logged_master : Bool → LogDisk → List LogChange → Config → ℕ → PlanState → ℕ → LoggedMasterState
+logged_master up disk under_way config server_count p failed = record { state = standing up disk under_way config server_count p; failed = failed }

@@ -1,10 +1,11 @@
 //! How a step ends: what was planned is made.
 
-ghost use Rattle.std.specs.Prelude.{◌≡◌, ◌*◌, ◌&&◌, nat_le, []};
+ghost use Rattle.std.specs.Prelude.{◌≡◌, ◌<◌, ◌*◌, ◌&&◌, nat_le, [], None};
 ghost use Rattle.gfs_types.specs.Counters.{counter_limit};
 ghost use Rattle.protocol.specs.MasterStep.{is_within_limits};
 ghost use Rattle.master_plan.specs.Changes.{changes_of};
 ghost use Rattle.master_plan.specs.Plans.{known};
+ghost use Rattle.step_outcome.specs.declared.down_cause.DownCause.TheVariants as causes;
 ghost use Rattle.master_cell.specs.Ends.{AreMade, step_out};
 
 use crate::commit::commit;
@@ -15,6 +16,7 @@ use messages::event::StepOut;
 use operation_log::log::OperationLog;
 use std::alloc::Allocator;
 use step_outcome::Outcome;
+use step_outcome::down_cause::DownCause;
 
 // Makes the changes of a plan on the log. False: a change failed, or a counter is past its limit, and the master is to go down.
 pub(crate) fn makes<L: OperationLog, A: Allocator + Clone>(log: &mut L, plan: &mut Plan<A>) -> bool
@@ -39,10 +41,23 @@ pub(crate) fn makes_all<L: OperationLog, A: Allocator + Clone>(
     is_within_limits(plan) && commit(log, changes.as_slice()).is_ok()
 }
 
+// Why it is to go down, where its log's disk had failed so often before.
+pub(crate) fn cause_since<L: OperationLog>(log: &L, before: u64) -> DownCause
+    ensures device { result ≡ causes.Device → before < L.failed log.now }
+    ensures room { result ≡ causes.NoRoom → ⊥ }
+{
+    if log.failures() > before {
+        DownCause::Device
+    } else {
+        DownCause::Memory
+    }
+}
+
 // What a step gives that went through, and what is seen of it, taken out of its plan.
 pub(crate) fn outcome_of<A: Allocator + Clone>(plan: &mut Plan<A>) -> Outcome
     ensures out { result.out ≡ step_out plan.old }
     ensures seen { result.seen ≡ plan.old.seen }
+    ensures cause { result.cause ≡ None }
     ensures rest { plan.new ≡ record plan.old { sent = []; seen = [] } }
 {
     let sent = plan.take_sent();
@@ -54,6 +69,7 @@ pub(crate) fn outcome_of<A: Allocator + Clone>(plan: &mut Plan<A>) -> Outcome
     Outcome {
         out,
         seen: plan.take_seen(),
+        cause: None,
     }
 }
 

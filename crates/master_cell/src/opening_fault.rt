@@ -6,14 +6,15 @@ ghost use Rattle.master_cell.specs.Faults.{opening_fault_text};
 use operation_log::fault::OperationLogFault;
 use std::error::Error;
 use std::fmt;
+use step_outcome::down_cause::DownCause;
 
 /// Why a master can't be opened over a disk.
 #[derive(Clone, Copy, Debug, PartialEq, Eq)]
 pub enum OpeningFault {
     /// The disk's log can't be opened.
     Log(OperationLogFault),
-    /// The log was read, and the master could not be up: the disk failed, the log has no room for the new epoch, or memory was refused.
-    Down,
+    /// The log could be opened, and the master can't be up over it.
+    Down(DownCause),
 }
 
 impl fmt::Display for OpeningFault {
@@ -22,7 +23,7 @@ impl fmt::Display for OpeningFault {
     fn fmt<W: fmt::Write>(&self, f: &mut fmt::Formatter<W>) -> fmt::Result {
         match self {
             OpeningFault::Log(fault) => write!(f, "{fault}"),
-            OpeningFault::Down => write!(f, "master is down"),
+            OpeningFault::Down(_) => write!(f, "master is down"),
         }
     }
 }

@@ -1,11 +1,18 @@
 //! How the master begins.
 
-ghost use Rattle.std.specs.Prelude.{◌≡◌, ◌≤◌, [], IfOk};
+ghost use Rattle.std.specs.Prelude.{◌≡◌, ◌<◌, ◌≤◌, [], true, IfErr, IfOk, OnErr};
 ghost use Rattle.protocol.specs.Tables.{moment_limit};
 ghost use Rattle.protocol.specs.Logged.{first_logged};
+ghost use Rattle.protocol.specs.Seen.{no_output, down_output};
 ghost use Rattle.protocol.specs.MasterStep.{started_master, opening, has_opened};
 ghost use Rattle.master_plan.specs.Plans.{started, doing};
+ghost use Rattle.step_outcome.specs.declared.down_cause.DownCause.TheVariants as causes;
+ghost use Rattle.master_cell.specs.Opens.{HasNoRoom, Opens, down_over};
+ghost use Rattle.master_cell.specs.Shown.{shown_in};
+ghost use Rattle.master_cell.specs.Standing.{standing, IsResting};
 
+use crate::ended::{cause_since, makes};
+use crate::shown::{ShownFiles, shown_of};
 use gfs_types::config::Config;
 use gfs_types::ids::{MAX_COUNTER, Moment};
 use gfs_types::shape::Shape;
@@ -17,6 +24,7 @@ use master_replay::restart::replayed;
 use master_state::state::State;
 use operation_log::log::OperationLog;
 use std::alloc::{Allocator, Global};
+use step_outcome::down_cause::DownCause;
 
 // What the master of a new cell knows.
 pub(crate) fn first_plan<A: Allocator + Clone>(
@@ -33,16 +41,16 @@ pub(crate) fn first_plan<A: Allocator + Clone>(
     Plan::new(alloc, config, server_count, state, Moment(0))
 }
 
-/// An opening that is planned.
+// An opening that is planned.
 #[derive(Drop)]
-pub(crate) struct Opening<A: Allocator> {
-    pub(crate) plan: Plan<A>,
+struct Opening<A: Allocator> {
+    plan: Plan<A>,
     // whether the log has room for the epoch
-    pub(crate) is_logged: bool,
+    is_logged: bool,
 }
 
 // What a master knows that has read its log, with a new epoch to be logged.
-pub(crate) fn opens<L: OperationLog, A: Allocator + Clone>(
+fn opens<L: OperationLog, A: Allocator + Clone>(
     log: &mut L,
     alloc: Global,
     config: Config,
@@ -72,4 +80,46 @@ pub(crate) fn opens<L: OperationLog, A: Allocator + Clone>(
     logs(log, &mut plan, Record::Epoch { epoch: epoch + 1 })?;
     let is_logged = plan.state().epoch() == epoch + 1;
     Ok(Opening { plan, is_logged })
+}
+
+/// Reads the log, and logs a new epoch: what the master then knows. The chunks of its files are put into `shown`. An error: it can't be up,
+/// and why; the log is as far as it came.
+pub(crate) fn opens_over<L: OperationLog, A: Allocator + Clone>(
+    log: &mut L,
+    alloc: Global,
+    config: Config,
+    server_count: u16,
+    names: A,
+    now: Moment,
+    shown: &mut ShownFiles,
+) -> Result<Plan<A>, DownCause>
+    requires decided { L.under_way log.old ≡ [] }
+    requires moment { now.0 ≤ moment_limit }
+    requires skew { config.skew_ms ≤ 60000 }
+    requires lease { config.lease_ms ≤ 3600000 }
+    ensures up { IfOk result (λ p. Opens (down_over config server_count (L.disk log.old) []) now.0 no_output (standing true (L.disk log.new) (L.under_way log.new) config server_count p)) }
+    ensures resting { IfOk result (λ p. IsResting (L.under_way log.new) config server_count p) }
+    ensures down { OnErr result (Opens (down_over config server_count (L.disk log.old) []) now.0 down_output (down_over config server_count (L.disk log.new) (L.under_way log.new))) }
+    ensures files { IfOk result (λ p. shown_in shown.new ≡ p.logged.table.files) }
+    ensures files_of_error { OnErr result (shown_in shown.new ≡ shown_in shown.old) }
+    ensures device { IfErr result (λ cause. cause ≡ causes.Device → L.failed log.old < L.failed log.new) }
+    ensures room { IfErr result (λ cause. cause ≡ causes.NoRoom → HasNoRoom config server_count (L.disk log.old) now.0) }
+{
+    let before = log.failures();
+    let Ok(opening) = opens(log, alloc, config, server_count, names, now) else {
+        return Err(cause_since(log, before));
+    };
+    let is_logged = opening.is_logged;
+    let mut plan = opening.plan;
+    let Ok(files) = shown_of(alloc, plan.state().table()) else {
+        return Err(DownCause::Memory);
+    };
+    if !makes(log, &mut plan) {
+        return Err(cause_since(log, before));
+    }
+    if !is_logged {
+        return Err(DownCause::NoRoom);
+    }
+    *shown = files;
+    Ok(plan)
 }

@@ -194,6 +194,10 @@ impl ReplicaStore for MemoryStore {
 
     ghost failed = { λ _. 0 };
 
+    fn failures(&self) -> u64 {
+        0
+    }
+
     fn row(&self, handle: Handle) -> Option<Row> {
         Some(self.replica(handle)?.row())
     }

@@ -44,6 +44,10 @@ pub trait OperationLog {
     fn fits(&self, entry: &Record) -> bool
         ensures { result ≡ record_fits (log_bytes self.now) (disk self.now).items (disk self.now).records entry.now };
 
+    /// How often its disk has failed since it began.
+    fn failures(&self) -> u64
+        ensures { result ≡ failed self.now };
+
     /// Adds a record, so that each later stop leaves it. Nothing has changed at Full, which comes exactly where it doesn't fit, and at
     /// Unwritable, which comes exactly where it would fit and the format has no bytes for it. After another error it may be under way.
     fn append(&mut self, entry: &Record) -> Result<(), OperationLogFault>

@@ -103,6 +103,10 @@ impl OperationLog for MemoryLog {
         used_with(self.log_bytes, self.used, AROUND_RECORD, entry).is_some()
     }
 
+    fn failures(&self) -> u64 {
+        0
+    }
+
     fn append(&mut self, entry: &Record) -> Result<(), OperationLogFault> {
         let Some(used) = used_with(self.log_bytes, self.used, AROUND_RECORD, entry) else {
             return Err(OperationLogFault::Full);

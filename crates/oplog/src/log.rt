@@ -100,6 +100,7 @@ impl<D: Disk> Log<D> {
         ensures read_of_error { IfErr result (λ e. IsReopened (D.seen disk) (D.seen e.0)) }
         ensures any_moment { IfOk result (λ x. LeavesOnly D.moment D.left_since disk x.0.disk (IsOpening (D.seen disk) (D.may_leave disk))) }
         ensures any_moment_of_error { IfErr result (λ e. LeavesOnly D.moment D.left_since disk e.0 (IsOpening (D.seen disk) (D.may_leave disk))) }
+        ensures later { IfOk result (λ x. D.failed disk ≤ D.failed x.0.disk) }
         ensures cause { IfErr result (λ e. e.1 ≡ faults.Device → D.failed disk < D.failed e.0) }
     {
         match open_disk(&mut disk, alloc) {
@@ -159,6 +160,13 @@ impl<D: Disk> Log<D> {
         ensures within { result < self.now.size }
     {
         self.volume.end
+    }
+
+    /// How often its disk has failed.
+    pub fn failures(&self) -> u64
+        ensures { result ≡ D.failed self.now.disk }
+    {
+        self.volume.disk.failures()
     }
 
     /// Whether the log is open and the record has room. Where an open log has none, `append` answers `Full`.

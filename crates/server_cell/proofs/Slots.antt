@@ -15,6 +15,7 @@ use Rattle.disk_store.proofs.Again.{Found, found, still_left}
 use Rattle.protocol.specs.Conforms.{ServerRestarts}
 use Rattle.protocol.specs.Seen.{no_output}
 use Rattle.protocol.specs.Server.{ServerState, started_server, stopped_server}
+use Rattle.server_handlers.specs.Standing.{HeldServerState}
 use Rattle.server_cell.specs.Settings.{IsServerOf, KeepsSettings}
 use Rattle.server_cell.specs.Slots.{IsDiskLeft, slot_state}
 use Rattle.server_cell.proofs.Settings.{still_of}
@@ -26,51 +27,52 @@ stopped s = stopped_server s s.disk s.under_way
 -- Which server a slot holds.
 
 -- the server that is held is its state
-pub held_is : (config : Config) (id : ℕ) (o : Option ServerState) (s : ServerState) (before : List ServerState) → o ≡ Some s → slot_state config id o before ≡ s
-held_is config id o s before is = ap (λ (x : Option ServerState). slot_state config id x before) is
+pub held_is : (config : Config) (id : ℕ) (o : Option HeldServerState) (s : HeldServerState) (before : List HeldServerState) → o ≡ Some s → slot_state config id o before ≡ s.state
+held_is config id o s before is = ap (λ (x : Option HeldServerState). slot_state config id x before) is
 
 -- and goes on to be one of its settings
-pub goes_on : (config : Config) (id : ℕ) (o : Option ServerState) (s t : ServerState) (before : List ServerState) → o ≡ Some s → IsServerOf config id (slot_state config id o before) → KeepsSettings s t → IsServerOf config id t
-goes_on config id o s t before is h kept = still_of config id s t (subst (IsServerOf config id) (held_is config id o s before is) h) kept
+pub goes_on : (config : Config) (id : ℕ) (o : Option HeldServerState) (s : HeldServerState) (t : ServerState) (before : List HeldServerState) → o ≡ Some s → IsServerOf config id (slot_state config id o before) → KeepsSettings s.state t
+    → IsServerOf config id t
+goes_on config id o s t before is h kept = still_of config id s.state t (subst (IsServerOf config id) (held_is config id o s before is) h) kept
 
 -- one that isn't held is down
-none_up : (config : Config) (id : ℕ) (before : List ServerState) → (slot_state config id None before).up ≡ false
+none_up : (config : Config) (id : ℕ) (before : List HeldServerState) → (slot_state config id None before).up ≡ false
 none_up config id [] = refl
 none_up config id (s ∷ rest) = refl
 
-pub not_held : (config : Config) (id : ℕ) (o : Option ServerState) (before : List ServerState) → o ≡ None → (slot_state config id o before).up ≡ false
-not_held config id o before is = ap (λ (x : Option ServerState). (slot_state config id x before).up) is ∙ none_up config id before
+pub not_held : (config : Config) (id : ℕ) (o : Option HeldServerState) (before : List HeldServerState) → o ≡ None → (slot_state config id o before).up ≡ false
+not_held config id o before is = ap (λ (x : Option HeldServerState). (slot_state config id x before).up) is ∙ none_up config id before
 
 -- so one that is up is held
-pub up_held : {P : Type 0} (config : Config) (id : ℕ) (o : Option ServerState) (before : List ServerState) (s : ServerState) → o ≡ None → slot_state config id o before ≡ s → s.up ≡ true → P
+pub up_held : {P : Type 0} (config : Config) (id : ℕ) (o : Option HeldServerState) (before : List HeldServerState) (s : ServerState) → o ≡ None → slot_state config id o before ≡ s → s.up ≡ true → P
 up_held config id o before s is view up =
     let both : false ≡ true = sym (not_held config id o before is) ∙ (ap (λ (x : ServerState). x.up) view ∙ up) in absurd cc
 
 -- a server that is let go is down
-pub let_go : (config : Config) (id : ℕ) (o : Option ServerState) (s : ServerState) (before now : List ServerState) → o ≡ Some s → now ≡ s ∷ [] → slot_state config id None now ≡ stopped (slot_state config id o before)
+pub let_go : (config : Config) (id : ℕ) (o : Option HeldServerState) (s : HeldServerState) (before now : List HeldServerState) → o ≡ Some s → now ≡ s ∷ [] → slot_state config id None now ≡ stopped (slot_state config id o before)
 let_go config id o s before now is items = ap (slot_state config id None) items ∙ sym (ap stopped (held_is config id o s before is))
 
-none_down : (config : Config) (id : ℕ) (before : List ServerState) → slot_state config id None before ≡ stopped (slot_state config id None before)
+none_down : (config : Config) (id : ℕ) (before : List HeldServerState) → slot_state config id None before ≡ stopped (slot_state config id None before)
 none_down config id [] = refl
 none_down config id (s ∷ rest) = refl
 
-pub stays_down : (config : Config) (id : ℕ) (o : Option ServerState) (before : List ServerState) → o ≡ None → slot_state config id o before ≡ stopped (slot_state config id o before)
+pub stays_down : (config : Config) (id : ℕ) (o : Option HeldServerState) (before : List HeldServerState) → o ≡ None → slot_state config id o before ≡ stopped (slot_state config id o before)
 stays_down config id o before is =
-    ap (λ (x : Option ServerState). slot_state config id x before) is ∙ (none_down config id before ∙ sym (ap (λ (x : Option ServerState). stopped (slot_state config id x before)) is))
+    ap (λ (x : Option HeldServerState). slot_state config id x before) is ∙ (none_down config id before ∙ sym (ap (λ (x : Option HeldServerState). stopped (slot_state config id x before)) is))
 
 -- a server that is down has its settings
 pub stopped_of : (config : Config) (id : ℕ) (s t : ServerState) → t ≡ stopped s → IsServerOf config id s → IsServerOf config id t
 stopped_of config id s t is h = subst (IsServerOf config id) (sym is) (record { config_is = h.config_is; id_is = h.id_is; chunk_is = h.chunk_is; block_is = h.block_is; slots_is = h.slots_is })
 
-module _ (config : Config) (id : ℕ) (before : List ServerState) where
+module _ (config : Config) (id : ℕ) (before : List HeldServerState) where
   -- the disk of one that isn't held
-  pub disk_taken : (o : Option ServerState) (disk : Option FuseState) → o ≡ None → IsDiskLeft config id o before disk → (let s = slot_state config id o before in IfSome disk (λ f. LeavesHolding (LeftBy f.disk) s.disk s.under_way))
+  pub disk_taken : (o : Option HeldServerState) (disk : Option FuseState) → o ≡ None → IsDiskLeft config id o before disk → (let s = slot_state config id o before in IfSome disk (λ f. LeavesHolding (LeftBy f.disk) s.disk s.under_way))
   disk_taken (Some s) disk is left = absurd cc
   disk_taken None None is left = tt
   disk_taken None (Some f) is left = left
 
   -- or of one that can't be opened
-  pub disk_kept : (o : Option ServerState) (f : FuseState) (s : ServerState) → slot_state config id o before ≡ s → LeavesHolding (LeftBy f.disk) s.disk s.under_way → IsDiskLeft config id o before (Some f)
+  pub disk_kept : (o : Option HeldServerState) (f : FuseState) (s : ServerState) → slot_state config id o before ≡ s → LeavesHolding (LeftBy f.disk) s.disk s.under_way → IsDiskLeft config id o before (Some f)
   disk_kept (Some x) f s view left = tt
   disk_kept None f s view left = subst (λ (x : ServerState). LeavesHolding (LeftBy f.disk) x.disk x.under_way) (sym view) left
 

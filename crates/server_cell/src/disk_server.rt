@@ -11,6 +11,7 @@ ghost use Rattle.protocol.specs.Server.{started_server, stopped_server};
 ghost use Rattle.protocol.specs.Tables.{moment_limit};
 ghost use Rattle.protocol.specs.declared.seen.Seen.{Seen};
 ghost use Rattle.replica_store.specs.Replicas.{ServerDisk, row_at};
+ghost use Rattle.step_outcome.specs.Causes.{IsDownFor};
 ghost use Rattle.server_cell.specs.Inputs.{input_of};
 ghost use Rattle.server_cell.specs.Settings.{KeepsSettings};
 ghost use Rattle.server_store.specs.declared.fault.ReplicaStoreFault.TheVariants as faults;
@@ -53,9 +54,9 @@ pub struct Server<D: Disk + Drop> {
 impl<D: Disk + Drop> Model for Server<D> {
     ghost use Rattle.std.specs.FinMap as map;
     ghost use Rattle.std.specs.Coded.{codes, coded_ℕ};
-    ghost use Rattle.protocol.specs.Server.{ServerState};
+    ghost use Rattle.server_handlers.specs.Standing.{HeldServerState};
 
-    ghost Value = { ServerState };
+    ghost Value = { HeldServerState };
 
     ghost coded = { Prim.hlevel (codes, map.code, coded_ℕ) };
 
@@ -80,7 +81,7 @@ impl<D: Disk + Drop> Server<D> {
         requires skew { config.skew_ms ≤ 60000 }
         requires moment { now.0 ≤ moment_limit }
         requires holds { (d : ServerDisk) × HoldsReplicas config.chunk config.block config.slots (D.seen disk) d }
-        ensures opened { (d : ServerDisk) → HoldsReplicas config.chunk config.block config.slots (D.seen disk) d → IfOk result (λ s. s ≡ started_server config id.0 d now.0) }
+        ensures opened { (d : ServerDisk) → HoldsReplicas config.chunk config.block config.slots (D.seen disk) d → IfOk result (λ s. s.state ≡ started_server config id.0 d now.0) }
         ensures held { IfErr result (λ e. (d : ServerDisk) → HoldsReplicas config.chunk config.block config.slots (D.seen disk) d → HoldsReplicas config.chunk config.block config.slots (D.seen e.0) d) }
         // A stop at any moment of a call that fails leaves what one before it might have left, or what holds the same.
         ensures any_moment_of_error { IfErr result (λ e. LeavesOnly D.moment D.left_since disk e.0 (IsOpening config.chunk config.block config.slots (D.seen disk) (D.may_leave disk))) }
@@ -100,29 +101,29 @@ impl<D: Disk + Drop> Server<D> {
 
     /// Whether it is up. One that is down takes no step.
     pub fn is_up(&self) -> bool
-        ensures { result ≡ self.now.up }
+        ensures { result ≡ self.now.state.up }
     {
         self.chunkserver.is_up()
     }
 
     /// Its number.
     pub fn id(&self) -> ServerId
-        ensures { result.0 ≡ self.now.id }
+        ensures { result.0 ≡ self.now.state.id }
     {
         self.chunkserver.id()
     }
 
     /// What it knows of a replica.
     pub fn row(&self, handle: Handle) -> Option<Row>
-        ensures { result ≡ row_at self.now.disk handle.0 }
+        ensures { result ≡ row_at self.now.state.disk handle.0 }
     {
         self.chunkserver.row(handle)
     }
 
     /// It is put down in a step, before it changed anything. Takes no memory.
     pub fn stop(&mut self)
-        requires { self.old.up ≡ true }
-        ensures { self.new ≡ stopped_server self.old self.old.disk [] }
+        requires { self.old.state.up ≡ true }
+        ensures { self.new.state ≡ stopped_server self.old.state self.old.state.disk [] }
     {
         self.chunkserver.stop();
     }
@@ -130,8 +131,8 @@ impl<D: Disk + Drop> Server<D> {
     /// A byte of a replica becomes another on the disk, past its digest; nothing happens where there is no such replica. Where its disk
     /// fails under that, or memory is refused, it goes down.
     pub fn rot(&mut self, handle: Handle, place: u64, byte: u8)
-        requires { self.old.up ≡ true }
-        ensures { ServerRots self.old handle.0 place byte self.new }
+        requires { self.old.state.up ≡ true }
+        ensures { ServerRots self.old.state handle.0 place byte self.new.state }
     {
         self.chunkserver.rot(handle, place, byte);
     }
@@ -140,19 +141,24 @@ impl<D: Disk + Drop> Server<D> {
     #[tactic(auto, using(crate::proofs::DiskServers::steps_seen))]
     pub fn step(&mut self, now: Moment, input: ServerIn) -> StepOut
         requires { now.0 ≤ moment_limit }
-        ensures steps { (seen : List Seen) × ServerSteps self.old now.0 input result seen self.new }
-        ensures settings { KeepsSettings self.old self.new }
+        ensures steps { (seen : List Seen) × ServerSteps self.old.state now.0 input result seen self.new.state }
+        ensures settings { KeepsSettings self.old.state self.new.state }
     {
         let message = message_in(&input);
-        let Outcome { out, seen: _seen } = self.take_step(now, message);
+        let Outcome {
+            out,
+            seen: _seen,
+            cause: _,
+        } = self.take_step(now, message);
         out
     }
 
-    /// The same, with what is seen of it.
+    /// The same, with what is seen of it, and why the server goes down where it does: for its disk only where that has failed.
     pub fn take_step(&mut self, now: Moment, message: Option<&Message>) -> Outcome
         requires { now.0 ≤ moment_limit }
-        ensures steps { ServerSteps self.old now.0 (input_of (option_copied message.entry)) result.out result.seen self.new }
-        ensures settings { KeepsSettings self.old self.new }
+        ensures steps { ServerSteps self.old.state now.0 (input_of (option_copied message.entry)) result.out result.seen self.new.state }
+        ensures settings { KeepsSettings self.old.state self.new.state }
+        ensures cause { IsDownFor result.out.down result.cause self.old.failed self.new.failed }
     {
         self.chunkserver.step(now, message)
     }
@@ -166,7 +172,8 @@ impl<D: Disk + Drop> Server<D> {
 
     /// The disk: whenever it stops, and is opened again, it holds what the server's had, with what is under way made or not.
     pub fn into_disk(self) -> D
-        ensures left { LeavesHolding (D.may_leave result) self.disk self.under_way }
+        ensures left { LeavesHolding (D.may_leave result) self.state.disk self.state.under_way }
+        ensures failed { D.failed result ≡ self.failed }
     {
         self.chunkserver.into_store().into_disk()
     }

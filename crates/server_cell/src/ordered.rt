@@ -20,8 +20,8 @@ pub(crate) fn orders_create<S: ReplicaStore>(
     handle: Handle,
     version: Version,
 ) -> Result<(), ReplicaStoreFault>
-    ensures goes { OnOk result (on_order (doing server.old effects.old) order (λ o. takes_create o handle.0 version.0) ≡ doing server.new effects.new) }
-    ensures frame { frame server.new ≡ frame server.old }
+    ensures goes { OnOk result (on_order (doing server.old.state effects.old) order (λ o. takes_create o handle.0 version.0) ≡ doing server.new.state effects.new) }
+    ensures frame { frame server.new.state ≡ frame server.old.state }
 {
     if server.begins_order(effects, order)? {
         server.takes_create(effects, handle, version)?;
@@ -38,8 +38,8 @@ pub(crate) fn orders_set_version<S: ReplicaStore>(
     version: Version,
     base: Version,
 ) -> Result<(), ReplicaStoreFault>
-    ensures goes { OnOk result (on_order (doing server.old effects.old) order (λ o. takes_set_version o handle.0 version.0 base.0) ≡ doing server.new effects.new) }
-    ensures frame { frame server.new ≡ frame server.old }
+    ensures goes { OnOk result (on_order (doing server.old.state effects.old) order (λ o. takes_set_version o handle.0 version.0 base.0) ≡ doing server.new.state effects.new) }
+    ensures frame { frame server.new.state ≡ frame server.old.state }
 {
     if server.begins_order(effects, order)? {
         server.takes_set_version(effects, handle, version, base)?;
@@ -58,8 +58,8 @@ pub(crate) fn orders_grant<S: ReplicaStore>(
     chunk: u32,
     members: &ServerList,
 ) -> Result<(), ReplicaStoreFault>
-    ensures goes { OnOk result (on_order (doing server.old effects.old) order (λ o. takes_grant o handle.0 version.0 end.0 chunk members.now) ≡ doing server.new effects.new) }
-    ensures frame { frame server.new ≡ frame server.old }
+    ensures goes { OnOk result (on_order (doing server.old.state effects.old) order (λ o. takes_grant o handle.0 version.0 end.0 chunk members.now) ≡ doing server.new.state effects.new) }
+    ensures frame { frame server.new.state ≡ frame server.old.state }
 {
     if server.begins_order(effects, order)? {
         server.takes_grant(effects, handle, version, end, chunk, members)?;
@@ -75,8 +75,8 @@ pub(crate) fn orders_revoke<S: ReplicaStore>(
     handle: Handle,
     version: Version,
 ) -> Result<(), ReplicaStoreFault>
-    ensures goes { OnOk result (on_order (doing server.old effects.old) order (λ o. takes_revoke o handle.0 version.0) ≡ doing server.new effects.new) }
-    ensures frame { frame server.new ≡ frame server.old }
+    ensures goes { OnOk result (on_order (doing server.old.state effects.old) order (λ o. takes_revoke o handle.0 version.0) ≡ doing server.new.state effects.new) }
+    ensures frame { frame server.new.state ≡ frame server.old.state }
 {
     if server.begins_order(effects, order)? {
         server.takes_revoke(effects, handle, version)?;
@@ -92,8 +92,8 @@ pub(crate) fn orders_drop<S: ReplicaStore>(
     handle: Handle,
     version: Version,
 ) -> Result<(), ReplicaStoreFault>
-    ensures goes { OnOk result (on_order (doing server.old effects.old) order (λ o. takes_drop o handle.0 version.0) ≡ doing server.new effects.new) }
-    ensures frame { frame server.new ≡ frame server.old }
+    ensures goes { OnOk result (on_order (doing server.old.state effects.old) order (λ o. takes_drop o handle.0 version.0) ≡ doing server.new.state effects.new) }
+    ensures frame { frame server.new.state ≡ frame server.old.state }
 {
     if server.begins_order(effects, order)? {
         server.takes_drop(effects, handle, version)?;
@@ -110,8 +110,8 @@ pub(crate) fn orders_clone<S: ReplicaStore>(
     version: Version,
     source: ServerId,
 ) -> Result<(), ReplicaStoreFault>
-    ensures goes { OnOk result (on_order (doing server.old effects.old) order (λ o. takes_clone o handle.0 version.0 source.0) ≡ doing server.new effects.new) }
-    ensures frame { frame server.new ≡ frame server.old }
+    ensures goes { OnOk result (on_order (doing server.old.state effects.old) order (λ o. takes_clone o handle.0 version.0 source.0) ≡ doing server.new.state effects.new) }
+    ensures frame { frame server.new.state ≡ frame server.old.state }
 {
     if server.begins_order(effects, order)? {
         server.takes_clone(effects, handle, version, source)?;
@@ -129,9 +129,9 @@ pub(crate) fn orders_copy_local<S: ReplicaStore>(
     copy: Handle,
     copy_version: Version,
 ) -> Result<(), ReplicaStoreFault>
-    requires { server.old.under_way ≡ [] }
-    ensures goes { OnOk result (on_order (doing server.old effects.old) order (λ o. takes_copy_local o handle.0 version.0 copy.0 copy_version.0) ≡ doing server.new effects.new) }
-    ensures frame { frame server.new ≡ frame server.old }
+    requires { server.old.state.under_way ≡ [] }
+    ensures goes { OnOk result (on_order (doing server.old.state effects.old) order (λ o. takes_copy_local o handle.0 version.0 copy.0 copy_version.0) ≡ doing server.new.state effects.new) }
+    ensures frame { frame server.new.state ≡ frame server.old.state }
 {
     if server.begins_order(effects, order)? {
         server.takes_copy_local(effects, handle, version, copy, copy_version)?;

@@ -29,10 +29,10 @@ pub(crate) fn places<S: ReplicaStore>(
     handle: Handle,
     mutation: Mutation,
 ) -> Result<(), ReplicaStoreFault>
-    requires nothing { server.old.under_way ≡ [] }
+    requires nothing { server.old.state.under_way ≡ [] }
     requires ends { end_of mutation < 2 ^ 64 }
-    ensures goes { OnOk result (OnNew server.old handle.0 id (λ p. places (doing server.old effects.old) handle.0 p id mutation ≡ doing server.new effects.new)) }
-    ensures frame { frame server.new ≡ frame server.old }
+    ensures goes { OnOk result (OnNew server.old.state handle.0 id (λ p. places (doing server.old.state effects.old) handle.0 p id mutation ≡ doing server.new.state effects.new)) }
+    ensures frame { frame server.new.state ≡ frame server.old.state }
 {
     let Some(primary) = server.lease(handle) else {
         return Ok(());
@@ -57,9 +57,9 @@ fn applies_numbered<S: ReplicaStore>(
     handle: Handle,
     mutation: Mutation,
 ) -> Result<(), ReplicaStoreFault>
-    requires { (p : SerialOrder) → held_at server.old handle.0 ≡ Some p → p.serial < counter_limit }
-    ensures goes { OnOk result (OnNew server.old handle.0 id (λ p. primary_applies (numbers (doing server.old effects.old) handle.0 p id mutation) handle.0 p id mutation ≡ doing server.new effects.new)) }
-    ensures frame { frame server.new ≡ frame server.old }
+    requires { (p : SerialOrder) → held_at server.old.state handle.0 ≡ Some p → p.serial < counter_limit }
+    ensures goes { OnOk result (OnNew server.old.state handle.0 id (λ p. primary_applies (numbers (doing server.old.state effects.old) handle.0 p id mutation) handle.0 p id mutation ≡ doing server.new.state effects.new)) }
+    ensures frame { frame server.new.state ≡ frame server.old.state }
 {
     let Some(primary) = server.lease(handle) else {
         return Ok(());
@@ -81,8 +81,8 @@ fn applies<S: ReplicaStore>(
     change: Change,
     stored: StoreChange,
 ) -> Result<(), ReplicaStoreFault>
-    ensures goes { OnOk result (OnCounting server.old handle.0 (λ p. applies (doing server.old effects.old) handle.0 p serial.0 id change stored ≡ doing server.new effects.new)) }
-    ensures frame { frame server.new ≡ frame server.old }
+    ensures goes { OnOk result (OnCounting server.old.state handle.0 (λ p. applies (doing server.old.state effects.old) handle.0 p serial.0 id change stored ≡ doing server.new.state effects.new)) }
+    ensures frame { frame server.new.state ≡ frame server.old.state }
 {
     let Some(primary) = server.lease(handle) else {
         return Ok(());

@@ -46,9 +46,9 @@ fn plan_message<S: ReplicaStore>(
     effects: &mut ServerEffects,
     message: &Message,
 ) -> Result<(), ReplicaStoreFault>
-    requires { server.old.under_way ≡ [] }
-    ensures goes { OnOk result (server_takes (doing server.old effects.old) message.now message.now.body ≡ doing server.new effects.new) }
-    ensures frame { frame server.new ≡ frame server.old }
+    requires { server.old.state.under_way ≡ [] }
+    ensures goes { OnOk result (server_takes (doing server.old.state effects.old) message.now message.now.body ≡ doing server.new.state effects.new) }
+    ensures frame { frame server.new.state ≡ frame server.old.state }
 {
     if is_of_clients(&message.body) {
         return takes_of_clients(server, effects, message);
@@ -66,9 +66,9 @@ pub(crate) fn plan_step<S: ReplicaStore>(
     message: Option<&Message>,
 ) -> Result<ServerEffects, ReplicaStoreFault>
     requires moment { now.0 ≤ moment_limit }
-    requires nothing { server.old.under_way ≡ [] }
-    ensures goes { IfOk result (λ e. server_goes server.old now.0 (input_of (option_copied message.entry)) ≡ doing server.new e) }
-    ensures frame { frame server.new ≡ frame server.old }
+    requires nothing { server.old.state.under_way ≡ [] }
+    ensures goes { IfOk result (λ e. server_goes server.old.state now.0 (input_of (option_copied message.entry)) ≡ doing server.new.state e) }
+    ensures frame { frame server.new.state ≡ frame server.old.state }
 {
     server.move_clock(now);
     let mut effects = ServerEffects::none(server.alloc());

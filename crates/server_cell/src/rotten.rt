@@ -10,8 +10,8 @@ use server_store::store::ReplicaStore;
 
 // Where the disk fails under it, or memory is refused, the server stops, and the change is under way.
 pub(crate) fn rots<S: ReplicaStore>(server: &mut Server<S>, handle: Handle, place: u64, byte: u8)
-    requires { server.old.under_way ≡ [] }
-    ensures { IsRotten server.old (Rot handle place byte) server.new }
+    requires { server.old.state.under_way ≡ [] }
+    ensures { IsRotten server.old.state (Rot handle place byte) server.new.state }
 {
     match server.rot(handle, place, byte) {
         Ok(()) => {}

@@ -34,9 +34,9 @@ pub fn takes_mutate<S: ReplicaStore>(
     target: Target,
     deadline: Moment,
 ) -> Result<(), ReplicaStoreFault>
-    requires { server.old.under_way ≡ [] }
-    ensures goes { OnOk result (takes_mutate (doing server.old effects.old) id handle.0 version.0 target deadline.0 ≡ doing server.new effects.new) }
-    ensures frame { frame server.new ≡ frame server.old }
+    requires { server.old.state.under_way ≡ [] }
+    ensures goes { OnOk result (takes_mutate (doing server.old.state effects.old) id handle.0 version.0 target deadline.0 ≡ doing server.new.state effects.new) }
+    ensures frame { frame server.new.state ≡ frame server.old.state }
 {
     let Some(_) = server.primary_of(handle, version) else {
         return server.refuses_attempt(effects, id, Refusal::NoLease);
@@ -55,9 +55,9 @@ fn mutates<S: ReplicaStore>(
     handle: Handle,
     target: Target,
 ) -> Result<(), ReplicaStoreFault>
-    requires { server.old.under_way ≡ [] }
-    ensures goes { OnOk result (OnCounting server.old handle.0 (λ p. mutates_as (doing server.old effects.old) handle.0 p id target (attempted p id.client id.seq) ≡ doing server.new effects.new)) }
-    ensures frame { frame server.new ≡ frame server.old }
+    requires { server.old.state.under_way ≡ [] }
+    ensures goes { OnOk result (OnCounting server.old.state handle.0 (λ p. mutates_as (doing server.old.state effects.old) handle.0 p id target (attempted p id.client id.seq) ≡ doing server.new.state effects.new)) }
+    ensures frame { frame server.new.state ≡ frame server.old.state }
 {
     let Some(primary) = server.lease(handle) else {
         return Ok(());
@@ -75,7 +75,7 @@ fn answers_known<S: ReplicaStore>(
     id: DataId,
     answer: Accept,
 ) -> Result<(), ReplicaStoreFault>
-    ensures { OnOk result (answers_known (doing server.now effects.old) id answer ≡ doing server.now effects.new) }
+    ensures { OnOk result (answers_known (doing server.now.state effects.old) id answer ≡ doing server.now.state effects.new) }
 {
     match answer {
         Accept::New(_) => Ok(()),
@@ -92,9 +92,9 @@ fn mutates_new<S: ReplicaStore>(
     handle: Handle,
     target: Target,
 ) -> Result<(), ReplicaStoreFault>
-    requires { server.old.under_way ≡ [] }
-    ensures goes { OnOk result (OnNew server.old handle.0 id (λ p. mutates_as (doing server.old effects.old) handle.0 p id target IsNew ≡ doing server.new effects.new)) }
-    ensures frame { frame server.new ≡ frame server.old }
+    requires { server.old.state.under_way ≡ [] }
+    ensures goes { OnOk result (OnNew server.old.state handle.0 id (λ p. mutates_as (doing server.old.state effects.old) handle.0 p id target IsNew ≡ doing server.new.state effects.new)) }
+    ensures frame { frame server.new.state ≡ frame server.old.state }
 {
     let Some(row) = server.row(handle) else {
         return Ok(());
@@ -118,9 +118,9 @@ fn writes<S: ReplicaStore>(
     offset: u64,
     bytes: Bytes,
 ) -> Result<(), ReplicaStoreFault>
-    requires { server.old.under_way ≡ [] }
-    ensures goes { OnOk result (OnNew server.old handle.0 id (λ p. (if nat_lt (chunk_limit server.old p.chunk) (offset + length bytes) then doing server.old effects.old else places (doing server.old effects.old) handle.0 p id (mutation.Write offset bytes)) ≡ doing server.new effects.new)) }
-    ensures frame { frame server.new ≡ frame server.old }
+    requires { server.old.state.under_way ≡ [] }
+    ensures goes { OnOk result (OnNew server.old.state handle.0 id (λ p. (if nat_lt (chunk_limit server.old.state p.chunk) (offset + length bytes) then doing server.old.state effects.old else places (doing server.old.state effects.old) handle.0 p id (mutation.Write offset bytes)) ≡ doing server.new.state effects.new)) }
+    ensures frame { frame server.new.state ≡ frame server.old.state }
 {
     let chunk = server.leased_limit(handle);
     let count = bytes.len() as u64;
@@ -139,9 +139,9 @@ fn appends<S: ReplicaStore>(
     count: u64,
     bytes: Bytes,
 ) -> Result<(), ReplicaStoreFault>
-    requires { server.old.under_way ≡ [] }
-    ensures goes { OnOk result (OnNew server.old handle.0 id (λ p. appends_as (doing server.old effects.old) handle.0 p id bytes (placing count (length bytes) (chunk_limit server.old p.chunk)) ≡ doing server.new effects.new)) }
-    ensures frame { frame server.new ≡ frame server.old }
+    requires { server.old.state.under_way ≡ [] }
+    ensures goes { OnOk result (OnNew server.old.state handle.0 id (λ p. appends_as (doing server.old.state effects.old) handle.0 p id bytes (placing count (length bytes) (chunk_limit server.old.state p.chunk)) ≡ doing server.new.state effects.new)) }
+    ensures frame { frame server.new.state ≡ frame server.old.state }
 {
     let chunk = server.leased_limit(handle);
     match place(count, bytes.len() as u64, chunk) {

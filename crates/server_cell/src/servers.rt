@@ -19,10 +19,10 @@ pub(crate) fn takes_of_servers<S: ReplicaStore>(
     effects: &mut ServerEffects,
     message: &Message,
 ) -> Result<(), ReplicaStoreFault>
-    requires nothing { server.old.under_way ≡ [] }
+    requires nothing { server.old.state.under_way ≡ [] }
     requires kind { is_of_servers message.now.body ≡ true }
-    ensures goes { OnOk result (server_takes (doing server.old effects.old) message.now message.now.body ≡ doing server.new effects.new) }
-    ensures frame { frame server.new ≡ frame server.old }
+    ensures goes { OnOk result (server_takes (doing server.old.state effects.old) message.now message.now.body ≡ doing server.new.state effects.new) }
+    ensures frame { frame server.new.state ≡ frame server.old.state }
 {
     let sender = message.sender;
     match &message.body {

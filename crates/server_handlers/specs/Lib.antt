@@ -1,3 +1,4 @@
+pub mod Standing
 pub mod Held
 pub mod Reported
 pub mod Doing

@@ -36,9 +36,9 @@ impl<S: ReplicaStore> Server<S> {
         asked: MemberRequest,
         change: Change,
     ) -> Result<(), ReplicaStoreFault>
-        requires { self.old.under_way ≡ [] }
-        ensures goes { OnOk result (takes_forward (doing self.old effects.old) asked.primary asked.handle.0 asked.version.0 asked.serial.0 asked.id asked.chunk change ≡ doing self.new effects.new) }
-        ensures frame { frame self.new ≡ frame self.old }
+        requires { self.old.state.under_way ≡ [] }
+        ensures goes { OnOk result (takes_forward (doing self.old.state effects.old) asked.primary asked.handle.0 asked.version.0 asked.serial.0 asked.id asked.chunk change ≡ doing self.new.state effects.new) }
+        ensures frame { frame self.new.state ≡ frame self.old.state }
     {
         let Some(row) = self.store.row(asked.handle) else {
             return self.nacks(effects, asked, Refusal::NoChunk);
@@ -58,7 +58,7 @@ impl<S: ReplicaStore> Server<S> {
         asked: MemberRequest,
         refusal: Refusal,
     ) -> Result<(), ReplicaStoreFault>
-        ensures { OnOk result (nacks (doing self.now effects.old) asked.primary asked.handle.0 asked.version.0 asked.serial.0 refusal ≡ doing self.now effects.new) }
+        ensures { OnOk result (nacks (doing self.now.state effects.old) asked.primary asked.handle.0 asked.version.0 asked.serial.0 refusal ≡ doing self.now.state effects.new) }
     {
         let MemberRequest {
             primary,
@@ -82,9 +82,9 @@ impl<S: ReplicaStore> Server<S> {
         asked: MemberRequest,
         change: Change,
     ) -> Result<(), ReplicaStoreFault>
-        requires { self.old.under_way ≡ [] }
-        ensures goes { OnOk result (applies_change (doing self.old effects.old) asked.primary asked.handle.0 asked.version.0 asked.serial.0 asked.id asked.chunk change ≡ doing self.new effects.new) }
-        ensures frame { frame self.new ≡ frame self.old }
+        requires { self.old.state.under_way ≡ [] }
+        ensures goes { OnOk result (applies_change (doing self.old.state effects.old) asked.primary asked.handle.0 asked.version.0 asked.serial.0 asked.id asked.chunk change ≡ doing self.new.state effects.new) }
+        ensures frame { frame self.new.state ≡ frame self.old.state }
     {
         match change {
             Change::Write(offset) | Change::Append(offset) => {
@@ -100,9 +100,9 @@ impl<S: ReplicaStore> Server<S> {
         asked: MemberRequest,
         offset: u64,
     ) -> Result<(), ReplicaStoreFault>
-        requires { self.old.under_way ≡ [] }
-        ensures goes { OnOk result (applies_data (doing self.old effects.old) asked.primary asked.handle.0 asked.version.0 asked.serial.0 asked.id asked.chunk offset (data_of self.old.pushed asked.id) ≡ doing self.new effects.new) }
-        ensures frame { frame self.new ≡ frame self.old }
+        requires { self.old.state.under_way ≡ [] }
+        ensures goes { OnOk result (applies_data (doing self.old.state effects.old) asked.primary asked.handle.0 asked.version.0 asked.serial.0 asked.id asked.chunk offset (data_of self.old.state.pushed asked.id) ≡ doing self.new.state effects.new) }
+        ensures frame { frame self.new.state ≡ frame self.old.state }
     {
         let Some(bytes) = self.pushed.get(asked.id) else {
             return self.nacks(effects, asked, Refusal::NoData);
@@ -128,9 +128,9 @@ impl<S: ReplicaStore> Server<S> {
         offset: u64,
         end: u64,
     ) -> Result<(), ReplicaStoreFault>
-        requires { self.old.under_way ≡ [] }
-        ensures goes { OnOk result (applies_pad (doing self.old effects.old) asked.primary asked.handle.0 asked.version.0 asked.serial.0 asked.id asked.chunk offset (end - offset) ≡ doing self.new effects.new) }
-        ensures frame { frame self.new ≡ frame self.old }
+        requires { self.old.state.under_way ≡ [] }
+        ensures goes { OnOk result (applies_pad (doing self.old.state effects.old) asked.primary asked.handle.0 asked.version.0 asked.serial.0 asked.id asked.chunk offset (end - offset) ≡ doing self.new.state effects.new) }
+        ensures frame { frame self.new.state ≡ frame self.old.state }
     {
         let count = end.saturating_sub(offset);
         if !self.is_within(asked.chunk, offset, count) {
@@ -154,9 +154,9 @@ impl<S: ReplicaStore> Server<S> {
         offset: u64,
         end: u64,
     ) -> Result<(), ReplicaStoreFault>
-        requires { self.old.under_way ≡ [] }
-        ensures goes { OnOk result (member_stores (is_writable_at self.old.disk asked.handle.0 offset end) (takes_data (doing self.old effects.old) asked.id) asked.primary asked.handle.0 asked.version.0 asked.serial.0 change ≡ doing self.new effects.new) }
-        ensures frame { frame self.new ≡ frame self.old }
+        requires { self.old.state.under_way ≡ [] }
+        ensures goes { OnOk result (member_stores (is_writable_at self.old.state.disk asked.handle.0 offset end) (takes_data (doing self.old.state effects.old) asked.id) asked.primary asked.handle.0 asked.version.0 asked.serial.0 change ≡ doing self.new.state effects.new) }
+        ensures frame { frame self.new.state ≡ frame self.old.state }
     {
         let is_writable = self.store.is_writable(asked.handle, offset, end)?;
         self.pushed.take(asked.id);
@@ -182,7 +182,7 @@ impl<S: ReplicaStore> Server<S> {
 
     /// Whether so many bytes lie within a chunk of a size that was told.
     pub fn is_within(&self, told: u32, offset: u64, count: u64) -> bool
-        ensures { result ≡ nat_le (offset + count) (chunk_limit self.now told) }
+        ensures { result ≡ nat_le (offset + count) (chunk_limit self.now.state told) }
     {
         let chunk = self.chunk_limit(told);
         count <= chunk && offset <= chunk - count

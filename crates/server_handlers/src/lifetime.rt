@@ -29,7 +29,8 @@ impl<S: ReplicaStore> Server<S> {
         requires skew { config.skew_ms ≤ 60000 }
         requires moment { now.0 ≤ moment_limit }
         requires nothing { S.under_way store ≡ [] }
-        ensures { result ≡ started_server config id.0 (S.disk store) now.0 }
+        ensures state { result.state ≡ started_server config id.0 (S.disk store) now.0 }
+        ensures failed { result.failed ≡ S.failed store }
     {
         Server {
             config,
@@ -47,8 +48,8 @@ impl<S: ReplicaStore> Server<S> {
     /// It begins again, and knows what is on its disk alone.
     pub fn start(&mut self, now: Moment)
         requires moment { now.0 ≤ moment_limit }
-        requires nothing { self.old.under_way ≡ [] }
-        ensures { self.new ≡ started_server self.old.config self.old.id self.old.disk now.0 }
+        requires nothing { self.old.state.under_way ≡ [] }
+        ensures { self.new.state ≡ started_server self.old.state.config self.old.state.id self.old.state.disk now.0 }
     {
         self.forget(now.0);
         self.up = true;
@@ -56,7 +57,7 @@ impl<S: ReplicaStore> Server<S> {
 
     /// It stops, and keeps its disk alone, with what is under way there.
     pub fn stop(&mut self)
-        ensures { self.new ≡ stopped_server self.old self.old.disk self.old.under_way }
+        ensures { self.new.state ≡ stopped_server self.old.state self.old.state.disk self.old.state.under_way }
     {
         self.forget(0);
         self.up = false;
@@ -65,7 +66,7 @@ impl<S: ReplicaStore> Server<S> {
     // Its clock goes back with what it knows, since leases remember moments.
     fn forget(&mut self, now: u64)
         requires { now ≤ moment_limit }
-        ensures { self.new ≡ record (started_server self.old.config self.old.id self.old.disk now) { up = self.old.up; under_way = self.old.under_way } }
+        ensures { self.new.state ≡ record (started_server self.old.state.config self.old.state.id self.old.state.disk now) { up = self.old.state.up; under_way = self.old.state.under_way } }
     {
         self.clock = now;
         self.leases = Leases::new(self.alloc, self.config.skew_ms);
@@ -75,20 +76,20 @@ impl<S: ReplicaStore> Server<S> {
 
     /// The changes of its disk are made in their order. At an error some were made, from the first on, and the next one is under way.
     pub fn commit(&mut self, changes: ChangeList) -> Result<(), ReplicaStoreFault>
-        requires { self.old.under_way ≡ [] }
-        ensures ok { OnOk result (self.new ≡ record self.old { disk = disk_changed_by_all self.old.disk changes }) }
-        ensures err { OnErr result (MadePart self.old.disk changes self.new.disk self.new.under_way) }
-        ensures config { self.new.config ≡ self.old.config }
-        ensures id { self.new.id ≡ self.old.id }
+        requires { self.old.state.under_way ≡ [] }
+        ensures ok { OnOk result (self.new.state ≡ record self.old.state { disk = disk_changed_by_all self.old.state.disk changes }) }
+        ensures err { OnErr result (MadePart self.old.state.disk changes self.new.state.disk self.new.state.under_way) }
+        ensures config { self.new.state.config ≡ self.old.state.config }
+        ensures id { self.new.state.id ≡ self.old.state.id }
     {
         commit_all(&mut self.store, changes)
     }
 
     /// A byte of a replica becomes another on the disk, past its digest. After an error that is under way.
     pub fn rot(&mut self, handle: Handle, place: u64, byte: u8) -> Result<(), ReplicaStoreFault>
-        requires { self.old.under_way ≡ [] }
-        ensures ok { OnOk result (self.new ≡ record self.old { disk = disk_changed self.old.disk (Rot handle place byte) }) }
-        ensures err { OnErr result (self.new ≡ record self.old { under_way = Rot handle place byte ∷ [] }) }
+        requires { self.old.state.under_way ≡ [] }
+        ensures ok { OnOk result (self.new.state ≡ record self.old.state { disk = disk_changed self.old.state.disk (Rot handle place byte) }) }
+        ensures err { OnErr result (self.new.state ≡ record self.old.state { under_way = Rot handle place byte ∷ [] }) }
     {
         let change = StoreChange::Rot {
             handle,
@@ -105,11 +106,11 @@ impl<S: ReplicaStore> Server<S> {
 impl<S: ReopenedStore> Server<S> {
     /// The disk is opened again, and what was under way is found made or not. An error leaves all as it was.
     pub fn reopen(&mut self) -> Result<(), ReplicaStoreFault>
-        ensures found { OnOk result (IsFound self.old.disk self.old.under_way self.new.disk) }
-        ensures nothing { OnOk result (self.new.under_way ≡ []) }
-        ensures err { OnErr result (self.new ≡ self.old) }
-        ensures config { self.new.config ≡ self.old.config }
-        ensures id { self.new.id ≡ self.old.id }
+        ensures found { OnOk result (IsFound self.old.state.disk self.old.state.under_way self.new.state.disk) }
+        ensures nothing { OnOk result (self.new.state.under_way ≡ []) }
+        ensures err { OnErr result (self.new.state ≡ self.old.state) }
+        ensures config { self.new.state.config ≡ self.old.state.config }
+        ensures id { self.new.state.id ≡ self.old.state.id }
     {
         self.store.reopen()
     }

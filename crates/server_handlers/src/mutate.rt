@@ -40,8 +40,8 @@ impl<S: ReplicaStore> Server<S> {
         handle: Handle,
         refusal: Refusal,
     ) -> Result<(), ReplicaStoreFault>
-        ensures goes { OnOk result (OnNew self.old handle.0 id (λ p. denies (doing self.old effects.old) handle.0 p id refusal ≡ doing self.new effects.new)) }
-        ensures frame { frame self.new ≡ frame self.old }
+        ensures goes { OnOk result (OnNew self.old.state handle.0 id (λ p. denies (doing self.old.state effects.old) handle.0 p id refusal ≡ doing self.new.state effects.new)) }
+        ensures frame { frame self.new.state ≡ frame self.old.state }
     {
         self.leases.deny(handle, id, refusal)?;
         self.pushed.take(id);
@@ -56,9 +56,9 @@ impl<S: ReplicaStore> Server<S> {
         handle: Handle,
         mutation: Mutation,
     ) -> Result<(), ReplicaStoreFault>
-        requires { (p : SerialOrder) → held_at self.old handle.0 ≡ Some p → p.serial < counter_limit }
-        ensures goes { OnOk result (OnNew self.old handle.0 id (λ p. numbers (doing self.old effects.old) handle.0 p id mutation ≡ doing self.new effects.new)) }
-        ensures frame { frame self.new ≡ frame self.old }
+        requires { (p : SerialOrder) → held_at self.old.state handle.0 ≡ Some p → p.serial < counter_limit }
+        ensures goes { OnOk result (OnNew self.old.state handle.0 id (λ p. numbers (doing self.old.state effects.old) handle.0 p id mutation ≡ doing self.new.state effects.new)) }
+        ensures frame { frame self.new.state ≡ frame self.old.state }
     {
         let Some(primary) = self.leases.get(handle) else {
             return Ok(());
@@ -85,7 +85,7 @@ impl<S: ReplicaStore> Server<S> {
         members: &ServerList,
         forwarded: Forwarded,
     ) -> Result<(), ReplicaStoreFault>
-        ensures { OnOk result (forwards (doing self.now effects.old) members.now forwarded.handle.0 forwarded.version.0 forwarded.serial.0 forwarded.id forwarded.chunk forwarded.change ≡ doing self.now effects.new) }
+        ensures { OnOk result (forwards (doing self.now.state effects.old) members.now forwarded.handle.0 forwarded.version.0 forwarded.serial.0 forwarded.id forwarded.chunk forwarded.change ≡ doing self.now.state effects.new) }
     {
         let Forwarded {
             handle,
@@ -117,8 +117,8 @@ impl<S: ReplicaStore> Server<S> {
         server: ServerId,
         serial: Serial,
     ) -> Result<(), ReplicaStoreFault>
-        ensures goes { OnOk result (OnCounting self.old handle.0 (λ p. acknowledges (doing self.old effects.old) handle.0 p server.0 serial.0 ≡ doing self.new effects.new)) }
-        ensures frame { frame self.new ≡ frame self.old }
+        ensures goes { OnOk result (OnCounting self.old.state handle.0 (λ p. acknowledges (doing self.old.state effects.old) handle.0 p server.0 serial.0 ≡ doing self.new.state effects.new)) }
+        ensures frame { frame self.new.state ≡ frame self.old.state }
     {
         let Some(primary) = self.leases.get(handle) else {
             return Ok(());
@@ -146,8 +146,8 @@ impl<S: ReplicaStore> Server<S> {
         version: Version,
         serial: Serial,
     ) -> Result<(), ReplicaStoreFault>
-        ensures goes { OnOk result (takes_acked (doing self.old effects.old) server.0 handle.0 version.0 serial.0 ≡ doing self.new effects.new) }
-        ensures frame { frame self.new ≡ frame self.old }
+        ensures goes { OnOk result (takes_acked (doing self.old.state effects.old) server.0 handle.0 version.0 serial.0 ≡ doing self.new.state effects.new) }
+        ensures frame { frame self.new.state ≡ frame self.old.state }
     {
         let Some(_) = self.primary_of(handle, version) else {
             return Ok(());
@@ -164,8 +164,8 @@ impl<S: ReplicaStore> Server<S> {
         serial: Serial,
         refusal: Refusal,
     ) -> Result<(), ReplicaStoreFault>
-        ensures goes { OnOk result (takes_nacked (doing self.old effects.old) handle.0 version.0 serial.0 refusal ≡ doing self.new effects.new) }
-        ensures frame { frame self.new ≡ frame self.old }
+        ensures goes { OnOk result (takes_nacked (doing self.old.state effects.old) handle.0 version.0 serial.0 refusal ≡ doing self.new.state effects.new) }
+        ensures frame { frame self.new.state ≡ frame self.old.state }
     {
         let Some(_) = self.primary_of(handle, version) else {
             return Ok(());

@@ -25,8 +25,8 @@ impl<S: ReplicaStore> Server<S> {
         effects: &mut ServerEffects,
         order: OrderNo,
     ) -> Result<bool, ReplicaStoreFault>
-        ensures new { IfOk result (λ b. b ≡ is_new_order self.now.disk order.epoch order.count) }
-        ensures goes { IfOk result (λ b. doing self.now effects.new ≡ (if b then stores (doing self.now effects.old) (SetOrder order) else doing self.now effects.old)) }
+        ensures new { IfOk result (λ b. b ≡ is_new_order self.now.state.disk order.epoch order.count) }
+        ensures goes { IfOk result (λ b. doing self.now.state effects.new ≡ (if b then stores (doing self.now.state effects.old) (SetOrder order) else doing self.now.state effects.old)) }
     {
         let last = self.store.order();
         let is_new = last.epoch < order.epoch
@@ -43,14 +43,14 @@ impl<S: ReplicaStore> Server<S> {
         handle: Handle,
         version: Version,
     ) -> Result<(), ReplicaStoreFault>
-        ensures { OnOk result (records (doing self.now effects.old) handle.0 version.0 ≡ doing self.now effects.new) }
+        ensures { OnOk result (records (doing self.now.state effects.old) handle.0 version.0 ≡ doing self.now.state effects.new) }
     {
         self.send(effects, Node::Master, Body::Recorded { handle, version })
     }
 
     // Whether one more replica, under this handle, can be taken.
     fn can_take(&self, handle: Handle) -> bool
-        ensures { result ≡ can_take (server_begins self.now) handle.0 }
+        ensures { result ≡ can_take (server_begins self.now.state) handle.0 }
     {
         self.store.row(handle).is_none() && !self.store.is_full(self.config.slots)
     }
@@ -62,7 +62,7 @@ impl<S: ReplicaStore> Server<S> {
         handle: Handle,
         version: Version,
     ) -> Result<(), ReplicaStoreFault>
-        ensures { OnOk result (takes_create (doing self.now effects.old) handle.0 version.0 ≡ doing self.now effects.new) }
+        ensures { OnOk result (takes_create (doing self.now.state effects.old) handle.0 version.0 ≡ doing self.now.state effects.new) }
     {
         if !self.can_take(handle) {
             return Ok(());
@@ -84,8 +84,8 @@ impl<S: ReplicaStore> Server<S> {
         version: Version,
         base: Version,
     ) -> Result<(), ReplicaStoreFault>
-        ensures goes { OnOk result (takes_set_version (doing self.old effects.old) handle.0 version.0 base.0 ≡ doing self.new effects.new) }
-        ensures frame { frame self.new ≡ frame self.old }
+        ensures goes { OnOk result (takes_set_version (doing self.old.state effects.old) handle.0 version.0 base.0 ≡ doing self.new.state effects.new) }
+        ensures frame { frame self.new.state ≡ frame self.old.state }
     {
         let Some(row) = self.store.row(handle) else {
             return Ok(());
@@ -108,8 +108,8 @@ impl<S: ReplicaStore> Server<S> {
         chunk: u32,
         members: &ServerList,
     ) -> Result<(), ReplicaStoreFault>
-        ensures goes { OnOk result (takes_grant (doing self.old effects.old) handle.0 version.0 end.0 chunk members.now ≡ doing self.new effects.new) }
-        ensures frame { frame self.new ≡ frame self.old }
+        ensures goes { OnOk result (takes_grant (doing self.old.state effects.old) handle.0 version.0 end.0 chunk members.now ≡ doing self.new.state effects.new) }
+        ensures frame { frame self.new.state ≡ frame self.old.state }
     {
         let Some(row) = self.store.row(handle) else {
             return Ok(());
@@ -131,8 +131,8 @@ impl<S: ReplicaStore> Server<S> {
         version: Version,
         end: Moment,
     )
-        ensures goes { takes_extend (doing self.old effects.now) handle.0 version.0 end.0 ≡ doing self.new effects.now }
-        ensures frame { frame self.new ≡ frame self.old }
+        ensures goes { takes_extend (doing self.old.state effects.now) handle.0 version.0 end.0 ≡ doing self.new.state effects.now }
+        ensures frame { frame self.new.state ≡ frame self.old.state }
     {
         let Some(primary) = self.leases.get(handle) else {
             return;
@@ -149,8 +149,8 @@ impl<S: ReplicaStore> Server<S> {
         handle: Handle,
         version: Version,
     ) -> Result<(), ReplicaStoreFault>
-        ensures goes { OnOk result (takes_revoke (doing self.old effects.old) handle.0 version.0 ≡ doing self.new effects.new) }
-        ensures frame { frame self.new ≡ frame self.old }
+        ensures goes { OnOk result (takes_revoke (doing self.old.state effects.old) handle.0 version.0 ≡ doing self.new.state effects.new) }
+        ensures frame { frame self.new.state ≡ frame self.old.state }
     {
         if self.holds(handle, version) {
             self.leases.end(handle);
@@ -159,7 +159,7 @@ impl<S: ReplicaStore> Server<S> {
     }
 
     fn holds(&self, handle: Handle, version: Version) -> bool
-        ensures { result ≡ is_held_at version.0 (map.get self.now.leases handle.0) }
+        ensures { result ≡ is_held_at version.0 (map.get self.now.state.leases handle.0) }
     {
         match self.leases.get(handle) {
             None => false,
@@ -174,8 +174,8 @@ impl<S: ReplicaStore> Server<S> {
         handle: Handle,
         version: Version,
     ) -> Result<(), ReplicaStoreFault>
-        ensures goes { OnOk result (takes_drop (doing self.old effects.old) handle.0 version.0 ≡ doing self.new effects.new) }
-        ensures frame { frame self.new ≡ frame self.old }
+        ensures goes { OnOk result (takes_drop (doing self.old.state effects.old) handle.0 version.0 ≡ doing self.new.state effects.new) }
+        ensures frame { frame self.new.state ≡ frame self.old.state }
     {
         let Some(row) = self.store.row(handle) else {
             return Ok(());
@@ -195,8 +195,8 @@ impl<S: ReplicaStore> Server<S> {
         version: Version,
         source: ServerId,
     ) -> Result<(), ReplicaStoreFault>
-        ensures goes { OnOk result (takes_clone (doing self.old effects.old) handle.0 version.0 source.0 ≡ doing self.new effects.new) }
-        ensures frame { frame self.new ≡ frame self.old }
+        ensures goes { OnOk result (takes_clone (doing self.old.state effects.old) handle.0 version.0 source.0 ≡ doing self.new.state effects.new) }
+        ensures frame { frame self.new.state ≡ frame self.old.state }
     {
         self.clones.insert(handle.0, version.0)?;
         self.send(
@@ -215,8 +215,8 @@ impl<S: ReplicaStore> Server<S> {
         serial: Serial,
         bytes: &Bytes,
     ) -> Result<(), ReplicaStoreFault>
-        ensures goes { OnOk result (takes_image (doing self.old effects.old) handle.0 version.0 serial.0 bytes.now ≡ doing self.new effects.new) }
-        ensures frame { frame self.new ≡ frame self.old }
+        ensures goes { OnOk result (takes_image (doing self.old.state effects.old) handle.0 version.0 serial.0 bytes.now ≡ doing self.new.state effects.new) }
+        ensures frame { frame self.new.state ≡ frame self.old.state }
     {
         let is_pending = match self.clones.get(handle.0) {
             None => false,
@@ -245,9 +245,9 @@ impl<S: ReplicaStore> Server<S> {
         copy: Handle,
         copy_version: Version,
     ) -> Result<(), ReplicaStoreFault>
-        requires { self.old.under_way ≡ [] }
-        ensures goes { OnOk result (takes_copy_local (doing self.old effects.old) handle.0 version.0 copy.0 copy_version.0 ≡ doing self.new effects.new) }
-        ensures frame { frame self.new ≡ frame self.old }
+        requires { self.old.state.under_way ≡ [] }
+        ensures goes { OnOk result (takes_copy_local (doing self.old.state effects.old) handle.0 version.0 copy.0 copy_version.0 ≡ doing self.new.state effects.new) }
+        ensures frame { frame self.new.state ≡ frame self.old.state }
     {
         let Some(row) = self.store.row(handle) else {
             return Ok(());

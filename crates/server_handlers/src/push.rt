@@ -28,8 +28,8 @@ impl<S: ReplicaStore> Server<S> {
         bytes: &Bytes,
         rest: &ServerList,
     ) -> Result<(), ReplicaStoreFault>
-        ensures goes { OnOk result (takes_push (doing self.old effects.old) id bytes.now rest.now ≡ doing self.new effects.new) }
-        ensures frame { frame self.new ≡ frame self.old }
+        ensures goes { OnOk result (takes_push (doing self.old.state effects.old) id bytes.now rest.now ≡ doing self.new.state effects.new) }
+        ensures frame { frame self.new.state ≡ frame self.old.state }
     {
         let kept = bytes.clone()?;
         self.pushed.put(self.alloc, id, kept)?;
@@ -43,7 +43,7 @@ impl<S: ReplicaStore> Server<S> {
         bytes: &Bytes,
         rest: &ServerList,
     ) -> Result<(), ReplicaStoreFault>
-        ensures { OnOk result (passes_on (doing self.now effects.old) id bytes.now rest.now (next_hop rest.now self.now.id) ≡ doing self.now effects.new) }
+        ensures { OnOk result (passes_on (doing self.now.state effects.old) id bytes.now rest.now (next_hop rest.now self.now.state.id) ≡ doing self.now.state effects.new) }
     {
         match hop_after(self.alloc, rest, self.id)? {
             None => self.send(effects, Node::Client(id.client), Body::Pushed { data: id }),

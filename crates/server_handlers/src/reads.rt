@@ -31,9 +31,9 @@ impl<S: ReplicaStore> Server<S> {
         offset: u64,
         count: u64,
     ) -> Result<(), ReplicaStoreFault>
-        requires { self.old.under_way ≡ [] }
-        ensures goes { OnOk result (takes_read (doing self.old effects.old) asking.client asking.number asking.handle.0 asking.version.0 offset count ≡ doing self.new effects.new) }
-        ensures frame { frame self.new ≡ frame self.old }
+        requires { self.old.state.under_way ≡ [] }
+        ensures goes { OnOk result (takes_read (doing self.old.state effects.old) asking.client asking.number asking.handle.0 asking.version.0 offset count ≡ doing self.new.state effects.new) }
+        ensures frame { frame self.new.state ≡ frame self.old.state }
     {
         let Asking {
             client,
@@ -60,7 +60,7 @@ impl<S: ReplicaStore> Server<S> {
         effects: &mut ServerEffects,
         asking: Asking,
     ) -> Result<(), ReplicaStoreFault>
-        ensures { OnOk result (takes_len (doing self.now effects.old) asking.client asking.number asking.handle.0 asking.version.0 ≡ doing self.now effects.new) }
+        ensures { OnOk result (takes_len (doing self.now.state effects.old) asking.client asking.number asking.handle.0 asking.version.0 ≡ doing self.now.state effects.new) }
     {
         let Asking {
             client,
@@ -86,9 +86,9 @@ impl<S: ReplicaStore> Server<S> {
         handle: Handle,
         version: Version,
     ) -> Result<(), ReplicaStoreFault>
-        requires { self.old.under_way ≡ [] }
-        ensures goes { OnOk result (takes_copy_ask (doing self.old effects.old) target handle.0 version.0 ≡ doing self.new effects.new) }
-        ensures frame { frame self.new ≡ frame self.old }
+        requires { self.old.state.under_way ≡ [] }
+        ensures goes { OnOk result (takes_copy_ask (doing self.old.state effects.old) target handle.0 version.0 ≡ doing self.new.state effects.new) }
+        ensures frame { frame self.new.state ≡ frame self.old.state }
     {
         let Some(row) = self.store.row(handle) else {
             return Ok(());

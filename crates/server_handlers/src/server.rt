@@ -65,24 +65,27 @@ impl<S: ReplicaStore> Model for Server<S> {
     ghost use Rattle.std.specs.Prelude.{◌≡◌, ◌≤◌, max};
     ghost use Rattle.std.specs.FinMap as map;
     ghost use Rattle.std.specs.Coded.{codes, coded_ℕ};
-    ghost use Rattle.protocol.specs.Server.{ServerState};
     ghost use Rattle.protocol.specs.Tables.{moment_limit};
     ghost use Rattle.gfs_types.specs.Settings.{largest_chunk};
+    ghost use Rattle.server_handlers.specs.Standing.{HeldServerState};
 
-    ghost Value = { ServerState };
+    ghost Value = { HeldServerState };
 
     ghost coded = { Prim.hlevel (codes, map.code, coded_ℕ) };
 
     ghost view = { λ s. record {
-      config = s.config;
-      id = s.id.0;
-      up = s.up;
-      now = s.clock;
-      disk = S.disk s.store;
-      under_way = S.under_way s.store;
-      leases = s.leases.orders;
-      pushed = s.pushed;
-      clones = s.clones;
+      state = record {
+        config = s.config;
+        id = s.id.0;
+        up = s.up;
+        now = s.clock;
+        disk = S.disk s.store;
+        under_way = S.under_way s.store;
+        leases = s.leases.orders;
+        pushed = s.pushed;
+        clones = s.clones;
+      };
+      failed = S.failed s.store;
     } };
 
     ghost invariant = { λ s. (64 ≤ s.config.chunk) × (s.config.chunk ≤ largest_chunk) × (s.config.skew_ms ≤ 60000) × (s.clock ≤ moment_limit) × (s.pushed.limit ≡ max 1 s.config.push_entries) × (s.leases.skew ≡ s.config.skew_ms) × (s.leases.latest ≤ s.clock) };
@@ -91,21 +94,21 @@ impl<S: ReplicaStore> Model for Server<S> {
 impl<S: ReplicaStore> Server<S> {
     /// Whether it is up.
     pub fn is_up(&self) -> bool
-        ensures { result ≡ self.now.up }
+        ensures { result ≡ self.now.state.up }
     {
         self.up
     }
 
     /// Its number.
     pub fn id(&self) -> ServerId
-        ensures { result.0 ≡ self.now.id }
+        ensures { result.0 ≡ self.now.state.id }
     {
         self.id
     }
 
     /// How far a chunk of a size that was told may go: a replica has room for one of the settings' chunks.
     pub fn chunk_limit(&self, told: u32) -> u64
-        ensures size { result ≡ chunk_limit self.now told }
+        ensures size { result ≡ chunk_limit self.now.state told }
         ensures bound { result ≤ largest_chunk }
     {
         u64::from(told.min(self.config.chunk))
@@ -113,7 +116,7 @@ impl<S: ReplicaStore> Server<S> {
 
     /// How far a chunk goes, by the size that came with the lease of it.
     pub fn leased_limit(&self, handle: Handle) -> u64
-        ensures size { (p : SerialOrder) → held_at self.now handle.0 ≡ Some p → result ≡ chunk_limit self.now p.chunk }
+        ensures size { (p : SerialOrder) → held_at self.now.state handle.0 ≡ Some p → result ≡ chunk_limit self.now.state p.chunk }
         ensures bound { result ≤ largest_chunk }
     {
         match self.leases.get(handle) {
@@ -124,7 +127,7 @@ impl<S: ReplicaStore> Server<S> {
 
     /// The greatest moment that it was given.
     pub fn clock(&self) -> Moment
-        ensures { result.0 ≡ self.now.now }
+        ensures { result.0 ≡ self.now.state.now }
     {
         Moment(self.clock)
     }
@@ -135,8 +138,9 @@ impl<S: ReplicaStore> Server<S> {
 
     /// Its store, as it is.
     pub fn into_store(self) -> S
-        ensures disk { S.disk result ≡ self.disk }
-        ensures under_way { S.under_way result ≡ self.under_way }
+        ensures disk { S.disk result ≡ self.state.disk }
+        ensures under_way { S.under_way result ≡ self.state.under_way }
+        ensures failed { S.failed result ≡ self.failed }
     {
         let Server {
             config: _,
@@ -152,23 +156,30 @@ impl<S: ReplicaStore> Server<S> {
         store
     }
 
+    /// How often its store's disk has failed.
+    pub fn failures(&self) -> u64
+        ensures { result ≡ self.now.failed }
+    {
+        self.store.failures()
+    }
+
     /// What it knows of a replica.
     pub fn row(&self, handle: Handle) -> Option<Row>
-        ensures { result ≡ row_at self.now.disk handle.0 }
+        ensures { result ≡ row_at self.now.state.disk handle.0 }
     {
         self.store.row(handle)
     }
 
     /// The data that were pushed under an id.
     pub fn data(&self, id: DataId) -> Option<&Bytes>
-        ensures { option_copied result ≡ data_of self.now.pushed id }
+        ensures { option_copied result ≡ data_of self.now.state.pushed id }
     {
         self.pushed.get(id)
     }
 
     /// The lease of a chunk.
     pub fn lease(&self, handle: Handle) -> Option<&Primary>
-        ensures { option_map order_of (option_copied result) ≡ map.get self.now.leases handle.0 }
+        ensures { option_map order_of (option_copied result) ≡ map.get self.now.state.leases handle.0 }
     {
         self.leases.get(handle)
     }
@@ -180,9 +191,9 @@ impl<S: ReplicaStore> Server<S> {
         offset: u64,
         end: u64,
     ) -> Result<bool, ReplicaStoreFault>
-        requires { self.old.under_way ≡ [] }
-        ensures value { IfOk result (λ b. b ≡ is_writable_at self.old.disk handle.0 offset end) }
-        ensures same { self.new ≡ self.old }
+        requires { self.old.state.under_way ≡ [] }
+        ensures value { IfOk result (λ b. b ≡ is_writable_at self.old.state.disk handle.0 offset end) }
+        ensures same { self.new.state ≡ self.old.state }
     {
         self.store.is_writable(handle, offset, end)
     }
@@ -190,7 +201,7 @@ impl<S: ReplicaStore> Server<S> {
     /// Goes on to a moment.
     pub fn move_clock(&mut self, now: Moment)
         requires { now.0 ≤ moment_limit }
-        ensures { self.new ≡ server_at self.old now.0 }
+        ensures { self.new.state ≡ server_at self.old.state now.0 }
     {
         self.clock = self.clock.max(now.0);
     }
@@ -202,7 +213,7 @@ impl<S: ReplicaStore> Server<S> {
         receiver: Node,
         body: Body,
     ) -> Result<(), ReplicaStoreFault>
-        ensures { OnOk result (sends (doing self.now effects.old) receiver body ≡ doing self.now effects.new) }
+        ensures { OnOk result (sends (doing self.now.state effects.old) receiver body ≡ doing self.now.state effects.new) }
     {
         effects.send(Message {
             number: 0,
@@ -220,7 +231,7 @@ impl<S: ReplicaStore> Server<S> {
         number: u64,
         refusal: Refusal,
     ) -> Result<(), ReplicaStoreFault>
-        ensures { OnOk result (refuses (doing self.now effects.old) receiver number refusal ≡ doing self.now effects.new) }
+        ensures { OnOk result (refuses (doing self.now.state effects.old) receiver number refusal ≡ doing self.now.state effects.new) }
     {
         self.send(effects, receiver, Body::Refused { number, refusal })
     }
@@ -232,7 +243,7 @@ impl<S: ReplicaStore> Server<S> {
         id: DataId,
         refusal: Refusal,
     ) -> Result<(), ReplicaStoreFault>
-        ensures { OnOk result (refuses_attempt (doing self.now effects.old) id refusal ≡ doing self.now effects.new) }
+        ensures { OnOk result (refuses_attempt (doing self.now.state effects.old) id refusal ≡ doing self.now.state effects.new) }
     {
         self.refuses(effects, Node::Client(id.client), id.seq, refusal)
     }
@@ -244,7 +255,7 @@ impl<S: ReplicaStore> Server<S> {
         id: DataId,
         place: Option<u64>,
     ) -> Result<(), ReplicaStoreFault>
-        ensures { OnOk result (answers_settled (doing self.now effects.old) id place ≡ doing self.now effects.new) }
+        ensures { OnOk result (answers_settled (doing self.now.state effects.old) id place ≡ doing self.now.state effects.new) }
     {
         match place {
             None => self.refuses_attempt(effects, id, Refusal::ChunkFull),
@@ -261,8 +272,8 @@ impl<S: ReplicaStore> Server<S> {
         effects: &mut ServerEffects,
         handle: Handle,
     ) -> Result<(), ReplicaStoreFault>
-        ensures goes { OnOk result (drops_corrupt (doing self.old effects.old) handle.0 ≡ doing self.new effects.new) }
-        ensures frame { frame self.new ≡ frame self.old }
+        ensures goes { OnOk result (drops_corrupt (doing self.old.state effects.old) handle.0 ≡ doing self.new.state effects.new) }
+        ensures frame { frame self.new.state ≡ frame self.old.state }
     {
         self.leases.end(handle);
         effects.change(StoreChange::Remove(handle))
@@ -270,8 +281,8 @@ impl<S: ReplicaStore> Server<S> {
 
     /// The lease of a chunk, where it is of that version and counts now.
     pub fn primary_of(&self, handle: Handle, version: Version) -> Option<&Primary>
-        ensures primary { option_map order_of (option_copied result) ≡ primary_of self.now handle.0 version.0 }
-        ensures counts { (p : SerialOrder) → option_map order_of (option_copied result) ≡ Some p → (held_at self.now handle.0 ≡ Some p) × (counts_at self.now.config.skew_ms p.held self.now.now ≡ true) }
+        ensures primary { option_map order_of (option_copied result) ≡ primary_of self.now.state handle.0 version.0 }
+        ensures counts { (p : SerialOrder) → option_map order_of (option_copied result) ≡ Some p → (held_at self.now.state handle.0 ≡ Some p) × (counts_at self.now.state.config.skew_ms p.held self.now.state.now ≡ true) }
     {
         self.leases.counting(handle, version, Moment(self.clock))
     }

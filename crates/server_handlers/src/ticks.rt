@@ -15,8 +15,8 @@ use server_store::store::ReplicaStore;
 impl<S: ReplicaStore> Server<S> {
     /// A tick: leases that no longer count are forgotten, and the replicas and leases are reported to the master.
     pub fn ticks(&mut self, effects: &mut ServerEffects) -> Result<(), ReplicaStoreFault>
-        ensures goes { OnOk result (server_ticks (doing self.old effects.old) ≡ doing self.new effects.new) }
-        ensures frame { frame self.new ≡ frame self.old }
+        ensures goes { OnOk result (server_ticks (doing self.old.state effects.old) ≡ doing self.new.state effects.new) }
+        ensures frame { frame self.new.state ≡ frame self.old.state }
     {
         let now = Moment(self.clock);
         let leases = self.leases.report(self.alloc, now)?;

@@ -32,6 +32,10 @@ pub trait ReplicaStore {
     /// How often its disk has failed since it began.
     ghost failed: { Self → ℕ };
 
+    /// How often its disk has failed since it began.
+    fn failures(&self) -> u64
+        ensures { result ≡ failed self.now };
+
     /// What is known of a replica, from memory.
     fn row(&self, handle: Handle) -> Option<Row>
         ensures { result ≡ row_at (disk self.now) handle.0 };

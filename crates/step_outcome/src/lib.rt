@@ -1,9 +1,12 @@
-//! What a step of a node gives, and what is seen of it.
+//! What a step of a node gives, what is seen of it, and why the node goes down.
 #![tactic(auto)]
 
-ghost use Rattle.std.specs.Prelude.{◌≡◌, [], None, false};
+ghost use Rattle.std.specs.Prelude.{◌≡◌, [], Some, None, false};
 ghost use Rattle.protocol.specs.Seen.{no_output, down_output};
 
+pub mod down_cause;
+
+use crate::down_cause::DownCause;
 use gfs_types::lists::Sequence;
 use messages::event::StepOut;
 use protocol::seen::SeenList;
@@ -14,6 +17,8 @@ use std::alloc::Global;
 pub struct Outcome {
     pub out: StepOut,
     pub seen: SeenList,
+    /// Why the node goes down; none where it doesn't.
+    pub cause: Option<DownCause>,
 }
 
 impl Outcome {
@@ -21,22 +26,35 @@ impl Outcome {
     pub fn nothing(alloc: Global) -> Outcome
         ensures out { result.out ≡ no_output }
         ensures seen { result.seen ≡ [] }
+        ensures cause { result.cause ≡ None }
     {
         Outcome {
             out: no_output(alloc),
             seen: Sequence::empty(alloc),
+            cause: None,
         }
     }
 
-    /// A step that puts the node down, of which this was seen. Takes no memory.
-    pub fn down(alloc: Global, seen: SeenList) -> Outcome
+    /// A step that puts the node down for a cause, of which this was seen. Takes no memory.
+    pub fn down(alloc: Global, cause: DownCause, seen: SeenList) -> Outcome
         ensures out { result.out ≡ down_output }
         ensures seen { result.seen ≡ seen }
+        ensures cause { result.cause ≡ Some cause }
     {
         Outcome {
             out: down_output(alloc),
             seen,
+            cause: Some(cause),
         }
+    }
+
+    /// One that puts it down for a cause. Takes no memory.
+    pub fn down_for(alloc: Global, cause: DownCause) -> Outcome
+        ensures out { result.out ≡ down_output }
+        ensures seen { result.seen ≡ [] }
+        ensures cause { result.cause ≡ Some cause }
+    {
+        Outcome::down(alloc, cause, Sequence::empty(alloc))
     }
 }
 

@@ -1,6 +1,6 @@
 //! The log over its disk.
 
-ghost use Rattle.std.specs.Prelude.{◌≡◌, ◌<◌, ◌+◌, ◌^◌, ◌++◌, ◌∷◌, [], true, List, length, is_some, IfErr, IfOk, IfSome};
+ghost use Rattle.std.specs.Prelude.{◌≡◌, ◌<◌, ◌≤◌, ◌+◌, ◌^◌, ◌++◌, ◌∷◌, [], true, List, length, is_some, IfErr, IfOk, IfSome};
 ghost use Rattle.disk_redo.specs.GateMoments.{LeavesOnly};
 ghost use Rattle.log_records.specs.declared.record.Record.{Record};
 ghost use Rattle.oplog.specs.NewLogs.{IsLogOf};
@@ -89,6 +89,7 @@ impl<D: Disk> DiskLog<D> {
         ensures read_of_error { IfErr result (λ e. IsReopened (D.seen disk) (D.seen e.0)) }
         ensures any_moment_of_error { IfErr result (λ e. LeavesOnly D.moment D.left_since disk e.0 (IsOpening (D.seen disk) (D.may_leave disk))) }
         ensures open { IfOk result (λ l. l.is_open ≡ true) }
+        ensures later { IfOk result (λ l. D.failed disk ≤ l.failed) }
         // Damaged comes only where the disk holds no log.
         ensures undamaged { (items records : List Record) → IsLogOf items records (D.seen disk) → IfErr result (λ e. e.1 ≡ faults.Damaged → ⊥) }
         ensures cause { IfErr result (λ e. e.1 ≡ faults.Device → D.failed disk < D.failed e.0) }
@@ -142,7 +143,8 @@ impl<D: Disk> DiskLog<D> {
 
     /// The disk as it is. A stop leaves the log on it, with the change under way or without it.
     pub fn into_disk(self) -> D
-        ensures { LeavesDecided D.may_leave result self.disk self.under_way }
+        ensures left { LeavesDecided D.may_leave result self.disk self.under_way }
+        ensures failed { D.failed result ≡ self.failed }
     {
         let _is_open = self.log.is_open();
         self.log.into_disk()
@@ -184,6 +186,10 @@ impl<D: Disk> OperationLog for DiskLog<D> {
 
     fn fits(&self, entry: &Record) -> bool {
         used_with(self.log_bytes, self.used, AROUND_RECORD, entry).is_some()
+    }
+
+    fn failures(&self) -> u64 {
+        self.log.failures()
     }
 
     // An item is no record: behind an open gate it would leave no log.

@@ -21,18 +21,18 @@ const RECORD: Row = Row {
 const PRIMARY: ServerId = ServerId(1);
 
 /// The moment of all these events.
-const NOW: Moment = Moment(0);
+pub(crate) const NOW: Moment = Moment(0);
 
 /// A kind of message to the primary.
 #[derive(Clone, Copy)]
-enum Wanted {
+pub(crate) enum Wanted {
     Grant,
     Mutate,
 }
 
-/// The number of the first message of a kind to the primary; 0 where there is none.
-fn first_number(recorded: &Recorded, wanted: Wanted) -> u64 {
-    for number in 1..=recorded.message_count() {
+/// The number of the first message of a kind to the primary, behind that of another one; 0 where there is none.
+pub(crate) fn next_number(recorded: &Recorded, before: u64, wanted: Wanted) -> u64 {
+    for number in before.saturating_add(1)..=recorded.message_count() {
         if let Some(message) = recorded.message(number) {
             if message.receiver == Node::Server(PRIMARY) && is_wanted(wanted, &message.body) {
                 return number;
@@ -49,21 +49,21 @@ fn is_wanted(wanted: Wanted, body: &Body) -> bool {
     }
 }
 
-/// Whether the message that was sent last is a refusal for want of a lease.
-fn is_refused(recorded: &Recorded) -> bool {
+/// Whether the message that was sent last is this refusal.
+pub(crate) fn is_refused(recorded: &Recorded, wanted: Refusal) -> bool {
     match recorded.message(recorded.message_count()) {
         Some(
             Message {
                 body: Body::Refused { refusal, .. },
                 ..
             },
-        ) => *refusal == Refusal::NoLease,
+        ) => *refusal == wanted,
         _ => false,
     }
 }
 
 /// Whether the last message is the answer to a settled attempt.
-fn is_done(recorded: &Recorded) -> bool {
+pub(crate) fn is_done(recorded: &Recorded) -> bool {
     match recorded.message(recorded.message_count()) {
         Some(
             Message {
@@ -81,8 +81,8 @@ fn is_lost_for_good(alloc: Global) -> Result<bool, ScriptFault> {
         return Ok(false);
     };
     let mut cell = recorded;
-    let grant = first_number(&cell, Wanted::Grant);
-    let mutate = first_number(&cell, Wanted::Mutate);
+    let grant = next_number(&cell, 0, Wanted::Grant);
+    let mutate = next_number(&cell, 0, Wanted::Mutate);
     let repeat = Event::Deliver {
         number: mutate,
         now: NOW,
@@ -101,7 +101,7 @@ fn is_lost_for_good(alloc: Global) -> Result<bool, ScriptFault> {
     });
     let is_passed_over = cell.message_count() == sent;
     let _ = cell.step(again);
-    Ok(grant > 0 && mutate > 0 && was_done && is_passed_over && is_refused(&cell))
+    Ok(grant > 0 && mutate > 0 && was_done && is_passed_over && is_refused(&cell, Refusal::NoLease))
 }
 
 #[test]

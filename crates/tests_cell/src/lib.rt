@@ -21,6 +21,8 @@ mod model;
 #[cfg(test)]
 mod nul;
 #[cfg(test)]
+mod old_request;
+#[cfg(test)]
 mod opened;
 #[cfg(test)]
 mod opened_server;

@@ -12,6 +12,7 @@ use master_cell::master::Master;
 use messages::event::{NodeInput, StepOut};
 use messages::message::{Body, Message, NameReply};
 use std::alloc::Global;
+use step_outcome::down_cause::DownCause;
 
 const SIZE: usize = 65_536;
 
@@ -149,4 +150,33 @@ fn outlasts_a_stop(alloc: Global) -> Result<bool, NoMemory> {
 #[test]
 fn a_master_is_opened_over_the_disk_of_an_earlier_one(rt: HostRuntime) {
     assert!(rt; matches!(outlasts_a_stop(rt.alloc()), Ok(true)));
+}
+
+/// What a master over a disk that passes no more calls gives as the cause where it goes down in a step; none where it couldn't be opened.
+fn cause_of_failing(alloc: Global) -> Result<Option<DownCause>, NoMemory> {
+    let Some(disk) = new_disk(alloc) else {
+        return Ok(None);
+    };
+    let Some(first) = open_master(alloc, disk) else {
+        return Ok(None);
+    };
+    let mut master = first;
+    master.arm(0);
+    let message = Message {
+        number: 1,
+        sender: Node::Client(ClientId(1)),
+        receiver: Node::Master,
+        body: Body::Name {
+            call_number: 1,
+            deadline: DEADLINE,
+            call: Call::Mkdir(Text::from_str("/d", alloc)?),
+        },
+    };
+    let outcome = master.take_step(NOW, Some(&message));
+    Ok(outcome.cause)
+}
+
+#[test]
+fn a_master_says_that_its_disk_failed(rt: HostRuntime) {
+    assert!(rt; matches!(cause_of_failing(rt.alloc()), Ok(Some(DownCause::Device))));
 }

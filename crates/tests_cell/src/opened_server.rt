@@ -4,12 +4,13 @@ ghost use Rattle.std.specs.Prelude.{◌≡◌, IfSome};
 
 use disk::{FuseDisk, MemDisk, StopPlan};
 use gfs_types::config::Config;
-use gfs_types::ids::{Handle, Moment, Node, OrderNo, ServerId, Version};
+use gfs_types::ids::{ClientId, DataId, Handle, Moment, Node, OrderNo, ServerId, Version};
 use gfs_types::torn::Torn;
 use messages::event::{NodeInput, StepOut};
-use messages::message::{Body, Message};
+use messages::message::{Body, Message, Target};
 use server_cell::disk_server::Server;
 use std::alloc::Global;
+use step_outcome::down_cause::DownCause;
 use store_disk::Layout;
 
 const NOW: Moment = Moment(0);
@@ -36,7 +37,7 @@ fn settings() -> Config
 
 /// A server over a new disk; none where it can't be up.
 fn open_new(alloc: Global) -> Option<DiskServer>
-    ensures { IfSome result (λ s. (s.disk.chunk ≡ 64) × (s.disk.block ≡ 16) × (s.disk.slots ≡ 4)) }
+    ensures { IfSome result (λ s. (s.state.disk.chunk ≡ 64) × (s.state.disk.block ≡ 16) × (s.state.disk.slots ≡ 4)) }
 {
     let config = settings();
     if config.skew_ms > 60_000 {
@@ -55,8 +56,8 @@ fn open_new(alloc: Global) -> Option<DiskServer>
 
 /// The server over its disk once that has stopped.
 fn open_again(alloc: Global, server: DiskServer, torn: Torn) -> Option<DiskServer>
-    requires { (server.disk.chunk ≡ 64) × (server.disk.block ≡ 16) × (server.disk.slots ≡ 4) }
-    ensures { IfSome result (λ s. (s.disk.chunk ≡ 64) × (s.disk.block ≡ 16) × (s.disk.slots ≡ 4)) }
+    requires { (server.state.disk.chunk ≡ 64) × (server.state.disk.block ≡ 16) × (server.state.disk.slots ≡ 4) }
+    ensures { IfSome result (λ s. (s.state.disk.chunk ≡ 64) × (s.state.disk.block ≡ 16) × (s.state.disk.slots ≡ 4)) }
 {
     let config = settings();
     if config.skew_ms > 60_000 {
@@ -87,8 +88,8 @@ fn create() -> Message {
 
 // Whether it has a replica, takes the order, and has one then, which the master is told of.
 fn creates(server: &mut DiskServer) -> bool
-    requires { (server.old.disk.chunk ≡ 64) × (server.old.disk.block ≡ 16) × (server.old.disk.slots ≡ 4) }
-    ensures { (server.new.disk.chunk ≡ 64) × (server.new.disk.block ≡ 16) × (server.new.disk.slots ≡ 4) }
+    requires { (server.old.state.disk.chunk ≡ 64) × (server.old.state.disk.block ≡ 16) × (server.old.state.disk.slots ≡ 4) }
+    ensures { (server.new.state.disk.chunk ≡ 64) × (server.new.state.disk.block ≡ 16) × (server.new.state.disk.slots ≡ 4) }
 {
     let had = server.row(CHUNK).is_some();
     let StepOut { sent, down, .. } = server.step(NOW, NodeInput::Deliver(create()));
@@ -127,4 +128,71 @@ fn a_server_is_opened_over_the_disk_of_an_earlier_one(rt: HostRuntime) {
             );
         }
     }
+}
+
+// Why it goes down where its disk passes no more calls.
+fn cause_of_failing(alloc: Global) -> Option<DownCause> {
+    let mut server = open_new(alloc)?;
+    server.arm(0);
+    let message = create();
+    server.take_step(NOW, Some(&message)).cause
+}
+
+#[test]
+fn a_server_says_that_its_disk_failed(rt: HostRuntime) {
+    assert!(rt; matches!(cause_of_failing(rt.alloc()), Some(DownCause::Device)));
+}
+
+// What a client asks.
+fn ask(body: Body) -> Message {
+    Message {
+        number: 2,
+        sender: Node::Client(ClientId(1)),
+        receiver: Node::Server(ID),
+        body,
+    }
+}
+
+// Whether it stays up in a step, and has no cause to go down.
+fn stays_up(server: &mut DiskServer, message: &Message) -> bool {
+    let outcome = server.take_step(NOW, Some(message));
+    outcome.cause.is_none() && server.is_up()
+}
+
+// An order that comes again, reads of no replica and of another version, and a mutation without a lease.
+fn outlasts_refusals(alloc: Global) -> Option<bool> {
+    let mut server = open_new(alloc)?;
+    let order = create();
+    let takes_orders = stays_up(&mut server, &order) && stays_up(&mut server, &order);
+    let read = ask(Body::Read {
+        number: 1,
+        handle: Handle(8),
+        version: Version(1),
+        offset: 0,
+        count: 1,
+    });
+    let len = ask(Body::Len {
+        number: 2,
+        handle: CHUNK,
+        version: Version(2),
+    });
+    let mutate = ask(Body::Mutate {
+        data: DataId {
+            client: ClientId(1),
+            seq: 3,
+        },
+        handle: CHUNK,
+        version: Version(1),
+        target: Target::Append,
+        deadline: Moment(1_000),
+    });
+    let refuses = stays_up(&mut server, &read)
+        && stays_up(&mut server, &len)
+        && stays_up(&mut server, &mutate);
+    Some(takes_orders && refuses)
+}
+
+#[test]
+fn a_server_that_refuses_has_no_cause_to_go_down(rt: HostRuntime) {
+    assert!(rt; matches!(outlasts_refusals(rt.alloc()), Some(true)));
 }

@@ -24,4 +24,4 @@ returns-in-Ok-open c =
     let d = new_server_disk config.chunk config.block config.slots in
     let here = holds_none config.chunk config.block config.slots c.disk_size.result c.in-Ok.disk c.in-Ok.ensures in
     let holds = subst (λ (f : FuseState). HoldsReplicas config.chunk config.block config.slots f.disk.bytes d) (sym c.new-disk.ensures) here in
-    is_tested config 1 0 c.in-Ok.disk.bytes d c.in-Ok-open.server (c.settings-config.ensures.chunk, c.settings-config.ensures.block, c.settings-config.ensures.slots) here (c.in-Ok-open.ensures.opened d holds)
+    is_tested config 1 0 c.in-Ok.disk.bytes d c.in-Ok-open.server.state (c.settings-config.ensures.chunk, c.settings-config.ensures.block, c.settings-config.ensures.slots) here (c.in-Ok-open.ensures.opened d holds)

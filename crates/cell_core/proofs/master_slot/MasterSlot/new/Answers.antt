@@ -9,5 +9,5 @@ invariant_of-result g c = (
   c.requires.skew,
   record { config_is = ap (λ (m : MasterState). m.config) c.in-Ok-new.ensures; count_is = ap (λ (m : MasterState). m.server_count) c.in-Ok-new.ensures },
   tt,
-  λ _. shown_first c.args.config c.args.server_count c.in-Ok-new.master _ c.in-Ok-new.ensures c.new-files.ensures,
+  λ _. shown_first c.args.config c.args.server_count c.in-Ok-new.master.state _ c.in-Ok-new.ensures c.new-files.ensures,
 )

@@ -22,11 +22,11 @@ pub returns-clause-steps : goal.returns-clause-steps
 returns-clause-steps g c =
     let i = c.self.inside in
     let same = sym (held_is i.config i.server_count i.master _ i.log i.before.items c.in-Some.is) ∙ ap (λ (s : SlotState). s.state) c.self.view_is in
-    on_input c.args.self.now.state c.args.now.0 (option_copied c.args.message) c.step.result.out c.step.result.seen c.step.new.self
-    (subst (λ (m : MasterState). MasterSteps m c.args.now.0 (master_input (option_copied c.args.message)) c.step.result.out c.step.result.seen c.step.new.self) same c.step.ensures.steps)
+    on_input c.args.self.now.state c.args.now.0 (option_copied c.args.message) c.step.result.out c.step.result.seen c.step.new.self.state
+    (subst (λ (m : MasterState). MasterSteps m c.args.now.0 (master_input (option_copied c.args.message)) c.step.result.out c.step.result.seen c.step.new.self.state) same c.step.ensures.steps)
 
 pub returns-clause-files : goal.returns-clause-files
-returns-clause-files g c = c.step.ensures.files ∙ ap (λ (s : SlotState). files_seen c.step.new.self s.files) c.self.view_is
+returns-clause-files g c = c.step.ensures.files ∙ ap (λ (s : SlotState). files_seen c.step.new.self.state s.files) c.self.view_is
 
 pub invariant_of-self : goal.invariant_of-self
 invariant_of-self g c = c.self.invariant
@@ -37,9 +37,9 @@ invariant_of-self-2 g c =
     let of = subst (IsMasterOf i.config i.server_count) (held_is i.config i.server_count i.master _ i.log i.before.items c.in-Some.is) c.self.invariant.2 in (
       c.self.invariant.0,
       c.self.invariant.1,
-      still_of i.config i.server_count _ c.step.new.self of (steps_settings _ c.args.now.0 (master_input (option_copied c.args.message)) c.step.result.out c.step.result.seen c.step.new.self c.step.ensures.steps),
+      still_of i.config i.server_count _ c.step.new.self.state of (steps_settings _ c.args.now.0 (master_input (option_copied c.args.message)) c.step.result.out c.step.result.seen c.step.new.self.state c.step.ensures.steps),
       tt,
-      λ up. shown_up c.step.new.self (shown_in c.step.new.shown) (shown_in i.files) c.step.ensures.files up,
+      λ up. shown_up c.step.new.self.state (shown_in c.step.new.shown) (shown_in i.files) c.step.ensures.files up,
     )
 
 pub returns-in_default-clause-steps : goal.returns-in_default-clause-steps

@@ -12,7 +12,7 @@ stop-requires g c =
 pub returns-clause-state : goal.returns-clause-state
 returns-clause-state g c =
     let i = c.self.inside in
-    c.stop.ensures ∙ ap (λ (m : MasterState). stopped_master m m.disk []) (sym (held_is i.config i.server_count i.master _ i.log i.before.items c.in-Some.is) ∙ ap (λ (s : SlotState). s.state) c.self.view_is)
+    c.stop.ensures.state ∙ ap (λ (m : MasterState). stopped_master m m.disk []) (sym (held_is i.config i.server_count i.master _ i.log i.before.items c.in-Some.is) ∙ ap (λ (s : SlotState). s.state) c.self.view_is)
 
 pub returns-clause-files : goal.returns-clause-files
 returns-clause-files g c = ap (λ (s : SlotState). s.files) c.self.view_is
@@ -34,7 +34,7 @@ invariant_of-self-2 g c =
     let of = subst (IsMasterOf i.config i.server_count) (held_is i.config i.server_count i.master _ i.log i.before.items c.in-Some.is) c.self.invariant.2 in (
       c.self.invariant.0,
       c.self.invariant.1,
-      still_of i.config i.server_count _ c.stop.new.self of (ap (λ (m : MasterState). m.config) c.stop.ensures, ap (λ (m : MasterState). m.server_count) c.stop.ensures),
+      still_of i.config i.server_count _ c.stop.new.self.state of (ap (λ (m : MasterState). m.config) c.stop.ensures.state, ap (λ (m : MasterState). m.server_count) c.stop.ensures.state),
       tt,
-      λ up. let both : false ≡ true = sym (ap (λ (m : MasterState). m.up) c.stop.ensures) ∙ up in absurd cc,
+      λ up. let both : false ≡ true = sym (ap (λ (m : MasterState). m.up) c.stop.ensures.state) ∙ up in absurd cc,
     )

@@ -91,7 +91,7 @@ returns-in_default-clone-clause-files g c =
 pub invariant_of-self-in-Ok-open : goal.invariant_of-self-in-Ok-open
 invariant_of-self-in-Ok-open g c =
     let i = c.self.inside in
-    (c.self.invariant.0, c.self.invariant.1, up_of i.config i.server_count c.args.now.0 c.in-Ok.log.disk c.in-Ok-open.master c.in-Ok-open.ensures.opens, tt, λ up. c.in-Ok-open.ensures.files)
+    (c.self.invariant.0, c.self.invariant.1, up_of i.config i.server_count c.args.now.0 c.in-Ok.log.disk c.in-Ok-open.master.state c.in-Ok-open.ensures.opens, tt, λ up. c.in-Ok-open.ensures.files)
 
 pub returns-in-Ok-open-clause-steps : goal.returns-in-Ok-open-clause-steps
 returns-in-Ok-open-clause-steps g c =
@@ -101,10 +101,10 @@ returns-in-Ok-open-clause-steps g c =
     let of = of_stopped i.config i.server_count m now (ap (λ (s : SlotState). s.state) (c.self.view_is ∙ c.take_disk.ensures.down)) c.self.invariant.2 in
     let size = subst IsDiskSize c.size.ensures (is_disk_size c.is_log_size.result c.size.result c.is_log_size.ensures c.if-not-is_log_size.false) in
     let decided = opened_decided c.in-Some.disk c.restart-disk.result.disk.bytes m c.in-Ok.log size.0 c.in-Some.ensures.left c.restart-disk.ensures.lawful c.in-Ok.ensures.opened in
-    is_up_again i.config i.server_count m of c.args.now.0 c.in-Ok.log decided c.in-Ok.ensures.decided c.no_output.result c.in-Ok-open.master c.no_output.ensures c.in-Ok-open.ensures.opens
+    is_up_again i.config i.server_count m of c.args.now.0 c.in-Ok.log decided c.in-Ok.ensures.decided c.no_output.result c.in-Ok-open.master.state c.no_output.ensures c.in-Ok-open.ensures.opens
 
 pub returns-in-Ok-open-clause-files : goal.returns-in-Ok-open-clause-files
-returns-in-Ok-open-clause-files g c = up_files c.in-Ok-open.master _ c.args.self.now.files c.in-Ok-open.ensures.opens.is_up c.in-Ok-open.ensures.files
+returns-in-Ok-open-clause-files g c = up_files c.in-Ok-open.master.state _ c.args.self.now.files c.in-Ok-open.ensures.opens.is_up c.in-Ok-open.ensures.files
 
 -- or down
 pub invariant_of-self-in-Err-open : goal.invariant_of-self-in-Err-open

@@ -1,6 +1,7 @@
 use Rattle.std.proofs.Common.{◌≡◌, true, sym, ap, ◌∙◌, subst}
 use Rattle.protocol.specs.Master.{MasterState}
 use Rattle.master_cell.specs.Shown.{shown_in}
+use Rattle.master_cell.specs.Standing.{LoggedMasterState}
 use Rattle.cell_core.specs.MasterSlots.{IsMasterOf, SlotState}
 use Rattle.cell_core.proofs.MasterSlots.{held_is}
 use Rattle.cell_core.proofs.master_slot.MasterSlotStoppableMaster.fuse.Goals as goal
@@ -14,7 +15,7 @@ returns-then-not-is_up-clause-files g c = ap (λ (s : SlotState). s.files) c.sel
 pub invariant_of-self-in-Some : goal.invariant_of-self-in-Some
 invariant_of-self-in-Some g c =
     let i = c.self.inside in
-    let same = held_is i.config i.server_count i.master _ i.log i.before.items c.in-Some.is ∙ sym c.arm.ensures in (
+    let same = held_is i.config i.server_count i.master _ i.log i.before.items c.in-Some.is ∙ sym (ap (λ (m : LoggedMasterState). m.state) c.arm.ensures) in (
       c.self.invariant.0,
       c.self.invariant.1,
       subst (IsMasterOf i.config i.server_count) same c.self.invariant.2,
@@ -25,7 +26,7 @@ invariant_of-self-in-Some g c =
 pub returns-in-Some-clause-state : goal.returns-in-Some-clause-state
 returns-in-Some-clause-state g c =
     let i = c.self.inside in
-    c.arm.ensures ∙ sym (held_is i.config i.server_count i.master _ i.log i.before.items c.in-Some.is) ∙ ap (λ (s : SlotState). s.state) c.self.view_is
+    ap (λ (m : LoggedMasterState). m.state) c.arm.ensures ∙ sym (held_is i.config i.server_count i.master _ i.log i.before.items c.in-Some.is) ∙ ap (λ (s : SlotState). s.state) c.self.view_is
 
 pub returns-in-Some-clause-files : goal.returns-in-Some-clause-files
 returns-in-Some-clause-files g c = ap (λ (s : SlotState). s.files) c.self.view_is

@@ -21,7 +21,7 @@ open-requires-clause-holds g c =
 pub returns-in-Ok-clause-opened : goal.returns-in-Ok-clause-opened
 returns-in-Ok-clause-opened g c d holds =
     let here = by_layout (λ chunk block slots. HoldsReplicas chunk block slots (g.D.Disk.seen c.args.disk) d) c.args.config c.new-layout.result c.new-layout.ensures.chunk c.new-layout.ensures.block c.new-layout.ensures.slots holds in
-    c.new.ensures ∙ ap (λ (x : ServerDisk). started_server c.args.config c.args.id.0 x c.args.now.0) (c.in-Ok.ensures.opened d here)
+    c.new.ensures.state ∙ ap (λ (x : ServerDisk). started_server c.args.config c.args.id.0 x c.args.now.0) (c.in-Ok.ensures.opened d here)
 
 pub returns-in-Err-clause-held : goal.returns-in-Err-clause-held
 returns-in-Err-clause-held g c d holds =

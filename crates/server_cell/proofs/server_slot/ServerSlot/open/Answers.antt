@@ -15,7 +15,7 @@ invariant_of-result c =
     let config = c.args.config in
     let some = c.requires.holds in
     let here = subst (λ (f : FuseState). HoldsReplicas config.chunk config.block config.slots f.disk.bytes some.0) (sym c.new.ensures) some.1 in
-    (c.requires.settings, opened_of config c.args.id.0 c.args.now.0 c.args.disk.bytes some.0 c.in-Ok.server some.1 (c.in-Ok.ensures.opened some.0 here), tt)
+    (c.requires.settings, opened_of config c.args.id.0 c.args.now.0 c.args.disk.bytes some.0 c.in-Ok.server.state some.1 (c.in-Ok.ensures.opened some.0 here), tt)
 
 pub returns-in-Ok : goal.returns-in-Ok
 returns-in-Ok c d holds =

@@ -24,7 +24,7 @@ returns-in-Ok c =
     let h = of_stopped i.config i.id.0 s (slot_state i.config i.id.0 i.server i.before.items) (c.self.view_is ∙ c.take_disk.ensures.down) c.self.invariant.1 in
     let bytes = c.restart-disk.result.disk.bytes in
     let f = found_again i.config i.id.0 s h (LeftBy c.in-Some.disk.disk) bytes c.in-Some.ensures.left c.restart-disk.ensures.lawful in
-    opened_again i.config i.id.0 s h c.args.now.0 c.no_output.result c.in-Ok.server bytes c.no_output.ensures f (c.in-Ok.ensures.opened f.disk f.holds)
+    opened_again i.config i.id.0 s h c.args.now.0 c.no_output.result c.in-Ok.server.state bytes c.no_output.ensures f (c.in-Ok.ensures.opened f.disk f.holds)
 
 pub invariant_of-self : goal.invariant_of-self
 invariant_of-self c =
@@ -33,7 +33,7 @@ invariant_of-self c =
     let h = of_stopped i.config i.id.0 s (slot_state i.config i.id.0 i.server i.before.items) (c.self.view_is ∙ c.take_disk.ensures.down) c.self.invariant.1 in
     let bytes = c.restart-disk.result.disk.bytes in
     let f = found_again i.config i.id.0 s h (LeftBy c.in-Some.disk.disk) bytes c.in-Some.ensures.left c.restart-disk.ensures.lawful in
-    (c.self.invariant.0, opened_of i.config i.id.0 c.args.now.0 bytes f.disk c.in-Ok.server f.holds (c.in-Ok.ensures.opened f.disk f.holds), tt)
+    (c.self.invariant.0, opened_of i.config i.id.0 c.args.now.0 bytes f.disk c.in-Ok.server.state f.holds (c.in-Ok.ensures.opened f.disk f.holds), tt)
 
 pub returns-in-Err : goal.returns-in-Err
 returns-in-Err c = stays_down_so c.args.self.now c.args.self.now c.args.now.0 c.down_output-in-Err.result _ c.down_output-in-Err.ensures refl (c.self.view_is ∙ c.take_disk.ensures.down)

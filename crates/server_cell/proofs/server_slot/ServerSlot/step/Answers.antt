@@ -13,12 +13,12 @@ invariant_of-self c = c.self.invariant
 pub invariant_of-self-2 : goal.invariant_of-self-2
 invariant_of-self-2 c =
     let i = c.self.inside in
-    (c.self.invariant.0, goes_on i.config i.id.0 i.server _ c.take_step.new.self i.before.items c.in-Some.is c.self.invariant.1 c.take_step.ensures.settings, tt)
+    (c.self.invariant.0, goes_on i.config i.id.0 i.server _ c.take_step.new.self.state i.before.items c.in-Some.is c.self.invariant.1 c.take_step.ensures.settings, tt)
 
 pub returns : goal.returns
 returns c =
     let i = c.self.inside in
-    subst (λ (s : ServerState). ServerSteps s c.args.now.0 (input_of (option_copied c.args.message)) c.take_step.result.out c.take_step.result.seen c.take_step.new.self)
+    subst (λ (s : ServerState). ServerSteps s c.args.now.0 (input_of (option_copied c.args.message)) c.take_step.result.out c.take_step.result.seen c.take_step.new.self.state)
     (sym (held_is i.config i.id.0 i.server _ i.before.items c.in-Some.is) ∙ c.self.view_is) c.take_step.ensures.steps
 
 pub returns-in_default : goal.returns-in_default

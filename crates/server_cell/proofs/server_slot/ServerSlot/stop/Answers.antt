@@ -15,7 +15,7 @@ invariant_of-self c = c.self.invariant
 pub invariant_of-self-2 : goal.invariant_of-self-2
 invariant_of-self-2 c =
     let i = c.self.inside in
-    (c.self.invariant.0, goes_on i.config i.id.0 i.server _ c.stop.new.self i.before.items c.in-Some.is c.self.invariant.1 (stopped_settings _ c.stop.new.self [] c.stop.ensures), tt)
+    (c.self.invariant.0, goes_on i.config i.id.0 i.server _ c.stop.new.self.state i.before.items c.in-Some.is c.self.invariant.1 (stopped_settings _ c.stop.new.self.state [] c.stop.ensures), tt)
 
 pub returns : goal.returns
 returns c =
