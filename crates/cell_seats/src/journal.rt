@@ -196,14 +196,20 @@ fn next_restarts(history: &ClosedHistory, before: u64) -> bool
 }
 
 // Whether a node began again with the entry at this place.
-#[tactic(auto, using(cell_journal::proofs::Retained::entry_is))]
 fn restarts_at(history: &ClosedHistory, place: usize, node: Node) -> bool
     ensures { result ≡ true → HasRestart history.now.entries place node }
 {
     match history.event(place) {
-        Some(entry) => entry.node() == node && is_restart(entry.cause()),
+        Some(entry) => is_restart_of(entry, node),
         None => false,
     }
+}
+
+fn is_restart_of(entry: &JournalEntry, node: Node) -> bool
+    ensures node { result ≡ true → entry.now.node ≡ node }
+    ensures cause { result ≡ true → entry.now.cause ≡ Restarts }
+{
+    entry.node() == node && is_restart(entry.cause())
 }
 
 fn is_restart(cause: &StepCause) -> bool
