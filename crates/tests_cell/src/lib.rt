@@ -13,8 +13,6 @@ mod file;
 #[cfg(test)]
 mod late_grant;
 #[cfg(test)]
-mod limits;
-#[cfg(test)]
 mod lines;
 #[cfg(test)]
 mod model;

@@ -135,7 +135,8 @@ fn cause_of_failing(alloc: Global) -> Option<DownCause> {
     let mut server = open_new(alloc)?;
     server.arm(0);
     let message = create();
-    server.take_step(NOW, Some(&message)).cause
+    let outcome = server.take_step(NOW, Some(&message));
+    outcome.cause
 }
 
 #[test]

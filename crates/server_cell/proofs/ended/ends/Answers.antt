@@ -1,5 +1,5 @@
-use Rattle.std.proofs.Common.{refl, sym, ◌∙◌}
-use Rattle.step_outcome.proofs.Causes.{down_for, stays_for}
+use Rattle.std.proofs.Common.{refl, ◌∙◌}
+use Rattle.step_outcome.proofs.Causes.{down_for}
 use Rattle.server_handlers.specs.Doing.{doing}
 use Rattle.server_cell.proofs.Settings.{changed_settings, part_settings}
 use Rattle.server_cell.proofs.Steps.{went, stopped_so}
@@ -21,8 +21,10 @@ returns-in-Err-clause-settings g c = part_settings c.args.server.now.state c.com
 
 -- why it goes down, where it does
 pub returns-in-Ok-clause-cause : goal.returns-in-Ok-clause-cause
-returns-in-Ok-clause-cause g c = stays_for _ _ _ _ refl refl
+returns-in-Ok-clause-cause g c = record { told = refl; device = λ e. absurd cc; room = λ e. absurd cc }
 
 pub returns-in-Err-clause-cause : goal.returns-in-Err-clause-cause
 returns-in-Err-clause-cause g c =
-    down_for c.args.before c.stop.new.self.failed c.down.result.out c.down.result.cause c.cause_since.result c.down.ensures.out c.down.ensures.cause c.cause_since.ensures.device c.cause_since.ensures.room
+    let d = c.down in
+    let why = c.cause_since in
+    down_for c.args.before c.stop.new.self.failed d.result.out d.result.cause why.result d.ensures.out d.ensures.cause why.ensures.device why.ensures.room
