@@ -213,6 +213,7 @@ fn new_registry<R: Wait + Clock>(
                 closing: AtomicU64::new(STARTING),
                 answered: AtomicU64::new(0),
                 events: AtomicU64::new(0),
+                lost: AtomicU64::new(0),
             };
             registry_of(rt, parts, cell, shared, writer)
         }

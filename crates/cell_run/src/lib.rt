@@ -29,6 +29,7 @@ pub mod watch;
 // What a program that runs a cell names.
 pub use bytes::Bytes;
 pub use cell::{Cell, ClientSeat};
+pub use cell_journal::Retention;
 pub use cell_journal::journal_entry::{JournalEntry, StepCause};
 pub use cell_seats::gate::{Gate, Kind, OpenGate};
 pub use cell_seats::journal::Journal;

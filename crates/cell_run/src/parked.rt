@@ -80,12 +80,6 @@ impl ParkedParts {
         sum_of(self.made, self.count_anew())
     }
 
-    fn have_clients(&self) -> bool
-        ensures { result ≡ true → All (λ s. IsSome s.saw) self.now.seats }
-    {
-        all_have_clients(self.seats.as_slice())
-    }
-
     /// Of which clients nothing more is written once the cell goes on: of all that were made but those whose seats go on as they are.
     pub(crate) fn retired_then(&self) -> [bool; 64]
         ensures { (k : ℕ) → self.now.made ≤ k → get_or result k false ≡ false }
@@ -261,6 +255,6 @@ impl Parked {
     pub fn has_all_clients(&self) -> bool
         ensures { result ≡ true → All (λ s. IsSome s.saw) self.now.seats }
     {
-        self.parts.have_clients()
+        all_have_clients(self.parts.seats.as_slice())
     }
 }

@@ -92,17 +92,10 @@ impl ParkedParts {
         if now.saturating_add(u64::from(self.config.skew_ms)) < self.greatest {
             return Err(StartFault::Clock);
         }
-        if self.has_numbers() {
-            Ok(())
-        } else {
-            Err(StartFault::Count)
+        if !are_few(self.made, self.count_anew()) {
+            return Err(StartFault::Count);
         }
-    }
-
-    fn has_numbers(&self) -> bool
-        ensures { result ≡ true → self.now.made + count_anew self.now.seats ≤ 64 }
-    {
-        are_few(self.made, self.count_anew())
+        Ok(())
     }
 }
 

@@ -109,13 +109,15 @@ impl NodeJournal {
         if self.shared.is_closing() {
             return Err(Refusal::Closed);
         }
-        begin(
+        let begun = begin(
             rt,
             &self.shared.table.shared,
             &mut self.writer,
             self.node,
             number,
-        )
+        );
+        count_lost(&self.shared, &begun);
+        begun
     }
 
     /// A step that was begun is not taken.
@@ -155,6 +157,13 @@ impl NodeJournal {
         self.shared.events.fetch_add(1, Ordering::SeqCst);
         deliver_all(rt, &self.shared, &receivers, extended.sent_before);
         Some(extended)
+    }
+}
+
+// Counts a message that came too late.
+fn count_lost(shared: &SharedState, begun: &Result<Option<Message>, Refusal>) {
+    if let Err(Refusal::Unknown) = begun {
+        shared.lost.fetch_add(1, Ordering::SeqCst);
     }
 }
 

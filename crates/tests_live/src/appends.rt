@@ -24,9 +24,9 @@ const LEAST: u64 = 3;
 /// How many records each producer appends meanwhile.
 const RECORDS: u64 = 40;
 
-// How many records were answered by so many producers with so many records each; none where two have one offset, one isn't read back, or
-// a call was refused for another reason than that nobody could serve.
-fn produced<R: Threads + Wait + Clock + Sync>(
+/// How many records were answered by so many producers with so many records each; none where two have one offset, one isn't read back, or
+/// a call was refused for another reason than that nobody could serve.
+pub fn produced<R: Threads + Wait + Clock + Sync>(
     rt: &R,
     alloc: Global,
     cell: &mut Cell,

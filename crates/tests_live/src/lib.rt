@@ -10,9 +10,9 @@ mod cells;
 #[cfg(test)]
 mod gate;
 #[cfg(test)]
-mod parking;
+mod keeping;
 #[cfg(test)]
-mod parks;
+mod parking;
 #[cfg(test)]
 mod producers;
 #[cfg(test)]
@@ -21,7 +21,5 @@ mod refusals;
 mod restarts;
 #[cfg(test)]
 mod resuming;
-#[cfg(test)]
-mod scripts;
 #[cfg(test)]
 mod watching;

@@ -1,20 +1,13 @@
 //! Scripts run on a cell, and those that are no script of it.
 
-use crate::cells::small;
+use crate::options::three_servers;
 use live::run::run_live;
-use script::options::Options;
 use script::script_fault::ScriptFault;
 use std::io::{self, Read};
 use std::str;
 use std::test::*;
 
-fn three_servers(clients: u64) -> Options {
-    Options {
-        servers: 3,
-        clients,
-        config: small(3),
-    }
-}
+const CHUNK: u32 = 64;
 
 fn lines_with(text: &str, ending: &str) -> usize {
     text.lines().filter(|line| line.ends_with(ending)).count()
@@ -27,7 +20,7 @@ fn two_clients_append(rt: HostRuntime) -> Result<(), Fail> {
         b"# two clients append to one file\nc1 create /f\nbarrier\nc1 open /f\nc2 open /f\nbarrier\n2 c1 append 1 a*8\n2 c2 append 1 b*8\nbarrier\nc1 length 1\n".as_slice();
     let mut out = Vec::new(alloc);
     assert_eq!(rt;
-        run_live(rt, alloc, &three_servers(2), &mut script, &mut out),
+        run_live(rt, alloc, &three_servers(2, CHUNK), &mut script, &mut out),
         Ok(())
     );
     let text = str::from_utf8(out.as_slice())?;
@@ -54,14 +47,14 @@ fn no_bad_script_is_run(rt: HostRuntime) -> Result<(), Fail> {
     ] {
         let mut script = text.as_bytes();
         assert_eq!(rt;
-            run_live(rt, alloc, &three_servers(2), &mut script, &mut out),
+            run_live(rt, alloc, &three_servers(2, CHUNK), &mut script, &mut out),
             Err(ScriptFault::Line(number)),
             "{text}"
         );
     }
     let mut script = b"".as_slice();
     assert_eq!(rt;
-        run_live(rt, alloc, &three_servers(65), &mut script, &mut out),
+        run_live(rt, alloc, &three_servers(65, CHUNK), &mut script, &mut out),
         Err(ScriptFault::Start)
     );
     assert!(rt; out.is_empty());
@@ -75,12 +68,12 @@ fn a_bad_line_of_an_endless_script_is_told(rt: HostRuntime) -> Result<(), Fail> 
     let mut out = Vec::new(alloc);
     let mut script = b"barrier\nwait 3\n".as_slice().chain(io::repeat(b'\n'));
     assert_eq!(rt;
-        run_live(rt, alloc, &three_servers(2), &mut script, &mut out),
+        run_live(rt, alloc, &three_servers(2, CHUNK), &mut script, &mut out),
         Err(ScriptFault::Line(2))
     );
     let mut line = io::repeat(b'#');
     assert_eq!(rt;
-        run_live(rt, alloc, &three_servers(2), &mut line, &mut out),
+        run_live(rt, alloc, &three_servers(2, CHUNK), &mut line, &mut out),
         Err(ScriptFault::Line(1))
     );
     assert!(rt; out.is_empty());

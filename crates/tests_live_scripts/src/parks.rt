@@ -1,6 +1,6 @@
 //! Scripts whose cell is parked and goes on.
 
-use crate::cells::small;
+use crate::options::three_servers;
 use live::run::run_live;
 use script::options::Options;
 use std::alloc::Global;
@@ -23,15 +23,10 @@ const RECORD: u64 = 8;
 
 const CHUNK: u32 = 4_096;
 
-fn three_servers(clients: u64, journal: u32) -> Options {
-    let mut config = small(3);
-    config.chunk = CHUNK;
-    config.journal = journal;
-    Options {
-        servers: 3,
-        clients,
-        config,
-    }
+fn with_journal(clients: u64, journal: u32) -> Options {
+    let mut options = three_servers(clients, CHUNK);
+    options.config.journal = journal;
+    options
 }
 
 #[test]
@@ -41,7 +36,7 @@ fn a_client_goes_on(rt: HostRuntime) -> Result<(), Fail> {
         b"c1 create /f\nc1 open /f\nreopen\n2 c1 append 1 a*8\nreopen\nreopen\nc1 length 1\n".as_slice();
     let mut out = Vec::new(alloc);
     assert_eq!(rt;
-        run_live(rt, alloc, &three_servers(1, 100_000), &mut script, &mut out),
+        run_live(rt, alloc, &with_journal(1, 100_000), &mut script, &mut out),
         Ok(())
     );
     let text = str::from_utf8(out.as_slice())?;
@@ -117,7 +112,7 @@ fn a_thousand_parks_with_four_producers(rt: HostRuntime) -> Result<(), Fail> {
     let mut script = text.as_bytes();
     let mut out = Vec::new(alloc);
     assert_eq!(rt;
-        run_live(rt, alloc, &three_servers(5, 100_000), &mut script, &mut out),
+        run_live(rt, alloc, &with_journal(5, 100_000), &mut script, &mut out),
         Ok(())
     );
     let told = str::from_utf8(out.as_slice())?;

@@ -1,0 +1,9 @@
+//! Tests of scripts on a running cell.
+#![tactic(auto)]
+
+#[cfg(test)]
+mod options;
+#[cfg(test)]
+mod parks;
+#[cfg(test)]
+mod scripts;
