@@ -167,13 +167,22 @@ impl LineFaults for ErrorFaults {
 fn serve<T: Threads + Wait + Clock + Copy + Send + 'static>(
     threads: T,
     rt: &HostRuntime,
+    keep: Option<u64>,
     options: &Options,
 ) -> Result<(), ScriptFault> {
     let alloc = rt.alloc();
     let reader = BufReader::new(alloc, rt.stdin()).map_err(|e| ScriptFault::of_read(&e))?;
     let mut writer = BufWriter::new(alloc, io::writer(rt)).map_err(|e| ScriptFault::of_write(&e))?;
     let faults = ErrorFaults { rt: *rt };
-    run_serve(threads, alloc, options, reader, &mut writer, faults)
+    run_serve(
+        threads,
+        alloc,
+        options,
+        retention_of(keep),
+        reader,
+        &mut writer,
+        faults,
+    )
 }
 
 /// The words of the command line. Words that are no text are a bad command line.
@@ -223,7 +232,7 @@ fn run<T: Threads + Wait + Clock + Copy + Send + Sync + 'static>(
             let script = File::open(rt, file).map_err(|e| ScriptFault::of_read(&e))?;
             play(threads, rt, keep, tells_progress, &options, script)?;
         }
-        Request::Serve { options } => serve(threads, rt, &options)?,
+        Request::Serve { keep, options } => serve(threads, rt, keep, &options)?,
     }
     Ok(())
 }
