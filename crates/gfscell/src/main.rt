@@ -150,6 +150,22 @@ fn play<T: Threads + Wait + Clock + Copy + Send + Sync + 'static, S: Read + Drop
     )
 }
 
+/// The same of a file's script, where `-` is standard input.
+fn play_file<T: Threads + Wait + Clock + Copy + Send + Sync + 'static>(
+    threads: T,
+    rt: &HostRuntime,
+    file: &str,
+    keep: Option<u64>,
+    tells_progress: bool,
+    options: &Options,
+) -> Result<(), ScriptFault> {
+    if file == "-" {
+        return play(threads, rt, keep, tells_progress, options, rt.reader());
+    }
+    let script = File::open(rt, file).map_err(|e| ScriptFault::of_read(&e))?;
+    play(threads, rt, keep, tells_progress, options, script)
+}
+
 /// Tells of each bad line on standard error.
 #[derive(Drop)]
 struct ErrorFaults {
@@ -218,20 +234,11 @@ fn run<T: Threads + Wait + Clock + Copy + Send + Sync + 'static>(
             simulate(rt, names_heap, &options, script)?;
         }
         Request::Live {
-            file: "-",
-            keep,
-            tells_progress,
-            options,
-        } => play(threads, rt, keep, tells_progress, &options, rt.reader())?,
-        Request::Live {
             file,
             keep,
             tells_progress,
             options,
-        } => {
-            let script = File::open(rt, file).map_err(|e| ScriptFault::of_read(&e))?;
-            play(threads, rt, keep, tells_progress, &options, script)?;
-        }
+        } => play_file(threads, rt, file, keep, tells_progress, &options)?,
         Request::Serve { keep, options } => serve(threads, rt, keep, &options)?,
     }
     Ok(())
