@@ -6,8 +6,8 @@ ghost use Rattle.script.specs.Reading.{Gives, ReadsLine};
 use crate::lines::MAX_LINE;
 use std::io::{self, ErrorKind, Read};
 
-/// The next byte, or none at the end.
-fn next_byte<R: Read>(reader: &mut R) -> io::Result<Option<u8>>
+/// The next byte, or none at the end. A read that was interrupted is done again; any other failure is told.
+pub fn next_byte<R: Read>(reader: &mut R) -> io::Result<Option<u8>>
     ensures { IfOk result (Gives (R.remaining reader.old) (R.remaining reader.new)) }
 {
     let mut byte = [0];

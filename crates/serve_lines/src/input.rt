@@ -1,30 +1,11 @@
 //! Reads the lines that are served.
 
 ghost use Rattle.std.specs.Prelude.{◌≡◌, ◌≤◌, ◌++◌, ◌∷◌, [], IfOk, OnOk, length, take};
-ghost use Rattle.script.specs.Reading.{Gives};
 ghost use Rattle.serve_lines.specs.Input.{ReadsWholeLine};
 
 use script::lines::MAX_LINE;
+use script::reading::next_byte;
 use std::io::{self, ErrorKind, Read};
-
-/// The next byte, or none at the end.
-fn next_byte<R: Read>(reader: &mut R) -> io::Result<Option<u8>>
-    ensures { IfOk result (Gives (R.remaining reader.old) (R.remaining reader.new)) }
-{
-    let mut byte = [0];
-    for _ in 0..u64::MAX {
-        match reader.read(&mut byte) {
-            Ok(0) => return Ok(None),
-            Ok(_) => return Ok(Some(byte[0])),
-            Err(error) => {
-                if error.kind() != ErrorKind::Interrupted {
-                    return Err(error);
-                }
-            }
-        }
-    }
-    Err(io::Error::from(ErrorKind::Interrupted))
-}
 
 /// Reads a line into `line`, without its line feed, and tells whether there was one. Of a line that is too long it keeps one byte more than the
 /// longest line has, and leaves out the rest.
