@@ -116,7 +116,7 @@ fn obey<S: Serving, R: Wait, W: Write>(
     tend_cell(rt, &one, cell, writer)
 }
 
-// Prints the room, or asks a node to begin again.
+// Prints the room, asks a node to begin again, or tells the network what to do.
 fn tend_cell<S: Serving, R: Wait, W: Write>(
     rt: &R,
     one: &Told<S>,
@@ -132,6 +132,10 @@ fn tend_cell<S: Serving, R: Wait, W: Write>(
         Told::Room => print_room(cell.room(), writer),
         Told::Restart(node) => {
             cell.restart(rt, *node);
+            Ok(())
+        }
+        Told::Net(policy) => {
+            cell.net(*policy);
             Ok(())
         }
     }

@@ -9,6 +9,7 @@ ghost use Rattle.serve_lines.specs.declared.lines.ServedLine.TheVariants as serv
 ghost use Rattle.serve.specs.Messages.{AreCounts, AreNext, AreTaken, HaveAsked, IsOfReading};
 
 use crate::served_messages::{AskedCall, Serving, Told};
+use cell_seats::mailboxes::Policy;
 use crossbeam_channel::Sender;
 use gfs_types::ids::Node;
 use script::cell_lines::ClientCall;
@@ -104,6 +105,14 @@ impl<S: Serving> Receivers<S> {
         match line {
             ServedLine::Room => self.tell(rt, Told::Room),
             ServedLine::Restart(node) => self.restart(rt, *node),
+            ServedLine::Net(lose, repeat, hold) => {
+                let policy = Policy {
+                    drop_every: *lose,
+                    repeat_every: *repeat,
+                    hold_every: *hold,
+                };
+                self.tell(rt, Told::Net(policy))
+            }
             _ => Ok(true),
         }
     }

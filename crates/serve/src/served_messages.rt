@@ -4,6 +4,7 @@ ghost use Rattle.std.specs.Prelude.{◌≡◌};
 
 use cell_journal::Beginning;
 use cell_journal::raised_entry::RaisedEntry;
+use cell_seats::mailboxes::Policy;
 use gfs_types::answer::Answer;
 use gfs_types::call::Call;
 use gfs_types::ids::{ClientId, Node};
@@ -83,6 +84,8 @@ pub enum Told<S: Serving> {
     Room,
     /// To ask a node to begin again.
     Restart(Node),
+    /// To have the network lose, repeat and hold up messages by this policy.
+    Net(Policy),
 }
 
 /// How many calls each client was asked for, and why no more lines were taken, if it was not for their end.

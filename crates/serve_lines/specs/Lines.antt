@@ -12,7 +12,7 @@ use Rattle.script.specs.CellLines.{line_of}
 use Rattle.script.specs.declared.cell_lines.CellLine.{CellLine}
 use Rattle.script.specs.declared.cell_lines.CellLine.TheVariants as cell
 use Rattle.serve_lines.specs.declared.lines.ServedLine.{ServedLine}
-use Rattle.serve_lines.specs.declared.lines.ServedLine.TheVariants.{Nothing, Room, Restart, Call as Asked}
+use Rattle.serve_lines.specs.declared.lines.ServedLine.TheVariants.{Nothing, Room, Restart, Net, Call as Asked}
 
 abbrev pub if_decoded : Result (List ℕ) FromHexError → Option (List ℕ)
 if_decoded (Ok bytes) = Some bytes
@@ -35,6 +35,10 @@ abbrev pub write_line : List ℕ → List ℕ → List ℕ → List ℕ → Opti
 write_line name fd offset digits =
     call_line name (option_and_then (λ f. option_and_then (λ o. option_map (calls.Write (record { 0 = f }) o) (bytes_of digits)) (number_of offset)) (number_of fd))
 
+-- which of so many messages the network loses, repeats and holds up from now on
+abbrev pub net_line : List ℕ → List ℕ → List ℕ → Option ServedLine
+net_line lose repeat hold = option_and_then (λ l. option_and_then (λ r. option_map (λ h. Net l r h) (number_of hold)) (number_of repeat)) (number_of lose)
+
 -- the lines of a script that are served too
 abbrev pub served_of : CellLine → Option ServedLine
 served_of cell.Nothing = Some Nothing
@@ -51,12 +55,15 @@ abbrev pub has_digits : List ℕ → Bool
 has_digits word = nat_le 2 (length word) && slice_index word 0 == byte "0" && slice_index word 1 == byte "x"
 
 abbrev pub short_line : List ℕ → List ℕ → List ℕ → List ℕ → List ℕ → Option ServedLine
-short_line text client name fd last = if bytes_eq name (codes "append") && has_digits last then append_line client fd (drop 2 last) else plain_line text
+short_line text client name fd last =
+    if bytes_eq name (codes "append") && has_digits last then append_line client fd (drop 2 last)
+    else if bytes_eq client (codes "net") then net_line name fd last
+    else plain_line text
 
 abbrev pub long_line : List ℕ → List ℕ → List ℕ → List ℕ → List ℕ → List ℕ → Option ServedLine
 long_line text client name fd offset last = if bytes_eq name (codes "write") && has_digits last then write_line client fd offset (drop 2 last) else plain_line text
 
--- a line of these words: an append or a write may have digits for its data
+-- a line of these words: an append or a write may have digits for its data, and one speaks of the network
 abbrev pub line_for : List ℕ → List (List ℕ) → Option ServedLine
 line_for text (client ∷ name ∷ fd ∷ last ∷ []) = short_line text client name fd last
 line_for text (client ∷ name ∷ fd ∷ offset ∷ last ∷ []) = long_line text client name fd offset last

@@ -2,7 +2,7 @@
 
 ghost use Rattle.std.specs.Prelude.{◌≡◌, ◌≤◌, IsTrue, length, map};
 ghost use Rattle.script.specs.Words.{Reads};
-ghost use Rattle.serve_lines.specs.Lines.{bytes_of, append_line, write_line, plain_line, served_of, has_digits, short_line, long_line, line_for, served_line_of};
+ghost use Rattle.serve_lines.specs.Lines.{bytes_of, append_line, write_line, net_line, plain_line, served_of, has_digits, short_line, long_line, line_for, served_line_of};
 
 use bytes::Bytes;
 use gfs_types::call::Call;
@@ -24,6 +24,8 @@ pub enum ServedLine {
     Room,
     /// That a node begins again.
     Restart(Node),
+    /// That the network loses, repeats and holds up each so many-th message from now on.
+    Net(u64, u64, u64),
     Call(ClientCall),
 }
 
@@ -60,7 +62,7 @@ fn line_for(alloc: Global, text: &[u8], words: &[&[u8]]) -> Result<ServedLine, L
     }
 }
 
-// A line of four words, which may be an append whose data are digits.
+// A line of four words, which may be an append whose data are digits, or speak of the network.
 fn short_line(
     alloc: Global,
     text: &[u8],
@@ -73,6 +75,8 @@ fn short_line(
 {
     if name == b"append".as_slice() && has_digits(last) {
         append_line(alloc, client, fd, &last[2..])
+    } else if client == b"net".as_slice() {
+        net_line(name, fd, last)
     } else {
         plain_line(alloc, text)
     }
@@ -135,6 +139,16 @@ fn write_line(
     let offset = number(offset).ok_or(LineFault::Bad)?;
     let call = Call::Write(fd, offset, bytes_of(alloc, digits)?);
     Ok(ServedLine::Call(ClientCall { client, call }))
+}
+
+// From now on the network does this to each so many-th message.
+fn net_line(lose: &[u8], repeat: &[u8], hold: &[u8]) -> Result<ServedLine, LineFault>
+    ensures { Reads result (net_line lose.now repeat.now hold.now) }
+{
+    let lose = number(lose).ok_or(LineFault::Bad)?;
+    let repeat = number(repeat).ok_or(LineFault::Bad)?;
+    let hold = number(hold).ok_or(LineFault::Bad)?;
+    Ok(ServedLine::Net(lose, repeat, hold))
 }
 
 // The bytes that hexadecimal digits stand for, two digits for each.

@@ -22,4 +22,6 @@ mod restarts;
 #[cfg(test)]
 mod resuming;
 #[cfg(test)]
+mod running_on;
+#[cfg(test)]
 mod watching;

@@ -95,7 +95,7 @@ fn a_client_has_a_dialogue(rt: HostRuntime) -> Result<(), Fail> {
     let alloc = rt.alloc();
     let mut out = Vec::new(alloc);
     let lines =
-        b"# one client\nc1 create /f\nc1 open /f\n\nc1 append 1 0x00fF\nc1 append 1 abc\nc1 write 1 5 0x0a\nc1 append 1 0x\nc1 read 1 0 16\nc1 close 2".as_slice();
+        b"# one client\nnet 0 0 0\nc1 create /f\nc1 open /f\n\nc1 append 1 0x00fF\nc1 append 1 abc\nc1 write 1 5 0x0a\nc1 append 1 0x\nc1 read 1 0 16\nc1 close 2".as_slice();
     let (outcome, bad) = served(rt, alloc, 1, lines, &mut out)?;
     assert_eq!(rt; outcome, Ok(()));
     assert_eq!(rt; bad, 0);
@@ -142,10 +142,10 @@ fn bad_lines_are_told_and_the_rest_goes_on(rt: HostRuntime) -> Result<(), Fail> 
     let alloc = rt.alloc();
     let mut out = Vec::new(alloc);
     let lines =
-        b"c2 mkdir /a\nwait 3\nc1 append 1 0xf\nc1 append 1 0xfg\nrestart s2\nrestart c1\nbarrier\nc1  mkdir /a\nc1 mkdir /b\nroom 1\n".as_slice();
+        b"c2 mkdir /a\nwait 3\nc1 append 1 0xf\nc1 append 1 0xfg\nrestart s2\nrestart c1\nbarrier\nc1  mkdir /a\nc1 mkdir /b\nroom 1\nnet 1 2 x\n".as_slice();
     let (outcome, bad) = served(rt, alloc, 1, lines, &mut out)?;
     assert_eq!(rt; outcome, Ok(()));
-    assert_eq!(rt; bad, 46);
+    assert_eq!(rt; bad, 57);
     assert_eq!(rt; str::from_utf8(out.as_slice())?, "c1 done\n");
     Ok(())
 }

@@ -4,7 +4,7 @@
     examples/producers.py [--records N] [--restarts] [--program PROGRAM] [options of serve]
 
 The program is ./gfscell of this repository, or PROGRAM. Each producer appends N records (100). With --restarts the master and the servers begin again in turn meanwhile. At the end it prints how many records were answered, how many of them the reader
-has, and how many it took twice or from appends that failed. The exit status is 0 where the reader has each record that was answered."""
+has, and how many it took twice or from appends that failed. The exit status is 0 where the reader has each record that was answered, at the offset that was answered."""
 import collections
 import os
 import queue
@@ -122,12 +122,12 @@ def record_at(data, place):
 
 
 def records_in(data):
-    """Each record's id, with the place behind it."""
+    """Each record's id, its place and the one behind it."""
     place = 0
     while (place := data.find(MARK, place)) >= 0:
         found = record_at(data, place)
         if found:
-            yield found
+            yield found[0], place, found[1]
         place = found[1] if found else place + 1
 
 
@@ -164,22 +164,23 @@ class Producer(threading.Thread):
 # ---- the reader
 
 class Reader:
-    """Keeps, beside the ids, for each chunk the round that its last read named and the place behind what it took there."""
+    """Keeps the records that it took, by id and offset, and for each chunk the round that its last read named and the place behind what it took there."""
 
-    def __init__(self, cell, number):
-        self.client = Client(cell, number)
-        self.taken, self.twice = set(), 0
-        self.chunks = []
+    def __init__(self, client, path):
+        self.client, self.path = client, path
+        self.taken, self.chunks = {}, []
 
     def look(self, is_whole):
         """Opens the file again and asks for its length, and reads on in each chunk below it; each chunk from its beginning, where it is to miss nothing."""
-        descriptor = self.client.open(FILE)
-        length = self.client.length(descriptor)
-        for index in range((length + CHUNK - 1) // CHUNK):
-            if index == len(self.chunks):
-                self.chunks.append((0, 0))
-            self.read_chunk(descriptor, index, is_whole)
-        self.client.close(descriptor)
+        descriptor = self.client.open(self.path)
+        try:
+            length = self.client.length(descriptor)
+            for index in range((length + CHUNK - 1) // CHUNK):
+                if index == len(self.chunks):
+                    self.chunks.append((0, 0))
+                self.read_chunk(descriptor, index, is_whole)
+        finally:
+            self.client.close(descriptor)
 
     def read_chunk(self, descriptor, index, is_whole):
         last_round, place = self.chunks[index]
@@ -190,9 +191,8 @@ class Reader:
             begin = 0
             data, rounds = self.client.read(descriptor, index * CHUNK, CHUNK)
         behind = place if begin else 0
-        for name, end in records_in(data):
-            self.twice += name in self.taken and begin > 0
-            self.taken.add(name)
+        for name, at, end in records_in(data):
+            self.taken[name, index * CHUNK + begin + at] = data[at:end]
             behind = begin + end
         self.chunks[index] = (rounds[0] if rounds else last_round, behind)
 
@@ -209,7 +209,7 @@ def look_until_served(reader, is_whole):
 
 def run(program, options, records, restarts):
     cell = Cell(program, ['--chunk', str(CHUNK), '--block', '1024', *options], PRODUCERS + 1)
-    reader = Reader(cell, PRODUCERS + 1)
+    reader = Reader(Client(cell, PRODUCERS + 1), FILE)
     reader.client.create(FILE)
     producers = [Producer(cell, number, records) for number in range(1, PRODUCERS + 1)]
     for producer in producers:
@@ -222,11 +222,15 @@ def run(program, options, records, restarts):
         looks += 1
     for producer in producers:
         producer.join()
-    followed = len(reader.taken)
+    followed = ids_of(reader)
     look_until_served(reader, is_whole=True)
     status = cell.close()
     answered = {name: offset for producer in producers for name, offset in producer.answered.items()}
     return status, answered, followed, looks, reader, producers
+
+
+def ids_of(reader):
+    return {name for name, _ in reader.taken}
 
 
 def option(words, name, default):
@@ -248,10 +252,10 @@ def main(words):
     for producer in producers:
         if producer.fault is not None:
             print(f'producer {producer.number}: {type(producer.fault).__name__} {producer.fault}')
-    missed = sorted(set(answered) - reader.taken)
+    has, missed = ids_of(reader), sorted(set(answered.items()) - set(reader.taken))
     print(f'{len(answered)} records answered at {len(set(answered.values()))} offsets, {sum(producer.tried_again for producer in producers)} appends tried again')
-    print(f'the reader has {len(set(answered) & reader.taken)} of them, {followed} of all while it followed, in {looks} looks; '
-          f'{reader.twice} stood twice, and {len(reader.taken - set(answered))} are of appends that failed')
+    print(f'the reader has {len(answered) - len(missed)} of them where they were answered, {len(followed)} of all while it followed, in {looks} looks; '
+          f'{len(reader.taken) - len(has)} stood twice, and {len(has - set(answered))} are of appends that failed')
     return 1 if status or missed or any(producer.fault for producer in producers) else 0
 
 

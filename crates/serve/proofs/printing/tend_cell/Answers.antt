@@ -17,3 +17,9 @@ returns-in-Restart-clause-cell g c = ap (λ (s : CellState). s.of) c.restart.ens
 
 pub returns-in-Restart-clause-printed : goal.returns-in-Restart-clause-printed
 returns-in-Restart-clause-printed g c = λ stands. let at = g.W.Write.contents c.args.writer.now in prints_none stands at at (keeps_all at)
+
+pub returns-in-Net-clause-cell : goal.returns-in-Net-clause-cell
+returns-in-Net-clause-cell g c = ap (λ (s : CellState). s.of) c.net.ensures
+
+pub returns-in-Net-clause-printed : goal.returns-in-Net-clause-printed
+returns-in-Net-clause-printed g c = λ stands. let at = g.W.Write.contents c.args.writer.now in prints_none stands at at (keeps_all at)
