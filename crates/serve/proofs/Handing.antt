@@ -45,6 +45,7 @@ pub no_call : (clients : ℕ) (line : ServedLine) → ((asked : ClientCall) → 
 no_call clients served.Nothing other = refl
 no_call clients served.Room other = refl
 no_call clients (served.Restart node) other = refl
+no_call clients (served.Net lose repeat hold) other = refl
 no_call clients (served.Call asked) other = absurd (other asked refl)
 
 -- a line that isn't in the language

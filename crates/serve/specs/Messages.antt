@@ -13,6 +13,7 @@ use Rattle.cell_journal.specs.Clocks.{are_clocks_kept}
 use Rattle.cell_journal.specs.Identity.{Identity, identity}
 use Rattle.cell_journal.specs.Log.{Listed, listed}
 use Rattle.cell_journal.specs.WholeHistories.{IsHistoryOf}
+use Rattle.cell_journal.specs.declared.retention.Retention.TheVariants.{Whole}
 use Rattle.cell_seats.specs.Seats.{SeatState, seat_state, IsAnswered, IsLost, is_the_cells}
 use Rattle.cell_seats.specs.Seen.{visible_of}
 use Rattle.live.specs.Playing.{calls_of, shown_as, AreOfTheCell}
@@ -30,7 +31,7 @@ pub record Service : Type 0 where
 
 -- where nothing is served
 abbrev pub nothing_served : Service
-nothing_served = record { input = None; clients = 0; cell = identity (record { number = 0; log_name = 0; cells_name = 0 }) default_settings 0 0 [] [] }
+nothing_served = record { input = None; clients = 0; cell = identity (record { number = 0; log_name = 0; cells_name = 0 }) default_settings 0 0 [] [] Whole }
 
 -- the calls that the lines have for a client
 abbrev pub calls_for : ℕ → ℕ → List ℕ → List Call
