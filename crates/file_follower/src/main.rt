@@ -99,8 +99,8 @@ impl Clients {
     /// Why a producer could not append all its records, if one could not.
     fn outcome(&self) -> Result<()> {
         for producer in self.producers.as_slice() {
-            if let Err(refusal) = producer.outcome {
-                return Err(refusal.into());
+            if let Err(refusal) = &producer.outcome {
+                return Err((*refusal).into());
             }
         }
         Ok(())
