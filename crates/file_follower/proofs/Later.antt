@@ -1,7 +1,7 @@
 -- What a seat saw, and what was taken, stays.
 use Rattle.std.proofs.Common.{◌≡◌, ℕ, ◌+◌, ◌*◌, ◌<◌, ◌≤◌, List, length, refl, sym, ◌∙◌, ap, subst, arith}
-use Rattle.std.specs.Prelude.{◌%◌, ◌^◌, Contains, get_or, Option, Some, None}
-use Rattle.std.proofs.lemmas.Option.{none-some, same_Some}
+use Rattle.std.specs.Prelude.{◌%◌, ◌^◌, Contains, get_or, Option, Some}
+use Rattle.std.proofs.lemmas.Option.{same_Some}
 use Rattle.std.proofs.lemmas.List.Elements.{Contains-append_left, Contains-get_or}
 use mathlib.Core.List.{IsPrefix}
 use Rattle.gfs_types.specs.declared.answer.Answer.{Answer}
@@ -46,8 +46,8 @@ taken_there xs k other one d within at same_id same_offset =
 
 -- what was looked at a place
 module _ (bytes : List ℕ) (offset place : ℕ) (taken : List Taken) (found : Option ℕ) (all : (one : List ℕ) → StandsAt bytes place one → found ≡ Some (id_of one)) where
-  pub none_here : found ≡ None → IsTakenAt bytes offset place taken
-  none_here none one stands within = absurd (none-some (id_of one) (sym none ∙ all one stands))
+  pub none_here : ((id : ℕ) → found ≡ Some id → ⊥) → IsTakenAt bytes offset place taken
+  none_here none one stands within = absurd (none (id_of one) (all one stands))
 
   pub one_here : (id sum : ℕ) → found ≡ Some id → sum ≡ (offset + place) % 2 ^ 64 → Contains taken (record { id = id; offset = sum }) → IsTakenAt bytes offset place taken
   one_here id sum is adds has one stands within =

@@ -7,7 +7,7 @@ pub returns-in_default-clause-stays : goal.returns-in_default-clause-stays
 returns-in_default-clause-stays c = prefix_self c.args.taken.now.items
 
 pub returns-in_default-clause-takes : goal.returns-in_default-clause-takes
-returns-in_default-clause-takes c = none_here c.args.bytes.now c.args.offset c.args.place c.args.taken.now.items c.record_at.result c.record_at.ensures (search c.in_default.not-Some)
+returns-in_default-clause-takes c = none_here c.args.bytes.now c.args.offset c.args.place c.args.taken.now.items c.record_at.result c.record_at.ensures c.in_default.not-Some
 
 pub returns-clause-stays : goal.returns-clause-stays
 returns-clause-stays c = c.in_ok-take.ensures.stays
