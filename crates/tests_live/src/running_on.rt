@@ -32,7 +32,7 @@ const SLOTS: u32 = 40;
 const PAUSE_MS: u64 = 10;
 
 const FAULTS: Policy = Policy {
-    drop_every: 211,
+    drop_every: 401,
     repeat_every: 97,
     hold_every: 0,
 };
