@@ -5,7 +5,7 @@ use Rattle.gfs_types.specs.declared.answer.Answer.TheVariants as answer
 use Rattle.gfs_types.specs.declared.call.Call.TheVariants as call
 use Rattle.gfs_types.specs.declared.ids.Fd.{Fd}
 use Rattle.gfs_types.specs.declared.ids.Node.TheVariants as node
-use Rattle.relaxed_file.specs.Machine.{Machine, chunk_size}
+use Rattle.relaxed_file.specs.Machine.{Machine}
 use Rattle.relaxed_file.specs.Run.{Visible, IsRunTo}
 use Rattle.promises.specs.Answered.{WasAnswered, IsStandingRecord}
 use Rattle.promises.specs.Promises.{Promises}

@@ -1,4 +1,4 @@
-use Rattle.std.proofs.Common.{◌≡◌, ℕ, refl}
+use Rattle.std.proofs.Common.{refl}
 use Rattle.file_follower.proofs.Later.{taken_there}
 use Rattle.file_follower.proofs.taken.has.Goals as goal
 

@@ -1,4 +1,3 @@
-use Rattle.std.proofs.Common.{◌≡◌, ℕ}
 use Rattle.cell_journal.proofs.Begins.{prefix_self}
 use Rattle.file_follower.proofs.Later.{none_here, one_here}
 use Rattle.file_follower.proofs.taken.take_at.Goals as goal
