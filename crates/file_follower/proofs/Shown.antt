@@ -129,7 +129,8 @@ module _ (old opened : SeatState) (z : Follower) (path : List ℕ) (fd : Fd) (co
         read_takes (offset / 512 * 512) 512 r same before reach fits
 
 -- each chunk below the length was read whole
-pub misses_nothing : (old z : Follower) (opened : SeatState) (path : List ℕ) (fd : Fd) (count chunks : ℕ) → HasOpened old.seat opened path fd count → IsLater opened z.seat → count < 2 ^ 64 → AreExplained z.seat.cell.config z.seat.seen
+pub misses_nothing : (old z : Follower) (opened : SeatState) (path : List ℕ) (fd : Fd) (count chunks : ℕ) → HasOpened old.seat opened path fd count → IsLater opened z.seat → count < 2 ^ 64
+    → AreExplained z.seat.cell.config z.seat.seen
     → ((k : ℕ) → k < count → k / 512 < chunks) → ((k : ℕ) → k < chunks → HasRead opened z fd (k * 512) 512) → MissesNothing old z path
 misses_nothing old z opened path fd count chunks o later fits explained all done = record {
   explained = explained;
@@ -137,6 +138,7 @@ misses_nothing old z opened path fd count chunks o later fits explained all done
     fd,
     was_opened old.seat opened z path fd count reader its o later,
     λ m run offset one w.
-        whole_takes old.seat opened z path fd count reader its o later m run offset one w (done (offset / 512) (all offset (below old.seat opened z path fd count reader its o later m run offset one w))) fits,
+        whole_takes old.seat opened z path fd count reader its o later m run offset one w
+        (done (offset / 512) (all offset (below old.seat opened z path fd count reader its o later m run offset one w))) fits,
   );
 }

@@ -55,7 +55,8 @@ pub record HasOpened (old new : SeatState) (path : List ℕ) (fd : Fd) (count : 
   pub opened : IsAnswered old between (call.Open path) (answer.Fd fd)
   pub measured : IsAnswered between new (call.Length fd) (answer.Length count)
 
--- In a run of the machine with the calls and answers that the reader saw in the end: a record whose append had been answered when the reader began, in the file that its descriptor is of. The file's chunks have 512 bytes, and nobody writes into it.
+-- In a run of the machine with the calls and answers that the reader saw in the end: a record whose append had been answered when the reader
+-- began, in the file that its descriptor is of. The file's chunks have 512 bytes, and nobody writes into it.
 pub record WasAppended (old new : SeatState) (m : Machine) (run : IsRunTo new.cell.config (trace_of new) m) (reader : ℕ) (fd : Fd) (offset : ℕ) (one : List ℕ) : Type 0 where
   pub file : ℕ
   pub reads : IsOf run.0 reader fd file
@@ -67,7 +68,8 @@ pub record WasAppended (old new : SeatState) (m : Machine) (run : IsRunTo new.ce
   pub into : IsOf run.0 client by file
   pub is : IsTrue (is_record one)
 
--- The calls and answers that the reader saw are a run of the machine; and in each such run the reader opened the file, and each record of it that had been answered before is taken, with the offset that was answered.
+-- The calls and answers that the reader saw are a run of the machine; and in each such run the reader opened the file, and each record of it
+-- that had been answered before is taken, with the offset that was answered.
 pub record MissesNothing (old new : Follower) (path : List ℕ) : Type 0 where
   pub explained : AreExplained new.seat.cell.config new.seat.seen
   pub takes :

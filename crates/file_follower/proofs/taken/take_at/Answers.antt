@@ -13,4 +13,5 @@ returns-clause-stays c = c.in_ok-take.ensures.stays
 
 pub returns-clause-takes : goal.returns-clause-takes
 returns-clause-takes c =
-    one_here c.args.bytes.now c.args.offset c.args.place c.take.new.taken.items c.record_at.result c.record_at.ensures c.in-Some.id c.wrapping_add.result c.in-Some.is c.wrapping_add.ensures c.in_ok-take.ensures.has
+    one_here c.args.bytes.now c.args.offset c.args.place c.take.new.taken.items c.record_at.result c.record_at.ensures
+    c.in-Some.id c.wrapping_add.result c.in-Some.is c.wrapping_add.ensures c.in_ok-take.ensures.has
