@@ -55,7 +55,10 @@ abbrev pub has_digits : List ℕ → Bool
 has_digits word = nat_le 2 (length word) && slice_index word 0 == byte "0" && slice_index word 1 == byte "x"
 
 abbrev pub short_line : List ℕ → List ℕ → List ℕ → List ℕ → List ℕ → Option ServedLine
-short_line text client name fd last = if bytes_eq name (codes "append") && has_digits last then append_line client fd (drop 2 last) else if bytes_eq client (codes "net") then net_line name fd last else plain_line text
+short_line text client name fd last =
+    if bytes_eq name (codes "append") && has_digits last then append_line client fd (drop 2 last)
+    else if bytes_eq client (codes "net") then net_line name fd last
+    else plain_line text
 
 abbrev pub long_line : List ℕ → List ℕ → List ℕ → List ℕ → List ℕ → List ℕ → Option ServedLine
 long_line text client name fd offset last = if bytes_eq name (codes "write") && has_digits last then write_line client fd offset (drop 2 last) else plain_line text
