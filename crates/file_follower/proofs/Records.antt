@@ -1,8 +1,8 @@
 -- Records in bytes.
-use Rattle.std.proofs.Common.{◌≡◌, ℕ, ◌+◌, ◌^◌, ◌<◌, ◌≤◌, true, List, [], ◌∷◌, ◌++◌, length, take, drop, refl, sym, ◌∙◌, ap, arith, length-append, length-take, length-drop}
+use Rattle.std.proofs.Common.{◌≡◌, ℕ, ◌+◌, ◌-◌, ◌^◌, ◌<◌, ◌≤◌, true, List, [], ◌∷◌, ◌++◌, length, take, drop, refl, sym, ◌∙◌, ap, arith, length-append, length-take, length-drop}
 use Rattle.std.specs.Prelude.{◌==◌, bytes_eq}
 use Rattle.std.proofs.lemmas.Bool.{and_parts, and_from, eqb-true, eq-eqb}
-use Rattle.std.proofs.lemmas.List.{take_at, drop_at}
+use Rattle.std.proofs.lemmas.List.{take_all, take_at, drop_at}
 use Rattle.std.proofs.lemmas.Nat.{from_be_bytes-to_be_bytes_4}
 use Rattle.std.specs.Int.{w32, to_be_bytes}
 use Rattle.sha2.specs.Sha256.{sha256}
@@ -14,14 +14,16 @@ nine_bytes one h = eqb-true (length one) 9 (and_parts (length one == 9) _ h).0
 
 -- where a record stands
 module _ (bytes : List ℕ) (place : ℕ) (one : List ℕ) (at : StandsAt bytes place one) where
-  pub bytes_there : take 9 (drop place bytes) ≡ one
-  bytes_there = ap (λ (n : ℕ). take n (drop place bytes)) (sym (nine_bytes one at.0)) ∙ at.1
+  pub nine_there : 9 ≤ length bytes - place
+  nine_there = omega (arith, ap length at.1, length-take (length one) (drop place bytes), length-drop place bytes, nine_bytes one at.0)
 
-  pub nine_there : 9 ≤ length (drop place bytes)
-  nine_there = omega (arith, ap length at.1, length-take (length one) (drop place bytes), nine_bytes one at.0)
+  pub bytes_there : take 9 (take (length bytes - place) (drop place bytes)) ≡ one
+  bytes_there =
+      ap (λ (l : List ℕ). take 9 l) (take_all (length bytes - place) (drop place bytes) (omega (arith, length-drop place bytes)))
+      ∙ (ap (λ (n : ℕ). take n (drop place bytes)) (sym (nine_bytes one at.0)) ∙ at.1)
 
   pub stands_within : (count : ℕ) → length bytes ≤ count → place < count
-  stands_within count past = omega (arith, past, nine_there, length-drop place bytes)
+  stands_within count past = omega (arith, past, nine_there)
 
 -- the bytes that are made of an id
 

@@ -1,4 +1,4 @@
-use Rattle.std.proofs.Common.{⊤}
+use Rattle.std.specs.Prelude.{⊤}
 use Rattle.file_follower.proofs.taken.has.Given as goal
 
 -- nothing is to be known of those that are another one

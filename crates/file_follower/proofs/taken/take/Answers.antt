@@ -9,7 +9,7 @@ pub returns-then-has-clause-stays : goal.returns-then-has-clause-stays
 returns-then-has-clause-stays c = prefix_self c.args.taken.now.items
 
 pub returns-then-has-clause-has : goal.returns-then-has-clause-has
-returns-then-has-clause-has c = c.has.ensures c.if-has.true
+returns-then-has-clause-has c = subst (λ (l : List Taken). Contains l c.args.one) c.as_slice.ensures.value (c.has.ensures c.if-has.true)
 
 pub returns-clause-stays : goal.returns-clause-stays
 returns-clause-stays c = (c.args.one ∷ [], sym c.in_ok-push.ensures.items)

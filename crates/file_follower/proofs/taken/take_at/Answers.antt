@@ -1,3 +1,5 @@
+use Rattle.std.proofs.Common.{◌+◌, ◌^◌, refl}
+use Rattle.std.specs.Prelude.{◌%◌}
 use Rattle.cell_journal.proofs.Begins.{prefix_self}
 use Rattle.file_follower.proofs.Later.{none_here, one_here}
 use Rattle.file_follower.proofs.taken.take_at.Goals as goal
@@ -14,4 +16,4 @@ returns-clause-stays c = c.in_ok-take.ensures.stays
 pub returns-clause-takes : goal.returns-clause-takes
 returns-clause-takes c =
     one_here c.args.bytes.now c.args.offset c.args.place c.take.new.taken.items c.record_at.result c.record_at.ensures
-    c.in-Some.id c.wrapping_add.result c.in-Some.is c.wrapping_add.ensures c.in_ok-take.ensures.has
+    c.in-Some.id ((c.args.offset + c.args.place) % 2 ^ 64) c.in-Some.is refl c.in_ok-take.ensures.has
