@@ -1,6 +1,6 @@
 //! A reader that follows a file of chunks of 512 bytes, by the recipe of docs/TRUST.md.
 
-ghost use Rattle.std.specs.Prelude.{◌*◌, ◌/◌, ◌^◌, ◌<◌, ℕ, IfOk, OnOk};
+ghost use Rattle.std.specs.Prelude.{◌*◌, ◌^◌, ◌<◌, ◌≤◌, ℕ, IfOk, OnOk};
 ghost use mathlib.Core.List.{IsPrefix};
 ghost use Rattle.file_follower.specs.Reading.{HasOpened, HasRead, IsLater, MissesNothing};
 
@@ -30,7 +30,7 @@ pub struct Follower {
 
 // How many chunks have bytes of a file of this length.
 fn chunk_count(length: u64) -> u64
-    ensures all { (k : ℕ) → k < length → k / 512 < result }
+    ensures all { length ≤ result * 512 }
     ensures within { (k : ℕ) → k < result → k * 512 < length }
     ensures fits { length < 2 ^ 64 }
 {

@@ -29,13 +29,13 @@ const PRODUCERS: u32 = 2;
 const RECORDS: u32 = 60;
 
 /// How long a node runs before the next one begins again.
-const PAUSE_MS: u64 = 200;
+const PAUSE_MS: u64 = 300;
 
 /// One message of so many is lost, one repeated, and one held up.
 const FAULTS: Policy = Policy {
-    drop_every: 97,
-    repeat_every: 61,
-    hold_every: 53,
+    drop_every: 401,
+    repeat_every: 97,
+    hold_every: 211,
 };
 
 const NODES: [Node; 4] = [
@@ -45,14 +45,15 @@ const NODES: [Node; 4] = [
     Node::Server(ServerId(3)),
 ];
 
+// A lost message costs its client the attempt and the clock bound, which is wide enough for a busy machine.
 fn settings() -> Config {
     Config {
         chunk: CHUNK as u32,
         block: 64,
         slots: 128,
         goal: 2,
-        lease_ms: 1_000,
-        skew_ms: 500,
+        lease_ms: 2_500,
+        skew_ms: 1_500,
         attempt_ms: 200,
         ..Config::default()
     }
@@ -192,7 +193,7 @@ fn run_stretch<R: Threads + Wait + Clock + Sync>(
             thread::for_each_mut(
                 rt,
                 producers,
-                2,
+                PRODUCERS as usize,
                 &|_: usize, producer: &mut Producer| producer.produce(rt, alloc, PATH, RECORDS),
             );
             done.store(1, Ordering::SeqCst);

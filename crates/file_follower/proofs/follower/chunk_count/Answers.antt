@@ -2,7 +2,7 @@ use Rattle.std.proofs.Common.{◌≡◌, ℕ, ◌+◌, ◌-◌, ◌*◌, ◌/◌
 use Rattle.file_follower.proofs.follower.chunk_count.Goals as goal
 
 pub returns-clause-all : goal.returns-clause-all
-returns-clause-all c = λ k less. omega (arith, less)
+returns-clause-all c = omega arith
 
 pub returns-clause-within : goal.returns-clause-within
 returns-clause-within c = λ k less. omega (arith, less)

@@ -18,5 +18,5 @@ returns-clause-read g c = record {
   first = later_self c.args.self.now.seat;
   read = c.in_ok-bytes.ensures.ok;
   last = later_self c.read.new.self;
-  taken = subst (λ (bytes : List ℕ). AllTaken bytes c.args.offset c.take_all.new.taken.items) c.as_slice.ensures.value c.in-Ok.ensures.takes;
+  taken = subst (λ (bytes : List ℕ). AllTaken bytes c.args.offset c.take_all.new.taken.items) c.as_slice.ensures c.in-Ok.ensures.takes;
 }

@@ -40,6 +40,6 @@ returns g c =
     let fd = c.in_ok-fd.fd in
     let was = c.loop-index.invariant in
     let closed = answered_later y.seat z.seat _ _ c.in_ok-close.ensures.ok in
-    misses_nothing c.args.self.now z s c.args.path.now fd c.in_ok-fd.length c.chunk_count-chunks.result c.in_ok-fd.ensures (later_then s y.seat z.seat was.later closed) c.chunk_count-chunks.ensures.fits
-    c.in_ok-close.ensures.ok.explained c.chunk_count-chunks.ensures.all
+    misses_nothing c.args.self.now z s c.args.path.now fd c.in_ok-fd.length c.chunk_count-chunks.result c.in_ok-fd.ensures (later_then s y.seat z.seat was.later closed)
+    c.in_ok-close.ensures.ok.explained c.chunk_count-chunks.ensures.all c.chunk_count-chunks.ensures.fits
     (λ k less. read_later s y z fd (k * 512) 512 closed (prefix_self y.taken.items) (was.done k (let e : k < c.loop-index.index = omega (arith, less, c.loop-index-test.false) in e)))
