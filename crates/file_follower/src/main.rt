@@ -45,16 +45,17 @@ const NODES: [Node; 4] = [
     Node::Server(ServerId(3)),
 ];
 
-// A lost message costs its client the attempt and the clock bound, which is wide enough for a busy machine.
+// A master that begins again reads half of its disk in one step: a small disk lets the clock bound be small, which each lost message costs its client.
 fn settings() -> Config {
     Config {
         chunk: CHUNK as u32,
         block: 64,
         slots: 128,
         goal: 2,
-        lease_ms: 2_500,
-        skew_ms: 1_500,
+        lease_ms: 2_000,
+        skew_ms: 1_000,
         attempt_ms: 200,
+        log_bytes: 262_144,
         ..Config::default()
     }
 }
@@ -86,15 +87,6 @@ impl Clients {
             producers,
             follower,
         })
-    }
-
-    /// Each gets a new seat.
-    fn take_seats(&mut self, cell: &mut Cell) -> Result<()> {
-        for place in 0..self.producers.len() {
-            self.producers[place].seat = cell.client()?;
-        }
-        self.follower.seat = cell.client()?;
-        Ok(())
     }
 
     /// Why a producer could not append all its records, if one could not.
@@ -131,6 +123,15 @@ impl Clients {
         }
         (answered, taken)
     }
+}
+
+// Each client gets a new seat.
+fn take_seats(cell: &mut Cell, producers: &mut [Producer], follower: &mut Follower) -> Result<()> {
+    for place in 0..producers.len() {
+        producers[place].seat = cell.client()?;
+    }
+    follower.seat = cell.client()?;
+    Ok(())
 }
 
 // Each node begins again in turn, until the producers are done.
@@ -178,6 +179,34 @@ fn read_all<R: Wait + Clock>(
     Err(Refusal::Unknown)
 }
 
+// The reader follows the file while the nodes begin again.
+fn follow_meanwhile<R: Threads + Wait + Clock + Sync>(
+    rt: &R,
+    alloc: Global,
+    cell: &mut Cell,
+    follower: &mut Follower,
+    done: &AtomicU64,
+) -> Result<(), Refusal> {
+    let (followed, _) = thread::join(
+        rt,
+        || follow_until(rt, alloc, follower, done),
+        || restart_nodes(rt, cell, done),
+    );
+    followed
+}
+
+// The producers append, each on a thread of its own.
+fn produce_all<R: Threads + Wait + Clock + Sync>(
+    rt: &R,
+    alloc: Global,
+    producers: &mut [Producer],
+    done: &AtomicU64,
+) {
+    let produce = |_: usize, producer: &mut Producer| producer.produce(rt, alloc, PATH, RECORDS);
+    thread::for_each_mut(rt, producers, PRODUCERS as usize, &produce);
+    done.store(1, Ordering::SeqCst);
+}
+
 // The producers append, the reader follows, and the nodes begin again, all at the same time.
 fn run_stretch<R: Threads + Wait + Clock + Sync>(
     rt: &R,
@@ -187,24 +216,10 @@ fn run_stretch<R: Threads + Wait + Clock + Sync>(
     follower: &mut Follower,
 ) -> Result<(), Refusal> {
     let done = AtomicU64::new(0);
-    let (_, (followed, _)) = thread::join(
+    let (_, followed) = thread::join(
         rt,
-        || {
-            thread::for_each_mut(
-                rt,
-                producers,
-                PRODUCERS as usize,
-                &|_: usize, producer: &mut Producer| producer.produce(rt, alloc, PATH, RECORDS),
-            );
-            done.store(1, Ordering::SeqCst);
-        },
-        || {
-            thread::join(
-                rt,
-                || follow_until(rt, alloc, follower, &done),
-                || restart_nodes(rt, cell, &done),
-            )
-        },
+        || produce_all(rt, alloc, producers, &done),
+        || follow_meanwhile(rt, alloc, cell, follower, &done),
     );
     followed
 }
@@ -231,7 +246,11 @@ fn main(rt: HostRuntime) -> Result<()> {
     maker.create(&rt, Text::from_str(PATH, alloc)?, None)?;
     let mut clients = Clients::new(alloc, &mut cell)?;
     for stretch in 1..=STRETCHES {
-        clients.take_seats(&mut cell)?;
+        take_seats(
+            &mut cell,
+            clients.producers.as_mut_slice(),
+            &mut clients.follower,
+        )?;
         cell.net(FAULTS);
         run_stretch(
             &rt,
