@@ -29,8 +29,8 @@ loop-index-preserved g c =
           (read_sooner s y.seat z fd (index * 512) 512 was.later more.read);
     }
 
-pub overflow_mul-read : goal.overflow_mul-read
-overflow_mul-read g c = omega (arith, c.chunk_count-chunks.ensures.within c.loop-index.index c.loop-index-test.true, c.chunk_count-chunks.ensures.fits)
+pub overflow_mul-index : goal.overflow_mul-index
+overflow_mul-index g c = omega (arith, c.chunk_count-chunks.ensures.within c.loop-index.index c.loop-index-test.true, c.chunk_count-chunks.ensures.fits)
 
 pub returns : goal.returns
 returns g c =
