@@ -29,7 +29,7 @@ const PRODUCERS: u32 = 2;
 const RECORDS: u32 = 60;
 
 /// How long a node runs before the next one begins again.
-const PAUSE_MS: u64 = 300;
+const PAUSE_MS: u64 = 100;
 
 /// One message of so many is lost, one repeated, and one held up.
 const FAULTS: Policy = Policy {
@@ -134,13 +134,10 @@ fn take_seats(cell: &mut Cell, producers: &mut [Producer], follower: &mut Follow
     Ok(())
 }
 
-// Each node begins again in turn, until the producers are done.
-fn restart_nodes<R: Wait + Clock>(rt: &R, cell: &mut Cell, done: &AtomicU64) {
+// Each node begins again in turn.
+fn restart_nodes<R: Wait + Clock>(rt: &R, cell: &mut Cell) {
     for node in NODES {
         thread::sleep(rt, Duration::from_millis(PAUSE_MS));
-        if done.load(Ordering::SeqCst) != 0 {
-            return;
-        }
         cell.restart(rt, node);
     }
 }
@@ -190,7 +187,7 @@ fn follow_meanwhile<R: Threads + Wait + Clock + Sync>(
     let (followed, _) = thread::join(
         rt,
         || follow_until(rt, alloc, follower, done),
-        || restart_nodes(rt, cell, done),
+        || restart_nodes(rt, cell),
     );
     followed
 }
