@@ -187,7 +187,7 @@ adds client old new call reply its a =
 
 -- what was answered in a part of what was seen
 
-part_is : (xs more before rest ys : List run.Visible) (v : run.Visible) → more ≡ before ++ v ∷ rest → xs ++ (more ++ ys) ≡ (xs ++ before) ++ v ∷ (rest ++ ys)
+pub part_is : (xs more before rest ys : List run.Visible) (v : run.Visible) → more ≡ before ++ v ∷ rest → xs ++ (more ++ ys) ≡ (xs ++ before) ++ v ∷ (rest ++ ys)
 part_is xs more before rest ys v cut =
     ap (λ (l : List run.Visible). xs ++ (l ++ ys)) cut ∙ (ap (λ (l : List run.Visible). xs ++ l) (append_assoc before (v ∷ rest) ys) ∙ sym (append_assoc xs before (v ∷ (rest ++ ys))))
 
