@@ -56,7 +56,8 @@ module _ (bytes : List ℕ) (offset place : ℕ) (taken : List Taken) (found : O
       subst (λ (n : ℕ). Contains taken (record { id = id_of one; offset = n })) here (subst (λ (n : ℕ). Contains taken (record { id = n; offset = sum })) same has)
 
 -- a read stays one of a later reader, and of one that began sooner
-pub read_later : (s : SeatState) (y z : Follower) (fd : Fd) (offset count : ℕ) → IsLater y.seat z.seat → IsPrefix y.taken.items z.taken.items → HasRead s y fd offset count → HasRead s z fd offset count
+pub read_later : (s : SeatState) (y z : Follower) (fd : Fd) (offset count : ℕ) → IsLater y.seat z.seat → IsPrefix y.taken.items z.taken.items
+    → HasRead s y fd offset count → HasRead s z fd offset count
 read_later s y z fd offset count later stays r = record {
   before = r.before;
   behind = r.behind;
