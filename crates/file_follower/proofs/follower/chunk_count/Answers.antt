@@ -1,4 +1,4 @@
-use Rattle.std.proofs.Common.{◌≡◌, ℕ, ◌+◌, ◌-◌, ◌*◌, ◌/◌, ◌<◌, arith}
+use Rattle.std.proofs.Common.{arith}
 use Rattle.file_follower.proofs.follower.chunk_count.Goals as goal
 
 pub returns-clause-all : goal.returns-clause-all

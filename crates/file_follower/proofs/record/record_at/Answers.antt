@@ -1,4 +1,4 @@
-use Rattle.std.proofs.Common.{◌≡◌, ◌-◌, ◌<◌, Some, length, take, drop, ◌∙◌, sym, ap, arith, length-take, length-drop}
+use Rattle.std.proofs.Common.{◌-◌, ◌<◌, Some, length, take, drop, ◌∙◌, sym, ap, arith, length-take, length-drop}
 use Rattle.std.proofs.lemmas.Bool.{false≢true}
 use Rattle.file_follower.specs.Records.{id_of, is_record}
 use Rattle.file_follower.proofs.Records.{bytes_there, nine_there}

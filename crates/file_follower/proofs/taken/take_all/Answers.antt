@@ -1,4 +1,4 @@
-use Rattle.std.proofs.Common.{ℕ, ◌<◌, below_more, arith}
+use Rattle.std.proofs.Common.{ℕ, below_more, arith}
 use Rattle.cell_journal.proofs.Begins.{prefix_self, prefix_trans}
 use Rattle.file_follower.specs.Reading.{IsTakenAt}
 use Rattle.file_follower.proofs.Later.{still_taken_at, all_places}

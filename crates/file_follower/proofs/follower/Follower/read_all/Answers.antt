@@ -1,4 +1,4 @@
-use Rattle.std.proofs.Common.{◌≡◌, ℕ, ◌+◌, ◌*◌, ◌<◌, below_more, arith}
+use Rattle.std.proofs.Common.{ℕ, ◌*◌, ◌<◌, below_more, arith}
 use Rattle.cell_journal.proofs.Begins.{prefix_self, prefix_trans}
 use Rattle.file_follower.specs.declared.follower.Follower.{Follower}
 use Rattle.file_follower.specs.Reading.{HasRead}
