@@ -8,6 +8,8 @@ import shutil
 import sys
 
 sys.dont_write_bytecode = True
+# The largest checks of the gate take 4.3 GB (`cell_run`, `tests_cell`), the next ones 3 to 3.6.
+CHECK = 4_800_000_000
 ROOT = os.path.dirname(os.path.dirname(os.path.dirname(os.path.abspath(__file__))))
 
 
@@ -34,6 +36,11 @@ def load():
     below = remembered(crate.below)
     crate.below = lambda self: list(below(self))
     return module
+
+
+def lanes(module):
+    """How many checks may run side by side, as memory lets processors have a largest one each."""
+    return max(1, min(module.processors(), module.free() // CHECK))
 
 
 def load_gate():

@@ -11,7 +11,7 @@ HERE = os.path.dirname(os.path.abspath(__file__))
 KINDS = ('explore', 'parts', 'laws', 'statements', 'bodies', 'above')
 # the crate whose definitions an edit of `laws` changes, by the crate of the laws
 DEFINITIONS = {'laws_base': state.PROTOCOL, 'protocol_allowed': 'protocol_invariant'}
-WORDS = ('file', 'old', 'new', 'seed', 'row', 'facts', 'rebases', 'branch', 'becomes')
+WORDS = ('file', 'old', 'new', 'seed', 'row', 'facts', 'rebases', 'branch', 'becomes', 'only')
 
 
 class StaleEdit(Exception):
@@ -43,6 +43,10 @@ class Edit:
     def line(self, word):
         """What its line of this word says, or None."""
         return next((text.strip() for it, text in self.lines() if it == word), None)
+
+    def functions(self):
+        """The functions that alone are proved where it is tried in the gate."""
+        return [text.strip() for word, text in self.lines() if word == 'only']
 
     def branches(self):
         """Pairs of a text in the proofs and the one that becomes of it."""

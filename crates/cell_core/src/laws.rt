@@ -19,7 +19,7 @@ pub fn names_are_a_tree()
     ensures { (h : HeldCell) → HasReachedWorld h → HasTreeOfNames h }
 {}
 
-/// The log, replayed, has the names, files and chunks of a master that is up, but for the ends of leases and for copies under way.
+/// The log, replayed, has the names, files and chunks of a master that is up, but for the ends of leases, chunks' shapes and copies under way.
 pub fn log_has_all()
     ensures { (h : HeldCell) → HasReachedWorld h → LogHasAll h }
 {}

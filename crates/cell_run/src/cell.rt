@@ -237,7 +237,7 @@ impl Cell {
         self.registry.shared.progress(self.most_entries()).room
     }
 
-    /// How many messages were lost until some moment of the call since the entries that sent them were let go.
+    /// How many messages were lost, since the cell began or was resumed and until some moment of the call, because the entries that sent them were let go.
     pub fn lost(&self) -> u64 {
         self.registry.shared.progress(self.most_entries()).lost
     }

@@ -14,6 +14,7 @@ pub enum Kind {
 }
 
 /// Is told of each step of the master or a server before there is room for it in the journal, and may hold it up. Other nodes go on meanwhile.
+/// The restarts with which a resumed cell begins are told to none.
 pub trait Gate {
     fn before(&self, node: Node, kind: Kind);
 

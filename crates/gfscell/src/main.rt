@@ -1,4 +1,4 @@
-//! `gfscell`: a Google File System cell that runs scripts.
+//! `gfscell`: a Google File System cell that runs scripts, on threads too, and serves programs through a pipe.
 #![tactic(auto)]
 
 ghost use Rattle.std.specs.Prelude.{◌≡◌, Some};
