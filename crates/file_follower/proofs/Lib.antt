@@ -1,0 +1,4 @@
+pub mod Traces
+pub mod Later
+pub mod Shown
+pub mod Records
