@@ -41,7 +41,7 @@ impl RunningMaster {
         let log = MemoryLog::new(alloc, config.log_bytes);
         match SeatedMaster::new(alloc, config, servers, log, alloc) {
             Ok(master) => Ok(RunningMaster {
-                node: MasterNode { master },
+                node: MasterNode { alloc, master },
             }),
             Err(fault) => Err(fault),
         }

@@ -38,7 +38,7 @@ impl RunningServer {
         let store = MemoryStore::new(alloc, config.chunk, config.block, config.slots);
         let server = Chunkserver::new(alloc, config, id, store, Moment(0));
         RunningServer {
-            node: ServerNode { server },
+            node: ServerNode { alloc, server },
         }
     }
 }

@@ -12,14 +12,17 @@ use cell_journal::journal_entry::StepCause;
 use cell_seats::stepper::{NodeStep, Stepper};
 use gfs_types::call::Call;
 use gfs_types::ids::Moment;
-use messages::event::StepOut;
+use protocol::seen::SeenList;
 use server_cell::server::Chunkserver;
 use server_store::reopened_store::ReopenedStore;
 use server_store::store::ReplicaStore;
+use std::alloc::Global;
+use step_outcome::Outcome;
 
 /// A server that takes steps.
 #[derive(Drop)]
 pub struct ServerNode<S: ReplicaStore + Drop> {
+    pub alloc: Global,
     pub server: Chunkserver<S>,
 }
 
@@ -36,9 +39,11 @@ impl<S: ReopenedStore + Drop> Stepper for ServerNode<S> {
 
     fn step(&mut self, now: Moment, cause: &StepCause, call: Option<Call>) -> NodeStep {
         let _none = call;
+        let Outcome { out, seen } = step_server(&mut self.server, self.alloc, now, cause);
         NodeStep {
-            out: step_server(&mut self.server, now, cause),
+            out,
             answer: None,
+            seen,
         }
     }
 }
@@ -46,18 +51,22 @@ impl<S: ReopenedStore + Drop> Stepper for ServerNode<S> {
 // A step, which has no answer.
 fn step_server<S: ReopenedStore + Drop>(
     server: &mut Chunkserver<S>,
+    alloc: Global,
     now: Moment,
     cause: &StepCause,
-) -> StepOut
+) -> Outcome
     requires moment { now.0 ≤ moment_limit }
     requires may { (s : NodeState) → ServerStands server.old s → IsTrue (may_take s (cause_of cause.now)) }
-    ensures steps { (s : NodeState) → ServerStands server.old s → StepsSo s now.0 (cause_of cause.now) result (ServerStands server.new) }
-    ensures silent { result.answer ≡ None }
+    ensures steps { (s : NodeState) → ServerStands server.old s → StepsSo s now.0 (cause_of cause.now) result.out result.seen (ServerStands server.new) }
+    ensures silent { result.out.answer ≡ None }
 {
     match cause {
-        StepCause::Takes(input) => server.step(now, message_in(input)).out,
-        StepCause::Restarts => server.restart(now),
+        StepCause::Takes(input) => server.step(now, message_in(input)),
+        StepCause::Restarts => Outcome {
+            out: server.restart(now),
+            seen: SeenList::empty(alloc),
+        },
         // It takes no call.
-        StepCause::Calls(_) => server.step(now, None).out,
+        StepCause::Calls(_) => server.step(now, None),
     }
 }
