@@ -13,7 +13,7 @@ use Rattle.protocol.specs.Conforms.{MasterSteps}
 use Rattle.protocol.specs.Logged.{Logged}
 use Rattle.protocol.specs.Lookups.{file_of_node}
 use Rattle.gfs_types.specs.declared.config.Config.{Config}
-use Rattle.protocol.specs.Master.{MasterState, stopped_master}
+use Rattle.protocol.specs.Master.{MasterState}
 use Rattle.protocol.specs.MasterStep.{new_master}
 use Rattle.protocol.specs.World.{files_seen}
 use Rattle.protocol.specs.Sending.{file_id, handle_of}
@@ -91,9 +91,6 @@ on_input old moment o out seen new h = subst (λ i. MasterSteps old moment i out
 -- while the master is up its files are shown
 pub shown_up : (m : MasterState) (files before : Table (List ℕ)) → files ≡ files_seen m before → m.up ≡ true → files ≡ m.logged.table.files
 shown_up m files before is up = is ∙ ap (λ (b : Bool). if b then m.logged.table.files else before) up
-
-pub shown_stopped : (old new : MasterState) (files : Table (List ℕ)) → new ≡ stopped_master old old.disk [] → new.up ≡ true → files ≡ new.logged.table.files
-shown_stopped old new files is up = let bad : false ≡ true = ap (λ (m : MasterState). m.up) (sym is) ∙ up in absurd cc
 
 pub shown_first : (config : Config) (count : ℕ) (m : MasterState) (files : Table (List ℕ)) → m ≡ new_master config count → files ≡ table.empty → files ≡ m.logged.table.files
 shown_first config count m files is none = none ∙ ap (λ (x : MasterState). x.logged.table.files) (sym is)

@@ -1,7 +1,6 @@
 //! The cell: its nodes, the network and what an observer saw; its answers are those of a run of the machine.
 #![tactic(auto)]
 
-pub mod cell_master;
 pub mod kept_promises;
 pub mod laws;
 pub mod making;

@@ -31,7 +31,7 @@ pub(crate) fn is_count(count: u64) -> bool
 }
 
 /// Whether the settings are in their ranges, and so in the bounds that nodes ask for.
-pub(crate) fn are_fitting(config: &Config) -> bool
+pub fn are_fitting(config: &Config) -> bool
     ensures range { result ≡ is_none (first_out_of_range config.now) }
     ensures lease { IsTrue result → config.now.lease_ms ≤ 3600000 }
     ensures skew { IsTrue result → config.now.skew_ms ≤ 60000 }
@@ -42,7 +42,7 @@ pub(crate) fn are_fitting(config: &Config) -> bool
 }
 
 /// The place of a new server, over a new disk.
-fn new_server(alloc: Global, config: Config, id: ServerId) -> Result<ServerSlot, StartFault>
+pub fn new_server(alloc: Global, config: Config, id: ServerId) -> Result<ServerSlot, StartFault>
     requires { IsForServers config }
     ensures new { IfOk result (λ s. s ≡ started_server config id.0 (new_server_disk config.chunk config.block config.slots) 0) }
     ensures fault { IfErr result IsOfMemory }

@@ -1,4 +1,4 @@
-//! The place of the master in a cell that a script drives: it lets the log's disk stop, and opens the master over it again.
+//! The place of the master in a cell: it lets the log's disk stop, and opens the master over it again.
 
 ghost use Rattle.std.specs.Prelude.{◌≡◌, ◌≤◌, true, [], IfErr, IfOk, IfSome, nat_le, ◌&&◌, length};
 ghost use Rattle.std.specs.FinMap as table;
@@ -36,7 +36,7 @@ pub type WorldLog = DiskLog<FuseDisk<Global>>;
 /// The master over its log, whose names lie in `A`.
 type WorldMaster<A> = LoggedMaster<WorldLog, A>;
 
-/// The master over a log on a disk in memory, which a script stops and restarts, and what is shown of its files. Where the master can't be up
+/// The master over a log on a disk in memory, which may be stopped and restarted, and what is shown of its files. Where the master can't be up
 /// again, its log or its disk stays here, and the master is down. Its names lie in `A`.
 pub struct MasterSlot<A: Allocator> {
     alloc: Global,

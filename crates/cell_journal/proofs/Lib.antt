@@ -5,6 +5,7 @@ pub mod Turning
 pub mod Moving
 pub mod CountedEntries
 pub mod Numbers
+pub mod Retained
 pub mod Observed
 pub mod Grown
 pub mod Roles

@@ -3,8 +3,9 @@ use Rattle.std.specs.Prelude.{ℕ, Bool, List}
 use Rattle.logbook.specs.Pages.{Book}
 use Rattle.gfs_types.specs.declared.config.Config.{Config}
 use Rattle.protocol_journal.specs.Journal.{Entry}
+use Rattle.cell_journal.specs.declared.retention.Retention.{Retention}
 
--- the name of the journal's list, the settings, how many servers and clients there may be, all entries of the cell before those of the journal, and of which clients, from the first one on, nothing more is written
+-- the name of the journal's list, the settings, how many servers and clients there may be, all entries of the cell before those of the journal, of which clients, from the first one on, nothing more is written, and which entries of the journal stay
 pub record Identity : Type 0 where
   pub name : Book
   pub config : Config
@@ -12,9 +13,11 @@ pub record Identity : Type 0 where
   pub clients : ℕ
   pub base : List Entry
   pub retired : List Bool
+  pub retention : Retention
 
-abbrev pub identity : Book → Config → ℕ → ℕ → List Entry → List Bool → Identity
-identity name config servers clients base retired = record { name = name; config = config; servers = servers; clients = clients; base = base; retired = retired }
+abbrev pub identity : Book → Config → ℕ → ℕ → List Entry → List Bool → Retention → Identity
+identity name config servers clients base retired retention =
+    record { name = name; config = config; servers = servers; clients = clients; base = base; retired = retired; retention = retention }
 
 -- a journal: of which cell, its entries, and for how many more there is room
 pub record Filled : Type 0 where

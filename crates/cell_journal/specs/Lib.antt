@@ -5,6 +5,7 @@ pub mod Clocks
 pub mod Entries
 pub mod Identity
 pub mod CountedEntries
+pub mod Retained
 pub mod WholeHistories
 pub mod ListEnds
 pub mod Roles

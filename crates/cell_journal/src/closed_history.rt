@@ -1,27 +1,29 @@
 //! The journal of a cell that was closed or parked.
 
-ghost use Rattle.std.specs.Prelude.{◌≡◌, length, slice_get, true};
+ghost use Rattle.std.specs.Prelude.{◌≡◌, length, true};
 ghost use Rattle.std.specs.Option.{option_copied};
 ghost use Rattle.cell_journal.specs.Log.{listed};
 ghost use Rattle.cell_journal.specs.Clocks.{are_clocks_kept};
 ghost use Rattle.cell_journal.specs.Identity.{closed};
 ghost use Rattle.cell_journal.specs.ListEnds.{Agrees};
+ghost use Rattle.cell_journal.specs.Retained.{gone_of, kept_entry};
 ghost use Rattle.cell_journal.specs.WholeHistories.{whole_of};
 
 use crate::clocks::Clocks;
-use crate::counted_entry::CountedEntry;
 use crate::identity::CellIdentity;
 use crate::journal_entry::JournalEntry;
 use crate::list_end::ListEnd;
 use crate::lookup::entry_at;
 use crate::raised_entry::RaisedEntry;
+use crate::retained_rows::RetainedRows;
+use crate::retention::Retention;
 use crate::{Beginning, WholeList};
 use std::marker::Model;
 
-/// All entries of the journal of a cell that was closed or parked.
+/// The journal of a cell that was closed or parked. Of its entries those can be looked at that stay.
 pub struct ClosedHistory {
     pub(crate) cell: CellIdentity,
-    pub(crate) rows: Vec<CountedEntry>,
+    pub(crate) rows: RetainedRows,
     /// How many entries the cell had before this journal.
     pub(crate) base_len: usize,
     pub(crate) clocks: Clocks,
@@ -42,7 +44,7 @@ impl Drop for ClosedHistory {
 }
 
 impl Model for ClosedHistory {
-    ghost use Rattle.std.specs.Prelude.{◌≡◌, ◌<◌, ◌≤◌, ◌^◌, length, vec_len};
+    ghost use Rattle.std.specs.Prelude.{◌≡◌, ◌<◌, ◌≤◌, ◌^◌, length};
     ghost use Rattle.cell_journal.specs.Clocks.{clocks_after};
     ghost use Rattle.cell_journal.specs.Identity.{Closed, closed};
     ghost use Rattle.cell_journal.specs.CountedEntries.{entries_in};
@@ -50,9 +52,9 @@ impl Model for ClosedHistory {
 
     ghost Value = { Closed };
 
-    ghost view = { λ p. closed p.cell (entries_in p.rows.items) p.end.is_over };
+    ghost view = { λ p. closed p.cell (entries_in p.rows.all) p.end.is_over };
 
-    ghost invariant = { λ p. (p.end.name ≡ p.cell.name) × (p.end.items ≡ history_of p.cell (entries_in p.rows.items)) × (p.clocks ≡ clocks_after p.cell.config (history_of p.cell (entries_in p.rows.items))) × (p.base_len ≡ length p.cell.base) × (p.base_len < 2 ^ 63) × (vec_len p.rows ≤ 2 ^ 33) };
+    ghost invariant = { λ p. (p.end.name ≡ p.cell.name) × (p.end.items ≡ history_of p.cell (entries_in p.rows.all)) × (p.clocks ≡ clocks_after p.cell.config (history_of p.cell (entries_in p.rows.all))) × (p.base_len ≡ length p.cell.base) × (p.base_len < 2 ^ 63) × (length p.rows.all ≤ 2 ^ 62) × (p.rows.retention ≡ p.cell.retention) };
 }
 
 impl ClosedHistory {
@@ -63,7 +65,14 @@ impl ClosedHistory {
         self.cell.again()
     }
 
-    /// How many entries there are.
+    /// Which entries stay.
+    pub fn retention(&self) -> Retention
+        ensures { result ≡ self.now.cell.retention }
+    {
+        self.cell.retention()
+    }
+
+    /// How many entries there are, also of those that were let go.
     pub fn len(&self) -> usize
         ensures { result ≡ length self.now.entries }
     {
@@ -84,9 +93,16 @@ impl ClosedHistory {
         self.clocks.kept
     }
 
-    /// The entry at this place.
+    /// The place of the first entry that stays.
+    pub fn first(&self) -> usize
+        ensures { result ≡ gone_of self.now.cell.retention (length self.now.entries) }
+    {
+        self.rows.first()
+    }
+
+    /// The entry at this place, where it stays.
     pub fn event(&self, place: usize) -> Option<&JournalEntry>
-        ensures { option_copied result ≡ slice_get self.now.entries place }
+        ensures { option_copied result ≡ kept_entry self.now.cell.retention self.now.entries place }
     {
         entry_at(&self.rows, place)
     }

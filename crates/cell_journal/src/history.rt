@@ -1,12 +1,12 @@
 //! All entries of the journal, with room for more.
 
-ghost use Rattle.std.specs.Prelude.{◌≡◌, ◌+◌, ◌-◌, ◌<◌, ◌++◌, ◌∷◌, [], length, slice_get, vec_len, vec_capacity, OnOk, OnErr, IfOk, IfErr, IfSome, replicate, true, false};
+ghost use Rattle.std.specs.Prelude.{◌≡◌, ◌+◌, ◌-◌, ◌<◌, ◌++◌, ◌∷◌, [], length, ◌≤◌, ◌^◌, OnOk, OnErr, IfOk, IfErr, IfSome, replicate, true, false};
 ghost use Rattle.std.specs.Option.{option_copied};
-ghost use Rattle.protocol.specs.World.{numbered_from_1};
 ghost use Rattle.protocol_journal.specs.Journal.{sent_after};
 ghost use Rattle.cell_journal.specs.Clocks.{moved, clocks_after, are_clocks_kept};
 ghost use Rattle.cell_journal.specs.Log.{listed};
 ghost use Rattle.cell_journal.specs.Identity.{identity, filled, closed};
+ghost use Rattle.cell_journal.specs.Retained.{HasRoom, kept_entry, kept_message};
 ghost use Rattle.cell_journal.specs.Rules.{IsJournalOf};
 ghost use Rattle.cell_journal.specs.WholeHistories.{history_of, whole_of};
 
@@ -19,6 +19,8 @@ use crate::list_end::ListEnd;
 use crate::lookup::{copy_numbered, entry_at, message_in};
 use crate::parked_history::ParkedHistory;
 use crate::raised_entry::RaisedEntry;
+use crate::retained_rows::RetainedRows;
+use crate::retention::Retention;
 use crate::{Beginning, GrowingList};
 use gfs_types::config::Config;
 use gfs_types::no_memory::NoMemory;
@@ -26,10 +28,10 @@ use messages::message::Message;
 use std::alloc::Global;
 use std::marker::Model;
 
-/// All entries so far, with room for those that are reserved.
+/// All entries so far, of which the last stay in memory, with room for those that are reserved.
 pub struct History {
     cell: CellIdentity,
-    rows: Vec<CountedEntry>,
+    rows: RetainedRows,
     /// How many messages were sent.
     count: u128,
     reserved: u64,
@@ -60,32 +62,47 @@ impl Drop for History {
 }
 
 impl Model for History {
-    ghost use Rattle.std.specs.Prelude.{◌≡◌, ◌≤◌, ◌<◌, ◌+◌, ◌-◌, ◌*◌, ◌^◌, [], length, vec_len, vec_capacity};
+    ghost use Rattle.std.specs.Prelude.{◌≡◌, ◌≤◌, ◌<◌, ◌+◌, ◌*◌, ◌^◌, [], length};
     ghost use Rattle.protocol_journal.specs.Journal.{sent_after};
     ghost use Rattle.cell_journal.specs.WholeHistories.{history_of};
     ghost use Rattle.cell_journal.specs.Clocks.{clocks_after};
     ghost use Rattle.cell_journal.specs.Identity.{Filled, filled};
     ghost use Rattle.cell_journal.specs.CountedEntries.{entries_in, sent_in, AreCounted};
+    ghost use Rattle.cell_journal.specs.Retained.{HasRoom};
     ghost use Rattle.cell_journal.specs.Rules.{IsJournalOf};
 
     ghost Value = { Filled };
 
-    ghost view = { λ p. filled p.cell (entries_in p.rows.items) p.reserved };
+    ghost view = { λ p. filled p.cell (entries_in p.rows.all) p.reserved };
 
-    ghost invariant = { λ p. (p.list.name ≡ p.cell.name) × (p.list.items ≡ history_of p.cell (entries_in p.rows.items)) × (p.count ≡ length (sent_in p.rows.items)) × AreCounted 0 p.rows.items × (p.reserved ≤ vec_capacity p.rows - vec_len p.rows) × (p.count ≤ 2 ^ 64 * vec_len p.rows) × (p.clocks ≡ clocks_after p.cell.config (history_of p.cell (entries_in p.rows.items))) × (p.earlier ≡ length (sent_after [] p.cell.base)) × (p.base_len ≡ length p.cell.base) × (p.base_len < 2 ^ 63) × (vec_len p.rows + p.reserved ≤ 2 ^ 33) × IsJournalOf p.cell [] × (p.earlier ≤ 2 ^ 126) × (p.uncounted ≤ 2 ^ 31) };
+    ghost invariant = { λ p. (p.list.name ≡ p.cell.name) × (p.list.items ≡ history_of p.cell (entries_in p.rows.all)) × (p.count ≡ length (sent_in p.rows.all)) × AreCounted 0 p.rows.all × HasRoom p.rows p.reserved × (p.count ≤ 2 ^ 64 * length p.rows.all) × (p.clocks ≡ clocks_after p.cell.config (history_of p.cell (entries_in p.rows.all))) × (p.earlier ≡ length (sent_after [] p.cell.base)) × (p.base_len ≡ length p.cell.base) × (p.base_len < 2 ^ 63) × (length p.rows.all + p.reserved ≤ 2 ^ 62) × IsJournalOf p.cell [] × (p.earlier ≤ 2 ^ 126) × (p.uncounted ≤ 2 ^ 31) × (p.rows.retention ≡ p.cell.retention) };
 }
 
 impl History {
     /// The journal of a new cell, which has no base. Takes no memory.
-    #[tactic(auto, using(crate::proofs::CountedEntries::history_none, crate::proofs::Grown::begins_lawful))]
-    pub fn new(alloc: Global, config: Config, servers: u64, clients: u64) -> Option<History>
-        ensures { IfSome result (λ p. p ≡ filled (identity p.cell.name config servers clients [] (replicate 64 false)) [] 0) }
+    #[tactic(auto, using(crate::proofs::CountedEntries::history_none, crate::proofs::Grown::begins_lawful, crate::proofs::Retained::room_none, crate::proofs::Retained::none_in, crate::proofs::Retained::none_counted))]
+    pub fn new(
+        alloc: Global,
+        config: Config,
+        servers: u64,
+        clients: u64,
+        retention: Retention,
+    ) -> Option<History>
+        ensures { IfSome result (λ p. p ≡ filled (identity p.cell.name config servers clients [] (replicate 64 false) retention) [] 0) }
     {
         let list = GrowingList::new()?;
-        let cell = CellIdentity::new(list.beginning(), config, servers, clients, [false; 64]);
+        let rows = RetainedRows::new(alloc, retention)?;
+        let cell = CellIdentity::new(
+            list.beginning(),
+            config,
+            servers,
+            clients,
+            [false; 64],
+            retention,
+        );
         Some(History {
             cell,
-            rows: Vec::new(alloc),
+            rows,
             count: 0,
             reserved: 0,
             clocks: Clocks {
@@ -121,17 +138,17 @@ impl History {
         self.base_len + self.rows.len()
     }
 
-    /// The entry at this place.
+    /// The entry at this place, where it stays.
     pub fn event(&self, place: usize) -> Option<&JournalEntry>
-        ensures { option_copied result ≡ slice_get self.now.entries place }
+        ensures { option_copied result ≡ kept_entry self.now.cell.retention self.now.entries place }
     {
         entry_at(&self.rows, place)
     }
 
-    /// A copy of the message of this number, from 1. None: nothing was sent under it.
-    #[tactic(auto, using(crate::proofs::Numbers::numbered))]
+    /// A copy of the message of this number, from 1. None: nothing was sent under it, or the entry that sent it was let go.
+    #[tactic(auto, using(crate::proofs::Retained::kept_numbered))]
     pub fn message(&self, number: u64) -> Result<Option<Message>, NoMemory>
-        ensures { IfOk result (λ m. m ≡ numbered_from_1 (sent_after [] self.now.entries) number) }
+        ensures { IfOk result (λ m. m ≡ kept_message self.now.cell.retention self.now.entries number) }
     {
         match message_in(&self.rows, self.count, number) {
             Some(message) => Ok(Some(copy_numbered(message, number)?)),
@@ -161,12 +178,14 @@ impl History {
         self.reserved
     }
 
-    /// Room for one entry more is made. There is none where the cell's settings allow no more entries, or an allocator refused it.
+    /// Room for one entry more is made. There is none where an allocator refused it, or the whole journal is to stay and the cell's settings allow no
+    /// more entries.
+    #[tactic(auto, using(crate::proofs::Retained::room_kept))]
     pub fn reserve(&mut self) -> Result<(), NoMemory>
         ensures ok { OnOk result (self.new ≡ filled self.old.cell self.old.entries (self.old.reserved + 1)) }
         ensures err { OnErr result (self.new ≡ self.old) }
     {
-        let most = u64::from(self.cell.config().journal) + self.uncounted;
+        let most = self.most_entries();
         let taken = self.rows.len() as u64;
         if taken >= most || self.reserved >= most - taken {
             return Err(NoMemory);
@@ -176,7 +195,16 @@ impl History {
         Ok(())
     }
 
+    // How many entries there may be.
+    fn most_entries(&self) -> u64
+        ensures { result ≤ 2 ^ 62 }
+    {
+        let whole = u64::from(self.cell.config().journal) + self.uncounted;
+        self.cell.retention().most_entries(whole)
+    }
+
     /// Room that was made is given up.
+    #[tactic(auto, using(crate::proofs::Retained::room_fewer))]
     pub fn give_up(&mut self)
         requires { 0 < self.old.reserved }
         ensures { self.new ≡ filled self.old.cell self.old.entries (self.old.reserved - 1) }
@@ -185,6 +213,7 @@ impl History {
     }
 
     /// One entry more, in room that was made. Takes no memory.
+    #[tactic(auto, using(crate::proofs::Retained::room_less))]
     pub fn push(&mut self, entry: JournalEntry)
         requires { 0 < self.old.reserved }
         ensures { self.new ≡ filled self.old.cell (self.old.entries ++ entry ∷ []) (self.old.reserved - 1) }
@@ -256,6 +285,7 @@ impl History {
     /// A journal behind what a parked one had, with these clients of which nothing more is written. It may have so many entries beside those that
     /// the settings allow, and so many take no memory. Where there is no memory, or there would be more entries than can be counted, the list
     /// comes back.
+    #[tactic(auto, using(crate::proofs::Retained::room_none, crate::proofs::Retained::none_in, crate::proofs::Retained::none_counted))]
     pub fn behind(
         alloc: Global,
         parked: &ClosedHistory,
@@ -267,15 +297,17 @@ impl History {
         requires list { list ≡ listed parked.now.cell.name (whole_of parked.now) }
         requires lawful { IsJournalOf parked.now.cell parked.now.entries }
         requires sent { sent ≡ length (sent_after [] (whole_of parked.now)) }
-        ensures ok { IfOk result (λ p. p ≡ filled (identity parked.now.cell.name parked.now.cell.config parked.now.cell.servers parked.now.cell.clients (whole_of parked.now) retired) [] 0) }
+        ensures ok { IfOk result (λ p. p ≡ filled (identity parked.now.cell.name parked.now.cell.config parked.now.cell.servers parked.now.cell.clients (whole_of parked.now) retired parked.now.cell.retention) [] 0) }
         ensures err { IfErr result (λ l. l ≡ list) }
     {
         let base_len = parked.whole_len();
-        let mut rows = Vec::new(alloc);
         let is_too_long = base_len >= MOST_BEFORE || sent > MOST_SENT || room > MOST_ROOM;
-        if is_too_long || rows.reserve(room as usize).is_err() {
+        if is_too_long {
             return Err(list);
         }
+        let Some(rows) = rows_with(alloc, parked.retention(), room) else {
+            return Err(list);
+        };
         let cell = behind_cell(&parked.cell, &list, retired);
         Ok(History {
             cell,
@@ -317,13 +349,25 @@ const MOST_SENT: u128 = 1 << 126;
 
 const MOST_ROOM: u64 = 1 << 31;
 
+// No rows, with memory for so many.
+fn rows_with(alloc: Global, retention: Retention, room: u64) -> Option<RetainedRows>
+    requires { room ≤ 2 ^ 31 }
+    ensures { IfSome result (λ r. (r.retention ≡ retention) × (r.all ≡ [])) }
+{
+    let mut rows = RetainedRows::new(alloc, retention)?;
+    match rows.reserve(room as usize) {
+        Ok(()) => Some(rows),
+        Err(_) => None,
+    }
+}
+
 // The same cell, behind all that this list has.
 fn behind_cell(
     cell: &CellIdentity,
     list: &GrowingList<RaisedEntry>,
     retired: [bool; 64],
 ) -> CellIdentity
-    ensures { result ≡ identity list.now.name cell.now.config cell.now.servers cell.now.clients list.now.items retired }
+    ensures { result ≡ identity list.now.name cell.now.config cell.now.servers cell.now.clients list.now.items retired cell.now.retention }
 {
     CellIdentity::new(
         list.beginning(),
@@ -331,6 +375,7 @@ fn behind_cell(
         cell.servers(),
         cell.clients(),
         retired,
+        cell.retention(),
     )
 }
 
@@ -343,9 +388,12 @@ fn clocks_with(clocks: Clocks, cell: &CellIdentity, entry: &JournalEntry) -> Clo
     clocks
 }
 
-fn add(rows: &mut Vec<CountedEntry>, row: CountedEntry)
-    requires { vec_len rows.old < vec_capacity rows.old }
-    ensures { (rows.new.items ≡ rows.old.items ++ row ∷ []) × (vec_capacity rows.new ≡ vec_capacity rows.old) }
+fn add(rows: &mut RetainedRows, row: CountedEntry)
+    requires room { HasRoom rows.old 1 }
+    requires few { length rows.old.all < 2 ^ 63 }
+    ensures retention { rows.new.retention ≡ rows.old.retention }
+    ensures all { rows.new.all ≡ rows.old.all ++ row ∷ [] }
+    ensures capacity { rows.new.capacity ≡ rows.old.capacity }
 {
-    rows.push_reserved(row);
+    rows.push(row);
 }

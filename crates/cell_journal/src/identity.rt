@@ -6,11 +6,12 @@ ghost use Rattle.cell_journal.specs.Log.{listed};
 
 use crate::Beginning;
 use crate::raised_entry::RaisedEntry;
+use crate::retention::Retention;
 use gfs_types::config::Config;
 use std::marker::Model;
 
-/// The cell of a journal: the name of its list, what that list had before the journal's first entry, its settings, and how many servers and
-/// clients it may have.
+/// The cell of a journal: the name of its list, what that list had before the journal's first entry, its settings, how many servers and
+/// clients it may have, and which entries of the journal stay.
 #[derive(Drop)]
 pub struct CellIdentity {
     base: Beginning<RaisedEntry>,
@@ -19,6 +20,7 @@ pub struct CellIdentity {
     clients: u64,
     /// Of which clients, from the first one on, nothing more is written.
     retired: [bool; 64],
+    retention: Retention,
 }
 
 impl Model for CellIdentity {
@@ -26,7 +28,7 @@ impl Model for CellIdentity {
 
     ghost Value = { Identity };
 
-    ghost view = { λ i. identity i.base.name i.config i.servers i.clients i.base.items i.retired };
+    ghost view = { λ i. identity i.base.name i.config i.servers i.clients i.base.items i.retired i.retention };
 }
 
 impl CellIdentity {
@@ -36,8 +38,9 @@ impl CellIdentity {
         servers: u64,
         clients: u64,
         retired: [bool; 64],
+        retention: Retention,
     ) -> CellIdentity
-        ensures { result ≡ identity base.name config servers clients base.items retired }
+        ensures { result ≡ identity base.name config servers clients base.items retired retention }
     {
         CellIdentity {
             base,
@@ -45,6 +48,7 @@ impl CellIdentity {
             servers,
             clients,
             retired,
+            retention,
         }
     }
 
@@ -58,6 +62,7 @@ impl CellIdentity {
             servers: self.servers,
             clients: self.clients,
             retired: self.retired,
+            retention: self.retention,
         }
     }
 
@@ -85,6 +90,13 @@ impl CellIdentity {
         ensures { result ≡ self.now.retired }
     {
         self.retired
+    }
+
+    /// Which entries of the journal stay.
+    pub fn retention(&self) -> Retention
+        ensures { result ≡ self.now.retention }
+    {
+        self.retention
     }
 
     pub fn clients(&self) -> u64

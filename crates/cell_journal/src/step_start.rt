@@ -13,7 +13,8 @@ use gfs_types::refusal::Refusal;
 use messages::message::Message;
 use std::sync::Wait;
 
-/// Makes room for a step, which is taken on the message of a number, if there is one.
+/// Makes room for a step, which is taken on the message of a number, if there is one. Where the entry that sent that message was let go the message is
+/// lost (Unknown).
 pub fn begin(
     rt: &impl Wait,
     shared: &SharedHistory,
@@ -97,7 +98,9 @@ fn prepare(
     }
 }
 
-// The message of a number, if it was sent to this node. There is none where there is no memory for it.
+// The message of a number, if it was sent to this node. There is none where there is no memory for it, nor where the entry that sent it was let go
+// (Unknown).
+#[tactic(auto, using(crate::proofs::Retained::message_is))]
 fn read(history: &History, node: Node, number: Option<u64>) -> Result<Option<Message>, Refusal>
     ensures { IfOk result (λ m. IsRead (sent_after [] history.now.entries) node number m) }
 {
@@ -108,7 +111,7 @@ fn read(history: &History, node: Node, number: Option<u64>) -> Result<Option<Mes
         return Err(Refusal::NoMemory);
     };
     let Some(message) = found else {
-        return Err(Refusal::NoMemory);
+        return Err(Refusal::Unknown);
     };
     if is_same_node(message.receiver, node) {
         Ok(Some(message))

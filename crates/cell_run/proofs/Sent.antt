@@ -24,12 +24,15 @@ use Rattle.master_plan.proofs.change.PlannedChange.TheSendSync as change
 use Rattle.master_plan.proofs.waiting.VersionAttempt.TheSendSync as attempt
 use Rattle.master_plan.proofs.waiting_list.WaitingSnapshots.TheSendSync as waiting
 use Rattle.master_plan.specs.contracts.plan.Plan as Plan
-use Rattle.operation_log.proofs.memory.MemoryLog.TheSendSync as memory
-use Rattle.operation_log.specs.contracts.memory.MemoryLogOperationLog.TheImpl as on_log
-use Rattle.operation_log.specs.contracts.memory.MemoryLog as Log
+use Rattle.disk.proofs.fuse.FuseDisk.TheSendSync as fuse
+use Rattle.disk.proofs.stop_plan.StopPlan.TheSendSync as stops
+use Rattle.disk.specs.contracts.fuse.FuseDisk as Fuse
+use Rattle.ghost_list.proofs.ghost_list.GhostList.TheSendSync as ghosts_of
+use Rattle.stored_log.proofs.disk_log.DiskLog.TheSendSync as disk_log
+use Rattle.stored_log.specs.contracts.disk_log.DiskLog as Log
 use Rattle.master_cell.specs.contracts.logged_master.LoggedMaster as Master
 use Rattle.master_cell.proofs.shown.ShownFiles.TheSendSync as shown
-use Rattle.cell_core.specs.contracts.cell_master.SeatedMaster as Seated
+use Rattle.cell_core.specs.contracts.master_slot.MasterSlot as Slot
 use Rattle.cell_run.specs.contracts.master_stepper.MasterNode as Node
 use Rattle.cell_run.specs.contracts.running_master.RunningMaster as Running
 
@@ -39,17 +42,22 @@ state_send = search (sendable, crosses, maps.crosses, heap.the_send, heap.the_fi
 plan_send : IsSend (Plan.the_row Heap.the_row ghosts)
 plan_send = search (sendable, crosses, maps.crosses, state_send, heap.the_field_send, config.the_field_send, number.the_send, ordered.the_send, option.the_field_send, sequence.the_send, change.the_send, attempt.the_send, waiting.the_send, message.the_send, seen.the_send) depth 40 fits 100000
 
-log_send : IsSend Log.the_row
-log_send = memory.the_send
+fuse_send : IsSend (Fuse.the_row Heap.the_row ghosts)
+fuse_send = search (sendable, crosses, fuse.the_send, heap.the_send)
 
-master_send : IsSend (Master.the_row Log.the_row Heap.the_row on_log.ghosts ghosts)
-master_send = let a = log_send in let b = plan_send in search (sendable, crosses) depth 40 fits 100000
+-- with what its disk is for proofs
 
-seated_send : IsSend (Seated.the_row Log.the_row Heap.the_row on_log.ghosts ghosts)
-seated_send = declared_send (Seated.the_type Log.the_row Heap.the_row on_log.ghosts ghosts) (master_send, (shown.the_send, tt))
+log_send : (d : _) → IsSend (Log.the_row (Fuse.the_row Heap.the_row ghosts) d)
+log_send d = let a = fuse_send in search (sendable, crosses, disk_log.the_send)
 
-node_send : IsSend (Node.the_row (Seated.the_row Log.the_row Heap.the_row on_log.ghosts ghosts))
-node_send = declared_send (Node.the_type (Seated.the_row Log.the_row Heap.the_row on_log.ghosts ghosts)) (seated_send, tt)
+master_send : (d : _) (l : _) → IsSend (Master.the_row (Log.the_row (Fuse.the_row Heap.the_row ghosts) d) Heap.the_row l ghosts)
+master_send d l = let a = log_send d in let b = plan_send in search (sendable, crosses) depth 40 fits 100000
+
+slot_send : IsSend (Slot.the_row Heap.the_row ghosts)
+slot_send = search (sendable, crosses, heap.the_send, heap.the_field_send, config.the_field_send, option.the_field_send, fuse_send, log_send, master_send, ghosts_of.the_send, shown.the_send, stops.the_send) depth 40 fits 100000
+
+node_send : IsSend (Node.the_row (Slot.the_row Heap.the_row ghosts))
+node_send = search (sendable, crosses, heap.the_send, heap.the_field_send, slot_send) depth 40
 
 pub running_send : IsSend Running.the_row
 running_send = declared_send Running.the_type (node_send, tt)

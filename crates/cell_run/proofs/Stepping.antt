@@ -7,12 +7,9 @@ use Rattle.gfs_types.specs.declared.config.Config.{Config}
 use Rattle.messages.specs.declared.event.NodeInput.{NodeInput}
 use Rattle.messages.specs.declared.event.StepOut.{StepOut}
 use Rattle.protocol.specs.Choice.{Choice, Ending, Goes, Lost, Stops}
-use Rattle.gfs_types.specs.declared.answer.Answer.TheVariants as answer
-use Rattle.gfs_types.specs.declared.refusal.Refusal.TheVariants.{NoMemory}
-use Rattle.protocol.specs.Client.{ClientState, ClientDoing, stopped_client, client_begins, answers}
-use Rattle.protocol.specs.ClientStep.{may_call, may_step, client_at, client_step, client_call, client_ends, client_goes, client_call_goes}
+use Rattle.protocol.specs.Client.{ClientState, stopped_client}
+use Rattle.protocol.specs.ClientStep.{may_call, may_step, client_step, client_ends, client_goes}
 use Rattle.protocol.specs.Conforms.{MasterSteps, MasterRestarts, ServerSteps, ServerRestarts, ClientCalls, ClientSteps}
-use Rattle.protocol.specs.MasterSnapshots.{first_is_true}
 use Rattle.protocol.specs.Master.{MasterState, MasterDoing, stopped_master}
 use Rattle.protocol.specs.MasterStep.{master_step, master_restart, master_goes, master_ends, master_bounded, may_end, found_log, started_master, opening, opens_as, has_opened, is_within_limits}
 use Rattle.protocol.specs.declared.seen.Seen.{Seen}
@@ -138,28 +135,6 @@ server_never_calls held s t c moment out seen After stands may is = not_taken (s
 
 -- a client
 
-ends_unseen : (s : ClientState) (d : ClientDoing) (e : Ending) → (client_ends s d e).seen ≡ []
-ends_unseen s d Goes = refl
-ends_unseen s d Lost = refl
-ends_unseen s d (Stops made) = refl
-
-client_steps_unseen : (s : ClientState) (moment : ℕ) (i : NodeInput) (choice : Choice) → (client_step s moment i choice).seen ≡ []
-client_steps_unseen s moment i choice = by_test (may_step s)
-  where
-    by_test : (b : Bool) → (if b then client_ends s (client_goes s moment i) choice.ending else no_step s).seen ≡ []
-    by_test true = ends_unseen s (client_goes s moment i) choice.ending
-    by_test false = refl
-
-client_calls_unseen : (s : ClientState) (moment : ℕ) (c : Call) (choice : Choice) → (client_call s moment c choice).seen ≡ []
-client_calls_unseen s moment c choice = by_test (first_is_true choice.refused)
-  where
-    refused : ClientDoing
-    refused = answers (client_begins (client_at s moment)) (answer.Refused NoMemory)
-
-    by_test : (b : Bool) → (if b then client_ends s refused choice.ending else client_ends s (client_call_goes s moment c) choice.ending).seen ≡ []
-    by_test true = ends_unseen s refused choice.ending
-    by_test false = ends_unseen s (client_call_goes s moment c) choice.ending
-
 pub client_takes : (held : ClientState) (s : NodeState) (t : CodeStepCause) (i : NodeInput) (b : Bool) → ClientStands held s → t ≡ code.Takes i → b ≡ held.up → b ≡ may_take s (cause_of t)
 client_takes held s t i b stands is up = may_on s t (code.Takes i) b is (up ∙ subst (λ (x : NodeState). held.up ≡ may_take x (Takes i)) (sym stands) refl)
 
@@ -174,14 +149,14 @@ pub client_stepped : (held new : ClientState) (s : NodeState) (t : CodeStepCause
 client_stepped held new s t i moment out stands is steps =
     steps_on s t (code.Takes i) moment out [] (ClientStands new) is
     (subst (λ (x : NodeState). StepsSo x moment (Takes i) out [] (ClientStands new)) (sym stands)
-    (record { choice = steps.choice; gives = steps.gives.out_is; sees = client_steps_unseen held moment i steps.choice; stands = ap (λ (x : ClientState). ClientIs x) steps.gives.state_is }))
+    (record { choice = steps.choice; gives = steps.gives.out_is; sees = steps.seen_is; stands = ap (λ (x : ClientState). ClientIs x) steps.gives.state_is }))
 
 pub client_called : (held new : ClientState) (s : NodeState) (t : CodeStepCause) (c : Call) (moment : ℕ) (out : StepOut) → ClientStands held s → t ≡ code.Calls c → ClientCalls held moment c out new
     → StepsSo s moment (cause_of t) out [] (ClientStands new)
 client_called held new s t c moment out stands is calls =
     steps_on s t (code.Calls c) moment out [] (ClientStands new) is
     (subst (λ (x : NodeState). StepsSo x moment (Calls c) out [] (ClientStands new)) (sym stands)
-    (record { choice = calls.choice; gives = calls.gives.out_is; sees = client_calls_unseen held moment c calls.choice; stands = ap (λ (x : ClientState). ClientIs x) calls.gives.state_is }))
+    (record { choice = calls.choice; gives = calls.gives.out_is; sees = calls.seen_is; stands = ap (λ (x : ClientState). ClientIs x) calls.gives.state_is }))
 
 pub client_never_restarts : (held : ClientState) (s : NodeState) (t : CodeStepCause) (moment : ℕ) (out : StepOut) (seen : List Seen) (After : NodeState → Type 0) → ClientStands held s → IsTrue (may_take s (cause_of t))
     → t ≡ code.Restarts → StepsSo s moment (cause_of t) out seen After

@@ -9,6 +9,7 @@ use Rattle.protocol.specs.Sending.{the_server}
 use Rattle.protocol_journal.specs.Journal.{Entry, own}
 use Rattle.cell_journal.specs.Log.{Listed, listed}
 use Rattle.cell_journal.specs.Identity.{Identity}
+use Rattle.cell_journal.specs.declared.retention.Retention.{Retention}
 use Rattle.cell_journal.specs.WholeHistories.{is_retired}
 use Rattle.cell_seats.specs.declared.controls.Controls.{Controls}
 use Rattle.cell_seats.specs.declared.controls.ControlWriter.{ControlWriter}
@@ -40,9 +41,10 @@ pub record IsCellOf (config : Config) (servers : ℕ) (cell : Identity) : Type 0
   pub servers_are : cell.servers ≡ servers
   pub clients_are : cell.clients ≡ 64
 
--- a new cell, which did nothing before
-abbrev pub IsNewCell : Config → ℕ → CellState → Type 0
-IsNewCell config servers c = IsCellOf config servers c.of × (c.of.base ≡ []) × (c.made ≡ 0) × (c.policy ≡ no_policy) × (c.restarts ≡ replicate 66 0)
+-- a new cell, which did nothing before, and of whose journal these entries are to stay
+abbrev pub IsNewCell : Config → ℕ → Retention → CellState → Type 0
+IsNewCell config servers retention c =
+    IsCellOf config servers c.of × (c.of.base ≡ []) × (c.made ≡ 0) × (c.policy ≡ no_policy) × (c.restarts ≡ replicate 66 0) × (c.of.retention ≡ retention)
 
 -- one client more was made
 abbrev pub more : CellState → CellState

@@ -77,6 +77,7 @@ pub record IsResumed (p : ParkedState) (c : CellState) (seats : List SeatState) 
   pub config_is : c.of.config ≡ p.journal.cell.config
   pub servers_are : c.of.servers ≡ p.journal.cell.servers
   pub clients_are : c.of.clients ≡ p.journal.cell.clients
+  pub retention : c.of.retention ≡ p.journal.cell.retention
   pub base : c.of.base ≡ whole_of p.journal
   pub made : c.made ≡ p.made + count_anew p.seats
   pub policy : c.policy ≡ no_policy

@@ -20,7 +20,7 @@ use Rattle.cell_run.specs.ParkedSeats.{count_anew}
 
 -- the cell that goes on behind a parked one's history, with these clients of which nothing more is written
 abbrev pub behind_of : Closed → List Bool → Identity
-behind_of journal retired = identity journal.cell.name journal.cell.config journal.cell.servers journal.cell.clients (whole_of journal) retired
+behind_of journal retired = identity journal.cell.name journal.cell.config journal.cell.servers journal.cell.clients (whole_of journal) retired journal.cell.retention
 
 -- clients of the numbers after so many, in rising order, of which none made a call
 abbrev pub AreNewClients : Config → ℕ → List (Option RunningClient) → Type 0

@@ -33,8 +33,10 @@ use cell_seats::controls::{ControlWriter, Controls};
 use cell_seats::gate::{Gate, OpenGate};
 use cell_seats::journal::Journal;
 use cell_seats::mailboxes::{Input, MailboxItem, MailboxSenders};
+use cell_seats::node_lock::NodeLock;
 use cell_seats::node_registry::NodeRegistry;
 use cell_seats::shared_state::{STARTING, SharedState};
+use cell_seats::stepper::Stepper;
 use crossbeam_channel::Receiver;
 use gfs_types::ids::{Node, ServerId};
 use std::mem;
@@ -211,6 +213,7 @@ fn new_registry<R: Wait + Clock>(
                 closing: AtomicU64::new(STARTING),
                 answered: AtomicU64::new(0),
                 events: AtomicU64::new(0),
+                lost: AtomicU64::new(0),
             };
             registry_of(rt, parts, cell, shared, writer)
         }
@@ -443,40 +446,47 @@ fn start_all<
     room: &mut ThreadRoom,
     gate: G,
 ) -> Result<(), StartFault> {
-    let Some(inbox) = room.master.take() else {
-        return Err(StartFault::Thread);
-    };
-    let theirs = Arc::try_clone(shared)?;
-    let master = &locks.master;
-    start_node(
+    let master = room.master.take();
+    let threads = &mut room.threads;
+    start_at(
         rt,
-        theirs,
-        &mut room.threads,
-        master,
+        shared,
+        threads,
+        &locks.master,
         Node::Master,
-        inbox,
-        gate.clone()?,
+        master,
+        &gate,
     )?;
     for before in 0..servers {
-        let Some(inbox) = room.servers.pop() else {
-            return Err(StartFault::Thread);
-        };
         let Some(lock) = locks.servers.get(usize::from(before)) else {
             return Err(StartFault::Thread);
         };
-        let theirs = Arc::try_clone(shared)?;
+        let inbox = room.servers.pop();
         let node = Node::Server(ServerId(before + 1));
-        start_node(
-            rt,
-            theirs,
-            &mut room.threads,
-            lock,
-            node,
-            inbox,
-            gate.clone()?,
-        )?;
+        start_at(rt, shared, &mut room.threads, lock, node, inbox, &gate)?;
     }
     Ok(())
+}
+
+// Starts a thread for a node, whose mailbox is there.
+fn start_at<
+    R: Threads + Wait + Clock + Copy + Send + 'static,
+    N: Stepper + Send + Drop + 'static,
+    G: Gate + Clone + Send + Drop + 'static,
+>(
+    rt: R,
+    shared: &Arc<SharedState>,
+    threads: &mut Vec<Thread>,
+    lock: &Arc<NodeLock<N>>,
+    node: Node,
+    inbox: Option<Receiver<MailboxItem>>,
+    gate: &G,
+) -> Result<(), StartFault> {
+    let Some(inbox) = inbox else {
+        return Err(StartFault::Thread);
+    };
+    let theirs = Arc::try_clone(shared)?;
+    start_node(rt, theirs, threads, lock, node, inbox, gate.clone()?)
 }
 
 // The master and each server begin again, by what their log or store holds, and the threads take steps from then on.

@@ -7,6 +7,7 @@ ghost use Rattle.journal_headline.specs.Journals.{AreExplained};
 ghost use Rattle.cell_journal.specs.Clocks.{are_clocks_kept};
 ghost use Rattle.cell_journal.specs.Log.{listed};
 ghost use Rattle.cell_journal.specs.Rules.{IsJournalOf};
+ghost use Rattle.cell_journal.specs.declared.retention.Retention.TheVariants.{Whole};
 ghost use Rattle.cell_journal.specs.WholeHistories.{whole_of};
 ghost use Rattle.gfs_types.specs.declared.ids.Node.TheVariants.{Master, Server};
 ghost use Rattle.cell_run.specs.NewNodes.{IsFitting};
@@ -27,7 +28,7 @@ use crate::threads::{serve, stop_all, tick, wait_for_clients};
 use crate::watch::{Watch, Watcher, tell_on};
 use cell_journal::history::History;
 use cell_journal::raised_entry::RaisedEntry;
-use cell_journal::{Beginning, open};
+use cell_journal::{Beginning, Retention, open};
 use cell_seats::controls::{ControlWriter, new_controls};
 use cell_seats::gate::Gate;
 use cell_seats::journal::Journal;
@@ -132,7 +133,25 @@ impl Cell {
         R: Threads + Wait + Clock + Copy + Send + 'static,
         G: Gate + Clone + Send + Drop + 'static,
     >(rt: R, alloc: Global, config: Config, servers: u16, gate: G) -> Result<Cell, StartFault>
-        ensures { IfOk result (λ cell. IsNewCell config servers cell) }
+        ensures { IfOk result (λ cell. IsNewCell config servers Whole cell) }
+    {
+        Cell::start_retaining(rt, alloc, config, servers, Retention::Whole, gate)
+    }
+
+    /// The same, where only these entries of the journal stay in memory. Where that is the last so many, the cell runs on without an end: messages of
+    /// entries that were let go are lost, and the setting `journal` is not asked for.
+    pub fn start_retaining<
+        R: Threads + Wait + Clock + Copy + Send + 'static,
+        G: Gate + Clone + Send + Drop + 'static,
+    >(
+        rt: R,
+        alloc: Global,
+        config: Config,
+        servers: u16,
+        retention: Retention,
+        gate: G,
+    ) -> Result<Cell, StartFault>
+        ensures { IfOk result (λ cell. IsNewCell config servers retention cell) }
     {
         if !are_fitting(&config) {
             return Err(StartFault::Config);
@@ -143,7 +162,7 @@ impl Cell {
         let Ok(began) = rt.monotonic() else {
             return Err(StartFault::Clock);
         };
-        let made = new_registry(alloc, config, servers, began)?;
+        let made = new_registry(alloc, config, servers, retention, began)?;
         let ticker = ticks(rt, alloc, &made.registry.shared, servers)?;
         start_with(rt, alloc, made, ticker, gate)
     }
@@ -204,9 +223,9 @@ impl Cell {
         W: Watcher + Send + Drop + 'static,
     >(&self, rt: R, watcher: W) -> Option<Watch<W>> {
         let theirs = Arc::try_clone(&self.registry.shared).ok()?;
-        let journal = self.registry.config.journal;
+        let most = self.most_entries();
         let (stop, stopped) = unbounded(self.alloc).ok()?;
-        let job = move || tell_on(&rt, &theirs, journal, &stopped, watcher);
+        let job = move || tell_on(&rt, &theirs, most, &stopped, watcher);
         match thread::spawn(&rt, job) {
             Ok(thread) => Some(Watch { stop, thread }),
             Err(_) => None,
@@ -215,8 +234,18 @@ impl Cell {
 
     /// For how many steps more there was room in the journal, at some moment of the call.
     pub fn room(&self) -> u64 {
-        let journal = self.registry.config.journal;
-        self.registry.shared.progress(journal).room
+        self.registry.shared.progress(self.most_entries()).room
+    }
+
+    /// How many messages were lost until some moment of the call since the entries that sent them were let go.
+    pub fn lost(&self) -> u64 {
+        self.registry.shared.progress(self.most_entries()).lost
+    }
+
+    // How many entries its journal may have.
+    fn most_entries(&self) -> u64 {
+        let journal = u64::from(self.registry.config.journal);
+        self.registry.cell.retention().most_entries(journal)
     }
 
     /// Ends the cell: no step is begun any more, each call that waits is refused, and the threads end. No step follows. Where clocks were
@@ -306,7 +335,7 @@ fn start_with<
     requires asks { WritesControls (arc_value parts.registry.shared).controls parts.control_writer }
     requires policy { policy_in parts.control_writer.policy.me.0 ≡ no_policy }
     requires restarts { parts.control_writer.restarts.me.0 ≡ replicate 66 0 }
-    ensures { IfOk result (λ cell. IsNewCell parts.registry.config parts.registry.servers cell) }
+    ensures { IfOk result (λ cell. IsNewCell parts.registry.config parts.registry.servers parts.registry.writer.me.0.of.retention cell) }
 {
     let Parts {
         mut registry,
@@ -469,19 +498,22 @@ fn new_registry(
     alloc: Global,
     config: Config,
     servers: u16,
+    retention: Retention,
     began: Duration,
 ) -> Result<Parts, StartFault>
     requires { first_out_of_range config ≡ None }
     ensures registry { IfOk result (λ p. (p.registry.config ≡ config) × (p.registry.servers ≡ servers) × (p.registry.registered ≡ 0)) }
     ensures base { IfOk result (λ p. p.registry.writer.me.0.of.base ≡ []) }
     ensures retired { IfOk result (λ p. p.registry.writer.me.0.of.retired ≡ replicate 64 false) }
+    ensures retention { IfOk result (λ p. p.registry.writer.me.0.of.retention ≡ retention) }
     ensures nothing { IfOk result (λ p. p.nothing ≡ listed p.registry.writer.me.0.of.name []) }
     ensures boxes { IfOk result (λ p. vec_len p.boxes.clients ≡ 64) }
     ensures asks { IfOk result (λ p. WritesControls (arc_value p.registry.shared).controls p.control_writer) }
     ensures policy { IfOk result (λ p. policy_in p.control_writer.policy.me.0 ≡ no_policy) }
     ensures restarts { IfOk result (λ p. p.control_writer.restarts.me.0 ≡ replicate 66 0) }
 {
-    let Some(history) = History::new(alloc, config, u64::from(servers), MOST_CLIENTS) else {
+    let Some(history) = History::new(alloc, config, u64::from(servers), MOST_CLIENTS, retention)
+    else {
         return Err(StartFault::NoMemory);
     };
     let nothing = history.beginning();
@@ -498,6 +530,7 @@ fn new_registry(
         closing: AtomicU64::new(0),
         answered: AtomicU64::new(0),
         events: AtomicU64::new(0),
+        lost: AtomicU64::new(0),
     };
     match Arc::new(alloc, shared) {
         Ok(shared) => Ok(Parts {

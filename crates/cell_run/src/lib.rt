@@ -21,7 +21,6 @@ pub mod running_master;
 pub mod running_server;
 pub mod seat_fault;
 mod seating;
-pub mod server_stepper;
 pub mod start_fault;
 mod step_message;
 mod threads;
@@ -30,6 +29,7 @@ pub mod watch;
 // What a program that runs a cell names.
 pub use bytes::Bytes;
 pub use cell::{Cell, ClientSeat};
+pub use cell_journal::Retention;
 pub use cell_journal::journal_entry::{JournalEntry, StepCause};
 pub use cell_seats::gate::{Gate, Kind, OpenGate};
 pub use cell_seats::journal::Journal;

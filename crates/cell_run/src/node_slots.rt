@@ -3,28 +3,24 @@
 ghost use Rattle.std.specs.Prelude.{◌≡◌, ◌≤◌, ◌<◌, ◌+◌, [], None, false, IfOk, IfErr, OnOk, OnErr, IsTrue, is_none};
 ghost use Rattle.gfs_types.specs.declared.ids.Node.TheVariants as node;
 ghost use Rattle.gfs_types.specs.Settings.{first_out_of_range};
-ghost use Rattle.protocol.specs.MasterStep.{new_master};
 ghost use Rattle.protocol_journal.specs.Journal.{own};
 ghost use Rattle.cell_journal.specs.WholeHistories.{is_retired};
 ghost use Rattle.cell_run.specs.declared.start_fault.StartFault.TheVariants.{NoMemory as OutOfMemory};
 ghost use Rattle.cell_seats.specs.Registry.{IsRegistered};
 ghost use Rattle.cell_seats.specs.Registries.{IsSameRegistry};
-ghost use Rattle.cell_run.specs.NewNodes.{IsFitting, IsNewNode, IsNewClient, IsOfMaster};
+ghost use Rattle.cell_run.specs.NewNodes.{IsFitting, IsNewNode, IsNewClient};
 
 use crate::running_client::RunningClient;
 use crate::running_master::RunningMaster;
 use crate::running_server::RunningServer;
 use crate::start_fault::StartFault;
-use cell_core::cell_master::SeatedMaster;
+use cell_core::making;
 use cell_seats::node_journal::NodeJournal;
 use cell_seats::node_registry::NodeRegistry;
 use cell_seats::slot::Slot;
-use cell_world::master::CellMaster;
 use gfs_types::config::Config;
 use gfs_types::ids::{ClientId, Node, ServerId};
 use gfs_types::no_memory::NoMemory;
-use master_cell::fault::MasterFault;
-use operation_log::memory::MemoryLog;
 use std::alloc::Global;
 
 /// What the master's lock guards.
@@ -42,19 +38,7 @@ pub fn are_fitting(config: &Config) -> bool
     ensures in_range { IsTrue result → first_out_of_range config.now ≡ None }
     ensures fits { IsTrue result → IsFitting config.now }
 {
-    config.check().is_ok()
-}
-
-fn new_master(alloc: Global, config: Config, servers: u16) -> Result<RunningMaster, StartFault>
-    requires { IsFitting config }
-    ensures fault { IfErr result IsOfMaster }
-    ensures new { IfOk result (λ m. ⟦<SeatedMaster<MemoryLog, Global> as CellMaster>⟧.state m.node.master ≡ new_master config servers) }
-{
-    match RunningMaster::new(alloc, config, servers) {
-        Ok(master) => Ok(master),
-        Err(MasterFault::NoMemory) => Err(StartFault::NoMemory),
-        Err(MasterFault::Log(_)) => Err(StartFault::Log),
-    }
+    making::are_fitting(config)
 }
 
 /// The master with its journal, which is the first node.
@@ -65,10 +49,10 @@ pub fn master_slot(alloc: Global, registry: &mut NodeRegistry) -> Result<MasterS
     ensures same { IsSameRegistry registry.old registry.new }
     ensures ok { OnOk result (registry.new.registered ≡ 1) }
     ensures err { OnErr result (registry.new.registered ≡ 0) }
-    ensures fault { IfErr result IsOfMaster }
+    ensures fault { IfErr result (λ f. f ≡ OutOfMemory) }
     ensures slot { IfOk result (λ s. IsNewNode node.Master registry.old.writer.me.0 s.node s.view) }
 {
-    let master = new_master(alloc, registry.config, registry.servers)?;
+    let master = RunningMaster::new(alloc, registry.config, registry.servers)?;
     let journal = registry.next(Node::Master)?;
     Ok(Slot::new(alloc, journal, master))
 }
@@ -88,7 +72,7 @@ pub fn server_slot(
     ensures fault { IfErr result (λ f. f ≡ OutOfMemory) }
     ensures slot { IfOk result (λ s. IsNewNode (node.Server id) registry.old.writer.me.0 s.node s.view) }
 {
-    let server = RunningServer::new(alloc, registry.config, id);
+    let server = RunningServer::new(alloc, registry.config, id)?;
     let journal = registry.next(Node::Server(id))?;
     Ok(Slot::new(alloc, journal, server))
 }

@@ -14,7 +14,7 @@ use cell_seats::gate::Gate;
 use cell_seats::shared_state::MOST_CLIENTS;
 use std::sync::Wait;
 use std::thread::Threads;
-use std::time::Clock;
+use std::time::{Clock, Duration};
 
 impl Parked {
     /// Starts the cell's nodes again, each of which begins with what its log or store holds, and gives the seats that were handed in. A seat
@@ -86,7 +86,7 @@ impl ParkedParts {
     fn may_resume<R: Clock>(&self, rt: &R) -> Result<(), StartFault>
         ensures { OnOk result (self.now.made + count_anew self.now.seats ≤ 64) }
     {
-        let Some(now) = self.moment(rt) else {
+        let Some(now) = moment(rt, self.began) else {
             return Err(StartFault::Clock);
         };
         if now.saturating_add(u64::from(self.config.skew_ms)) < self.greatest {
@@ -104,12 +104,12 @@ impl ParkedParts {
     {
         are_few(self.made, self.count_anew())
     }
+}
 
-    // How many milliseconds the cell has run, if there is a clock.
-    fn moment<R: Clock>(&self, rt: &R) -> Option<u64> {
-        let since = rt.monotonic().ok()?.checked_sub(self.began)?;
-        u64::try_from(since.as_millis()).ok()
-    }
+// How many milliseconds a cell has run, if there is a clock.
+fn moment<R: Clock>(rt: &R, began: Duration) -> Option<u64> {
+    let since = rt.monotonic().ok()?.checked_sub(began)?;
+    u64::try_from(since.as_millis()).ok()
 }
 
 // Whether so many clients more may be made.

@@ -1,56 +1,93 @@
-//! A server of a running cell, over a store in memory.
+//! A server of a running cell, over a disk in memory.
 
-ghost use Rattle.std.specs.Prelude.{◌≡◌, ◌≤◌};
-ghost use Rattle.gfs_types.specs.Settings.{largest_chunk};
+ghost use Rattle.std.specs.Prelude.{◌≡◌, ◌≤◌, None, IfOk, IsTrue};
+ghost use Rattle.cell_journal.specs.Entries.{cause_of};
+ghost use Rattle.cell_seats.specs.Slots.{StepsSo};
 ghost use Rattle.protocol.specs.Server.{started_server};
+ghost use Rattle.protocol.specs.Tables.{moment_limit};
+ghost use Rattle.protocol_journal.specs.Journal.{NodeState, may_take};
 ghost use Rattle.replica_store.specs.Replicas.{new_server_disk};
+ghost use Rattle.server_cell.specs.Settings.{IsForServers};
+ghost use Rattle.cell_run.specs.Standing.{ServerStands};
 
-use crate::server_stepper::ServerNode;
+use crate::step_message::message_in;
+use cell_core::making::new_server;
 use cell_journal::journal_entry::StepCause;
 use cell_seats::stepper::{NodeStep, Stepper};
 use gfs_types::call::Call;
 use gfs_types::config::Config;
 use gfs_types::ids::{Moment, ServerId};
-use memory_store::MemoryStore;
-use server_cell::server::Chunkserver;
+use gfs_types::no_memory::NoMemory;
+use protocol::seen::SeenList;
+use server_cell::server_slot::ServerSlot;
 use std::alloc::Global;
+use step_outcome::Outcome;
 
-/// A server of a running cell. Its drop stands here, once, so that no crate above proves those of all that a server owns.
+/// A server of a running cell. At a restart its disk stops, and it is opened over what that left.
 pub struct RunningServer {
-    pub node: ServerNode<MemoryStore>,
+    pub alloc: Global,
+    pub server: ServerSlot,
 }
 
+// Stands here, once, so that no crate above proves the drops of all that a server owns.
 impl Drop for RunningServer {
     fn drop(self) {
-        let Self { node: _node } = self;
+        let Self {
+            alloc: _alloc,
+            server: _server,
+        } = self;
     }
 }
 
 impl RunningServer {
-    /// A server that has no replica. Takes no memory.
-    pub fn new(alloc: Global, config: Config, id: ServerId) -> RunningServer
-        requires least { 64 ≤ config.chunk }
-        requires most { config.chunk ≤ largest_chunk }
-        requires block { 1 ≤ config.block }
-        requires skew { config.skew_ms ≤ 60000 }
-        ensures { result.node.server ≡ started_server config id.0 (new_server_disk config.chunk config.block config.slots) 0 }
+    /// A server over a new disk, which has no replica.
+    pub fn new(alloc: Global, config: Config, id: ServerId) -> Result<RunningServer, NoMemory>
+        requires { IsForServers config }
+        ensures { IfOk result (λ r. r.server ≡ started_server config id.0 (new_server_disk config.chunk config.block config.slots) 0) }
     {
-        let store = MemoryStore::new(alloc, config.chunk, config.block, config.slots);
-        let server = Chunkserver::new(alloc, config, id, store, Moment(0));
-        RunningServer {
-            node: ServerNode { alloc, server },
+        match new_server(alloc, config, id) {
+            Ok(server) => Ok(RunningServer { alloc, server }),
+            Err(_) => Err(NoMemory),
         }
     }
 }
 
 impl Stepper for RunningServer {
-    ghost stands = { λ n s. ⟦<ServerNode<MemoryStore> as Stepper>⟧.stands n.node s };
+    ghost stands = { λ r s. ServerStands r.server s };
 
     fn may_take(&self, cause: &StepCause) -> bool {
-        self.node.may_take(cause)
+        match cause {
+            StepCause::Takes(_) => self.server.is_up(),
+            StepCause::Restarts => true,
+            StepCause::Calls(_) => false,
+        }
     }
 
     fn step(&mut self, now: Moment, cause: &StepCause, call: Option<Call>) -> NodeStep {
-        self.node.step(now, cause, call)
+        let _none = call;
+        let Outcome { out, seen } = step_server(&mut self.server, self.alloc, now, cause);
+        NodeStep {
+            out,
+            answer: None,
+            seen,
+        }
+    }
+}
+
+// A step, which has no answer.
+fn step_server(server: &mut ServerSlot, alloc: Global, now: Moment, cause: &StepCause) -> Outcome
+    requires moment { now.0 ≤ moment_limit }
+    requires may { (s : NodeState) → ServerStands server.old s → IsTrue (may_take s (cause_of cause.now)) }
+    ensures steps { (s : NodeState) → ServerStands server.old s → StepsSo s now.0 (cause_of cause.now) result.out result.seen (ServerStands server.new) }
+    ensures silent { result.out.answer ≡ None }
+{
+    match cause {
+        StepCause::Takes(input) => server.step(now, message_in(input)),
+        StepCause::Restarts => Outcome {
+            out: server.restart(now),
+            seen: SeenList::empty(alloc),
+        },
+        // It takes no call.
+        StepCause::Calls(_) => server.step(now, None),
     }
 }

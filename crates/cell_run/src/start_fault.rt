@@ -17,8 +17,6 @@ pub enum StartFault {
     /// There are no servers, or more than 64; or too few numbers are left for the clients of a cell that goes on.
     Count,
     NoMemory,
-    /// The log didn't take the master's first epoch.
-    Log,
     /// A thread could not be started.
     Thread,
     /// There is no clock, or it went back.
@@ -33,7 +31,6 @@ impl fmt::Display for StartFault {
             StartFault::Config => write!(f, "a setting is out of its range"),
             StartFault::Count => write!(f, "not 1 to 64 servers, or no number left for a client"),
             StartFault::NoMemory => write!(f, "no memory"),
-            StartFault::Log => write!(f, "the log took no record"),
             StartFault::Thread => write!(f, "no thread"),
             StartFault::Clock => write!(f, "no clock, or one that went back"),
         }

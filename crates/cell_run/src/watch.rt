@@ -34,13 +34,13 @@ impl<W: Send + Drop + 'static> Watch<W> {
 pub(crate) fn tell_on<R: Wait + Clock, W: Watcher>(
     rt: &R,
     shared: &Arc<SharedState>,
-    journal: u32,
+    most: u64,
     stopped: &Receiver<()>,
     watcher: W,
 ) -> W {
     for _ in rt.forever() {
         match stopped.recv_timeout(rt, Duration::from_secs(SECONDS)) {
-            Err(RecvTimeoutError::Timeout) => watcher.tell(shared.progress(journal)),
+            Err(RecvTimeoutError::Timeout) => watcher.tell(shared.progress(most)),
             _ => break,
         }
     }

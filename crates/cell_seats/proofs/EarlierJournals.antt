@@ -1,6 +1,7 @@
 -- A journal behind an earlier one, and the entries with which its nodes began again.
 use Rattle.std.proofs.Common.{◌≡◌, ℕ, zero, suc, ◌+◌, ◌-◌, ◌≤◌, List, [], ◌∷◌, ◌++◌, length, take, drop, map, Some, None, refl, sym, ap, subst, ◌∙◌, append_assoc, length-append, arith}
-use Rattle.std.specs.Prelude.{Option, All, IfSome, IfNone, slice_get}
+use Rattle.std.specs.Prelude.{Bool, true, false, ltb, if◌then◌else◌, Option, All, IfSome, IfNone, slice_get}
+use Rattle.std.proofs.lemmas.Bool.{lt-ltb, le-ltb, ltb-true, ltb-false}
 use Rattle.std.specs.Option.{option_map, option_to_list}
 use denote.Param.Weighed.{most}
 use Rattle.std.proofs.lemmas.List.{append-nil, map-append, length-drop}
@@ -12,9 +13,10 @@ use Rattle.protocol.specs.Tables.{first_numbers}
 use Rattle.protocol.specs.Sending.{the_server}
 use Rattle.protocol_journal.specs.Journal.{StepCause, Entry, Restarts}
 use Rattle.cell_journal.specs.Identity.{Identity, Closed}
+use Rattle.cell_journal.specs.Retained.{gone_of, kept_entry}
 use Rattle.cell_journal.specs.WholeHistories.{whole_of, AreRestarts}
 use Rattle.cell_seats.specs.declared.journal.Journal.TheDeep.{size-Journal}
-use Rattle.cell_seats.specs.Journals.{JournalState, journal_state, all_in, joined, steps_in, AreBehind, HasRestart}
+use Rattle.cell_seats.specs.Journals.{JournalState, journal_state, all_in, joined, steps_in, first_kept, kept_step, AreBehind, HasRestart}
 
 -- the journal that stands right before
 pub first_base : (cell : Identity) (items : List JournalState) (first : Option JournalState) → first ≡ slice_get items 0 → length items ≤ 1 → AreBehind cell (joined items)
@@ -71,15 +73,34 @@ get_dropped xs zero i = let same : i ≡ 0 + i = omega arith in ap (slice_get xs
 get_dropped [] (suc k) i = slice_get_past [] i (omega arith) ∙ sym (slice_get_past [] (suc k + i) (omega arith))
 get_dropped (x ∷ xs) (suc k) i = let next : suc (k + i) ≡ suc k + i = omega arith in get_dropped xs k i ∙ ap (slice_get (x ∷ xs)) next
 
-pub event_past : (j : JournalState) (history : Closed) (earlier : List Closed) (skip count place : ℕ) → journal_state history earlier skip ≡ j → count ≡ length history.entries - skip → count ≤ place
-    → None ≡ slice_get (steps_in j) place
-event_past j history earlier skip count place is some past =
-    subst (λ (s : JournalState). None ≡ slice_get (steps_in s) place) is
-    (sym (slice_get_past (drop skip history.entries) place (omega (arith, length-drop skip history.entries, some, past))))
+-- the same test of a place behind so many, and of one from there on
+ltb_behind : (skip place g : ℕ) → ltb (skip + place) g ≡ ltb place (g - skip)
+ltb_behind skip place g = by_test (ltb place (g - skip)) refl
+  where
+    by_test : (b : Bool) → ltb place (g - skip) ≡ b → ltb (skip + place) g ≡ b
+    by_test true is = lt-ltb (skip + place) g (omega (arith, ltb-true place (g - skip) is))
+    by_test false is = le-ltb (skip + place) g (omega (arith, ltb-false place (g - skip) is))
 
-pub event_at : (j : JournalState) (history : Closed) (earlier : List Closed) (skip place : ℕ) (found : Option Entry) → journal_state history earlier skip ≡ j → found ≡ slice_get history.entries (skip + place)
-    → found ≡ slice_get (steps_in j) place
-event_at j history earlier skip place found is at = subst (λ (s : JournalState). found ≡ slice_get (steps_in s) place) is (at ∙ sym (get_dropped history.entries skip place))
+none_kept : (b : Bool) (o : Option Entry) → None ≡ o → None ≡ (if b then None else o)
+none_kept true o is = refl
+none_kept false o is = is
+
+pub event_past : (j : JournalState) (history : Closed) (earlier : List Closed) (skip count place : ℕ) → journal_state history earlier skip ≡ j → count ≡ length history.entries - skip → count ≤ place
+    → None ≡ kept_step j place
+event_past j history earlier skip count place is some past =
+    let own = journal_state history earlier skip in
+    subst (λ (s : JournalState). None ≡ kept_step s place) is
+    (none_kept (ltb place (first_kept own)) (slice_get (drop skip history.entries) place)
+    (sym (slice_get_past (drop skip history.entries) place (omega (arith, length-drop skip history.entries, some, past)))))
+
+pub event_at : (j : JournalState) (history : Closed) (earlier : List Closed) (skip place : ℕ) (found : Option Entry) → journal_state history earlier skip ≡ j
+    → found ≡ kept_entry history.cell.retention history.entries (skip + place) → found ≡ kept_step j place
+event_at j history earlier skip place found is at =
+    let gone = gone_of history.cell.retention (length history.entries) in
+    subst (λ (s : JournalState). found ≡ kept_step s place) is
+    (at
+    ∙ (ap (λ (b : Bool). if b then None else slice_get history.entries (skip + place)) (ltb_behind skip place gone)
+    ∙ ap (λ (o : Option Entry). if ltb place (gone - skip) then None else o) (sym (get_dropped history.entries skip place))))
 
 take_more : {X : Type 0} (xs : List X) (k : ℕ) (x : X) → slice_get xs k ≡ Some x → take (suc k) xs ≡ take k xs ++ x ∷ []
 take_more [] k x at = absurd (let none : None ≡ Some x = sym (slice_get_past [] k (omega arith)) ∙ at in cc)

@@ -44,7 +44,7 @@ pub writes_all : (config : Config) (servers registered : ℕ) (me : Me (Option F
 writes_all config servers registered me registers none = record { role = registers.role ∙ ap (λ (k : ℕ). From k) none; mine = registers.mine; free = registers.free }
 
 -- the first writer of a cell
-pub first_registers : (config : Config) (servers : ℕ) (cell : Identity) (me : Me (Option Filled) View) → cell ≡ identity cell.name config servers 64 cell.base cell.retired
+pub first_registers : (config : Config) (servers : ℕ) (cell : Identity) (me : Me (Option Filled) View) → cell ≡ identity cell.name config servers 64 cell.base cell.retired cell.retention
     → me ≡ (first_view cell, []) → Registers config servers 0 me
 first_registers config servers cell me of is =
     subst (Registers config servers 0) (sym is)

@@ -1,10 +1,11 @@
 -- Journals of cells that were closed or parked, each behind an earlier one.
-use Rattle.std.specs.Prelude.{◌≡◌, ℕ, suc, ◌+◌, ◌≤◌, ◌⊎◌, List, [], ◌∷◌, ◌++◌, length, take, drop, slice_get, Some}
+use Rattle.std.specs.Prelude.{◌≡◌, ℕ, suc, ◌+◌, ◌-◌, ◌≤◌, ◌⊎◌, nat_lt, if◌then◌else◌, List, [], ◌∷◌, ◌++◌, length, take, drop, slice_get, Option, Some, None}
 use Rattle.std.proofs.Common.{arith, length-append}
 use denote.Param.Weighed.{most}
 use Rattle.gfs_types.specs.declared.ids.Node.{Node}
 use Rattle.protocol_journal.specs.Journal.{Entry, Restarts}
 use Rattle.cell_journal.specs.Identity.{Identity, Closed}
+use Rattle.cell_journal.specs.Retained.{gone_of}
 use Rattle.cell_journal.specs.WholeHistories.{whole_of, AreRestarts}
 
 -- a journal, those behind which it stands, the last one first, and with how many entries, which are no steps of it, its nodes began again
@@ -27,6 +28,14 @@ joined (j ∷ rest) = all_in j ++ joined rest
 -- the steps of a journal: its entries but those with which its nodes began again
 abbrev pub steps_in : JournalState → List Entry
 steps_in j = drop j.skip j.now.entries
+
+-- the place of the first step whose entry stays
+abbrev pub first_kept : JournalState → ℕ
+first_kept j = gone_of j.now.cell.retention (length j.now.entries) - j.skip
+
+-- the step at a place, where its entry stays
+abbrev pub kept_step : JournalState → ℕ → Option Entry
+kept_step j place = if nat_lt place (first_kept j) then None else slice_get (steps_in j) place
 
 -- this cell stands behind the last of these journals, and each of them behind the one before it
 abbrev pub AreBehind : Identity → List Closed → Type 0

@@ -1,6 +1,6 @@
 //! The journal of a cell that was closed or parked.
 
-ghost use Rattle.std.specs.Prelude.{◌≡◌, ◌≤◌, ◌<◌, ◌+◌, [], None, Some, true, length, take, vec_len, slice_get, IfSome, IfNone, IsTrue};
+ghost use Rattle.std.specs.Prelude.{◌≡◌, ◌≤◌, ◌<◌, ◌+◌, [], None, Some, true, length, take, vec_len, IfSome, IfNone, IsTrue};
 ghost use Rattle.std.specs.Option.{option_copied};
 ghost use mathlib.Core.List.{IsPrefix};
 ghost use Rattle.cell_journal.specs.ListEnds.{Agrees};
@@ -11,7 +11,7 @@ ghost use Rattle.cell_journal.specs.Rules.{IsJournalOf};
 ghost use Rattle.protocol_journal.specs.Journal.{Restarts};
 ghost use Rattle.cell_journal.specs.Entries.{cause_of};
 ghost use Rattle.cell_journal.specs.WholeHistories.{whole_of, AreRestarts};
-ghost use Rattle.cell_seats.specs.Journals.{joined, all_in, steps_in, AreBehind, AreSkipped, HasRestart};
+ghost use Rattle.cell_seats.specs.Journals.{joined, all_in, steps_in, first_kept, kept_step, AreBehind, AreSkipped, HasRestart};
 
 use crate::seat::Seat;
 use crate::stepper::Stepper;
@@ -133,9 +133,16 @@ impl Journal {
         self.history.are_clocks_kept()
     }
 
-    /// The step at a place, from 0.
+    /// The place of the first step whose entry stays: 0 where the whole journal does.
+    pub fn first(&self) -> usize
+        ensures { result ≡ first_kept self.now }
+    {
+        self.history.first().saturating_sub(self.skip)
+    }
+
+    /// The step at a place, from 0, where its entry stays.
     pub fn event(&self, place: usize) -> Option<&JournalEntry>
-        ensures { option_copied result ≡ slice_get (steps_in self.now) place }
+        ensures { option_copied result ≡ kept_step self.now place }
     {
         let count = self.history.len().saturating_sub(self.skip);
         if place >= count {
@@ -189,6 +196,7 @@ fn next_restarts(history: &ClosedHistory, before: u64) -> bool
 }
 
 // Whether a node began again with the entry at this place.
+#[tactic(auto, using(cell_journal::proofs::Retained::entry_is))]
 fn restarts_at(history: &ClosedHistory, place: usize, node: Node) -> bool
     ensures { result ≡ true → HasRestart history.now.entries place node }
 {

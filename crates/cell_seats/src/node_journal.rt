@@ -110,13 +110,17 @@ impl NodeJournal {
         if self.shared.is_closing() {
             return Err(Refusal::Closed);
         }
-        begin(
+        let begun = begin(
             rt,
             &self.shared.table.shared,
             &mut self.writer,
             self.node,
             number,
-        )
+        );
+        if let Err(Refusal::Unknown) = &begun {
+            self.shared.lost.fetch_add(1, Ordering::SeqCst);
+        }
+        begun
     }
 
     /// A step that was begun is not taken.

@@ -21,13 +21,14 @@ pub const ENDED: u64 = 2;
 
 pub const STARTING: u64 = 3;
 
-/// How far a running cell was at some moment: how many calls were answered, how many steps were taken, and for how many more there was room in
-/// its journal.
+/// How far a running cell was at some moment: how many calls were answered, how many steps were taken, for how many more there was room in its
+/// journal, and how many messages were lost since the entries that sent them were let go.
 #[derive(Clone, Copy, Debug, PartialEq, Eq)]
 pub struct Progress {
     pub answered: u64,
     pub events: u64,
     pub room: u64,
+    pub lost: u64,
 }
 
 /// The journal, the mailboxes, what is asked from outside, and the moment at which the cell began.
@@ -43,6 +44,8 @@ pub struct SharedState {
     /// How many calls were answered, and how many steps stand in the journal.
     pub answered: AtomicU64,
     pub events: AtomicU64,
+    /// How many messages came too late: the entries that sent them were let go.
+    pub lost: AtomicU64,
     pub ghost one: { (table.shared.table_id.words ≡ 1) × (table.shared.table_id.slots ≡ 1) },
 }
 
@@ -58,6 +61,7 @@ impl Drop for SharedState {
             closing: _closing,
             answered: _answered,
             events: _events,
+            lost: _lost,
         } = self;
     }
 }
@@ -76,14 +80,15 @@ impl SharedState {
     }
 
     /// How far the cell is, whose journal has room for so many steps in all.
-    pub fn progress(&self, journal: u32) -> Progress
-        ensures { result.room ≡ journal - result.events }
+    pub fn progress(&self, most: u64) -> Progress
+        ensures { result.room ≡ most - result.events }
     {
         let events = self.events.load(Ordering::SeqCst);
         Progress {
             answered: self.answered.load(Ordering::SeqCst),
             events,
-            room: u64::from(journal).saturating_sub(events),
+            room: most.saturating_sub(events),
+            lost: self.lost.load(Ordering::SeqCst),
         }
     }
 

@@ -99,6 +99,7 @@ impl Watcher for ErrorWatcher {
             answered,
             events,
             room,
+            lost: _,
         } = progress;
         // Nothing can tell of a standard error that can't be written.
         let _ = eprintln!(self.rt;

@@ -2,6 +2,7 @@
 
 ghost use Rattle.std.specs.Prelude.{ℕ, ◌≡◌, ◌+◌, ◌≤◌, ◌<◌, IfOk, IfErr, IfSome, OnOk, Some, length, slice_get, map, true, false};
 ghost use Rattle.cell_journal.specs.WholeHistories.{whole_of};
+ghost use Rattle.cell_journal.specs.declared.retention.Retention.TheVariants.{Whole};
 ghost use Rattle.cell_run.specs.Cells.{IsNewCell};
 ghost use Rattle.live.specs.Live.{IsScript, HasSeenPart, AreAnswersOf, Prints, Stops};
 ghost use Rattle.live.specs.Faults.{IsOfRun};
@@ -200,7 +201,7 @@ fn start<T: Threads + Wait + Clock + Copy + Send + 'static>(
     alloc: Global,
     options: &Options,
 ) -> Result<Cell, ScriptFault>
-    ensures cell { IfOk result (λ cell. IsNewCell options.now.config options.now.servers cell) }
+    ensures cell { IfOk result (λ cell. IsNewCell options.now.config options.now.servers Whole cell) }
     ensures fault { IfErr result IsOfRun }
 {
     let Ok(servers) = u16::try_from(options.servers) else {

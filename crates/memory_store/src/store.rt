@@ -25,7 +25,7 @@ use std::marker::Model;
 use store_disk::HashedBlock;
 
 /// A server's replicas in memory, each with all bytes of its chunk. A call takes O(log n) of the replicas and what the blocks that it touches
-/// take; one that changes bytes takes what the chunk takes.
+/// take.
 #[derive(Drop)]
 pub struct MemoryStore {
     alloc: Global,

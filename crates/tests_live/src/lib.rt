@@ -8,6 +8,8 @@ mod cells;
 #[cfg(test)]
 mod gate;
 #[cfg(test)]
+mod keeping;
+#[cfg(test)]
 mod parking;
 #[cfg(test)]
 mod parks;

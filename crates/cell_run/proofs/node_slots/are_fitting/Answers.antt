@@ -1,8 +1,15 @@
-use Rattle.cell_run.proofs.Settings.{bounds_ok, in_range}
+use Rattle.gfs_types.specs.Settings.{first_out_of_range}
+use Rattle.cell_run.proofs.Settings.{none_in}
 use Rattle.cell_run.proofs.node_slots.are_fitting.Goals as goal
 
 pub returns-clause-fits : goal.returns-clause-fits
-returns-clause-fits c = λ t. bounds_ok c.args.config.now c.check.result c.is_ok.result c.check.ensures c.is_ok.ensures.value t
+returns-clause-fits c = λ t. record {
+  least = (c.are_fitting.ensures.servers t).least;
+  servers = c.are_fitting.ensures.servers t;
+  log = c.are_fitting.ensures.log t;
+  lease = c.are_fitting.ensures.lease t;
+  skew = c.are_fitting.ensures.skew t;
+}
 
 pub returns-clause-in_range : goal.returns-clause-in_range
-returns-clause-in_range c = λ t. in_range c.args.config.now c.check.result c.is_ok.result c.check.ensures c.is_ok.ensures.value t
+returns-clause-in_range c = λ t. none_in (first_out_of_range c.args.config.now) c.are_fitting.result c.are_fitting.ensures.range t

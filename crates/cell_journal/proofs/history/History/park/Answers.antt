@@ -6,4 +6,4 @@ use Rattle.cell_journal.proofs.history.History.park.Goals as goal
 pub returns-clause-sent : goal.returns-clause-sent
 returns-clause-sent c =
     let h = c.self.inside in
-    rw (← c.self.view_is) (omega (arith, c.self.invariant.2, c.self.invariant.7, sent_count h.rows.items, sent_of_all h.cell.base (entries_in h.rows.items)))
+    rw (← c.self.view_is) (omega (arith, c.self.invariant.2, c.self.invariant.7, sent_count h.rows.all, sent_of_all h.cell.base (entries_in h.rows.all)))

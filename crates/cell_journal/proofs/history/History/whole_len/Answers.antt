@@ -6,4 +6,4 @@ use Rattle.cell_journal.proofs.history.History.whole_len.Goals as goal
 pub returns : goal.returns
 returns c =
     let h = c.self.inside in
-    rw (← c.self.view_is) (omega (arith, c.len.ensures, c.self.invariant.8, entries_count h.rows.items, history_count h.cell (entries_in h.rows.items)))
+    rw (← c.self.view_is) (omega (arith, c.len.ensures, c.self.invariant.8, entries_count h.rows.all, history_count h.cell (entries_in h.rows.all)))
