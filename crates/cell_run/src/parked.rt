@@ -1,16 +1,21 @@
 //! A cell that is parked.
 
 ghost use Rattle.std.specs.Prelude.{◌≡◌, ◌≤◌, ◌<◌, ◌+◌, ℕ, [], true, false, length, get_or, All, IsSome, IsTrue};
-ghost use Rattle.gfs_types.specs.declared.ids.Node.TheVariants.{Client};
+ghost use Rattle.gfs_types.specs.declared.ids.Node.TheVariants.{Client, Master};
+ghost use Rattle.protocol.specs.Sending.{the_server};
 ghost use Rattle.protocol_journal.specs.Journal.{own};
 ghost use Rattle.cell_journal.specs.Clocks.{are_clocks_kept};
 ghost use Rattle.cell_journal.specs.Log.{listed};
 ghost use Rattle.cell_journal.specs.WholeHistories.{whole_of};
+ghost use Rattle.cell_seats.specs.ParkedNodes.{IsLedBy};
 ghost use Rattle.cell_run.specs.Parked.{AreNodesOf, IsSeatOf};
 ghost use Rattle.cell_run.specs.ParkedSeats.{count_anew};
+ghost use Rattle.cell_run.specs.Standing.{MasterStands, ServerStands};
 
 use crate::node_locks::ParkedNodes;
 use crate::parked_seat::ParkedSeat;
+use crate::running_master::RunningMaster;
+use crate::running_server::RunningServer;
 use cell_journal::raised_entry::RaisedEntry;
 use cell_journal::{Beginning, GrowingList};
 use cell_seats::journal::Journal;
@@ -78,6 +83,19 @@ impl ParkedParts {
         ensures { result ≡ self.now.made + count_anew self.now.seats }
     {
         sum_of(self.made, self.count_anew())
+    }
+
+    fn server_count(&self) -> u16
+        ensures { result ≡ self.now.journal.cell.servers }
+    {
+        self.servers
+    }
+
+    // The master and the servers.
+    fn nodes(&self) -> &ParkedNodes
+        ensures { AreNodesOf self.now.journal.cell self.now.journal.cell.servers (length (whole_of self.now.journal)) result.now }
+    {
+        &self.nodes
     }
 
     fn have_clients(&self) -> bool
@@ -246,6 +264,30 @@ impl Parked {
         ensures { result.now.now ≡ self.now.journal }
     {
         &self.parts.journal
+    }
+
+    /// How many servers it has.
+    pub fn server_count(&self) -> u16
+        ensures { result ≡ self.now.journal.cell.servers }
+    {
+        self.parts.server_count()
+    }
+
+    /// The master, as the cell's whole history left it.
+    pub fn master(&self) -> &RunningMaster
+        ensures { IsLedBy self.now.journal.cell Master (whole_of self.now.journal) (MasterStands result.now.node.master.state) }
+    {
+        self.parts.nodes().led_master(&self.list.beginning())
+    }
+
+    /// The server of the next number behind this one, as the cell's whole history left it.
+    pub fn server_behind(&self, before: u16) -> &RunningServer
+        requires { before < self.now.journal.cell.servers }
+        ensures { IsLedBy self.now.journal.cell (the_server (before + 1)) (whole_of self.now.journal) (ServerStands result.now.server) }
+    {
+        self.parts
+            .nodes()
+            .led_server(before, &self.list.beginning())
     }
 
     /// Its parts, and the list of its history.
