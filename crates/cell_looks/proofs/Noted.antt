@@ -1,9 +1,10 @@
 -- What is noted of steps, by the parts of their list.
 use Rattle.std.proofs.Common.{◌≡◌, ℕ, zero, suc, ◌+◌, ◌<◌, Bool, true, false, List, [], ◌∷◌, ◌++◌, length, map, drop, Option, Some, None, refl, sym, ap, subst, ◌∙◌, append_assoc, arith}
 use Rattle.std.specs.Prelude.{if◌then◌else◌, All, Contains, slice_get, nat_lt}
+use Rattle.std.specs.Option.{option_to_list}
 use Rattle.std.proofs.lemmas.Bool.Decides.{nat_tests}
-use Rattle.std.proofs.lemmas.List.{append-nil, map-append}
-use Rattle.std.proofs.lemmas.List.Elements.{All-push}
+use Rattle.std.proofs.lemmas.List.{append-nil, map-append, drop_all}
+use Rattle.std.proofs.lemmas.List.Elements.{All-nil, All-push, All-pop}
 use Rattle.gfs_types.specs.declared.ids.Node.{Node}
 use Rattle.protocol.specs.declared.seen.Seen.{Seen}
 use Rattle.protocol_journal.specs.Journal.{Entry}
@@ -14,6 +15,9 @@ use Rattle.cell_journal.specs.WholeHistories.{whole_of}
 use Rattle.cell_journal.specs.declared.retention.Retention.{Retention}
 use Rattle.cell_seats.specs.Journals.{JournalState, all_in}
 use Rattle.cell_world.specs.Kept.{blank_seen}
+use Rattle.cell_looks.specs.declared.look_fault.LookFault.{LookFault}
+use Rattle.cell_looks.specs.declared.look_fault.LookFault.TheVariants as fault
+use Rattle.cell_looks.specs.Faults.{IsHistoryFault, IsJournalFault}
 use Rattle.cell_looks.specs.Looks.{IsPartial}
 use Rattle.cell_looks.specs.Noted.{is_client, noted_of, noted_in, noted_behind}
 
@@ -44,6 +48,11 @@ note_more es place e was now end at is inv =
     ∙ (append_assoc was one rest
     ∙ (ap (λ (l : List Seen). was ++ l) (sym (map-append blank_seen (noted_of e.node e.seen) (noted_in (drop (suc place) es))))
     ∙ (ap (λ (xs : List Entry). was ++ map blank_seen (noted_in xs)) (sym (drop_at es place e at)) ∙ inv))))
+
+pub none_left : (es : List Entry) (place : ℕ) (seen end : List Seen) → place ≡ length es → seen ++ map blank_seen (noted_in (drop place es)) ≡ end → seen ≡ end
+none_left es place seen end all inv =
+    let none : drop place es ≡ [] = drop_all place es (omega (arith, all)) in
+    sym (ap (λ (xs : List Entry). seen ++ map blank_seen (noted_in xs)) none ∙ append-nil seen) ∙ inv
 
 -- an entry that is not there any more was let go
 pub was_gone : (r : Retention) (es : List Entry) (place : ℕ) → place < length es → None ≡ kept_entry r es place → 0 < gone_of r (length es)
@@ -109,9 +118,33 @@ module _ {X : Type 0} (f : X → Closed) where
       ∙ (append_assoc seen (map blank_seen one) (map blank_seen rest)
       ∙ (ap (λ (l : List Seen). seen ++ l) (sym (map-append blank_seen one rest) ∙ ap (map blank_seen) (sym (taken_more now was x is))) ∙ inv))
 
+  pub first_noted : (items : List X) (seen all : List Seen) → seen ≡ [] → noted_behind (map f items) ≡ all → seen ++ map blank_seen (noted_behind (map f items)) ≡ map blank_seen all
+  first_noted items seen all none is = ap (λ (l : List Seen). l ++ map blank_seen (noted_behind (map f items))) none ∙ ap (map blank_seen) is
+
+  pub last_noted : (items : List X) (seen end : List Seen) → items ≡ [] → seen ++ map blank_seen (noted_behind (map f items)) ≡ end → seen ≡ end
+  last_noted items seen end none inv = sym (append-nil seen) ∙ (ap (λ (l : List X). seen ++ map blank_seen (noted_behind (map f l))) (sym none) ∙ inv)
+
+  pub none_taken : (items : List X) (all : List Seen) → items ≡ [] → all ≡ all ++ noted_behind (map f items)
+  none_taken items all none = sym (ap (λ (l : List X). all ++ noted_behind (map f l)) none ∙ append-nil all)
+
+  pub none_are : (all : List Closed) (items : List X) → items ≡ [] → All (λ y. Contains all (f y)) items
+  none_are all items none = subst (All (λ y. Contains all (f y))) (sym none) (All-nil (λ y. Contains all (f y)))
+
   -- each is one of a journal with those before it
   pub one_more : (all : List Closed) (was now : List X) (x : X) → now ≡ was ++ x ∷ [] → All (λ y. Contains all (f y)) was → Contains all (f x) → All (λ y. Contains all (f y)) now
   one_more all was now x is each one = subst (All (λ y. Contains all (f y))) (sym is) (All-push (λ y. Contains all (f y)) was x each one)
+
+pub popped_one : {X : Type 0} (was now : List X) (o : Option X) (x : X) → was ≡ now ++ option_to_list o → o ≡ Some x → was ≡ now ++ x ∷ []
+popped_one was now o x is some = is ∙ ap (λ p. now ++ option_to_list p) some
+
+pub popped_are : {X : Type 0} (P : X → Type 0) (was now : List X) (x : X) → was ≡ now ++ x ∷ [] → All P was → All P now × P x
+popped_are P was now x is all = All-pop P was now (Some x) is all
+
+-- why one of them is not noted
+pub fault_of_one : (j : JournalState) (one : Closed) (f : LookFault) → Contains (all_in j) one → IsHistoryFault one f → IsJournalFault j f
+fault_of_one j one fault.Down there h = h
+fault_of_one j one fault.Partial there h = record { journal = one; one = there; gone = h }
+fault_of_one j one fault.NoMemory there h = tt
 
 contains_at : (before : List Closed) (x : Closed) (rest : List Closed) → Contains (before ++ x ∷ rest) x
 contains_at [] x rest = (0, omega arith, refl)

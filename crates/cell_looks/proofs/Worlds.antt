@@ -108,3 +108,11 @@ module _ (journal : JournalState) (master : MasterState) (servers : List ServerS
           servers = same_elements w.servers servers (λ k. same_server (element_at w.servers k) (element_at servers k) (shows.nodes_are (the_server (suc k))));
         },
       )
+
+-- the same, by what is told of the parked cell
+pub world_at : {X : Type 0} (journal : JournalState) (parked : Closed) (master : MasterState) (f : X → ServerState) (items : List X) → journal.now ≡ parked → IsJournalOf journal.now.cell journal.now.entries
+    → IsLedBy parked.cell node.Master (whole_of parked) (MasterStands master) → AreLed parked (map f items) → length items ≡ parked.cell.servers
+    → (w : WorldState) × IsWorldOf (looks_state journal master (map f items)) w
+world_at journal parked master f items same lawful led all count =
+    world_of journal master (map f items) lawful (subst (λ (j : Closed). IsLedBy j.cell node.Master (whole_of j) (MasterStands master)) (sym same) led)
+    (subst (λ (j : Closed). AreLed j (map f items)) (sym same) all) (length-map items f ∙ (count ∙ sym (ap (λ (j : Closed). j.cell.servers) same)))

@@ -62,6 +62,7 @@ impl<'a> Looks<'a> {
         ensures world { IfOk result (λ l. (w : WorldState) × IsWorldOf l w) }
     {
         let journal = parked.journal();
+        journal.history();
         let master = parked.master();
         let sights = sights_kept(alloc, journal)?;
         let servers = servers_of(alloc, parked)?;

@@ -277,7 +277,8 @@ impl Parked {
     pub fn master(&self) -> &RunningMaster
         ensures { IsLedBy self.now.journal.cell Master (whole_of self.now.journal) (MasterStands result.now.node.master.state) }
     {
-        self.parts.nodes().led_master(&self.list.beginning())
+        let history = self.list.beginning();
+        self.parts.nodes().led_master(&history)
     }
 
     /// The server of the next number behind this one, as the cell's whole history left it.
@@ -285,9 +286,8 @@ impl Parked {
         requires { before < self.now.journal.cell.servers }
         ensures { IsLedBy self.now.journal.cell (the_server (before + 1)) (whole_of self.now.journal) (ServerStands result.now.server) }
     {
-        self.parts
-            .nodes()
-            .led_server(before, &self.list.beginning())
+        let history = self.list.beginning();
+        self.parts.nodes().led_server(before, &history)
     }
 
     /// Its parts, and the list of its history.
