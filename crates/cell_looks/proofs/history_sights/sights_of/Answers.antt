@@ -1,4 +1,4 @@
-use Rattle.std.proofs.Common.{◌≡◌, ◌++◌, [], map, ap, ◌∙◌, rules}
+use Rattle.std.proofs.Common.{◌≡◌, ◌++◌, [], map, sym, ap, subst, ◌∙◌, rules}
 use Rattle.std.specs.Prelude.{Contains}
 use Rattle.cell_journal.specs.Identity.{Closed}
 use Rattle.cell_journal.specs.WholeHistories.{whole_of}
@@ -34,7 +34,7 @@ returns-in_err-note_all-clause-fault c =
     let left = c.loop-earliest.left.items in
     let one = popped_one left c.pop.new.self.items c.pop.result c.in-Some.earliest c.pop.ensures.items c.in-Some.is in
     let there = (popped_are (λ j. Contains (all_in c.args.journal.now) j.now.now) left c.pop.new.self.items c.in-Some.earliest one was.are).1 in
-    fault_of_one c.args.journal.now c.history.result.now c.in_err-note_all.err (rw c.history.ensures.history there) c.in_err-note_all.ensures.fault
+    fault_of_one c.args.journal.now c.history.result.now c.in_err-note_all.field (subst (λ (j : Closed). Contains (all_in c.args.journal.now) j) (sym c.history.ensures.history) there) c.in_err-note_all.ensures.fault
 
 pub returns-clause-seen : goal.returns-clause-seen
 returns-clause-seen c =
