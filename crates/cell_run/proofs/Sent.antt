@@ -57,7 +57,7 @@ slot_send : IsSend (Slot.the_row Heap.the_row ghosts)
 slot_send = search (sendable, crosses, heap.the_send, heap.the_field_send, config.the_field_send, option.the_field_send, fuse_send, log_send, master_send, ghosts_of.the_send, shown.the_send, stops.the_send) depth 40 fits 100000
 
 node_send : IsSend (Node.the_row (Slot.the_row Heap.the_row ghosts))
-node_send = search (sendable, crosses, heap.the_send, heap.the_field_send, slot_send) depth 40
+node_send = search (sendable, crosses, heap.the_send, heap.the_field_send, slot_send) depth 40 fits 100000
 
 pub running_send : IsSend Running.the_row
 running_send = declared_send Running.the_type (node_send, tt)
