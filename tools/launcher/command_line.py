@@ -17,7 +17,7 @@ MOST_NODES = 64
 
 # the subcommand, its file, and each option with a number that is given, by its name
 Asked = namedtuple('Asked', 'way file given')
-Texts = namedtuple('Texts', 'version about sim live options region progress')
+Texts = namedtuple('Texts', 'version about sim live options region keep progress')
 
 
 class Bad(Exception):
@@ -39,8 +39,9 @@ def texts():
     tables = [re.search(rf'const {name}: [^=]*= \[(.*?)\n?\];', source, re.S)[1] for name in ('OPTIONS', 'REGION')]
     options, region = [re.findall(r'\(\s*"([^"]+)",\s*"([^"]+)",?\s*\)', table) for table in tables]
     abouts = dict(re.findall(r'runner\(alloc, "(\w+)", "([^"]+)"\)', source))
-    progress = re.search(r'\(flag\(\s*alloc,\s*"([^"]+)",\s*"([^"]+)"', source).groups()
-    return Texts(re.search(r'\.version\("([^"]+)"\)', source)[1], re.search(r'\.about\("([^"]+)"\)', source)[1], abouts['sim'], abouts['live'], options, region, progress)
+    keep, progress = [re.search(rf'\({kind}\(\s*alloc,\s*"([^"]+)",\s*"([^"]+)"', source).groups() for kind in ('option', 'flag')]
+    version, about = [re.search(rf'\.{kind}\("([^"]+)"\)', source)[1] for kind in ('version', 'about')]
+    return Texts(version, about, abouts['sim'], abouts['live'], options, region, keep, progress)
 
 
 # ---- the help
@@ -60,7 +61,8 @@ def program_help():
 
 def options_of(way):
     """The options of a subcommand that take a number, and what the help says of each."""
-    return texts().options + (texts().region if way == 'sim' else [])
+    said = texts()
+    return said.options + (said.region if way == 'sim' else [said.keep])
 
 
 def flags_of(way):
@@ -223,7 +225,7 @@ def options_in(script):
 def settings_of(given):
     """The counts of servers and clients, and each setting that is given, with the block's default."""
     counts = [given.get(name, default) for name, default in COUNTS.items()]
-    settings = {name: min(value, 2 ** 32 - 1) if name in NARROW else value for name, value in given.items() if name not in (*COUNTS, 'names_heap')}
+    settings = {name: min(value, 2 ** 32 - 1) if name in NARROW else value for name, value in given.items() if name not in (*COUNTS, 'names_heap', 'keep')}
     if 'block' not in settings and 'chunk' in settings:
         settings['block'] = min(settings['chunk'] & -settings['chunk'], LARGEST_BLOCK)
     return (*counts, settings)

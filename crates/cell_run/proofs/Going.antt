@@ -123,6 +123,7 @@ resumed_so p retired of c seats made policy restarts is same made_is none never 
       config_is = ap (λ (i : Identity). i.config) same;
       servers_are = ap (λ (i : Identity). i.servers) same;
       clients_are = ap (λ (i : Identity). i.clients) same;
+      retention = ap (λ (i : Identity). i.retention) same;
       base = ap (λ (i : Identity). i.base) same;
       made = made_is;
       policy = none;

@@ -16,7 +16,7 @@ use Rattle.cell_journal.specs.Identity.{Identity, Closed}
 use Rattle.cell_journal.specs.Retained.{gone_of, kept_entry}
 use Rattle.cell_journal.specs.WholeHistories.{whole_of, AreRestarts}
 use Rattle.cell_seats.specs.declared.journal.Journal.TheDeep.{size-Journal}
-use Rattle.cell_seats.specs.Journals.{JournalState, journal_state, all_in, joined, steps_in, first_kept, kept_step, AreBehind, HasRestart}
+use Rattle.cell_seats.specs.Journals.{JournalState, journal_state, all_in, joined, first_kept, kept_step, AreBehind, HasRestart}
 
 -- the journal that stands right before
 pub first_base : (cell : Identity) (items : List JournalState) (first : Option JournalState) → first ≡ slice_get items 0 → length items ≤ 1 → AreBehind cell (joined items)

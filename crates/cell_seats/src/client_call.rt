@@ -104,7 +104,7 @@ fn next_step<R: Wait + Clock, N: Stepper + Drop>(
     match slot.take(rt, input, &OpenGate) {
         Ok(taken) => answered_call(taken),
         // The message is lost.
-        Err(Refusal::NoMemory) => Ok(None),
+        Err(Refusal::NoMemory | Refusal::Unknown) => Ok(None),
         Err(refusal) => Err(refusal),
     }
 }

@@ -117,9 +117,7 @@ impl NodeJournal {
             self.node,
             number,
         );
-        if let Err(Refusal::Unknown) = &begun {
-            self.shared.lost.fetch_add(1, Ordering::SeqCst);
-        }
+        count_lost(&self.shared, &begun);
         begun
     }
 
@@ -161,6 +159,13 @@ impl NodeJournal {
         self.shared.events.fetch_add(1, Ordering::SeqCst);
         deliver_all(rt, &self.shared, &receivers, extended.sent_before);
         Some(extended)
+    }
+}
+
+// Counts a message that came too late.
+fn count_lost(shared: &SharedState, begun: &Result<Option<Message>, Refusal>) {
+    if let Err(Refusal::Unknown) = begun {
+        shared.lost.fetch_add(1, Ordering::SeqCst);
     }
 }
 

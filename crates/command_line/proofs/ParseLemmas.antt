@@ -12,7 +12,7 @@ use Rattle.clap.specs.declared.parser.matches.ArgMatches.TheViews.{out-ArgMatche
 use Rattle.clap.specs.Matches.{subcommand_name_of}
 use Rattle.clap.specs.declared.error.kind.ErrorKind.{ErrorKind}
 use Rattle.clap.proofs.OnLiterals.{clap_on_literals}
-use Rattle.command_line.specs.Program.{names_heap, option_names, program}
+use Rattle.command_line.specs.Program.{keep, names_heap, option_names, program}
 use Rattle.command_line.proofs.FaultLemmas.{are_alike, faults_are_alike, first_tells}
 use Rattle.command_line.specs.Asking.{asked, asked_by, Wanted, to_run, to_simulate, to_play, to_be_shown, nothing, Answers, Becomes, Runs, all_numbered, faults, is_live, is_numbered, is_shown, run_asked, run_by, run_of, wanted_by}
 use Rattle.script.specs.declared.options.Options.{Options}
@@ -66,24 +66,32 @@ run_some name rows live file wanted is run = ap₂ (λ (b : Bool) (o : Option (T
 abbrev given : List Row → Bool → Option Text → Option (Text × Wanted)
 given rows b file = cond b (option_map (λ (f : Text). (f, wanted_by rows)) file) None
 
-pub run_is : (rows : List Row) (file : Text) → true ≡ is_numbered rows names_heap → true ≡ all_numbered rows option_names → Some file ≡ first_of (codes "FILE") rows → run_of rows ≡ Some (file, wanted_by rows)
-run_is rows file heap all is =
-    ap (λ b. given rows (b && all_numbered rows option_names) (first_of (codes "FILE") rows)) (sym heap)
+pub run_is : (rows : List Row) (file : Text) → true ≡ is_numbered rows names_heap → true ≡ is_numbered rows keep → true ≡ all_numbered rows option_names → Some file ≡ first_of (codes "FILE") rows
+    → run_of rows ≡ Some (file, wanted_by rows)
+run_is rows file heap most all is =
+    ap (λ b. given rows (b && all_numbered rows (keep ∷ option_names)) (first_of (codes "FILE") rows)) (sym heap)
+    ∙ ap (λ b. given rows (b && all_numbered rows option_names) (first_of (codes "FILE") rows)) (sym most)
     ∙ ap (λ b. given rows b (first_of (codes "FILE") rows)) (sym all) ∙ ap (given rows true) (sym is)
 
 pub no_file : (rows : List Row) → None ≡ first_of (codes "FILE") rows → run_of rows ≡ None
-no_file rows is = ap (given rows (all_numbered rows (names_heap ∷ option_names))) (sym is) ∙ go (all_numbered rows (names_heap ∷ option_names))
+no_file rows is = ap (given rows (all_numbered rows (names_heap ∷ keep ∷ option_names))) (sym is) ∙ go (all_numbered rows (names_heap ∷ keep ∷ option_names))
   where
     go : (b : Bool) → ◌≡◌ {A = Option (Text × Wanted)} (cond b None None) None
     go true = refl
     go false = refl
 
 pub no_heap : (rows : List Row) → false ≡ is_numbered rows names_heap → run_of rows ≡ None
-no_heap rows heap = ap (λ b. given rows (b && all_numbered rows option_names) (first_of (codes "FILE") rows)) (sym heap)
+no_heap rows heap = ap (λ b. given rows (b && all_numbered rows (keep ∷ option_names)) (first_of (codes "FILE") rows)) (sym heap)
 
-pub no_number : (rows : List Row) → true ≡ is_numbered rows names_heap → false ≡ all_numbered rows option_names → run_of rows ≡ None
-no_number rows heap all =
-    ap (λ b. given rows (b && all_numbered rows option_names) (first_of (codes "FILE") rows)) (sym heap)
+pub no_keep : (rows : List Row) → true ≡ is_numbered rows names_heap → false ≡ is_numbered rows keep → run_of rows ≡ None
+no_keep rows heap most =
+    ap (λ b. given rows (b && all_numbered rows (keep ∷ option_names)) (first_of (codes "FILE") rows)) (sym heap)
+    ∙ ap (λ b. given rows (b && all_numbered rows option_names) (first_of (codes "FILE") rows)) (sym most)
+
+pub no_number : (rows : List Row) → true ≡ is_numbered rows names_heap → true ≡ is_numbered rows keep → false ≡ all_numbered rows option_names → run_of rows ≡ None
+no_number rows heap most all =
+    ap (λ b. given rows (b && all_numbered rows (keep ∷ option_names)) (first_of (codes "FILE") rows)) (sym heap)
+    ∙ ap (λ b. given rows (b && all_numbered rows option_names) (first_of (codes "FILE") rows)) (sym most)
     ∙ ap (λ b. given rows b (first_of (codes "FILE") rows)) (sym all)
 
 by_fault : (kinds : Kinds) (run : Option (Bool × (Text × Wanted))) (k : ErrorKind) (b : Bool) → are_alike kinds ≡ true → IsAmong k kinds → is_shown k ≡ b
@@ -93,7 +101,7 @@ by_fault (first ∷ rest) run k b alike among is = ap (λ b. cond b to_be_shown 
 
 pub of_fault : (words : List Text) (e : Error) (r : Result Request CommandFault) → HasKind (faults words) e → Becomes (kind_of e) r → Answers words r
 of_fault words e (Ok (Sim file bytes options)) h b = absurd b
-of_fault words e (Ok (Live file tells options)) h b = absurd b
+of_fault words e (Ok (Live file most tells options)) h b = absurd b
 of_fault words e (Ok (Show text)) (inl is) b = absurd (true≢false (sym b ∙ ap is_shown is))
 of_fault words e (Ok (Show text)) (inr among) b = by_fault (faults words) (run_asked words) (kind_of e) true (faults_are_alike words) among b
 of_fault words e (Err Bad) (inl is) b = absurd (b.1 is)
@@ -113,12 +121,12 @@ pub of_bad : (words : List Text) (r : Result Request CommandFault) (fault : Comm
 of_bad words (Ok x) fault is bad none run = absurd is
 of_bad words (Err e) fault is bad none run = subst (λ e. Answers words (Err e)) (sym (is ∙ bad)) (ap₂ asked_by none run)
 
-pub of_run : (words : List Text) (live : Bool) (file : Text) (bytes : Option ℕ) (tells : Bool) (options : Options) (r : Request)
-    → asked words ≡ to_run (live, (file, (bytes, (tells, options)))) → Runs live file bytes tells options r → Answers words (Ok r)
-of_run words live file bytes tells options (Sim f b o) is runs =
-    is ∙ ap (λ (l : Bool). to_run (l, (file, (bytes, (tells, options))))) runs.0
+pub of_run : (words : List Text) (live : Bool) (file : Text) (bytes most : Option ℕ) (tells : Bool) (options : Options) (r : Request)
+    → asked words ≡ to_run (live, (file, (bytes, (most, (tells, options))))) → Runs live file bytes most tells options r → Answers words (Ok r)
+of_run words live file bytes most tells options (Sim f b o) is runs =
+    is ∙ ap (λ (l : Bool). to_run (l, (file, (bytes, (most, (tells, options)))))) runs.0
     ∙ ap₂ (λ (g : Text) (w : Option ℕ × Options). to_simulate g w.0 w.1) (sym runs.1) (λ i. (sym runs.2 i, sym runs.3 i))
-of_run words live file bytes tells options (Live f t o) is runs =
-    is ∙ ap (λ (l : Bool). to_run (l, (file, (bytes, (tells, options))))) runs.0
-    ∙ ap₂ (λ (g : Text) (w : Bool × Options). to_play g w.0 w.1) (sym runs.1) (λ i. (sym runs.2 i, sym runs.3 i))
-of_run words live file bytes tells options (Show text) is runs = absurd runs
+of_run words live file bytes most tells options (Live f m t o) is runs =
+    is ∙ ap (λ (l : Bool). to_run (l, (file, (bytes, (most, (tells, options)))))) runs.0
+    ∙ ap₂ (λ (g : Text) (w : Option ℕ × (Bool × Options)). to_play g w.0 w.1.0 w.1.1) (sym runs.1) (λ i. (sym runs.2 i, (sym runs.3 i, sym runs.4 i)))
+of_run words live file bytes most tells options (Show text) is runs = absurd runs

@@ -12,7 +12,7 @@ use Rattle.clap.specs.declared.error.kind.ErrorKind.TheVariants.{DisplayHelp, Di
 use Rattle.gfs_types.specs.Settings.{block_for, default_settings}
 use Rattle.gfs_types.specs.declared.config.Config.{Config}
 use Rattle.script.specs.Numbers.{number_of}
-use Rattle.command_line.specs.Program.{names_heap, option_names, progress, program}
+use Rattle.command_line.specs.Program.{keep, names_heap, option_names, progress, program}
 use Rattle.script.specs.declared.options.Options.{Options}
 use Rattle.command_line.specs.declared.command.CommandFault.{CommandFault}
 use Rattle.command_line.specs.declared.command.CommandFault.TheVariants.{Bad, NoMemory}
@@ -58,9 +58,9 @@ options_of rows = record {
   config = config_of rows;
 }
 
--- the bytes of the names' region, where some are given
-abbrev pub names_heap_of : List Row → Option ℕ
-names_heap_of rows = option_map (λ text. unwrap_or (number_of text) 0) (first_of names_heap rows)
+-- the number of an option without a default, where it is given
+abbrev pub given_number : List Row → Text → Option ℕ
+given_number rows name = option_map (λ text. unwrap_or (number_of text) 0) (first_of name rows)
 
 -- a flag is given
 abbrev pub is_given : List Row → Text → Bool
@@ -72,16 +72,16 @@ all_numbered rows names = list_all (is_numbered rows) names
 
 -- ---- the command line
 
--- the bytes of the names' region, whether progress is told, and the options
+-- the bytes of the names' region, how many entries of the journal stay, whether progress is told, and the options
 abbrev pub Wanted : Type 0
-Wanted = Option ℕ × (Bool × Options)
+Wanted = Option ℕ × (Option ℕ × (Bool × Options))
 
 abbrev pub wanted_by : List Row → Wanted
-wanted_by rows = (names_heap_of rows, (is_given rows progress, options_of rows))
+wanted_by rows = (given_number rows names_heap, (given_number rows keep, (is_given rows progress, options_of rows)))
 
 -- the file, and what the rows of a subcommand say of the run
 abbrev pub run_of : List Row → Option (Text × Wanted)
-run_of rows = if all_numbered rows (names_heap ∷ option_names) then option_map (λ file. (file, wanted_by rows)) (first_of (codes "FILE") rows) else None
+run_of rows = if all_numbered rows (names_heap ∷ keep ∷ option_names) then option_map (λ file. (file, wanted_by rows)) (first_of (codes "FILE") rows) else None
 
 -- the subcommand runs the script on threads; the other one runs it by the simulator
 abbrev pub is_live : Text → Bool
@@ -105,15 +105,15 @@ is_shown DisplayHelp = true
 is_shown DisplayVersion = true
 is_shown _ = false
 
--- to run a script's file by the simulator, with a region for the names or none, or on threads, with progress told or not, to be shown the help or the version, or nothing
+-- to run a script's file by the simulator, with a region for the names or none, or on threads, with so many entries that stay or all, and progress told or not, to be shown the help or the version, or nothing
 pub data Asked : Type 0 where
   to_simulate : Text → Option ℕ → Options → Asked
-  to_play : Text → Bool → Options → Asked
+  to_play : Text → Option ℕ → Bool → Options → Asked
   to_be_shown : Asked
   nothing : Asked
 
 abbrev pub to_run : Bool × (Text × Wanted) → Asked
-to_run run = if run.0 then to_play run.1.0 run.1.1.1.0 run.1.1.1.1 else to_simulate run.1.0 run.1.1.0 run.1.1.1.1
+to_run run = if run.0 then to_play run.1.0 run.1.1.1.0 run.1.1.1.1.0 run.1.1.1.1.1 else to_simulate run.1.0 run.1.1.0 run.1.1.1.1.1
 
 -- faults come first; of the kinds that the first fault may have, all are to be shown or none is
 abbrev pub asked_by : Kinds → Option (Bool × (Text × Wanted)) → Asked
@@ -127,7 +127,7 @@ asked words = asked_by (faults words) (run_asked words)
 -- the answer says what the words ask for, or memory ran out
 abbrev pub Answers : List Text → Result Request CommandFault → Type 0
 Answers words (Ok (Sim file bytes options)) = asked words ≡ to_simulate file.now bytes options
-Answers words (Ok (Live file tells options)) = asked words ≡ to_play file.now tells options
+Answers words (Ok (Live file most tells options)) = asked words ≡ to_play file.now most tells options
 Answers words (Ok (Show text)) = asked words ≡ to_be_shown
 Answers words (Err Bad) = asked words ≡ nothing
 Answers words (Err NoMemory) = ⊤
@@ -135,13 +135,13 @@ Answers words (Err NoMemory) = ⊤
 -- what a fault of a parse becomes; a text to be shown may take memory
 abbrev pub Becomes : ErrorKind → Result Request CommandFault → Type 0
 Becomes kind (Ok (Sim file bytes options)) = ⊥
-Becomes kind (Ok (Live file tells options)) = ⊥
+Becomes kind (Ok (Live file most tells options)) = ⊥
 Becomes kind (Ok (Show text)) = is_shown kind ≡ true
 Becomes kind (Err Bad) = (is_shown kind ≡ false) × (kind ≡ OutOfMemory → ⊥)
 Becomes kind (Err NoMemory) = (is_shown kind ≡ true) ⊎ (kind ≡ OutOfMemory)
 
 -- to run a script on threads or by the simulator
-abbrev pub Runs : Bool → Text → Option ℕ → Bool → Options → Request → Type 0
-Runs live file bytes tells options (Sim f b o) = (live ≡ false) × (f.now ≡ file) × (b ≡ bytes) × (o ≡ options)
-Runs live file bytes tells options (Live f t o) = (live ≡ true) × (f.now ≡ file) × (t ≡ tells) × (o ≡ options)
-Runs live file bytes tells options (Show text) = ⊥
+abbrev pub Runs : Bool → Text → Option ℕ → Option ℕ → Bool → Options → Request → Type 0
+Runs live file bytes most tells options (Sim f b o) = (live ≡ false) × (f.now ≡ file) × (b ≡ bytes) × (o ≡ options)
+Runs live file bytes most tells options (Live f m t o) = (live ≡ true) × (f.now ≡ file) × (m ≡ most) × (t ≡ tells) × (o ≡ options)
+Runs live file bytes most tells options (Show text) = ⊥

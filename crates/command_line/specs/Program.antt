@@ -44,12 +44,15 @@ names_heap = codes "names-heap"
 abbrev pub simulator : Shape
 simulator = record (runner (codes "sim")) { rules = (runner (codes "sim")).rules ++ (option_named names_heap ∷ []) }
 
--- the flag of the cell with threads alone
+-- the option and the flag of the cell with threads alone
+abbrev pub keep : Text
+keep = codes "keep"
+
 abbrev pub progress : Text
 progress = codes "progress"
 
 abbrev pub player : Shape
-player = record (runner (codes "live")) { rules = (runner (codes "live")).rules ++ (flag_named progress ∷ []) }
+player = record (runner (codes "live")) { rules = ((runner (codes "live")).rules ++ (option_named keep ∷ [])) ++ (flag_named progress ∷ []) }
 
 abbrev pub gfscell : Shape
 gfscell = record (new_shape (codes "gfscell")) {

@@ -7,9 +7,10 @@ ghost use Rattle.gfscell.specs.Faults.{fault_text};
 ghost use Rattle.gfscell.specs.Status.{status_of};
 ghost use Rattle.gfscell.specs.declared.ProgramFault.TheVariants as faults;
 
-use cell_run::{Progress, Watcher};
+use cell_run::{Progress, Retention, Watcher};
 use command_line::command::{CommandFault, Request, parse};
-use live::run::{run_live, run_live_watched};
+use command_line::narrowed::narrowed;
+use live::run::run_live_watched;
 use script::options::Options;
 use script::script_fault::ScriptFault;
 use shell::run::{run_script, run_script_in_region};
@@ -99,12 +100,23 @@ impl Watcher for ErrorWatcher {
             answered,
             events,
             room,
-            lost: _,
+            lost,
         } = progress;
         // Nothing can tell of a standard error that can't be written.
         let _ = eprintln!(self.rt;
             "gfscell: {answered} calls answered, {events} events, room for {room}"
         );
+        if lost > 0 {
+            let _ = eprintln!(self.rt; "gfscell: {lost} messages lost");
+        }
+    }
+}
+
+/// Which entries of the journal stay: the last so many, or all where no number is given.
+fn retention_of(keep: Option<u64>) -> Retention {
+    match keep {
+        Some(most) => Retention::Last(narrowed(most)),
+        None => Retention::Whole,
     }
 }
 
@@ -112,6 +124,7 @@ impl Watcher for ErrorWatcher {
 fn play<T: Threads + Wait + Clock + Copy + Send + Sync + 'static, S: Read + Drop>(
     threads: T,
     rt: &HostRuntime,
+    keep: Option<u64>,
     tells_progress: bool,
     options: &Options,
     source: S,
@@ -119,12 +132,20 @@ fn play<T: Threads + Wait + Clock + Copy + Send + Sync + 'static, S: Read + Drop
     let alloc = rt.alloc();
     let mut reader = BufReader::new(alloc, source).map_err(|e| ScriptFault::of_read(&e))?;
     let mut writer = BufWriter::new(alloc, io::writer(rt)).map_err(|e| ScriptFault::of_write(&e))?;
-    if tells_progress {
-        let watcher = Some(ErrorWatcher { rt: *rt });
-        run_live_watched(threads, alloc, options, watcher, &mut reader, &mut writer)
+    let watcher = if tells_progress {
+        Some(ErrorWatcher { rt: *rt })
     } else {
-        run_live(threads, alloc, options, &mut reader, &mut writer)
-    }
+        None
+    };
+    run_live_watched(
+        threads,
+        alloc,
+        options,
+        retention_of(keep),
+        watcher,
+        &mut reader,
+        &mut writer,
+    )
 }
 
 /// The words of the command line. Words that are no text are a bad command line.
@@ -161,16 +182,18 @@ fn run<T: Threads + Wait + Clock + Copy + Send + Sync + 'static>(
         }
         Request::Live {
             file: "-",
+            keep,
             tells_progress,
             options,
-        } => play(threads, rt, tells_progress, &options, rt.reader())?,
+        } => play(threads, rt, keep, tells_progress, &options, rt.reader())?,
         Request::Live {
             file,
+            keep,
             tells_progress,
             options,
         } => {
             let script = File::open(rt, file).map_err(|e| ScriptFault::of_read(&e))?;
-            play(threads, rt, tells_progress, &options, script)?;
+            play(threads, rt, keep, tells_progress, &options, script)?;
         }
     }
     Ok(())

@@ -2,7 +2,6 @@
 
 ghost use Rattle.std.specs.Prelude.{ℕ, ◌≡◌, ◌+◌, ◌≤◌, ◌<◌, IfOk, IfErr, IfSome, OnOk, Some, length, slice_get, map, true, false};
 ghost use Rattle.cell_journal.specs.WholeHistories.{whole_of};
-ghost use Rattle.cell_journal.specs.declared.retention.Retention.TheVariants.{Whole};
 ghost use Rattle.cell_run.specs.Cells.{IsNewCell};
 ghost use Rattle.live.specs.Live.{IsScript, HasSeenPart, AreAnswersOf, Prints, Stops};
 ghost use Rattle.live.specs.Faults.{IsOfRun};
@@ -12,6 +11,7 @@ ghost use Rattle.script.specs.LiveLines.{is_barrier, is_reopen};
 use crate::play::Player;
 use crate::printing::print_all;
 use crate::reopen::reopen;
+use cell_journal::Retention;
 use cell_run::cell::{Cell, StartFault};
 use cell_run::watch::{Watch, Watcher};
 use cell_seats::gate::OpenGate;
@@ -59,11 +59,19 @@ pub fn run_live<T: Threads + Wait + Clock + Copy + Send + Sync + 'static, R: Rea
     ensures prints { OnOk result (Prints options.now (R.remaining reader.old) (W.contents writer.old) (W.contents writer.new)) }
     ensures stops { IfErr result (Stops options.now.clients (R.remaining reader.old) (W.contents writer.old) (W.contents writer.new)) }
 {
-    run_live_watched(rt, alloc, options, None::<NoWatcher>, reader, writer)
+    run_live_watched(
+        rt,
+        alloc,
+        options,
+        Retention::Whole,
+        None::<NoWatcher>,
+        reader,
+        writer,
+    )
 }
 
-/// The same, where a watcher, if there is one, is told once a second how far the cell is, until all calls were answered. Without memory or a thread
-/// for it the script runs all the same.
+/// The same on a cell of whose journal these entries stay, where a watcher, if there is one, is told once a second how far the cell is, until all
+/// calls were answered. Without memory or a thread for it the script runs all the same.
 pub fn run_live_watched<
     T: Threads + Wait + Clock + Copy + Send + Sync + 'static,
     P: Watcher + Send + Drop + 'static,
@@ -73,6 +81,7 @@ pub fn run_live_watched<
     rt: T,
     alloc: Global,
     options: &Options,
+    retention: Retention,
     watcher: Option<P>,
     reader: &mut R,
     writer: &mut W,
@@ -82,7 +91,7 @@ pub fn run_live_watched<
     ensures stops { IfErr result (Stops options.now.clients (R.remaining reader.old) (W.contents writer.old) (W.contents writer.new)) }
 {
     let lines = read_script(alloc, options.clients, reader)?;
-    let players = play_on_new(rt, alloc, options, lines.as_slice(), watcher)?;
+    let players = play_on_new(rt, alloc, options, retention, lines.as_slice(), watcher)?;
     print_all(players.as_slice(), writer)
 }
 
@@ -94,6 +103,7 @@ fn play_on_new<
     rt: T,
     alloc: Global,
     options: &Options,
+    retention: Retention,
     lines: &[LiveLine],
     watcher: Option<P>,
 ) -> Result<Vec<Player>, ScriptFault>
@@ -103,7 +113,7 @@ fn play_on_new<
     if options.clients == 0 || options.clients > MOST_CLIENTS {
         return Err(ScriptFault::Start);
     }
-    let cell = start(rt, alloc, options)?;
+    let cell = start(rt, alloc, options, retention)?;
     let (cell, players) = play_in(rt, alloc, cell, options.clients, lines, watcher)?;
     let journal = cell.close(&rt);
     agree_all(players.as_slice(), &journal);
@@ -200,14 +210,15 @@ fn start<T: Threads + Wait + Clock + Copy + Send + 'static>(
     rt: T,
     alloc: Global,
     options: &Options,
+    retention: Retention,
 ) -> Result<Cell, ScriptFault>
-    ensures cell { IfOk result (λ cell. IsNewCell options.now.config options.now.servers Whole cell) }
+    ensures cell { IfOk result (λ cell. IsNewCell options.now.config options.now.servers retention cell) }
     ensures fault { IfErr result IsOfRun }
 {
     let Ok(servers) = u16::try_from(options.servers) else {
         return Err(ScriptFault::Start);
     };
-    match Cell::start(rt, alloc, options.config, servers, OpenGate) {
+    match Cell::start_retaining(rt, alloc, options.config, servers, retention, OpenGate) {
         Ok(cell) => Ok(cell),
         Err(StartFault::NoMemory) => Err(ScriptFault::NoMemory),
         Err(_) => Err(ScriptFault::Start),

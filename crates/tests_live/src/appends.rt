@@ -10,9 +10,9 @@ use std::test::*;
 use std::thread::Threads;
 use std::time::Clock;
 
-// How many records were answered by so many producers with so many records each; none where two have one offset, one isn't read back, or
-// a call was refused for another reason than that nobody could serve.
-fn produced<R: Threads + Wait + Clock + Sync>(
+/// How many records were answered by so many producers with so many records each; none where two have one offset, one isn't read back, or
+/// a call was refused for another reason than that nobody could serve.
+pub fn produced<R: Threads + Wait + Clock + Sync>(
     rt: &R,
     alloc: Global,
     cell: &mut Cell,

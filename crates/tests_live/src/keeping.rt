@@ -1,42 +1,73 @@
-//! A cell that keeps the last entries of its journal.
+//! Cells that keep the last entries of their journals.
 
+use crate::appends::produced;
 use crate::cells::small;
-use crate::producers::{count_kept, produce_all, producers_of};
 use cell_run::Retention;
-use cell_run::cell::Cell;
-use cell_seats::gate::OpenGate;
+use cell_run::cell::{Cell, ClientSeat};
+use cell_seats::gate::{Gate, Kind, OpenGate};
+use cell_seats::mailboxes::Policy;
 use gfs_types::config::Config;
+use gfs_types::ids::Node;
 use gfs_types::lists::Text;
+use script::kinds::Kind as MessageKind;
+use std::alloc::AllocError;
+use std::sync::Arc;
+use std::sync::atomic::{AtomicU64, Ordering};
 use std::test::*;
+use std::thread;
+use std::time::{Clock, Duration};
 
-/// How many entries stay.
-const KEPT: u32 = 2_000;
+/// How many entries stay of a journal of which no message is lost, and how many records each of four producers appends: some 11 entries each.
+const KEPT: u32 = 100_000;
 
-/// How many records each of four producers appends.
-const RECORDS: u64 = 100;
+const RECORDS: u64 = 3_000;
+
+/// Holds up the master once, before it takes a Look: for a second.
+#[derive(Drop)]
+struct LookGate<R: Clock + Copy + Drop> {
+    clock: R,
+    held: Arc<AtomicU64>,
+}
+
+impl<R: Clock + Copy + Drop> Clone for LookGate<R> {
+    fn clone(&self) -> Result<LookGate<R>, AllocError> {
+        Ok(LookGate {
+            clock: self.clock,
+            held: Arc::try_clone(&self.held)?,
+        })
+    }
+}
+
+impl<R: Clock + Copy + Drop> Gate for LookGate<R> {
+    fn before(&self, node: Node, kind: Kind) {
+        if node != Node::Master || kind != Kind::Message(MessageKind::Look) {
+            return;
+        }
+        if self.held.fetch_add(1, Ordering::SeqCst) == 0 {
+            thread::sleep(&self.clock, Duration::from_secs(1));
+        }
+    }
+}
 
 #[test]
 fn a_cell_runs_past_its_journal(rt: HostRuntime) -> Result<(), Fail> {
     let alloc = rt.alloc();
     let config = Config {
+        block: 1_024,
+        attempt_ms: 60_000,
         journal: 64,
-        ..small(3)
+        ..Config::default()
     };
     let retention = Retention::Last(KEPT);
     let mut cell = Cell::start_retaining(rt, alloc, config, 3, retention, OpenGate)?;
-    let mut reader = cell.client()?;
-    let Some(mut all) = producers_of(&rt, alloc, &mut cell, &mut reader, 4) else {
-        return Err(Fail::new("no producers"));
-    };
-    produce_all(&rt, alloc, all.as_mut_slice(), RECORDS);
-    let kept = count_kept(&rt, alloc, &mut reader, all.as_slice());
+    let count = produced(&rt, alloc, &mut cell, Policy::NONE, (4, RECORDS));
     let lost = cell.lost();
     let journal = cell.close(&rt);
-    assert!(rt; kept == Some(400));
+    assert!(rt; count == Some(12_000));
     // No message came so late that its entry was let go.
     assert!(rt; lost == 0);
     let first = journal.len().saturating_sub(KEPT as usize);
-    assert!(rt; first > KEPT as usize);
+    assert!(rt; first > 0);
     assert!(rt; journal.first() == first);
     assert!(rt; journal.event(first).is_some());
     assert!(rt; journal.event(first.saturating_sub(1)).is_none());
@@ -47,19 +78,40 @@ fn a_cell_runs_past_its_journal(rt: HostRuntime) -> Result<(), Fail> {
 #[test]
 fn a_message_that_comes_too_late_is_lost(rt: HostRuntime) -> Result<(), Fail> {
     let alloc = rt.alloc();
-    // One entry stays, so most messages are gone before they are taken; a call is refused once its attempts are over, or is answered.
     let config = Config {
-        attempt_ms: 20,
-        attempts: 1,
+        attempt_ms: 100,
+        attempts: 16,
         ..small(1)
     };
-    let mut cell = Cell::start_retaining(rt, alloc, config, 1, Retention::Last(1), OpenGate)?;
-    let mut seat = cell.client()?;
-    for _ in 0..20 {
-        drop(seat.list(&rt, Text::from_str("/", alloc)?));
-    }
+    let gate = LookGate {
+        clock: rt,
+        held: Arc::new(alloc, AtomicU64::new(0))?,
+    };
+    let retention = Retention::Last(4);
+    let mut cell = Cell::start_retaining(rt, alloc, config, 1, retention, gate)?;
+    let mut seat: ClientSeat = cell.client()?;
+    // While the master is held up there are ticks of the client and the server; a later attempt is answered.
+    let is_answered = seat.list(&rt, Text::from_str("/", alloc)?).is_ok();
+    let lost = cell.lost();
     let journal = cell.close(&rt);
-    assert!(rt; journal.len() > 20);
-    assert!(rt; journal.first() == journal.len().saturating_sub(1));
+    assert!(rt; is_answered);
+    assert!(rt; lost > 0);
+    assert!(rt; journal.first() == journal.len().saturating_sub(4));
+    Ok(())
+}
+
+#[test]
+fn clients_outlast_lost_messages(rt: HostRuntime) -> Result<(), Fail> {
+    let alloc = rt.alloc();
+    let config = Config {
+        attempt_ms: 100,
+        attempts: 2,
+        ..small(1)
+    };
+    let retention = Retention::Last(3);
+    let mut cell = Cell::start_retaining(rt, alloc, config, 1, retention, OpenGate)?;
+    let count = produced(&rt, alloc, &mut cell, Policy::NONE, (4, 5));
+    drop(cell.close(&rt));
+    assert!(rt; count.is_some());
     Ok(())
 }

@@ -120,13 +120,13 @@ pub fn look<R: Wait + Clock>(
     }
 }
 
-/// So many producers, with a thousand numbers of records for each.
+/// So many producers, with a hundred thousand numbers of records for each.
 fn new_producers(alloc: Global, cell: &mut Cell, count: u64) -> Option<Vec<Producer>> {
     let mut all = Vec::new(alloc);
     for number in 0..count {
         let producer = Producer {
             seat: cell.client().ok()?,
-            next: number.wrapping_mul(1_000),
+            next: number.wrapping_mul(100_000),
             stored: Vec::new(alloc),
             is_strange: false,
         };

@@ -88,11 +88,11 @@ fn words(alloc: Global, line: &str) -> Result<Vec<String>, AllocError> {
 }
 
 /// What a command line asks for: a script's file, the size of the names' region and the settings that aren't the defaults; the same of a cell with threads, that
-/// has no region, and whether progress is told; a text with these words in it; or nothing.
+/// has no region, with how many entries of its journal stay, and whether progress is told; a text with these words in it; or nothing.
 #[derive(Clone, Copy)]
 enum Command<'a> {
     Sim(&'a str, Option<u64>, &'a [(&'a str, u64)]),
-    Live(&'a str, bool, &'a [(&'a str, u64)]),
+    Live(&'a str, Option<u64>, bool, &'a [(&'a str, u64)]),
     Shows(&'a str),
     Nothing,
 }
@@ -106,10 +106,19 @@ fn is_sim(file: &str, names_heap: Option<u64>, options: &Options, wanted: &Comma
     }
 }
 
-fn is_live(file: &str, tells_progress: bool, options: &Options, wanted: &Command) -> bool {
+fn is_live(
+    file: &str,
+    keep: Option<u64>,
+    tells_progress: bool,
+    options: &Options,
+    wanted: &Command,
+) -> bool {
     match wanted {
-        Command::Live(name, tells, changes) => {
-            file == *name && tells_progress == *tells && numbers(options) == changed(changes)
+        Command::Live(name, most, tells, changes) => {
+            file == *name
+                && keep == *most
+                && tells_progress == *tells
+                && numbers(options) == changed(changes)
         }
         _ => false,
     }
@@ -132,9 +141,10 @@ fn is_request(request: &Request, wanted: &Command) -> bool {
         } => is_sim(file, *names_heap, options, wanted),
         Request::Live {
             file,
+            keep,
             tells_progress,
             options,
-        } => is_live(file, *tells_progress, options, wanted),
+        } => is_live(file, *keep, *tells_progress, options, wanted),
         Request::Show(text) => shows(text.as_str(), wanted),
     }
 }
@@ -186,18 +196,26 @@ fn sets_each_option(rt: HostRuntime) -> Result<(), Fail> {
 }
 
 /// Command lines that ask for a region, for threads, or for settings together.
-const LINES: [(&str, Command); 13] = [
+const LINES: [(&str, Command); 15] = [
     (
         "gfscell sim a.gfs --names-heap 16384 --servers 5",
         Command::Sim("a.gfs", Some(16_384), &[("servers", 5)]),
     ),
     (
         "gfscell live a.live --servers 5",
-        Command::Live("a.live", false, &[("servers", 5)]),
+        Command::Live("a.live", None, false, &[("servers", 5)]),
     ),
     (
         "gfscell live --progress a.live --servers 5",
-        Command::Live("a.live", true, &[("servers", 5)]),
+        Command::Live("a.live", None, true, &[("servers", 5)]),
+    ),
+    (
+        "gfscell live a.live --keep 100000",
+        Command::Live("a.live", Some(100_000), false, &[]),
+    ),
+    (
+        "gfscell live --keep=7 --progress a.live --servers 5",
+        Command::Live("a.live", Some(7), true, &[("servers", 5)]),
     ),
     ("gfscell sim a.gfs", Command::Sim("a.gfs", None, &[])),
     // the greatest power of two that divides the chunk and is at most 65,536
@@ -242,7 +260,7 @@ fn sets_options_together(rt: HostRuntime) -> Result<(), Fail> {
     Ok(())
 }
 
-const REFUSED: [(&str, Command); 29] = [
+const REFUSED: [(&str, Command); 33] = [
     ("gfscell", Command::Nothing),
     ("gfscell help", Command::Nothing),
     ("gfscell live", Command::Nothing),
@@ -253,6 +271,13 @@ const REFUSED: [(&str, Command); 29] = [
     ("gfscell sim a.gfs --fast", Command::Nothing),
     ("gfscell live a.live --names-heap 16384", Command::Nothing),
     ("gfscell sim a.gfs --progress", Command::Nothing),
+    ("gfscell sim a.gfs --keep 1000", Command::Nothing),
+    ("gfscell live a.live --keep", Command::Nothing),
+    ("gfscell live a.live --keep x", Command::Nothing),
+    (
+        "gfscell live a.live --keep 1000 --keep 1000",
+        Command::Nothing,
+    ),
     ("gfscell live a.live --progress=1", Command::Nothing),
     (
         "gfscell live a.live --progress --progress",

@@ -5,6 +5,10 @@ use Rattle.clap.specs.Words.{Shape}
 use Rattle.clap.specs.Simple.{App}
 use Rattle.command_line.proofs.command.player.Goals as goal
 
+abbrev with_last : Shape → Rule → Shape
+with_last s a = record s { rules = s.rules ++ a ∷ [] }
+
 pub returns : goal.returns
-returns c = IfOk-weaker c.arg.result _ _ (λ r h.
-    ap (λ (a : App). a.top) (h.shape c.flag.ensures.local) ∙ ap₂ (λ (s : Shape) (a : Rule). record s { rules = s.rules ++ a ∷ [] }) c.in_ok-command.ensures c.flag.ensures.rule) c.arg.ensures
+returns c =
+    let kept = ap (λ (a : App). a.top) (c.in_ok-keeper.ensures.shape c.option.ensures.local) ∙ ap₂ with_last c.in_ok-command.ensures c.option.ensures.rule in
+    IfOk-weaker c.arg.result _ _ (λ r h. ap (λ (a : App). a.top) (h.shape c.flag.ensures.local) ∙ ap₂ with_last kept c.flag.ensures.rule) c.arg.ensures
