@@ -3,5 +3,5 @@ use denote.Param.Send.{param_send, arg_send}
 use Rattle.cell_run.proofs.Sent.{running_send}
 use Rattle.cell_run.proofs.behind.start_all.Goals as goal
 
-pub start_node-requires-send-N : goal.start_node-requires-send-N
-start_node-requires-send-N g c κs within = param_send _ _ (arg_send _ yes _ running_send)
+pub start_at-requires-send-N : goal.start_at-requires-send-N
+start_at-requires-send-N g c κs within = param_send _ _ (arg_send _ yes _ running_send)
