@@ -9,7 +9,10 @@ ghost use Rattle.protocol.specs.Sending.{file_id, handle_of};
 ghost use Rattle.protocol.specs.Tables.{element_at};
 ghost use Rattle.protocol.specs.World.{WorldState};
 ghost use Rattle.cell_world.specs.AsStored.{as_stored};
+ghost use Rattle.cell_journal.specs.WholeHistories.{whole_of};
+ghost use Rattle.cell_world.specs.Kept.{blank_seen};
 ghost use Rattle.cell_looks.specs.Faults.{IsLookFault};
+ghost use Rattle.cell_looks.specs.Noted.{noted_in};
 ghost use Rattle.cell_looks.specs.ParkedWorlds.{IsWorldOf};
 
 use crate::history_sights::sights_kept;
@@ -95,13 +98,13 @@ impl<'a> Looks<'a> {
         ensures regions { IfOk result (λ found. (w : WorldState) → IsWorldOf self.now w → option_map (λ v. v.items) found ≡ regions_at w file.0 index) }
         ensures fault { IfErr result (IsLookFault self.now) }
     {
-        let Some(handle) = self.handle_at(file, index)? else {
+        let found = self.handle_at(file, index)?;
+        let Some(handle) = found else {
             return Ok(None);
         };
-        let Some(sights) = &self.sights else {
-            return Err(LookFault::Partial);
-        };
-        Ok(Some(sights.regions(alloc, handle)?))
+        let sights = self.all_sights()?;
+        let regions = sights.regions(alloc, handle)?;
+        Ok(Some(regions))
     }
 
     /// The handle of a file's chunk of this index, from 0, and each replica that is stored on a server that is up, by rising server. None: the
@@ -117,13 +120,22 @@ impl<'a> Looks<'a> {
         ensures replicas { IfOk result (λ found. (w : WorldState) → IsWorldOf self.now w → option_map (λ c. (c.0.0, map as_stored c.1.items)) found ≡ replicas_at w file.0 index) }
         ensures fault { IfErr result (IsLookFault self.now) }
     {
-        let Some(handle) = self.handle_at(file, index)? else {
+        let found = self.handle_at(file, index)?;
+        let Some(handle) = found else {
             return Ok(None);
         };
-        Ok(Some((
-            handle,
-            stored_on_all(alloc, self.servers.as_slice(), handle)?,
-        )))
+        let replicas = stored_on_all(alloc, self.servers.as_slice(), handle)?;
+        Ok(Some((handle, replicas)))
+    }
+
+    fn all_sights(&self) -> Result<&Sights, LookFault>
+        ensures sights { IfOk result (λ s. s.now.seen ≡ map blank_seen (noted_in (whole_of self.now.journal.now))) }
+        ensures fault { IfErr result (IsLookFault self.now) }
+    {
+        match &self.sights {
+            Some(sights) => Ok(sights),
+            None => Err(LookFault::Partial),
+        }
     }
 
     fn handle_at(&self, file: FileId, index: u64) -> Result<Option<Handle>, LookFault>
