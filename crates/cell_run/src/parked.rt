@@ -5,6 +5,7 @@ ghost use Rattle.gfs_types.specs.declared.ids.Node.TheVariants.{Client, Master};
 ghost use Rattle.protocol.specs.Sending.{the_server};
 ghost use Rattle.protocol_journal.specs.Journal.{own};
 ghost use Rattle.cell_journal.specs.Clocks.{are_clocks_kept};
+ghost use Rattle.cell_journal.specs.Identity.{closed};
 ghost use Rattle.cell_journal.specs.Log.{listed};
 ghost use Rattle.cell_journal.specs.WholeHistories.{whole_of};
 ghost use Rattle.cell_seats.specs.ParkedNodes.{IsLedBy};
@@ -89,6 +90,19 @@ impl ParkedParts {
         ensures { result ≡ self.now.journal.cell.servers }
     {
         self.servers
+    }
+
+    fn into_journal(self) -> Journal
+        ensures { result.now ≡ self.journal }
+    {
+        let (kept, _nodes, _seats) = self.taken_apart();
+        let KeptParts {
+            alloc: _,
+            made: _,
+            journal,
+            nothing: _nothing,
+        } = kept;
+        journal
     }
 
     // The master and the servers.
@@ -297,6 +311,14 @@ impl Parked {
     {
         let Self { parts, list } = self;
         (parts, list)
+    }
+
+    /// The cell is closed as it was parked: nothing is added to its history any more.
+    pub fn close(self) -> Journal
+        ensures { result.now ≡ closed self.journal.cell self.journal.entries true }
+    {
+        let (parts, list) = self.into_parts();
+        parts.into_journal().close(list)
     }
 
     /// Whether the client of each seat came out of it: none was left behind by an earlier parking.
