@@ -1,4 +1,4 @@
-use Rattle.std.proofs.Common.{◌≡◌, ◌<◌, length, sym, ap, ◌∙◌, rules}
+use Rattle.std.proofs.Common.{◌≡◌, ◌<◌, length, sym, ap, ◌∙◌, arith}
 use Rattle.std.specs.Option.{option_copied}
 use Rattle.cell_journal.proofs.Retained.{entry_is}
 use Rattle.cell_looks.proofs.Noted.{note_more, was_gone, none_left}
@@ -15,14 +15,14 @@ loop-place-preserved c =
       room = c.in_ok-note.ensures.room;
     }
 
-pub returns-in-None-clause-fault : goal.returns-in-None-clause-fault
-returns-in-None-clause-fault c =
+pub returns-in_default-clause-fault : goal.returns-in_default-clause-fault
+returns-in_default-clause-fault c =
     let j = c.args.history.now in
-    let within : c.loop-place.place < length j.entries = search rules in
-    was_gone j.cell.retention j.entries c.loop-place.place within (sym (ap option_copied c.in-None.is) ∙ c.event.ensures)
+    let within : c.loop-place.place < length j.entries = omega (arith, c.loop-place-test.true, c.len.ensures) in
+    was_gone j.cell.retention j.entries c.loop-place.place within (sym (ap option_copied c.in_default.is) ∙ c.event.ensures)
 
 pub returns-clause-seen : goal.returns-clause-seen
 returns-clause-seen c =
     let j = c.args.history.now in
-    let all : c.loop-place.place ≡ length j.entries = search rules in
+    let all : c.loop-place.place ≡ length j.entries = omega (arith, c.len.ensures) in
     none_left j.entries c.loop-place.place c.loop-place.sights.seen _ all c.loop-place.invariant.seen

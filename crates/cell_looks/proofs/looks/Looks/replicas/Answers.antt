@@ -7,8 +7,8 @@ use Rattle.cell_looks.specs.Looks.{LooksState}
 use Rattle.cell_looks.proofs.Told.{told_replicas, told_no_replicas}
 use Rattle.cell_looks.proofs.looks.Looks.replicas.Goals as goal
 
-pub returns-in-None-clause-replicas : goal.returns-in-None-clause-replicas
-returns-in-None-clause-replicas c = told_no_replicas c.args.self.now c.args.file.0 c.args.index c.in_ok-found.found c.in_ok-found.ensures.up c.in_ok-found.ensures.handle c.in-None.is
+pub returns-in_default-clause-replicas : goal.returns-in_default-clause-replicas
+returns-in_default-clause-replicas c = told_no_replicas c.args.self.now c.args.file.0 c.args.index c.in_ok-found.found c.in_ok-found.ensures.up c.in_ok-found.ensures.handle c.in_default.is
 
 pub returns-clause-replicas : goal.returns-clause-replicas
 returns-clause-replicas c =
