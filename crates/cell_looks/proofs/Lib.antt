@@ -3,3 +3,4 @@ pub mod JournalOrders
 pub mod Servers
 pub mod Worlds
 pub mod Told
+pub mod FileRegions

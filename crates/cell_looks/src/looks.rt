@@ -1,6 +1,6 @@
 //! A parked cell that is looked at.
 
-ghost use Rattle.std.specs.Prelude.{◌≡◌, map, option_map, true, IfOk, IfErr};
+ghost use Rattle.std.specs.Prelude.{◌≡◌, ◌∷◌, ◌++◌, [], map, option_map, true, IfOk, IfErr, OnOk};
 ghost use Rattle.std.specs.List.{filter_map};
 ghost use Rattle.std.specs.Prelude.{option_and_then};
 ghost use Rattle.std.specs.FinMap as table;
@@ -13,7 +13,7 @@ ghost use Rattle.cell_journal.specs.WholeHistories.{whole_of};
 ghost use Rattle.cell_world.specs.Kept.{blank_seen};
 ghost use Rattle.cell_looks.specs.Faults.{IsLookFault};
 ghost use Rattle.cell_looks.specs.Noted.{noted_in};
-ghost use Rattle.cell_looks.specs.ParkedWorlds.{IsWorldOf};
+ghost use Rattle.cell_looks.specs.ParkedWorlds.{IsWorldOf, file_regions};
 
 use crate::history_sights::sights_kept;
 use crate::look_fault::LookFault;
@@ -107,6 +107,25 @@ impl<'a> Looks<'a> {
         Ok(Some(regions))
     }
 
+    /// The regions of each of a file's chunks, in the order of their indexes.
+    ///
+    /// - `Down`: the master is down.
+    /// - `Partial`: of the cell's history some entries were let go.
+    pub fn all_regions(&self, alloc: Global, file: FileId) -> Result<Vec<Vec<Region>>, LookFault>
+        ensures regions { IfOk result (λ all. (w : WorldState) → IsWorldOf self.now w → map (λ v. v.items) all.items ≡ file_regions w file.0) }
+        ensures fault { IfErr result (IsLookFault self.now) }
+    {
+        let mut all = Vec::new(alloc);
+        for index in 0..u64::MAX {
+            let found = self.regions(alloc, file, index)?;
+            let Some(regions) = found else {
+                return Ok(all);
+            };
+            keep(&mut all, regions)?;
+        }
+        Err(LookFault::NoMemory)
+    }
+
     /// The handle of a file's chunk of this index, from 0, and each replica that is stored on a server that is up, by rising server. None: the
     /// file has no such chunk.
     ///
@@ -148,6 +167,13 @@ impl<'a> Looks<'a> {
         }
         Ok(self.master.current_handle_at(file, index))
     }
+}
+
+fn keep(all: &mut Vec<Vec<Region>>, regions: Vec<Region>) -> Result<(), NoMemory>
+    ensures { OnOk result (map (λ v. v.items) all.new.items ≡ map (λ v. v.items) all.old.items ++ regions.items ∷ []) }
+{
+    all.push(regions)?;
+    Ok(())
 }
 
 fn stored_on_all(
