@@ -10,20 +10,17 @@ use Rattle.protocol.specs.Tables.{element_at}
 use Rattle.protocol.specs.World.{WorldState}
 use Rattle.cell_looks.specs.ParkedWorlds.{file_regions}
 
+mapped : (f : ℕ → List Region) (hs : List ℕ) (i : ℕ) → option_map f (element_at hs i) ≡ element_at (map f hs) i
+mapped f [] i = refl
+mapped f (h ∷ hs) zero = refl
+mapped f (h ∷ hs) (suc i) = mapped f hs i
+
+there_or_not : (f : ℕ → List Region) (index : ℕ) (o : Option (List ℕ)) → option_map f (option_and_then (λ hs. element_at hs index) o) ≡ element_at (map f (unwrap_or o [])) index
+there_or_not f index None = refl
+there_or_not f index (Some hs) = mapped f hs index
+
 at_index : (w : WorldState) (file index : ℕ) → regions_at w file index ≡ element_at (file_regions w file) index
-at_index w file index = by (table.get w.observer.files file)
-  where
-    regions : ℕ → List Region
-    regions handle = regions_of (entries_of w.observer handle)
-
-    mapped : (hs : List ℕ) (i : ℕ) → option_map regions (element_at hs i) ≡ element_at (map regions hs) i
-    mapped [] i = refl
-    mapped (h ∷ hs) zero = refl
-    mapped (h ∷ hs) (suc i) = mapped hs i
-
-    by : (o : Option (List ℕ)) → option_map regions (option_and_then (λ hs. element_at hs index) o) ≡ element_at (map regions (unwrap_or o [])) index
-    by None = refl
-    by (Some hs) = mapped hs index
+at_index w file index = there_or_not (λ handle. regions_of (entries_of w.observer handle)) index (table.get w.observer.files file)
 
 take_one : (xs : List (List Region)) (i : ℕ) (x : List Region) → element_at xs i ≡ Some x → take (suc i) xs ≡ take i xs ++ x ∷ []
 take_one [] i x h = absurd (let none : None ≡ Some x = h in cc)

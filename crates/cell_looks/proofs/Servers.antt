@@ -47,7 +47,7 @@ led_more f j was now x before is count led all k s at =
 -- what is stored on the server at a place, and on those behind it
 module _ {X : Type 0} (f : X → ServerState) (handle : ℕ) (xs : List X) (i : ℕ) (x : X) (was : List StoredReplica) (end : List StoredAt) (within : i < length xs) (at : x ≡ get_or xs i x)
     (inv : map as_stored was ++ filter_map (stored_on handle) (map f (drop i xs)) ≡ end) where
-  rest : List StoredAt
+  abbrev rest : List StoredAt
   rest = filter_map (stored_on handle) (map f (drop (i + 1) xs))
 
   next : map as_stored was ++ cons_option (stored_on handle (f x)) rest ≡ end

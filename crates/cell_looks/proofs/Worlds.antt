@@ -55,16 +55,16 @@ leads_nowhere (Some s) end es none h = absurd (let both : Some s ≡ None = none
 
 module _ (journal : JournalState) (master : MasterState) (servers : List ServerState) (lawful : IsJournalOf journal.now.cell journal.now.entries)
     (led : IsLedBy journal.now.cell node.Master (whole_of journal.now) (MasterStands master)) (all : AreLed journal.now servers) (count : length servers ≡ journal.now.cell.servers) where
-  cell : Identity
+  abbrev cell : Identity
   cell = journal.now.cell
 
-  history : List Entry
+  abbrev history : List Entry
   history = whole_of journal.now
 
-  start : Node → Option NodeState
+  abbrev start : Node → Option NodeState
   start n = node_in (new_world cell.config cell.servers cell.clients) n
 
-  ends : Node → Option NodeState
+  abbrev ends : Node → Option NodeState
   ends node.Master = Some led.state
   ends (node.Server s) = option_map ServerIs (numbered_from_1 servers s.0)
   ends (node.Client c) = lawful.0 (node.Client c)
