@@ -49,18 +49,21 @@ fn create<R: Wait + Clock>(rt: &R, alloc: Global, cell: &mut Cell) -> Option<()>
     seat.create(rt, path, None).ok()
 }
 
+// The end of a region at a chunk's beginning whose bytes are all determined.
+fn end_of(region: &Region) -> Option<u64> {
+    if region.from == 0 && region.determined {
+        Some(region.to)
+    } else {
+        None
+    }
+}
+
 // The end of a chunk that has one region, in which all bytes are determined.
 fn determined_to(alloc: Global, looks: &Looks<'_>, file: FileId, index: u64) -> Option<u64> {
     let regions = looks.regions(alloc, file, index).ok()?;
     let regions = regions?;
     match regions.as_slice() {
-        [
-            Region {
-                from: 0,
-                to,
-                determined: true,
-            },
-        ] => Some(*to),
+        [region] => end_of(region),
         _ => None,
     }
 }
