@@ -22,18 +22,18 @@ pub record HasSeenList (cell : Identity) (n : Node) (list : Listed Entry) (p : P
   pub name_is : p.history.name ≡ list.name
   pub count_is : length p.history.items ≡ length list.items
 
-module _ (cell : Identity) (servers : ℕ) (list : Listed Entry) (master : ParkedNodeState) (others : List ParkedNodeState) (have : HaveSeen cell servers list (master ∷ others)) where
+module _ (cell : Identity) (servers : ℕ) (list : Listed Entry) (master : ParkedNodeState) (others : List ParkedNodeState) (known : HaveSeen cell servers list (master ∷ others)) where
   abbrev Seen : ParkedNodeState → Type 0
   Seen p = HasSeenAll p.cell (length list.items) p
 
   one_of : (n : Node) (p : ParkedNodeState) → name_of p ≡ node_name cell n → Seen p → HasSeenList cell n list p
-  one_of n p named seen = record { named = named; name_is = seen.0 ∙ (ap (λ (x : NodeName). x.cell.name) named ∙ sym have.name_is); count_is = seen.1 }
+  one_of n p named seen = record { named = named; name_is = seen.0 ∙ (ap (λ (x : NodeName). x.cell.name) named ∙ sym known.name_is); count_is = seen.1 }
 
   pub master_seen : HasSeenList cell Master list master
-  master_seen = one_of Master master (first_lock (name_of master) (map name_of others) cell servers have.nodes_are.names) (All-head Seen master others have.nodes_are.seen)
+  master_seen = one_of Master master (first_lock (name_of master) (map name_of others) cell servers known.nodes_are.names) (All-head Seen master others known.nodes_are.seen)
 
   names : map name_of others ≡ map (λ s. node_name cell (the_server s)) (first_numbers servers)
-  names = other_locks (name_of master) (map name_of others) cell servers have.nodes_are.names
+  names = other_locks (name_of master) (map name_of others) cell servers known.nodes_are.names
 
   pub within_servers : (before : ℕ) → before < servers → before < length others
   within_servers before within = omega (arith, within, locks_count name_of cell servers others names)
@@ -42,7 +42,7 @@ module _ (cell : Identity) (servers : ℕ) (list : Listed Entry) (master : Parke
   server_seen before p within at =
       let there : before < length others = within_servers before within in
       one_of (the_server (before + 1)) p (lock_at name_of cell servers before others p names there at)
-      (subst Seen (sym at) (All-tail Seen master others have.nodes_are.seen before p there))
+      (subst Seen (sym at) (All-tail Seen master others known.nodes_are.seen before p there))
 
 -- it is as the list left it
 pub led_so : (cell : Identity) (n : Node) (list : Listed Entry) (p : ParkedNodeState) (Stands : NodeState → Type 0) → HasSeenList cell n list p → p.history ≡ list → IsLedBy p.cell p.node p.history.items Stands

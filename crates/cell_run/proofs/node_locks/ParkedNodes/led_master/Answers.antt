@@ -18,7 +18,7 @@ meets-requires-clause-count c =
     (master_seen r.0 r.1 c.args.history.now i.master i.servers.items (subst (HaveSeen r.0 r.1 c.args.history.now) (sym c.self.view_is) r.2)).count_is
 
 pub returns : goal.returns
-returns c = λ cell servers have.
+returns c = λ cell servers known.
     let i = c.self.inside in
-    let seen = master_seen cell servers c.args.history.now i.master i.servers.items (subst (HaveSeen cell servers c.args.history.now) (sym c.self.view_is) have) in
+    let seen = master_seen cell servers c.args.history.now i.master i.servers.items (subst (HaveSeen cell servers c.args.history.now) (sym c.self.view_is) known) in
     led_so cell Master c.args.history.now i.master (MasterStands c.stepper.result.now.node.master.state) seen c.meets.ensures c.stepper.ensures

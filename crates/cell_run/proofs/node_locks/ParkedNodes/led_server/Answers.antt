@@ -32,10 +32,10 @@ meets-requires-clause-count c =
     (server_seen r.0 r.1 c.args.history.now i.master i.servers.items (subst (HaveSeen r.0 r.1 c.args.history.now) (sym c.self.view_is) r.2) c.args.before p r.3 at).count_is
 
 pub returns : goal.returns
-returns c = λ cell servers have within.
+returns c = λ cell servers known within.
     let i = c.self.inside in
     let p = c.server_at-server.result.now in
     let items : c.as_slice.result.now ≡ i.servers.items = search rules in
     let at = subst (λ (l : List ParkedNodeState). p ≡ get_or l c.args.before p) items c.server_at-server.ensures in
-    let seen = server_seen cell servers c.args.history.now i.master i.servers.items (subst (HaveSeen cell servers c.args.history.now) (sym c.self.view_is) have) c.args.before p within at in
+    let seen = server_seen cell servers c.args.history.now i.master i.servers.items (subst (HaveSeen cell servers c.args.history.now) (sym c.self.view_is) known) c.args.before p within at in
     led_so cell (the_server (c.args.before + 1)) c.args.history.now p (ServerStands c.stepper.result.now.server) seen c.meets.ensures c.stepper.ensures
