@@ -68,3 +68,26 @@ impl<R: Clock> Clock for OddClock<R> {
         self.rt.since_1970()
     }
 }
+
+/// A clock that can be read so often, and then no more.
+#[derive(Drop)]
+pub struct StoppingClock<R: Drop> {
+    pub rt: R,
+    pub most: u64,
+    pub readings: AtomicU64,
+}
+
+impl<R: Wait + Drop> Wait for StoppingClock<R> {}
+
+impl<R: Clock + Drop> Clock for StoppingClock<R> {
+    fn monotonic(&self) -> io::Result<Duration> {
+        if self.readings.fetch_add(1, Ordering::SeqCst) >= self.most {
+            return Err(io::Error::from(io::ErrorKind::Unsupported));
+        }
+        self.rt.monotonic()
+    }
+
+    fn since_1970(&self) -> io::Result<Duration> {
+        self.rt.since_1970()
+    }
+}

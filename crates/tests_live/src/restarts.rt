@@ -22,6 +22,9 @@ const NODES: [Node; 3] = [
     Node::Server(ServerId(2)),
 ];
 
+/// How many producers append.
+const PRODUCERS: u64 = 4;
+
 /// How often each node is asked to begin again while producers append.
 const ROUNDS: u64 = 10;
 
@@ -89,7 +92,7 @@ fn kept<R: Threads + Wait + Clock + Sync>(
     rounds: u64,
 ) -> Option<usize> {
     let mut reader = cell.client().ok()?;
-    let mut all = producers_of(rt, alloc, cell, &mut reader, 2)?;
+    let mut all = producers_of(rt, alloc, cell, &mut reader, PRODUCERS)?;
     if rounds == 1 {
         produce_all(rt, alloc, all.as_mut_slice(), 10);
         restart_in_turn(rt, cell, 0);
@@ -146,7 +149,7 @@ fn kept_by<R: Threads + Wait + Clock + Copy + Send + Sync + 'static>(
 
 #[test]
 fn each_node_begins_again(rt: HostRuntime) {
-    assert!(rt; kept_by(rt, rt.alloc(), small(2), 1) == Some(20));
+    assert!(rt; kept_by(rt, rt.alloc(), small(2), 1) == Some(40));
 }
 
 #[test]
@@ -155,6 +158,6 @@ fn nodes_begin_again_at_any_time(rt: HostRuntime) {
         lease_ms: 2_000,
         ..hasty(2)
     };
-    // Most of the sixty are answered: in each round each node begins again once, and then no more.
-    assert!(rt; kept_by(rt, rt.alloc(), config, ROUNDS) > Some(30));
+    // Most of the 120 are answered: in each round each node begins again once, and then no more.
+    assert!(rt; kept_by(rt, rt.alloc(), config, ROUNDS) > Some(60));
 }
