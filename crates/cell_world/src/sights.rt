@@ -75,7 +75,7 @@ impl Sights {
     pub fn notes(&mut self, seen: &SeenList) -> Result<(), NoMemory>
         requires { 0 < self.old.room }
         ensures seen { OnOk result (self.new.seen ≡ self.old.seen ++ map blank_seen seen.now) }
-        ensures room { OnOk result (self.new.room ≡ self.old.room) }
+        ensures room { OnOk result (0 < self.new.room) }
     {
         let mut kept = sightings(self.alloc, seen.as_slice())?;
         self.past.append(&mut kept)?;

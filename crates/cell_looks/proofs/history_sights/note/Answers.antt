@@ -1,8 +1,9 @@
-use Rattle.std.proofs.Common.{◌≡◌, true, false, sym, ap, subst, ◌∙◌}
-use Rattle.std.proofs.lemmas.Result.{IfOk-weaker}
+use Rattle.std.proofs.Common.{◌≡◌, ◌++◌, List, map, false, sym, ap, ◌∙◌}
+use Rattle.std.proofs.lemmas.Result.{on_ok_weaker}
+use Rattle.protocol.specs.declared.seen.Seen.{Seen}
+use Rattle.cell_world.specs.Kept.{blank_seen}
 use Rattle.cell_looks.specs.Noted.{is_client}
 use Rattle.cell_looks.proofs.Noted.{none_noted, all_noted}
-use Rattle.gfs_types.specs.declared.ids.Node.{Node}
 use Rattle.cell_looks.proofs.history_sights.note.Goals as goal
 
 pub returns-then-is_client-clause-seen : goal.returns-then-is_client-clause-seen
@@ -11,4 +12,7 @@ returns-then-is_client-clause-seen c =
 
 pub returns-clause-seen : goal.returns-clause-seen
 returns-clause-seen c =
-    IfOk-weaker c.notes.result _ _ (λ u h. all_noted c.args.entry.now.node c.args.entry.now.seen c.args.sights.now.seen c.notes.new.self.seen (ap is_client (sym c.node.ensures) ∙ (sym c.is_client.ensures ∙ c.if-is_client.false)) h) c.notes.ensures.seen
+    let other : is_client c.args.entry.now.node ≡ false = ap is_client (sym c.node.ensures) ∙ (sym c.is_client.ensures ∙ c.if-is_client.false) in
+    let same = c.notes.ensures.seen in
+    on_ok_weaker c.notes.result (λ h. all_noted c.args.entry.now.node c.args.entry.now.seen c.args.sights.now.seen c.notes.new.self.seen other
+    (h ∙ ap (λ (l : List Seen). c.args.sights.now.seen ++ map blank_seen l) c.seen.ensures)) same
