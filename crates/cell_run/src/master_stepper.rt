@@ -13,11 +13,14 @@ use cell_seats::stepper::{NodeStep, Stepper};
 use cell_world::master::{CellMaster, RestartedMaster};
 use gfs_types::call::Call;
 use gfs_types::ids::Moment;
-use messages::event::StepOut;
+use protocol::seen::SeenList;
+use std::alloc::Global;
+use step_outcome::Outcome;
 
 /// A master that takes steps.
 #[derive(Drop)]
 pub struct MasterNode<M: CellMaster + Drop> {
+    pub alloc: Global,
     pub master: M,
 }
 
@@ -34,24 +37,34 @@ impl<M: RestartedMaster + Drop> Stepper for MasterNode<M> {
 
     fn step(&mut self, now: Moment, cause: &StepCause, call: Option<Call>) -> NodeStep {
         let _none = call;
+        let Outcome { out, seen } = step_master(&mut self.master, self.alloc, now, cause);
         NodeStep {
-            out: step_master(&mut self.master, now, cause),
+            out,
             answer: None,
+            seen,
         }
     }
 }
 
 // A step, which has no answer.
-fn step_master<M: RestartedMaster + Drop>(master: &mut M, now: Moment, cause: &StepCause) -> StepOut
+fn step_master<M: RestartedMaster + Drop>(
+    master: &mut M,
+    alloc: Global,
+    now: Moment,
+    cause: &StepCause,
+) -> Outcome
     requires moment { now.0 ≤ moment_limit }
     requires may { (s : NodeState) → MasterStands (M.state master.old) s → IsTrue (may_take s (cause_of cause.now)) }
-    ensures steps { (s : NodeState) → MasterStands (M.state master.old) s → StepsSo s now.0 (cause_of cause.now) result (MasterStands (M.state master.new)) }
-    ensures silent { result.answer ≡ None }
+    ensures steps { (s : NodeState) → MasterStands (M.state master.old) s → StepsSo s now.0 (cause_of cause.now) result.out result.seen (MasterStands (M.state master.new)) }
+    ensures silent { result.out.answer ≡ None }
 {
     match cause {
-        StepCause::Takes(input) => master.step(now, message_in(input)).out,
-        StepCause::Restarts => master.restart(now),
+        StepCause::Takes(input) => master.step(now, message_in(input)),
+        StepCause::Restarts => Outcome {
+            out: master.restart(now),
+            seen: SeenList::empty(alloc),
+        },
         // It takes no call.
-        StepCause::Calls(_) => master.step(now, None).out,
+        StepCause::Calls(_) => master.step(now, None),
     }
 }

@@ -10,14 +10,17 @@ ghost use Rattle.cell_journal.specs.Clocks.{are_clocks_kept};
 ghost use Rattle.cell_journal.specs.Rules.{IsJournalOf};
 ghost use Rattle.protocol_journal.specs.Journal.{Restarts};
 ghost use Rattle.cell_journal.specs.Entries.{cause_of};
+ghost use Rattle.cell_journal.specs.Identity.{closed};
+ghost use Rattle.cell_journal.specs.Log.{listed};
 ghost use Rattle.cell_journal.specs.WholeHistories.{whole_of, AreRestarts};
-ghost use Rattle.cell_seats.specs.Journals.{joined, all_in, steps_in, first_kept, kept_step, AreBehind, AreSkipped, HasRestart};
+ghost use Rattle.cell_seats.specs.Journals.{journal_state, joined, all_in, steps_in, first_kept, kept_step, AreBehind, AreSkipped, HasRestart};
 
 use crate::seat::Seat;
 use crate::stepper::Stepper;
-use cell_journal::closed_history;
 use cell_journal::closed_history::ClosedHistory;
 use cell_journal::journal_entry::{JournalEntry, StepCause};
+use cell_journal::raised_entry::RaisedEntry;
+use cell_journal::{GrowingList, closed_history};
 use gfs_types::ids::{Node, ServerId};
 use std::marker::Model;
 
@@ -93,6 +96,23 @@ impl Journal {
         ensures behind { AreBehind self.now.now.cell self.now.earlier }
     {
         &self.history
+    }
+
+    /// The same journal, once its cell is closed with the list of its history.
+    pub fn close(self, list: GrowingList<RaisedEntry>) -> Journal
+        requires { list ≡ listed self.now.cell.name (whole_of self.now) }
+        ensures { result ≡ journal_state (closed self.now.cell self.now.entries true) self.earlier self.skip }
+    {
+        let Self {
+            history,
+            skip,
+            base,
+        } = self;
+        Journal {
+            history: history.close(list),
+            skip,
+            base,
+        }
     }
 
     // The journal that it stands behind, if there is one.

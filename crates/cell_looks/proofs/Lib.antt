@@ -1,0 +1,6 @@
+pub mod Noted
+pub mod JournalOrders
+pub mod Servers
+pub mod Worlds
+pub mod Told
+pub mod FileRegions
