@@ -1,3 +1,4 @@
+pub mod Behind
 pub mod Noted
 pub mod JournalOrders
 pub mod Servers

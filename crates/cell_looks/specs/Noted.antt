@@ -1,10 +1,10 @@
 -- What observers note of a journal's steps: what came to chunks, in order.
-use Rattle.std.specs.Prelude.{Bool, true, false, if◌then◌else◌, List, [], ◌∷◌, ◌++◌}
+use Rattle.std.specs.Prelude.{Bool, true, false, if◌then◌else◌, List, []}
+use Rattle.std.specs.List.{flat_map}
 use Rattle.gfs_types.specs.declared.ids.Node.{Node}
 use Rattle.gfs_types.specs.declared.ids.Node.TheVariants as node
 use Rattle.protocol.specs.declared.seen.Seen.{Seen}
 use Rattle.protocol_journal.specs.Journal.{Entry}
-use Rattle.cell_journal.specs.Identity.{Closed}
 
 abbrev pub is_client : Node → Bool
 is_client (node.Client c) = true
@@ -14,11 +14,8 @@ is_client other = false
 abbrev pub noted_of : Node → List Seen → List Seen
 noted_of n seen = if is_client n then [] else seen
 
-abbrev pub noted_in : List Entry → List Seen
-noted_in [] = []
-noted_in (e ∷ rest) = noted_of e.node e.seen ++ noted_in rest
+abbrev pub noted : Entry → List Seen
+noted e = noted_of e.node e.seen
 
--- of the steps of these journals, the last journal first
-abbrev pub noted_behind : List Closed → List Seen
-noted_behind [] = []
-noted_behind (j ∷ rest) = noted_behind rest ++ noted_in j.entries
+abbrev pub noted_in : List Entry → List Seen
+noted_in es = flat_map noted es

@@ -1,16 +1,16 @@
 //! What was seen of all steps of a cell, by its journals.
 
-ghost use Rattle.std.specs.Prelude.{◌≡◌, ◌<◌, ◌++◌, map, All, Contains, IfOk, IfErr, OnOk};
+ghost use Rattle.std.specs.Prelude.{◌≡◌, ◌<◌, ◌++◌, map, IfOk, IfErr, OnOk};
 ghost use Rattle.protocol.specs.Observer.{entries_of};
 ghost use Rattle.protocol_journal.specs.Journal.{observer_of};
 ghost use Rattle.relaxed_file.specs.Regions.{regions_of};
 ghost use Rattle.cell_journal.specs.WholeHistories.{whole_of};
-ghost use Rattle.cell_seats.specs.Journals.{all_in};
 ghost use Rattle.cell_world.specs.Kept.{blank_seen};
 ghost use Rattle.cell_looks.specs.Faults.{IsHistoryFault, IsJournalFault};
 ghost use Rattle.cell_looks.specs.Looks.{AreSightsOf};
-ghost use Rattle.cell_looks.specs.Noted.{is_client, noted_of, noted_in, noted_behind};
+ghost use Rattle.cell_looks.specs.Noted.{is_client, noted_of, noted_in};
 
+use crate::journals::journals_of;
 use crate::look_fault::LookFault;
 use cell_journal::closed_history::ClosedHistory;
 use cell_journal::journal_entry::JournalEntry;
@@ -57,23 +57,6 @@ fn sights_of(alloc: Global, journal: &Journal) -> Result<Sights, LookFault>
         note_all(earliest.history(), &mut sights)?;
     }
     Ok(sights)
-}
-
-// A journal and those before it, the last one first.
-fn journals_of(alloc: Global, journal: &Journal) -> Result<Vec<&Journal>, NoMemory>
-    ensures noted { IfOk result (λ l. noted_behind (map (λ j. j.now.now) l.items) ≡ noted_in (whole_of journal.now.now)) }
-    ensures are { IfOk result (λ l. All (λ j. Contains (all_in journal.now) j.now.now) l.items) }
-{
-    let mut journals = Vec::new(alloc);
-    let mut here = journal;
-    for _ in 0..usize::MAX {
-        journals.push(here)?;
-        match here.base() {
-            Some(base) => here = base,
-            None => return Ok(journals),
-        }
-    }
-    Err(NoMemory)
 }
 
 // What was seen of a journal's steps is noted.

@@ -2,6 +2,7 @@
 #![tactic(auto)]
 
 mod history_sights;
+pub mod journals;
 pub mod look_fault;
 pub mod looks;
 mod parked_servers;

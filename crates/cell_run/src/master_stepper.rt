@@ -13,9 +13,10 @@ use cell_seats::stepper::{NodeStep, Stepper};
 use cell_world::master::{CellMaster, RestartedMaster};
 use gfs_types::call::Call;
 use gfs_types::ids::Moment;
+use messages::event::StepOut;
 use protocol::seen::SeenList;
 use std::alloc::Global;
-use step_outcome::Outcome;
+use step_outcome::{Outcome, no_output};
 
 /// A master that takes steps.
 #[derive(Drop)]
@@ -37,7 +38,7 @@ impl<M: RestartedMaster + Drop> Stepper for MasterNode<M> {
 
     fn step(&mut self, now: Moment, cause: &StepCause, call: Option<Call>) -> NodeStep {
         let _none = call;
-        let Outcome { out, seen } = step_master(&mut self.master, self.alloc, now, cause);
+        let (out, seen) = step_master(&mut self.master, self.alloc, now, cause);
         NodeStep {
             out,
             answer: None,
@@ -46,25 +47,29 @@ impl<M: RestartedMaster + Drop> Stepper for MasterNode<M> {
     }
 }
 
-// A step, which has no answer.
+// A step, which has no answer, and what was seen of it.
 fn step_master<M: RestartedMaster + Drop>(
     master: &mut M,
     alloc: Global,
     now: Moment,
     cause: &StepCause,
-) -> Outcome
+) -> (StepOut, SeenList)
     requires moment { now.0 ≤ moment_limit }
     requires may { (s : NodeState) → MasterStands (M.state master.old) s → IsTrue (may_take s (cause_of cause.now)) }
-    ensures steps { (s : NodeState) → MasterStands (M.state master.old) s → StepsSo s now.0 (cause_of cause.now) result.out result.seen (MasterStands (M.state master.new)) }
-    ensures silent { result.out.answer ≡ None }
+    ensures steps { (s : NodeState) → MasterStands (M.state master.old) s → StepsSo s now.0 (cause_of cause.now) result.0 result.1 (MasterStands (M.state master.new)) }
+    ensures silent { result.0.answer ≡ None }
 {
     match cause {
-        StepCause::Takes(input) => master.step(now, message_in(input)),
-        StepCause::Restarts => Outcome {
-            out: master.restart(now),
-            seen: SeenList::empty(alloc),
-        },
+        StepCause::Takes(input) => {
+            let Outcome {
+                out,
+                seen,
+                cause: _,
+            } = master.step(now, message_in(input));
+            (out, seen)
+        }
+        StepCause::Restarts => (master.restart(now), SeenList::empty(alloc)),
         // It takes no call.
-        StepCause::Calls(_) => master.step(now, None),
+        StepCause::Calls(_) => (no_output(alloc), SeenList::empty(alloc)),
     }
 }

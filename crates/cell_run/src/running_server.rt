@@ -18,10 +18,11 @@ use gfs_types::call::Call;
 use gfs_types::config::Config;
 use gfs_types::ids::{Moment, ServerId};
 use gfs_types::no_memory::NoMemory;
+use messages::event::StepOut;
 use protocol::seen::SeenList;
 use server_cell::server_slot::ServerSlot;
 use std::alloc::Global;
-use step_outcome::Outcome;
+use step_outcome::{Outcome, no_output};
 
 /// A server of a running cell. At a restart its disk stops, and it is opened over what that left.
 pub struct RunningServer {
@@ -65,7 +66,7 @@ impl Stepper for RunningServer {
 
     fn step(&mut self, now: Moment, cause: &StepCause, call: Option<Call>) -> NodeStep {
         let _none = call;
-        let Outcome { out, seen } = step_server(&mut self.server, self.alloc, now, cause);
+        let (out, seen) = step_server(&mut self.server, self.alloc, now, cause);
         NodeStep {
             out,
             answer: None,
@@ -74,20 +75,29 @@ impl Stepper for RunningServer {
     }
 }
 
-// A step, which has no answer.
-fn step_server(server: &mut ServerSlot, alloc: Global, now: Moment, cause: &StepCause) -> Outcome
+// A step, which has no answer, and what was seen of it.
+fn step_server(
+    server: &mut ServerSlot,
+    alloc: Global,
+    now: Moment,
+    cause: &StepCause,
+) -> (StepOut, SeenList)
     requires moment { now.0 ≤ moment_limit }
     requires may { (s : NodeState) → ServerStands server.old s → IsTrue (may_take s (cause_of cause.now)) }
-    ensures steps { (s : NodeState) → ServerStands server.old s → StepsSo s now.0 (cause_of cause.now) result.out result.seen (ServerStands server.new) }
-    ensures silent { result.out.answer ≡ None }
+    ensures steps { (s : NodeState) → ServerStands server.old s → StepsSo s now.0 (cause_of cause.now) result.0 result.1 (ServerStands server.new) }
+    ensures silent { result.0.answer ≡ None }
 {
     match cause {
-        StepCause::Takes(input) => server.step(now, message_in(input)),
-        StepCause::Restarts => Outcome {
-            out: server.restart(now),
-            seen: SeenList::empty(alloc),
-        },
+        StepCause::Takes(input) => {
+            let Outcome {
+                out,
+                seen,
+                cause: _,
+            } = server.step(now, message_in(input));
+            (out, seen)
+        }
+        StepCause::Restarts => (server.restart(now), SeenList::empty(alloc)),
         // It takes no call.
-        StepCause::Calls(_) => server.step(now, None),
+        StepCause::Calls(_) => (no_output(alloc), SeenList::empty(alloc)),
     }
 }

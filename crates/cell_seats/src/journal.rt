@@ -130,7 +130,7 @@ impl Journal {
     /// The journal up to which its cell was parked before. None: its cell is a new one.
     pub fn base(&self) -> Option<&Journal>
         ensures some { IfSome result (λ b. (self.now.now.cell.base ≡ whole_of b.now.now) × (self.now.earlier ≡ all_in b.now)) }
-        ensures none { IfNone result (self.now.now.cell.base ≡ []) }
+        ensures none { IfNone result ((self.now.now.cell.base ≡ []) × (self.now.earlier ≡ [])) }
     {
         self.base.as_slice().first()
     }

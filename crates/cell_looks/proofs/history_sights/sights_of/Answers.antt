@@ -5,14 +5,15 @@ use Rattle.cell_journal.specs.WholeHistories.{whole_of}
 use Rattle.cell_seats.specs.Journals.{all_in}
 use Rattle.cell_world.specs.Kept.{blank_seen}
 use Rattle.cell_looks.specs.Noted.{noted_in}
-use Rattle.cell_looks.proofs.Noted.{first_noted, note_first, last_noted, popped_one, popped_are, fault_of_one}
+use Rattle.cell_looks.proofs.Behind.{each_of, popped_one, popped_are}
+use Rattle.cell_looks.proofs.Noted.{first_noted, note_first, last_noted, fault_of_one}
 use Rattle.cell_looks.proofs.history_sights.sights_of.Goals as goal
 
 pub loop-earliest-init : goal.loop-earliest-init
 loop-earliest-init c = record {
-  seen = first_noted (λ j. j.now.now) c.in_ok-left.left.items c.new-sights.result.seen (noted_in (whole_of c.args.journal.now.now)) c.new-sights.ensures.seen c.in_ok-left.ensures.noted;
+  seen = first_noted (λ j. j.now.now) c.in_ok-left.left.items c.new-sights.result.seen c.args.journal.now c.new-sights.ensures.seen c.in_ok-left.ensures.all c.in_ok-left.ensures.behind;
   room = c.new-sights.ensures.room;
-  are = c.in_ok-left.ensures.are;
+  are = each_of (λ j. j.now.now) c.in_ok-left.left.items (all_in c.args.journal.now) c.in_ok-left.ensures.all;
 }
 
 pub loop-earliest-preserved : goal.loop-earliest-preserved
