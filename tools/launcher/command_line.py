@@ -18,7 +18,7 @@ WAYS = ('sim', 'live', 'serve')
 
 # the subcommand, its file, which `serve` has none of, and each option with a number that is given, by its name
 Asked = namedtuple('Asked', 'way file given')
-Texts = namedtuple('Texts', 'version about sim live serve options region progress')
+Texts = namedtuple('Texts', 'version about sim live serve options region keep progress')
 
 
 class Bad(Exception):
@@ -37,13 +37,13 @@ def text_of(path):
 def texts():
     """What the program's source says of itself and of its options."""
     source = text_of(SOURCE)
-    tables = [re.search(rf'const {name}: [^=]*= \[(.*?)\n?\];', source, re.S)[1] for name in ('OPTIONS', 'REGION')]
-    options, region = [re.findall(r'\(\s*"([^"]+)",\s*"([^"]+)",?\s*\)', table) for table in tables]
+    tables = [re.search(rf'const {name}: [^=]*= \[(.*?)\n?\];', source, re.S)[1] for name in ('OPTIONS', 'REGION', 'KEEP')]
+    options, region, keep = [re.findall(r'\(\s*"([^"]+)",\s*"([^"]+)",?\s*\)', table) for table in tables]
     abouts = dict(re.findall(r'runner\(alloc, "(\w+)", "([^"]+)"\)', source))
     serve = re.search(r'Command::new\(alloc, "serve"\)\s*\.about\(\s*"([^"]+)"', source)[1]
     progress = re.search(r'\(flag\(\s*alloc,\s*"([^"]+)",\s*"([^"]+)"', source).groups()
     version, about = re.search(r'\.version\("([^"]+)"\)\s*\.about\("([^"]+)"\)', source).groups()
-    return Texts(version, about, abouts['sim'], abouts['live'], serve, options, region, progress)
+    return Texts(version, about, abouts['sim'], abouts['live'], serve, options, region, keep, progress)
 
 
 # ---- the help
@@ -67,7 +67,8 @@ def program_help():
 
 def options_of(way):
     """The options of a subcommand that take a number, and what the help says of each."""
-    return texts().options + (texts().region if way == 'sim' else [])
+    said = texts()
+    return said.options + (said.region if way == 'sim' else said.keep)
 
 
 def flags_of(way):
@@ -231,7 +232,7 @@ def options_in(script):
 def settings_of(given):
     """The counts of servers and clients, and each setting that is given, with the block's default."""
     counts = [given.get(name, default) for name, default in COUNTS.items()]
-    settings = {name: min(value, 2 ** 32 - 1) if name in NARROW else value for name, value in given.items() if name not in (*COUNTS, 'names_heap')}
+    settings = {name: min(value, 2 ** 32 - 1) if name in NARROW else value for name, value in given.items() if name not in (*COUNTS, 'names_heap', 'keep')}
     if 'block' not in settings and 'chunk' in settings:
         settings['block'] = min(settings['chunk'] & -settings['chunk'], LARGEST_BLOCK)
     return (*counts, settings)

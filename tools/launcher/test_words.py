@@ -14,7 +14,8 @@ BAD = (2, b'', b'gfscell: bad command line\n')
 MORE_BAD = [
     '--', '-- sim a', 'sim --', 'sim a --servers --help', 'sim a --servers 3 --servers 3 --help', 'sim a --help=x', '-x', 'sim a -x', 'sim a --=3', '-', 'live',
     'sim a --servers -- 3', 'sim a --chunk 99999999999999999999999', 'sim a -- b', 'sim --names-heap 1 --names-heap 1 a', 'simm a',
-    'sim a --servers\t3', '--version=1', '--help=', 'live a --progress=', 'serve a', 'serve -', 'serve --progress', 'serve --clients', 'live a --progress --progress', 'sim a --progress', 'live --servers --progress a']
+    'sim a --servers\t3', '--version=1', '--help=', 'live a --progress=', 'serve a', 'serve -', 'serve --progress', 'serve --clients', 'live a --progress --progress', 'sim a --progress',
+    'live --servers --progress a', 'sim a --keep 1', 'live a --keep', 'live --keep 1 --keep 1 a', 'serve --keep', 'serve --keep 1 --keep 1']
 MORE_SHOWN = {'sim --servers x --help': 'sim', 'sim a b --help': None, 'live -h': 'live', 'serve -h': 'serve', 'serve --help a': 'serve', 'live a.live -hx': 'live', '-hV': '', 'sim --servers=9 -h': 'sim'}
 
 
@@ -40,10 +41,10 @@ def asked_by(line):
     except command_line.Shown as shown:
         return ('Shows', str(shown))
     given = dict(asked.given)
-    heap = given.pop('names_heap', None)
+    number = given.pop('names_heap' if asked.way == 'sim' else 'keep', None)
     servers, clients, others = command_line.settings_of(given)
     found = {'servers': servers, 'clients': clients, **others}
-    return (asked.way.capitalize(), asked.file, heap, {name: value for name, value in found.items() if name in given or name == 'block'})
+    return (asked.way.capitalize(), asked.file, number, {name: value for name, value in found.items() if name in given or name == 'block'})
 
 
 def is_wanted(found, kind, text):
@@ -52,18 +53,18 @@ def is_wanted(found, kind, text):
     if kind == 'Shows':
         return re.match(r'"(.*)"', text)[1] in found[1]
     file = None if kind == 'Serve' else re.match(r'"(.*?)"', text)[1]
-    heap = re.search(r'Some\(([\d_]+)\)', text)
+    number = re.search(r'Some\(([\d_]+)\)', text)
     wanted = settings(text)
     if 'chunk' in wanted and 'block' not in wanted:
         # the tests leave out what is the default
         wanted['block'] = 65536
-    return found[1] == file and found[2] == (int(heap[1].replace('_', '')) if heap else None) and found[3] == wanted
+    return found[1] == file and found[2] == (int(number[1].replace('_', '')) if number else None) and found[3] == wanted
 
 
 def tables():
     """How many command lines there are in the tables, and those that are taken otherwise."""
     count, faults = 0, []
-    for table, least in (('LINES', 15), ('REFUSED', 34), ('SHOWN', 7)):
+    for table, least in (('LINES', 18), ('REFUSED', 40), ('SHOWN', 8)):
         rows = [(row[0] or row[3], row[1] or row[4], row[2]) for row in expected_in(table)]
         if len(rows) != least:
             faults.append(f'{table} of {TESTS}: {len(rows)} command lines are read')
@@ -103,7 +104,7 @@ def at_once():
     cannot = {name: (1, b'', f'gfscell: cannot {name}\n'.encode()) for name in ('read', 'start')}
     return [
         ([], BAD), (['help'], BAD), (['sim'], BAD), (['sim', 'a.gfs', '--servers', '3', '--servers', '3'], BAD), (['sim', 'a.gfs', '--chunk', 'x'], BAD),
-        (['sim', b'\xff'], BAD), (['sim', 'a.gfs', '--servers', ''], BAD), (['live', 'a.live', '--names-heap', '1'], BAD),
+        (['sim', b'\xff'], BAD), (['sim', 'a.gfs', '--servers', ''], BAD), (['live', 'a.live', '--names-heap', '1'], BAD), (['sim', 'a.gfs', '--keep', '1'], BAD),
         (['--help'], (0, expected_text('help'), b'')), (['-h'], (0, expected_text('help'), b'')), (['sim', '--help'], (0, expected_text('help_sim'), b'')),
         (['live', 'none', '-h'], (0, expected_text('help_live'), b'')), (['serve', '-h'], (0, expected_text('help_serve'), b'')), (['serve', 'a'], BAD),
         (['serve', '--servers', '0'], cannot['start']), (['--version'], (0, b'gfscell 0.1.0\n', b'')), (['-V'], (0, b'gfscell 0.1.0\n', b'')),

@@ -12,7 +12,7 @@ use Rattle.clap.specs.declared.parser.matches.ArgMatches.TheViews.{out-ArgMatche
 use Rattle.clap.specs.Matches.{subcommand_name_of}
 use Rattle.clap.specs.declared.error.kind.ErrorKind.{ErrorKind}
 use Rattle.clap.proofs.OnLiterals.{clap_on_literals}
-use Rattle.command_line.specs.Program.{names_heap, option_names, program}
+use Rattle.command_line.specs.Program.{keep, names_heap, option_names, program}
 use Rattle.command_line.proofs.FaultLemmas.{are_alike, faults_are_alike, first_tells}
 use Rattle.command_line.specs.Asking.{Asked, asked, asked_by, asked_on, Wanted, to_run, to_simulate, to_play, to_serve, to_be_shown, nothing, Answers, Becomes, Runs, Serves, all_numbered, faults, is_live, is_numbered, is_served, is_shown, meant, run_by, run_of, served_of, wanted_by}
 use Rattle.script.specs.declared.options.Options.{Options}
@@ -57,7 +57,7 @@ meant_found a words m name rows is has n e =
 
 -- a subcommand that serves no cell runs a script
 run_asked : (name : Text) (rows : List Row) → is_served name ≡ false → asked_on (name, rows) ≡ option_map to_run (run_by (name, rows))
-run_asked name rows runs = ap (λ (b : Bool). cond b (option_map to_serve (served_of rows)) (option_map to_run (run_by (name, rows)))) runs
+run_asked name rows runs = ap (λ (b : Bool). cond b (served_of rows) (option_map to_run (run_by (name, rows)))) runs
 
 -- where the rows give nothing to run
 pub run_none : (name : Text) (rows : List Row) → is_served name ≡ false → run_of rows ≡ None → asked_on (name, rows) ≡ None
@@ -70,30 +70,38 @@ run_some name rows live file wanted runs is run =
     run_asked name rows runs ∙ ap₂ (λ (b : Bool) (o : Option (Text × Wanted)). option_map to_run (option_map (λ (r : Text × Wanted). (b, r)) o)) is run
 
 -- where a cell is served
-serve_asked : (name : Text) (rows : List Row) → is_served name ≡ true → asked_on (name, rows) ≡ option_map to_serve (served_of rows)
-serve_asked name rows serves = ap (λ (b : Bool). cond b (option_map to_serve (served_of rows)) (option_map to_run (run_by (name, rows)))) serves
+serve_asked : (name : Text) (rows : List Row) → is_served name ≡ true → asked_on (name, rows) ≡ served_of rows
+serve_asked name rows serves = ap (λ (b : Bool). cond b (served_of rows) (option_map to_run (run_by (name, rows)))) serves
 
 abbrev given : List Row → Bool → Option Text → Option (Text × Wanted)
 given rows b file = cond b (option_map (λ (f : Text). (f, wanted_by rows)) file) None
 
-pub run_is : (rows : List Row) (file : Text) → true ≡ is_numbered rows names_heap → true ≡ all_numbered rows option_names → Some file ≡ first_of (codes "FILE") rows → run_of rows ≡ Some (file, wanted_by rows)
-run_is rows file heap all is =
-    ap (λ b. given rows (b && all_numbered rows option_names) (first_of (codes "FILE") rows)) (sym heap)
+pub run_is : (rows : List Row) (file : Text) → true ≡ is_numbered rows names_heap → true ≡ is_numbered rows keep → true ≡ all_numbered rows option_names → Some file ≡ first_of (codes "FILE") rows
+    → run_of rows ≡ Some (file, wanted_by rows)
+run_is rows file heap most all is =
+    ap (λ b. given rows (b && all_numbered rows (keep ∷ option_names)) (first_of (codes "FILE") rows)) (sym heap)
+    ∙ ap (λ b. given rows (b && all_numbered rows option_names) (first_of (codes "FILE") rows)) (sym most)
     ∙ ap (λ b. given rows b (first_of (codes "FILE") rows)) (sym all) ∙ ap (given rows true) (sym is)
 
 pub no_file : (rows : List Row) → None ≡ first_of (codes "FILE") rows → run_of rows ≡ None
-no_file rows is = ap (given rows (all_numbered rows (names_heap ∷ option_names))) (sym is) ∙ go (all_numbered rows (names_heap ∷ option_names))
+no_file rows is = ap (given rows (all_numbered rows (names_heap ∷ keep ∷ option_names))) (sym is) ∙ go (all_numbered rows (names_heap ∷ keep ∷ option_names))
   where
     go : (b : Bool) → ◌≡◌ {A = Option (Text × Wanted)} (cond b None None) None
     go true = refl
     go false = refl
 
 pub no_heap : (rows : List Row) → false ≡ is_numbered rows names_heap → run_of rows ≡ None
-no_heap rows heap = ap (λ b. given rows (b && all_numbered rows option_names) (first_of (codes "FILE") rows)) (sym heap)
+no_heap rows heap = ap (λ b. given rows (b && all_numbered rows (keep ∷ option_names)) (first_of (codes "FILE") rows)) (sym heap)
 
-pub no_number : (rows : List Row) → true ≡ is_numbered rows names_heap → false ≡ all_numbered rows option_names → run_of rows ≡ None
-no_number rows heap all =
-    ap (λ b. given rows (b && all_numbered rows option_names) (first_of (codes "FILE") rows)) (sym heap)
+pub no_keep : (rows : List Row) → true ≡ is_numbered rows names_heap → false ≡ is_numbered rows keep → run_of rows ≡ None
+no_keep rows heap most =
+    ap (λ b. given rows (b && all_numbered rows (keep ∷ option_names)) (first_of (codes "FILE") rows)) (sym heap)
+    ∙ ap (λ b. given rows (b && all_numbered rows option_names) (first_of (codes "FILE") rows)) (sym most)
+
+pub no_number : (rows : List Row) → true ≡ is_numbered rows names_heap → true ≡ is_numbered rows keep → false ≡ all_numbered rows option_names → run_of rows ≡ None
+no_number rows heap most all =
+    ap (λ b. given rows (b && all_numbered rows (keep ∷ option_names)) (first_of (codes "FILE") rows)) (sym heap)
+    ∙ ap (λ b. given rows (b && all_numbered rows option_names) (first_of (codes "FILE") rows)) (sym most)
     ∙ ap (λ b. given rows b (first_of (codes "FILE") rows)) (sym all)
 
 by_fault : (kinds : Kinds) (run : Option Asked) (k : ErrorKind) (b : Bool) → are_alike kinds ≡ true → IsAmong k kinds → is_shown k ≡ b
@@ -103,8 +111,8 @@ by_fault (first ∷ rest) run k b alike among is = ap (λ b. cond b to_be_shown 
 
 pub of_fault : (words : List Text) (e : Error) (r : Result Request CommandFault) → HasKind (faults words) e → Becomes (kind_of e) r → Answers words r
 of_fault words e (Ok (Sim file bytes options)) h b = absurd b
-of_fault words e (Ok (Live file tells options)) h b = absurd b
-of_fault words e (Ok (Serve options)) h b = absurd b
+of_fault words e (Ok (Live file most tells options)) h b = absurd b
+of_fault words e (Ok (Serve most options)) h b = absurd b
 of_fault words e (Ok (Show text)) (inl is) b = absurd (true≢false (sym b ∙ ap is_shown is))
 of_fault words e (Ok (Show text)) (inr among) b = by_fault (faults words) (meant words) (kind_of e) true (faults_are_alike words) among b
 of_fault words e (Err Bad) (inl is) b = absurd (b.1 is)
@@ -124,22 +132,22 @@ pub of_bad : (words : List Text) (r : Result Request CommandFault) (fault : Comm
 of_bad words (Ok x) fault is bad none run = absurd is
 of_bad words (Err e) fault is bad none run = subst (λ e. Answers words (Err e)) (sym (is ∙ bad)) (ap₂ asked_by none run)
 
-pub of_run : (words : List Text) (live : Bool) (file : Text) (bytes : Option ℕ) (tells : Bool) (options : Options) (r : Request)
-    → asked words ≡ to_run (live, (file, (bytes, (tells, options)))) → Runs live file bytes tells options r → Answers words (Ok r)
-of_run words live file bytes tells options (Sim f b o) is runs =
-    is ∙ ap (λ (l : Bool). to_run (l, (file, (bytes, (tells, options))))) runs.0
+pub of_run : (words : List Text) (live : Bool) (file : Text) (bytes most : Option ℕ) (tells : Bool) (options : Options) (r : Request)
+    → asked words ≡ to_run (live, (file, (bytes, (most, (tells, options))))) → Runs live file bytes most tells options r → Answers words (Ok r)
+of_run words live file bytes most tells options (Sim f b o) is runs =
+    is ∙ ap (λ (l : Bool). to_run (l, (file, (bytes, (most, (tells, options)))))) runs.0
     ∙ ap₂ (λ (g : Text) (w : Option ℕ × Options). to_simulate g w.0 w.1) (sym runs.1) (λ i. (sym runs.2 i, sym runs.3 i))
-of_run words live file bytes tells options (Live f t o) is runs =
-    is ∙ ap (λ (l : Bool). to_run (l, (file, (bytes, (tells, options))))) runs.0
-    ∙ ap₂ (λ (g : Text) (w : Bool × Options). to_play g w.0 w.1) (sym runs.1) (λ i. (sym runs.2 i, sym runs.3 i))
-of_run words live file bytes tells options (Serve o) is runs = absurd runs
-of_run words live file bytes tells options (Show text) is runs = absurd runs
+of_run words live file bytes most tells options (Live f m t o) is runs =
+    is ∙ ap (λ (l : Bool). to_run (l, (file, (bytes, (most, (tells, options)))))) runs.0
+    ∙ ap₂ (λ (g : Text) (w : Option ℕ × (Bool × Options)). to_play g w.0 w.1.0 w.1.1) (sym runs.1) (λ i. (sym runs.2 i, (sym runs.3 i, sym runs.4 i)))
+of_run words live file bytes most tells options (Serve m o) is runs = absurd runs
+of_run words live file bytes most tells options (Show text) is runs = absurd runs
 
 pub of_serve : (words : List Text) (name : Text) (rows : List Row) (r : Result Request CommandFault) → faults words ≡ [] → meant words ≡ asked_on (name, rows) → is_served name ≡ true → Serves rows r
     → Answers words r
 of_serve words name rows (Ok (Sim f b o)) none is named serves = absurd serves
-of_serve words name rows (Ok (Live f t o)) none is named serves = absurd serves
-of_serve words name rows (Ok (Serve o)) none is named serves = ap₂ asked_by none (is ∙ serve_asked name rows named ∙ ap (option_map to_serve) serves)
+of_serve words name rows (Ok (Live f m t o)) none is named serves = absurd serves
+of_serve words name rows (Ok (Serve m o)) none is named serves = ap₂ asked_by none (is ∙ serve_asked name rows named ∙ serves)
 of_serve words name rows (Ok (Show text)) none is named serves = absurd serves
-of_serve words name rows (Err Bad) none is named serves = ap₂ asked_by none (is ∙ serve_asked name rows named ∙ ap (option_map to_serve) serves)
+of_serve words name rows (Err Bad) none is named serves = ap₂ asked_by none (is ∙ serve_asked name rows named ∙ serves)
 of_serve words name rows (Err NoMemory) none is named serves = tt

@@ -12,7 +12,7 @@ use Rattle.clap.specs.declared.error.kind.ErrorKind.TheVariants.{DisplayHelp, Di
 use Rattle.gfs_types.specs.Settings.{block_for, default_settings}
 use Rattle.gfs_types.specs.declared.config.Config.{Config}
 use Rattle.script.specs.Numbers.{number_of}
-use Rattle.command_line.specs.Program.{names_heap, option_names, progress, program}
+use Rattle.command_line.specs.Program.{keep, names_heap, option_names, progress, program}
 use Rattle.script.specs.declared.options.Options.{Options}
 use Rattle.command_line.specs.declared.command.CommandFault.{CommandFault}
 use Rattle.command_line.specs.declared.command.CommandFault.TheVariants.{Bad, NoMemory}
@@ -58,9 +58,9 @@ options_of rows = record {
   config = config_of rows;
 }
 
--- the bytes of the names' region, where some are given
-abbrev pub names_heap_of : List Row → Option ℕ
-names_heap_of rows = option_map (λ text. unwrap_or (number_of text) 0) (first_of names_heap rows)
+-- the number of an option without a default, where it is given
+abbrev pub given_number : List Row → Text → Option ℕ
+given_number rows name = option_map (λ text. unwrap_or (number_of text) 0) (first_of name rows)
 
 -- a flag is given
 abbrev pub is_given : List Row → Text → Bool
@@ -72,16 +72,16 @@ all_numbered rows names = list_all (is_numbered rows) names
 
 -- ---- the command line
 
--- the bytes of the names' region, whether progress is told, and the options
+-- the bytes of the names' region, how many entries of the journal stay, whether progress is told, and the options
 abbrev pub Wanted : Type 0
-Wanted = Option ℕ × (Bool × Options)
+Wanted = Option ℕ × (Option ℕ × (Bool × Options))
 
 abbrev pub wanted_by : List Row → Wanted
-wanted_by rows = (names_heap_of rows, (is_given rows progress, options_of rows))
+wanted_by rows = (given_number rows names_heap, (given_number rows keep, (is_given rows progress, options_of rows)))
 
 -- the file, and what the rows of a subcommand say of the run
 abbrev pub run_of : List Row → Option (Text × Wanted)
-run_of rows = if all_numbered rows (names_heap ∷ option_names) then option_map (λ file. (file, wanted_by rows)) (first_of (codes "FILE") rows) else None
+run_of rows = if all_numbered rows (names_heap ∷ keep ∷ option_names) then option_map (λ file. (file, wanted_by rows)) (first_of (codes "FILE") rows) else None
 
 -- the subcommand runs the script on threads; the other one runs it by the simulator
 abbrev pub is_live : Text → Bool
@@ -90,13 +90,6 @@ is_live name = bytes_eq name (codes "live")
 -- whether on threads, the file, and what is said of the run
 abbrev pub run_by : Text × List Row → Option (Bool × (Text × Wanted))
 run_by sub = option_map (λ run. (is_live sub.0, run)) (run_of sub.1)
-
--- the options of a cell that is to be served
-abbrev pub served_of : List Row → Option Options
-served_of rows = if all_numbered rows option_names then Some (options_of rows) else None
-
-abbrev pub is_served : Text → Bool
-is_served name = bytes_eq name (codes "serve")
 
 -- the faults that a parse of the words may name: the first step that fails has one kind, or a few that may come
 abbrev pub faults : List Text → Kinds
@@ -108,20 +101,29 @@ is_shown DisplayHelp = true
 is_shown DisplayVersion = true
 is_shown _ = false
 
--- to run a script's file by the simulator, with a region for the names or none, or on threads, with progress told or not, to serve a cell, to be shown the help or the version, or nothing
+-- to run a script's file by the simulator, with a region for the names or none, or on threads, with so many entries that stay or all, and progress told or not,
+-- to serve a cell with so many entries that stay or all, to be shown the help or the version, or nothing
 pub data Asked : Type 0 where
   to_simulate : Text → Option ℕ → Options → Asked
-  to_play : Text → Bool → Options → Asked
-  to_serve : Options → Asked
+  to_play : Text → Option ℕ → Bool → Options → Asked
+  to_serve : Option ℕ → Options → Asked
   to_be_shown : Asked
   nothing : Asked
 
 abbrev pub to_run : Bool × (Text × Wanted) → Asked
-to_run run = if run.0 then to_play run.1.0 run.1.1.1.0 run.1.1.1.1 else to_simulate run.1.0 run.1.1.0 run.1.1.1.1
+to_run run = if run.0 then to_play run.1.0 run.1.1.1.0 run.1.1.1.1.0 run.1.1.1.1.1 else to_simulate run.1.0 run.1.1.0 run.1.1.1.1.1
+
+-- the subcommand serves a cell
+abbrev pub is_served : Text → Bool
+is_served name = bytes_eq name (codes "serve")
+
+-- what the rows of that subcommand ask for
+abbrev pub served_of : List Row → Option Asked
+served_of rows = if all_numbered rows (keep ∷ option_names) then Some (to_serve (given_number rows keep) (options_of rows)) else None
 
 -- what the rows of a subcommand ask for
 abbrev pub asked_on : Text × List Row → Option Asked
-asked_on sub = if is_served sub.0 then option_map to_serve (served_of sub.1) else option_map to_run (run_by sub)
+asked_on sub = if is_served sub.0 then served_of sub.1 else option_map to_run (run_by sub)
 
 -- what the words would ask for, where they have no fault
 abbrev pub meant : List Text → Option Asked
@@ -139,8 +141,8 @@ asked words = asked_by (faults words) (meant words)
 -- the answer says what the words ask for, or memory ran out
 abbrev pub Answers : List Text → Result Request CommandFault → Type 0
 Answers words (Ok (Sim file bytes options)) = asked words ≡ to_simulate file.now bytes options
-Answers words (Ok (Live file tells options)) = asked words ≡ to_play file.now tells options
-Answers words (Ok (Serve options)) = asked words ≡ to_serve options
+Answers words (Ok (Live file most tells options)) = asked words ≡ to_play file.now most tells options
+Answers words (Ok (Serve most options)) = asked words ≡ to_serve most options
 Answers words (Ok (Show text)) = asked words ≡ to_be_shown
 Answers words (Err Bad) = asked words ≡ nothing
 Answers words (Err NoMemory) = ⊤
@@ -148,22 +150,22 @@ Answers words (Err NoMemory) = ⊤
 -- what a fault of a parse becomes; a text to be shown may take memory
 abbrev pub Becomes : ErrorKind → Result Request CommandFault → Type 0
 Becomes kind (Ok (Sim file bytes options)) = ⊥
-Becomes kind (Ok (Live file tells options)) = ⊥
-Becomes kind (Ok (Serve options)) = ⊥
+Becomes kind (Ok (Live file most tells options)) = ⊥
+Becomes kind (Ok (Serve most options)) = ⊥
 Becomes kind (Ok (Show text)) = is_shown kind ≡ true
 Becomes kind (Err Bad) = (is_shown kind ≡ false) × (kind ≡ OutOfMemory → ⊥)
 Becomes kind (Err NoMemory) = (is_shown kind ≡ true) ⊎ (kind ≡ OutOfMemory)
 
 -- to run a script on threads or by the simulator
-abbrev pub Runs : Bool → Text → Option ℕ → Bool → Options → Request → Type 0
-Runs live file bytes tells options (Sim f b o) = (live ≡ false) × (f.now ≡ file) × (b ≡ bytes) × (o ≡ options)
-Runs live file bytes tells options (Live f t o) = (live ≡ true) × (f.now ≡ file) × (t ≡ tells) × (o ≡ options)
-Runs live file bytes tells options (Serve o) = ⊥
-Runs live file bytes tells options (Show text) = ⊥
+abbrev pub Runs : Bool → Text → Option ℕ → Option ℕ → Bool → Options → Request → Type 0
+Runs live file bytes most tells options (Sim f b o) = (live ≡ false) × (f.now ≡ file) × (b ≡ bytes) × (o ≡ options)
+Runs live file bytes most tells options (Live f m t o) = (live ≡ true) × (f.now ≡ file) × (m ≡ most) × (t ≡ tells) × (o ≡ options)
+Runs live file bytes most tells options (Serve m o) = ⊥
+Runs live file bytes most tells options (Show text) = ⊥
 
 -- to serve a cell, where each value that is given is a number
 abbrev pub Serves : List Row → Result Request CommandFault → Type 0
-Serves rows (Ok (Serve options)) = served_of rows ≡ Some options
+Serves rows (Ok (Serve most options)) = served_of rows ≡ Some (to_serve most options)
 Serves rows (Ok other) = ⊥
 Serves rows (Err Bad) = served_of rows ≡ None
 Serves rows (Err NoMemory) = ⊥

@@ -44,10 +44,11 @@ names_heap = codes "names-heap"
 abbrev pub simulator : Shape
 simulator = record (runner (codes "sim")) { rules = (runner (codes "sim")).rules ++ (option_named names_heap ∷ []) }
 
--- the option and the flag of the cell with threads alone
+-- the option of both cells with threads
 abbrev pub keep : Text
 keep = codes "keep"
 
+-- the flag of the one that runs a script
 abbrev pub progress : Text
 progress = codes "progress"
 
@@ -56,7 +57,7 @@ player = record (runner (codes "live")) { rules = ((runner (codes "live")).rules
 
 -- the subcommand that serves a cell with threads
 abbrev pub server : Shape
-server = record (new_shape (codes "serve")) { rules = map option_named option_names }
+server = record (new_shape (codes "serve")) { rules = map option_named option_names ++ (option_named keep ∷ []) }
 
 abbrev pub gfscell : Shape
 gfscell = record (new_shape (codes "gfscell")) {

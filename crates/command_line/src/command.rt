@@ -2,8 +2,8 @@
 
 ghost use Rattle.std.specs.Prelude.{◌≡◌, Some, IfOk, IfErr, is_ok, map, string_bytes, false};
 ghost use Rattle.clap.specs.Words.{app_of, shape_of, found_of, kind_of, rows_of, rule_of};
-ghost use Rattle.command_line.specs.Program.{flag_named, names, names_heap, option_named, option_names, player, program, runner, server, setting_names, simulator, with_options};
-ghost use Rattle.command_line.specs.Asking.{Answers, Becomes, Runs, Serves, all_numbered, config_of, is_given, is_live, is_numbered, is_served, names_heap_of, narrow_for, number_for, options_of};
+ghost use Rattle.command_line.specs.Program.{flag_named, names, option_named, option_names, player, program, runner, server, setting_names, simulator, with_options};
+ghost use Rattle.command_line.specs.Asking.{Answers, Becomes, Runs, Serves, all_numbered, config_of, given_number, is_given, is_live, is_numbered, is_served, narrow_for, number_for, options_of};
 ghost use Rattle.command_line.specs.Faults.{fault_text};
 ghost use Rattle.command_line.specs.declared.command.CommandFault.TheVariants.{Bad, NoMemory};
 
@@ -26,14 +26,16 @@ pub enum Request<'a> {
         names_heap: Option<u64>,
         options: Options,
     },
-    /// To run it on a cell with threads, and perhaps to tell meanwhile how far it is.
+    /// To run it on a cell with threads, of whose journal so many entries stay, or all, and perhaps to tell meanwhile how far it is.
     Live {
         file: &'a str,
+        keep: Option<u64>,
         tells_progress: bool,
         options: Options,
     },
-    /// To serve a cell with threads.
+    /// To serve a cell with threads, of whose journal so many entries stay, or all.
     Serve {
+        keep: Option<u64>,
         options: Options,
     },
     /// To print this text: the help or the version.
@@ -117,6 +119,12 @@ const REGION: [(&str, &str); 1] = [(
     "Bytes of a region for the names [default: none, they share the memory of all]",
 )];
 
+/// The option of both cells with threads.
+const KEEP: [(&str, &str); 1] = [(
+    "keep",
+    "Last events that stay in memory, where the journal has no end [default: none, all stay]",
+)];
+
 /// A flag by a long name.
 fn flag<'a>(alloc: Global, name: &'a str, help: &'a str) -> Arg<'a>
     ensures rule { rule_of result ≡ flag_named name.entry.now }
@@ -159,7 +167,8 @@ fn server<'a>(alloc: Global) -> Result<Command<'a>, AllocError>
     ensures { IfOk result (λ command. shape_of command ≡ server) }
 {
     let command = Command::new(alloc, "serve").about("Serves a cell with threads through a pipe");
-    with_options(alloc, command, &OPTIONS)
+    let command = with_options(alloc, command, &OPTIONS)?;
+    with_options(alloc, command, &KEEP)
 }
 
 /// A subcommand that runs a script.
@@ -186,6 +195,7 @@ fn player<'a>(alloc: Global) -> Result<Command<'a>, AllocError>
     ensures { IfOk result (λ command. shape_of command ≡ player) }
 {
     let command = runner(alloc, "live", "Runs a script on a cell with threads")?;
+    let command = with_options(alloc, command, &KEEP)?;
     command.arg(flag(
         alloc,
         "progress",
@@ -251,16 +261,17 @@ fn config(matches: &ArgMatches<'_>) -> Result<Config, CommandFault>
     })
 }
 
-fn names_heap(matches: &ArgMatches<'_>) -> Result<Option<u64>, CommandFault>
-    ensures ok { IfOk result (λ bytes. bytes ≡ names_heap_of (rows_of (found_of matches.now))) }
-    ensures all { is_ok result ≡ is_numbered (rows_of (found_of matches.now)) names_heap }
+/// The value of an option without a default, where it is given.
+fn given_number(matches: &ArgMatches<'_>, name: &str) -> Result<Option<u64>, CommandFault>
+    ensures ok { IfOk result (λ n. n ≡ given_number (rows_of (found_of matches.now)) name.now) }
+    ensures all { is_ok result ≡ is_numbered (rows_of (found_of matches.now)) name.now }
     ensures err { IfErr result (λ fault. fault ≡ Bad) }
 {
-    let Some(text) = matches.get_str("names-heap") else {
+    let Some(text) = matches.get_str(name) else {
         return Ok(None);
     };
     match number(text.as_bytes()) {
-        Some(bytes) => Ok(Some(bytes)),
+        Some(value) => Ok(Some(value)),
         None => Err(CommandFault::Bad),
     }
 }
@@ -317,10 +328,11 @@ pub fn parse<'a>(alloc: Global, words: &'a [String]) -> Result<Request<'a>, Comm
         return serving(given);
     }
     let file = given.get_str("FILE").ok_or(CommandFault::Bad)?;
-    let names_heap = names_heap(given)?;
+    let names_heap = given_number(given, "names-heap")?;
+    let keep = given_number(given, "keep")?;
     let options = options(given)?;
     let tells_progress = is_given(given, "progress");
-    Ok(request_for(name, file, names_heap, tells_progress, options))
+    Ok(request_for(name, file, names_heap, keep, tells_progress, options))
 }
 
 /// Whether it is the subcommand that serves a cell.
@@ -334,9 +346,9 @@ fn is_serve(name: &str) -> bool
 fn serving<'a>(matches: &ArgMatches<'_>) -> Result<Request<'a>, CommandFault>
     ensures { Serves (rows_of (found_of matches.now)) result }
 {
-    Ok(Request::Serve {
-        options: options(matches)?,
-    })
+    let keep = given_number(matches, "keep")?;
+    let options = options(matches)?;
+    Ok(Request::Serve { keep, options })
 }
 
 /// What the subcommand of a name asks for that runs a script.
@@ -344,14 +356,16 @@ fn request_for<'a>(
     name: &str,
     file: &'a str,
     names_heap: Option<u64>,
+    keep: Option<u64>,
     tells_progress: bool,
     options: Options,
 ) -> Request<'a>
-    ensures { Runs (is_live name.now) file.now names_heap tells_progress options result }
+    ensures { Runs (is_live name.now) file.now names_heap keep tells_progress options result }
 {
     if name == "live" {
         Request::Live {
             file,
+            keep,
             tells_progress,
             options,
         }

@@ -150,6 +150,22 @@ fn play<T: Threads + Wait + Clock + Copy + Send + Sync + 'static, S: Read + Drop
     )
 }
 
+/// The same of a file's script, where `-` is standard input.
+fn play_file<T: Threads + Wait + Clock + Copy + Send + Sync + 'static>(
+    threads: T,
+    rt: &HostRuntime,
+    file: &str,
+    keep: Option<u64>,
+    tells_progress: bool,
+    options: &Options,
+) -> Result<(), ScriptFault> {
+    if file == "-" {
+        return play(threads, rt, keep, tells_progress, options, rt.reader());
+    }
+    let script = File::open(rt, file).map_err(|e| ScriptFault::of_read(&e))?;
+    play(threads, rt, keep, tells_progress, options, script)
+}
+
 /// Tells of each bad line on standard error.
 #[derive(Drop)]
 struct ErrorFaults {
@@ -167,13 +183,22 @@ impl LineFaults for ErrorFaults {
 fn serve<T: Threads + Wait + Clock + Copy + Send + 'static>(
     threads: T,
     rt: &HostRuntime,
+    keep: Option<u64>,
     options: &Options,
 ) -> Result<(), ScriptFault> {
     let alloc = rt.alloc();
     let reader = BufReader::new(alloc, rt.stdin()).map_err(|e| ScriptFault::of_read(&e))?;
     let mut writer = BufWriter::new(alloc, io::writer(rt)).map_err(|e| ScriptFault::of_write(&e))?;
     let faults = ErrorFaults { rt: *rt };
-    run_serve(threads, alloc, options, reader, &mut writer, faults)
+    run_serve(
+        threads,
+        alloc,
+        options,
+        retention_of(keep),
+        reader,
+        &mut writer,
+        faults,
+    )
 }
 
 /// The words of the command line. Words that are no text are a bad command line.
@@ -209,21 +234,12 @@ fn run<T: Threads + Wait + Clock + Copy + Send + Sync + 'static>(
             simulate(rt, names_heap, &options, script)?;
         }
         Request::Live {
-            file: "-",
-            keep,
-            tells_progress,
-            options,
-        } => play(threads, rt, keep, tells_progress, &options, rt.reader())?,
-        Request::Live {
             file,
             keep,
             tells_progress,
             options,
-        } => {
-            let script = File::open(rt, file).map_err(|e| ScriptFault::of_read(&e))?;
-            play(threads, rt, keep, tells_progress, &options, script)?;
-        }
-        Request::Serve { options } => serve(threads, rt, &options)?,
+        } => play_file(threads, rt, file, keep, tells_progress, &options)?,
+        Request::Serve { keep, options } => serve(threads, rt, keep, &options)?,
     }
     Ok(())
 }

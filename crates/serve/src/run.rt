@@ -12,6 +12,7 @@ use crate::printing::{PrintedAnswers, print_all};
 use crate::reading::{LineFaults, Receivers};
 use crate::served_client::ServedClient;
 use crate::served_messages::{Asked, AskedCall, Serving, Told};
+use cell_journal::Retention;
 use cell_run::cell::{Cell, ClientSeat, StartFault};
 use cell_seats::gate::OpenGate;
 use cell_seats::shared_state::MOST_CLIENTS;
@@ -32,7 +33,7 @@ use std::time::Clock;
 const MOST_WAITING: usize = 1_024;
 
 /// Takes lines as they come, has each client's calls made in order on a thread of its own, and prints each answer when it comes. At the end of
-/// input it ends, after the last answer.
+/// input it ends, after the last answer. Of the cell's journal these entries stay.
 ///
 /// - `Start`: a setting or a count of nodes is out of its range, or the cell or a thread could not be started.
 /// - `NoMemory`: memory was refused outside the cell's own steps.
@@ -46,6 +47,7 @@ pub fn run_serve<
     rt: T,
     alloc: Global,
     options: &Options,
+    retention: Retention,
     reader: R,
     writer: &mut W,
     faults: F,
@@ -53,7 +55,7 @@ pub fn run_serve<
     ensures serves { OnOk result (Serves options.now (R.remaining reader) (W.contents writer.old) (W.contents writer.new)) }
     ensures stops { IfErr result (Stops options.now (R.remaining reader) (W.contents writer.old) (W.contents writer.new)) }
 {
-    let cell = start(rt, alloc, options)?;
+    let cell = start(rt, alloc, options, retention)?;
     serve::<Brand, T, R, W, F>(rt, cell, alloc, options, reader, writer, faults)
 }
 
@@ -62,9 +64,10 @@ fn start<T: Threads + Wait + Clock + Copy + Send + 'static>(
     rt: T,
     alloc: Global,
     options: &Options,
+    retention: Retention,
 ) -> Result<Cell, ScriptFault>
     ensures some { OnOk result (0 < options.now.clients) }
-    ensures cell { IfOk result (λ cell. IsNewCell options.now.config options.now.servers cell) }
+    ensures cell { IfOk result (λ cell. IsNewCell options.now.config options.now.servers retention cell) }
     ensures fault { IfErr result IsOfRun }
 {
     if options.clients == 0 || options.clients > MOST_CLIENTS {
@@ -73,7 +76,7 @@ fn start<T: Threads + Wait + Clock + Copy + Send + 'static>(
     let Ok(servers) = u16::try_from(options.servers) else {
         return Err(ScriptFault::Start);
     };
-    match Cell::start(rt, alloc, options.config, servers, OpenGate) {
+    match Cell::start_retaining(rt, alloc, options.config, servers, retention, OpenGate) {
         Ok(cell) => Ok(cell),
         Err(StartFault::NoMemory) => Err(ScriptFault::NoMemory),
         Err(_) => Err(ScriptFault::Start),

@@ -1,5 +1,6 @@
 //! A cell that is served through a pipe.
 
+use cell_journal::Retention;
 use gfs_types::config::Config;
 use script::options::Options;
 use script::script_fault::ScriptFault;
@@ -47,6 +48,32 @@ fn one_server(clients: u64) -> Options {
     }
 }
 
+/// Serves a cell of one server, whose whole journal stays.
+fn serve_whole<
+    T: Threads + Wait + Clock + Copy + Send + 'static,
+    R: Read + Send + Drop + 'static,
+    W: Write,
+    F: LineFaults + Send + Drop + 'static,
+>(
+    rt: T,
+    alloc: Global,
+    clients: u64,
+    reader: R,
+    writer: &mut W,
+    faults: F,
+) -> Result<(), ScriptFault> {
+    let options = one_server(clients);
+    run_serve(
+        rt,
+        alloc,
+        &options,
+        Retention::Whole,
+        reader,
+        writer,
+        faults,
+    )
+}
+
 /// Serves these lines. Gives the outcome, and the numbers of bad lines, added up.
 fn served<R: Threads + Wait + Clock + Copy + Send + 'static>(
     rt: R,
@@ -59,7 +86,7 @@ fn served<R: Threads + Wait + Clock + Copy + Send + 'static>(
     let faults = NotedFaults {
         lines: Arc::try_clone(&bad)?,
     };
-    let outcome = run_serve(rt, alloc, &one_server(clients), lines, out, faults);
+    let outcome = serve_whole(rt, alloc, clients, lines, out, faults);
     Ok((outcome, bad.load(Ordering::SeqCst)))
 }
 
@@ -75,6 +102,37 @@ fn a_client_has_a_dialogue(rt: HostRuntime) -> Result<(), Fail> {
     assert_eq!(rt;
         str::from_utf8(out.as_slice())?,
         "c1 done\nc1 fd 1\nc1 at 0\nc1 at 2\nc1 done\nc1 at 6\nc1 bytes 6 00ff6162630a rounds 1\nc1 refused 12 BadFd\n"
+    );
+    Ok(())
+}
+
+// Each call takes three steps, so that these take more than the 16 that the setting lets a whole journal have.
+#[test]
+fn a_cell_runs_past_its_journal(rt: HostRuntime) -> Result<(), Fail> {
+    let alloc = rt.alloc();
+    let mut out = Vec::new(alloc);
+    let mut options = one_server(1);
+    options.config.journal = 16;
+    let lines =
+        b"c1 mkdir /a\nc1 mkdir /b\nc1 mkdir /c\nc1 mkdir /d\nc1 mkdir /e\nc1 mkdir /f\nc1 mkdir /g\nc1 list /\n".as_slice();
+    let faults = NotedFaults {
+        lines: counter(alloc)?,
+    };
+    assert_eq!(rt;
+        run_serve(
+            rt,
+            alloc,
+            &options,
+            Retention::Last(1_000),
+            lines,
+            &mut out,
+            faults,
+        ),
+        Ok(())
+    );
+    assert_eq!(rt;
+        str::from_utf8(out.as_slice())?,
+        "c1 done\nc1 done\nc1 done\nc1 done\nc1 done\nc1 done\nc1 done\nc1 names 8 .gone/ a/ b/ c/ d/ e/ f/ g/\n"
     );
     Ok(())
 }
@@ -173,7 +231,7 @@ fn each_answer_is_flushed_before_the_next_line_comes(rt: HostRuntime) -> Result<
     };
     let faults = NotedFaults { lines: bad };
     assert_eq!(rt;
-        run_serve(rt, alloc, &one_server(2), reader, &mut writer, faults),
+        serve_whole(rt, alloc, 2, reader, &mut writer, faults),
         Ok(())
     );
     assert_eq!(rt; writer.lines, 6);
@@ -239,7 +297,7 @@ fn what_was_asked_before_the_reader_fails_is_answered(rt: HostRuntime) -> Result
         lines: counter(alloc)?,
     };
     assert_eq!(rt;
-        run_serve(rt, alloc, &one_server(1), reader, &mut out, faults),
+        serve_whole(rt, alloc, 1, reader, &mut out, faults),
         Err(ScriptFault::Read)
     );
     assert_eq!(rt;
@@ -272,7 +330,7 @@ fn a_writer_that_fails_ends_it(rt: HostRuntime) -> Result<(), Fail> {
     let lines = b"c1 mkdir /a\n".as_slice();
     let mut writer = FailingWriter;
     assert_eq!(rt;
-        run_serve(rt, alloc, &one_server(1), lines, &mut writer, faults),
+        serve_whole(rt, alloc, 1, lines, &mut writer, faults),
         Err(ScriptFault::Write)
     );
     Ok(())

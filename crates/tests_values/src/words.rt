@@ -88,12 +88,13 @@ fn words(alloc: Global, line: &str) -> Result<Vec<String>, AllocError> {
 }
 
 /// What a command line asks for: a script's file, the size of the names' region and the settings that aren't the defaults; the same of a cell with threads, that
-/// has no region, and whether progress is told; the settings of such a cell that is served; a text with these words in it; or nothing.
+/// has no region, with how many entries of its journal stay, and whether progress is told; how many stay, and the settings, of such a cell that is served; a
+/// text with these words in it; or nothing.
 #[derive(Clone, Copy)]
 enum Command<'a> {
     Sim(&'a str, Option<u64>, &'a [(&'a str, u64)]),
-    Live(&'a str, bool, &'a [(&'a str, u64)]),
-    Serve(&'a [(&'a str, u64)]),
+    Live(&'a str, Option<u64>, bool, &'a [(&'a str, u64)]),
+    Serve(Option<u64>, &'a [(&'a str, u64)]),
     Shows(&'a str),
     Nothing,
 }
@@ -107,18 +108,27 @@ fn is_sim(file: &str, names_heap: Option<u64>, options: &Options, wanted: &Comma
     }
 }
 
-fn is_live(file: &str, tells_progress: bool, options: &Options, wanted: &Command) -> bool {
+fn is_live(
+    file: &str,
+    keep: Option<u64>,
+    tells_progress: bool,
+    options: &Options,
+    wanted: &Command,
+) -> bool {
     match wanted {
-        Command::Live(name, tells, changes) => {
-            file == *name && tells_progress == *tells && numbers(options) == changed(changes)
+        Command::Live(name, most, tells, changes) => {
+            file == *name
+                && keep == *most
+                && tells_progress == *tells
+                && numbers(options) == changed(changes)
         }
         _ => false,
     }
 }
 
-fn is_serve(options: &Options, wanted: &Command) -> bool {
+fn is_serve(keep: Option<u64>, options: &Options, wanted: &Command) -> bool {
     match wanted {
-        Command::Serve(changes) => numbers(options) == changed(changes),
+        Command::Serve(most, changes) => keep == *most && numbers(options) == changed(changes),
         _ => false,
     }
 }
@@ -140,10 +150,11 @@ fn is_request(request: &Request, wanted: &Command) -> bool {
         } => is_sim(file, *names_heap, options, wanted),
         Request::Live {
             file,
+            keep,
             tells_progress,
             options,
-        } => is_live(file, *tells_progress, options, wanted),
-        Request::Serve { options } => is_serve(options, wanted),
+        } => is_live(file, *keep, *tells_progress, options, wanted),
+        Request::Serve { keep, options } => is_serve(*keep, options, wanted),
         Request::Show(text) => shows(text.as_str(), wanted),
     }
 }
@@ -195,23 +206,35 @@ fn sets_each_option(rt: HostRuntime) -> Result<(), Fail> {
 }
 
 /// Command lines that ask for a region, for threads, or for settings together.
-const LINES: [(&str, Command); 15] = [
+const LINES: [(&str, Command); 18] = [
     (
         "gfscell sim a.gfs --names-heap 16384 --servers 5",
         Command::Sim("a.gfs", Some(16_384), &[("servers", 5)]),
     ),
     (
         "gfscell live a.live --servers 5",
-        Command::Live("a.live", false, &[("servers", 5)]),
+        Command::Live("a.live", None, false, &[("servers", 5)]),
     ),
     (
         "gfscell live --progress a.live --servers 5",
-        Command::Live("a.live", true, &[("servers", 5)]),
+        Command::Live("a.live", None, true, &[("servers", 5)]),
     ),
-    ("gfscell serve", Command::Serve(&[])),
+    (
+        "gfscell live a.live --keep 100000",
+        Command::Live("a.live", Some(100_000), false, &[]),
+    ),
+    (
+        "gfscell live --keep=7 --progress a.live --servers 5",
+        Command::Live("a.live", Some(7), true, &[("servers", 5)]),
+    ),
+    ("gfscell serve", Command::Serve(None, &[])),
     (
         "gfscell serve --clients 4 --slots 64",
-        Command::Serve(&[("clients", 4), ("slots", 64)]),
+        Command::Serve(None, &[("clients", 4), ("slots", 64)]),
+    ),
+    (
+        "gfscell serve --keep 1000000 --clients 4",
+        Command::Serve(Some(1_000_000), &[("clients", 4)]),
     ),
     ("gfscell sim a.gfs", Command::Sim("a.gfs", None, &[])),
     // the greatest power of two that divides the chunk and is at most 65,536
@@ -256,7 +279,7 @@ fn sets_options_together(rt: HostRuntime) -> Result<(), Fail> {
     Ok(())
 }
 
-const REFUSED: [(&str, Command); 34] = [
+const REFUSED: [(&str, Command); 40] = [
     ("gfscell", Command::Nothing),
     ("gfscell help", Command::Nothing),
     ("gfscell live", Command::Nothing),
@@ -266,12 +289,21 @@ const REFUSED: [(&str, Command); 34] = [
     ("gfscell serve --progress", Command::Nothing),
     ("gfscell serve --names-heap 16384", Command::Nothing),
     ("gfscell serve --clients x", Command::Nothing),
+    ("gfscell serve --keep", Command::Nothing),
+    ("gfscell serve --keep x", Command::Nothing),
     ("gfscell sim", Command::Nothing),
     ("gfscell a.gfs", Command::Nothing),
     ("gfscell sim a.gfs b.gfs", Command::Nothing),
     ("gfscell sim a.gfs --fast", Command::Nothing),
     ("gfscell live a.live --names-heap 16384", Command::Nothing),
     ("gfscell sim a.gfs --progress", Command::Nothing),
+    ("gfscell sim a.gfs --keep 1000", Command::Nothing),
+    ("gfscell live a.live --keep", Command::Nothing),
+    ("gfscell live a.live --keep x", Command::Nothing),
+    (
+        "gfscell live a.live --keep 1000 --keep 1000",
+        Command::Nothing,
+    ),
     ("gfscell live a.live --progress=1", Command::Nothing),
     (
         "gfscell live a.live --progress --progress",
@@ -309,12 +341,13 @@ fn refuses_other_words(rt: HostRuntime) -> Result<(), Fail> {
     Ok(())
 }
 
-const SHOWN: [(&str, Command); 7] = [
+const SHOWN: [(&str, Command); 8] = [
     ("gfscell --help", Command::Shows("sim")),
     ("gfscell -h", Command::Shows("live")),
     ("gfscell sim --help", Command::Shows("--lease-ms")),
     ("gfscell sim a.gfs --help", Command::Shows("--journal")),
-    ("gfscell serve --help", Command::Shows("--clients")),
+    ("gfscell live --help", Command::Shows("--progress")),
+    ("gfscell serve --help", Command::Shows("--keep")),
     ("gfscell --version", Command::Shows("gfscell 0.1.0")),
     ("gfscell -V", Command::Shows("gfscell 0.1.0")),
 ];

@@ -3,6 +3,7 @@ use Rattle.std.proofs.lemmas.Result.{IfOk-weaker}
 use Rattle.clap.specs.Walk.{Rule}
 use Rattle.clap.specs.Words.{Shape}
 use Rattle.clap.specs.Simple.{App}
+use Rattle.command_line.specs.Program.{keep, option_named}
 use Rattle.command_line.proofs.command.player.Goals as goal
 
 abbrev with_last : Shape → Rule → Shape
@@ -10,5 +11,5 @@ with_last s a = record s { rules = s.rules ++ a ∷ [] }
 
 pub returns : goal.returns
 returns c =
-    let kept = ap (λ (a : App). a.top) (c.in_ok-keeper.ensures.shape c.option.ensures.local) ∙ ap₂ with_last c.in_ok-command.ensures c.option.ensures.rule in
-    IfOk-weaker c.arg-2.result _ _ (λ r h. ap (λ (a : App). a.top) (h.shape c.flag.ensures.local) ∙ ap₂ with_last kept c.flag.ensures.rule) c.arg-2.ensures
+    let kept = ap (λ (a : App). a.top) c.in_ok-command-2.ensures ∙ ap (λ (s : Shape). with_last s (option_named keep)) c.in_ok-command.ensures in
+    IfOk-weaker c.arg.result _ _ (λ r h. ap (λ (a : App). a.top) (h.shape c.flag.ensures.local) ∙ ap₂ with_last kept c.flag.ensures.rule) c.arg.ensures
