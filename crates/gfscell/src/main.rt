@@ -10,7 +10,7 @@ ghost use Rattle.gfscell.specs.declared.ProgramFault.TheVariants as faults;
 use cell_run::{Progress, Retention, Watcher};
 use command_line::command::{CommandFault, Request, parse};
 use command_line::narrowed::narrowed;
-use live::run::run_live_watched;
+use live::run::run_live_with;
 use script::options::Options;
 use script::script_fault::ScriptFault;
 use serve::reading::LineFaults;
@@ -139,15 +139,17 @@ fn play<T: Threads + Wait + Clock + Copy + Send + Sync + 'static, S: Read + Drop
     } else {
         None
     };
-    run_live_watched(
+    run_live_with(
         threads,
         alloc,
         options,
         retention_of(keep),
+        None,
         watcher,
         &mut reader,
         &mut writer,
-    )
+    )?;
+    Ok(())
 }
 
 /// The same of a file's script, where `-` is standard input.
