@@ -55,7 +55,7 @@ def is_wanted(found, kind, text):
     if kind == 'Shows':
         return re.match(r'"(.*)"', text)[1] in found[1]
     if kind == 'Told':
-        file, regions, history = re.match(r'"(.*?)", (?:None|Some\("(.*?)"\)), (?:None|Some\("(.*?)"\))', text).groups()
+        file, regions, history = re.match(r'"(.*?)", (?:None|Some\("(.*?)"\)), (?:None|Some\("(.*?)"\)?)', text).groups()
         return found[1:] == (file, {name: word for name, word in (('regions', regions), ('history', history)) if word is not None})
     file = None if kind == 'Serve' else re.match(r'"(.*?)"', text)[1]
     number = re.search(r'Some\(([\d_]+)\)', text)
