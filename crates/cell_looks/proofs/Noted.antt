@@ -1,5 +1,5 @@
 -- What is noted of steps, by the parts of their list.
-use Rattle.std.proofs.Common.{◌≡◌, ℕ, zero, suc, ◌+◌, ◌<◌, Bool, true, false, List, [], ◌∷◌, ◌++◌, length, map, drop, Option, Some, None, refl, sym, ap, subst, ◌∙◌, append_assoc, arith}
+use Rattle.std.proofs.Common.{◌≡◌, ℕ, zero, suc, ◌+◌, ◌<◌, Bool, true, false, List, [], ◌∷◌, ◌++◌, length, map, drop, Option, Some, None, refl, sym, ap, ◌∙◌, append_assoc, arith}
 use Rattle.std.specs.Prelude.{if◌then◌else◌, Contains, slice_get, nat_lt}
 use Rattle.std.proofs.lemmas.Bool.Decides.{nat_tests}
 use Rattle.std.proofs.lemmas.List.{append-nil, map-append, drop_all}
@@ -15,7 +15,6 @@ use Rattle.cell_world.specs.Kept.{blank_seen}
 use Rattle.cell_looks.specs.declared.look_fault.LookFault.{LookFault}
 use Rattle.cell_looks.specs.declared.look_fault.LookFault.TheVariants as fault
 use Rattle.cell_looks.specs.Faults.{IsHistoryFault, IsJournalFault}
-use Rattle.cell_looks.specs.Looks.{IsPartial}
 use Rattle.cell_looks.specs.Noted.{is_client, noted_of, noted, noted_in}
 use Rattle.cell_looks.proofs.Behind.{behind, behind_whole, taken}
 

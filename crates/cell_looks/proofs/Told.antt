@@ -12,11 +12,10 @@ use Rattle.protocol.specs.Lookups.{StoredAt, file_named, regions_at, replicas_at
 use Rattle.protocol.specs.Master.{MasterState}
 use Rattle.protocol.specs.Observer.{Placed}
 use Rattle.protocol.specs.Sending.{handle_of}
-use Rattle.protocol.specs.Server.{ServerState}
 use Rattle.protocol.specs.Tables.{Table, element_at}
 use Rattle.protocol.specs.World.{WorldState}
 use Rattle.protocol.specs.declared.seen.Seen.{Seen}
-use Rattle.protocol_journal.specs.Journal.{NodeState, MasterIs, observer_of}
+use Rattle.protocol_journal.specs.Journal.{MasterIs}
 use Rattle.laws_machine.proofs.ShownChunks.{files_are_seen}
 use Rattle.cell_journal.specs.WholeHistories.{whole_of}
 use Rattle.cell_world.specs.FileNames.{file_in}
@@ -24,7 +23,6 @@ use Rattle.cell_world.specs.Held.{HeldCell, IsHeldAs, AreHeldAs}
 use Rattle.cell_world.specs.Kept.{blank_seen}
 use Rattle.cell_world.specs.Seeing.{entries_seen, orders_seen}
 use Rattle.cell_world.proofs.Regions.{no_regions, shown_regions, no_replicas, shown_replicas, shown_file}
-use Rattle.cell_run.specs.Standing.{MasterStands}
 use Rattle.cell_looks.specs.Looks.{LooksState}
 use Rattle.cell_looks.specs.Noted.{noted_in}
 use Rattle.cell_looks.specs.ParkedWorlds.{IsWorldOf}

@@ -2,16 +2,14 @@
 use Rattle.std.proofs.Common.{◌≡◌, ℕ, zero, suc, ◌≤◌, List, [], ◌∷◌, length, map, Option, Some, None, refl, sym, ap, subst, ◌∙◌, arith}
 use Rattle.std.specs.Prelude.{option_map}
 use Rattle.std.proofs.lemmas.List.{length-map}
-use Rattle.gfs_types.specs.declared.config.Config.{Config}
 use Rattle.gfs_types.specs.declared.ids.Node.{Node}
 use Rattle.gfs_types.specs.declared.ids.Node.TheVariants as node
 use Rattle.protocol.specs.Master.{MasterState}
 use Rattle.protocol.specs.Sending.{the_server}
 use Rattle.protocol.specs.Server.{ServerState, started_server}
 use Rattle.protocol.specs.Tables.{element_at, first_numbers}
-use Rattle.protocol.specs.World.{WorldState, IsReached, new_world, numbered_from_1}
+use Rattle.protocol.specs.World.{WorldState, new_world, numbered_from_1}
 use Rattle.protocol_journal.specs.Journal.{Entry, NodeState, MasterIs, ServerIs, node_in, own, LeadsTo, IsLawful}
-use Rattle.protocol_journal.specs.Laws.{Shows}
 use Rattle.protocol_journal.proofs.Journals.{journals_are_runs}
 use Rattle.replica_store.specs.Replicas.{new_server_disk}
 use Rattle.cell_journal.specs.Identity.{Identity, Closed}
@@ -19,9 +17,9 @@ use Rattle.cell_journal.specs.Rules.{IsJournalOf}
 use Rattle.cell_journal.specs.WholeHistories.{whole_of}
 use Rattle.cell_seats.specs.Journals.{JournalState}
 use Rattle.cell_seats.specs.ParkedNodes.{IsLedBy}
-use Rattle.cell_run.specs.Standing.{MasterStands, ServerStands}
+use Rattle.cell_run.specs.Standing.{MasterStands}
 use Rattle.cell_run.proofs.NewLocks.{numbers_count}
-use Rattle.cell_looks.specs.Looks.{LooksState, looks_state}
+use Rattle.cell_looks.specs.Looks.{looks_state}
 use Rattle.cell_looks.specs.ParkedWorlds.{IsWorldOf, AreLed}
 
 none_past : {X : Type 0} (xs : List X) (k : ℕ) → element_at xs k ≡ None → length xs ≤ k

@@ -1,5 +1,5 @@
 -- A parked cell that is looked at.
-use Rattle.std.specs.Prelude.{◌≡◌, ◌<◌, ℕ, List, map, length, Contains, Option, Some, None}
+use Rattle.std.specs.Prelude.{◌≡◌, ◌<◌, List, map, length, Contains, Option, Some, None}
 use Rattle.protocol.specs.Master.{MasterState}
 use Rattle.protocol.specs.Server.{ServerState}
 use Rattle.cell_journal.specs.Identity.{Closed}

@@ -1,6 +1,6 @@
 -- Parked nodes, as the history that they have seen left them.
 use Rattle.std.proofs.Common.{◌≡◌, ℕ, ◌+◌, ◌<◌, List, ◌∷◌, length, get_or, sym, ap, subst, ◌∙◌, arith}
-use Rattle.std.specs.Prelude.{map, All}
+use Rattle.std.specs.Prelude.{map}
 use Rattle.std.proofs.lemmas.List.Elements.{All-head, All-tail}
 use Rattle.gfs_types.specs.declared.ids.Node.{Node}
 use Rattle.gfs_types.specs.declared.ids.Node.TheVariants.{Master}
@@ -12,7 +12,6 @@ use Rattle.cell_journal.specs.Log.{Listed, listed}
 use Rattle.cell_journal.specs.WholeHistories.{whole_of}
 use Rattle.cell_seats.specs.NodeLocks.{NodeName, node_name}
 use Rattle.cell_seats.specs.ParkedNodes.{ParkedNodeState, name_of, HasSeenAll, IsLedBy}
-use Rattle.cell_run.specs.Cells.{names_of}
 use Rattle.cell_run.specs.Parked.{AreNodesOf, HaveSeen}
 use Rattle.cell_run.proofs.NewLocks.{first_lock, other_locks, locks_count, lock_at}
 

@@ -1,5 +1,5 @@
 -- The lines of a history: what its clients called, and what they were answered, in its order.
-use Rattle.std.specs.Prelude.{⊤, ℕ, List, [], ◌∷◌, ◌++◌, Option, Some, None}
+use Rattle.std.specs.Prelude.{⊤, ℕ, List, [], ◌∷◌, ◌++◌, Option, Some}
 use Rattle.std.specs.List.{flat_map}
 use Rattle.gfs_types.specs.declared.answer.Answer.{Answer}
 use Rattle.gfs_types.specs.declared.ids.Node.{Node}

@@ -1,5 +1,5 @@
 -- What was looked up of a cell that ended.
-use Rattle.std.proofs.Common.{◌≡◌, ℕ, List, [], true, map, Option, Some, None, refl, sym, ap, subst, ◌∙◌}
+use Rattle.std.proofs.Common.{◌≡◌, ℕ, List, [], true, Option, Some, None, refl, sym, ap, subst, ◌∙◌}
 use Rattle.std.specs.Prelude.{option_map, unwrap_or}
 use Rattle.gfs_types.specs.Paths.{Path}
 use Rattle.gfs_types.specs.declared.ids.FileId.{FileId}

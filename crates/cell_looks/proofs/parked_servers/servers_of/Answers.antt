@@ -1,4 +1,4 @@
-use Rattle.std.proofs.Common.{length, ap, ◌∙◌}
+use Rattle.std.proofs.Common.{length, ap}
 use Rattle.cell_looks.proofs.Servers.{count_more, led_none, led_more}
 use Rattle.cell_looks.proofs.parked_servers.servers_of.Goals as goal
 

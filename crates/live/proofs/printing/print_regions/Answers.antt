@@ -1,4 +1,4 @@
-use Rattle.std.proofs.Common.{◌≡◌, List, ℕ, map, Vec, Global, sym, ap, subst, ◌∙◌}
+use Rattle.std.proofs.Common.{List, ℕ, Vec, Global, sym, ap, subst, ◌∙◌}
 use Rattle.std.specs.Io.KnownBytes.{Appends}
 use Rattle.std.proofs.lemmas.List.Folds.{flat_map-map}
 use Rattle.relaxed_file.specs.declared.region.Region.{Region}

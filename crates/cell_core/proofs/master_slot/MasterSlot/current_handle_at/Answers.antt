@@ -3,7 +3,6 @@ use Rattle.std.specs.Prelude.{option_map, option_and_then}
 use Rattle.std.specs.FinMap as table
 use Rattle.protocol.specs.Sending.{handle_of}
 use Rattle.protocol.specs.Tables.{Table, element_at}
-use Rattle.master_cell.specs.Shown.{shown_in}
 use Rattle.cell_core.specs.MasterSlots.{SlotState, slot_state}
 use Rattle.cell_core.proofs.master_slot.MasterSlot.current_handle_at.Goals as goal
 

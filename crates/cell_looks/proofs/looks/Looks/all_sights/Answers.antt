@@ -1,4 +1,4 @@
-use Rattle.std.proofs.Common.{◌≡◌, map, ap, subst, ◌∙◌}
+use Rattle.std.proofs.Common.{map, ap, subst, ◌∙◌}
 use Rattle.cell_journal.specs.WholeHistories.{whole_of}
 use Rattle.cell_world.specs.Kept.{blank_seen}
 use Rattle.cell_looks.specs.Looks.{LooksState, IsPartial, AreSightsOf}

@@ -1,10 +1,3 @@
-use Rattle.std.proofs.Common.{◌≡◌, map, length, ap, ◌∙◌, sym, subst}
-use Rattle.std.proofs.lemmas.List.{length-map}
-use Rattle.cell_journal.specs.Identity.{Closed}
-use Rattle.cell_journal.specs.WholeHistories.{whole_of}
-use Rattle.cell_seats.specs.ParkedNodes.{IsLedBy}
-use Rattle.cell_run.specs.Standing.{MasterStands}
-use Rattle.cell_looks.specs.ParkedWorlds.{AreLed}
 use Rattle.cell_looks.proofs.Worlds.{world_at}
 use Rattle.cell_looks.proofs.looks.Looks.at.Goals as goal
 

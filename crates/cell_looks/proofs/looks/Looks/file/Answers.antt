@@ -1,7 +1,6 @@
-use Rattle.std.proofs.Common.{◌≡◌, ℕ, Option, ap, subst, ◌∙◌}
+use Rattle.std.proofs.Common.{ap, ◌∙◌}
 use Rattle.std.specs.Prelude.{option_map}
 use Rattle.protocol.specs.Sending.{file_id}
-use Rattle.protocol.specs.World.{WorldState}
 use Rattle.cell_world.specs.FileNames.{file_in}
 use Rattle.cell_looks.specs.Looks.{LooksState}
 use Rattle.cell_looks.proofs.Told.{told_file}
