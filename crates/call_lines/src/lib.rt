@@ -6,7 +6,7 @@ ghost use Rattle.call_lines.specs.CallLines.{data_of, words_of, asked_line, answ
 
 use gfs_types::answer::Answer;
 use gfs_types::call::Call;
-use gfs_types::ids::{ClientId, Moment};
+use gfs_types::ids::{ClientId, Fd, Moment};
 use script::answers::{Hexadecimal, Printed};
 use std::fmt;
 
@@ -44,21 +44,21 @@ impl fmt::Display for CallWords<'_> {
                 write!(f, "create {path} {chunk} {goal}")
             }
             Call::Open(path) => write!(f, "open {path}"),
-            Call::Close(fd) => write!(f, "close {}", fd.0),
+            Call::Close(Fd(fd)) => write!(f, "close {fd}"),
             Call::Delete(path) => write!(f, "delete {path}"),
             Call::Rename(from, to) => write!(f, "rename {from} {to}"),
             Call::List(path) => write!(f, "list {path}"),
-            Call::Length(fd) => write!(f, "length {}", fd.0),
+            Call::Length(Fd(fd)) => write!(f, "length {fd}"),
             Call::Snapshot(from, to) => write!(f, "snapshot {from} {to}"),
-            Call::Write(fd, offset, bytes) => {
+            Call::Write(Fd(fd), offset, bytes) => {
                 let data = DataWord(bytes.as_slice());
-                write!(f, "write {} {offset} {data}", fd.0)
+                write!(f, "write {fd} {offset} {data}")
             }
-            Call::Append(fd, bytes) => {
+            Call::Append(Fd(fd), bytes) => {
                 let data = DataWord(bytes.as_slice());
-                write!(f, "append {} {data}", fd.0)
+                write!(f, "append {fd} {data}")
             }
-            Call::Read(fd, offset, count) => write!(f, "read {} {offset} {count}", fd.0),
+            Call::Read(Fd(fd), offset, count) => write!(f, "read {fd} {offset} {count}"),
         }
     }
 }

@@ -1,3 +1,4 @@
+pub mod Handing
 pub mod Behind
 pub mod Noted
 pub mod JournalOrders

@@ -1,5 +1,5 @@
 -- The lines of entries are printed one after the other.
-use Rattle.std.proofs.Common.{◌≡◌, ℕ, zero, suc, ◌+◌, ◌≤◌, ◌<◌, List, [], ◌∷◌, ◌++◌, length, map, take, Option, Some, None, refl, sym, ap, subst, ◌∙◌, append_assoc, arith}
+use Rattle.std.proofs.Common.{◌≡◌, ℕ, true, false, zero, suc, ◌+◌, ◌≤◌, ◌<◌, List, [], ◌∷◌, ◌++◌, length, map, take, Option, Some, None, refl, sym, ap, subst, ◌∙◌, append_assoc, arith}
 use Rattle.std.specs.Prelude.{slice_get, Contains}
 use Rattle.std.specs.Io.KnownBytes.{Appends}
 use Rattle.std.proofs.lemmas.List.{append-nil, flat_map_more}
@@ -12,6 +12,7 @@ use Rattle.cell_journal.specs.Identity.{Closed}
 use Rattle.cell_journal.specs.Retained.{gone_of}
 use Rattle.cell_journal.specs.WholeHistories.{whole_of}
 use Rattle.cell_seats.specs.Journals.{JournalState, all_in, AreBehind}
+use Rattle.cell_looks.specs.Noted.{is_client}
 use Rattle.cell_looks.proofs.Behind.{behind, behind_whole, taken}
 use Rattle.history_lines.specs.declared.history_fault.HistoryFault.{HistoryFault}
 use Rattle.history_lines.specs.declared.history_fault.HistoryFault.TheVariants as fault
@@ -31,15 +32,24 @@ appends_twice (Some x) (Some y) (Some z) xs ys p q = q ∙ (ap (λ (l : List ℕ
 
 pub both_printed : (a b c : Option (List ℕ)) (e : Entry) (n : Node) (moment : ℕ) (cause : StepCause) (reply : Option Answer) → e.node ≡ n → moment ≡ e.moment → cause ≡ e.cause → reply ≡ e.out.answer
     → Appends a b (asked_by moment n cause) → Appends b c (answered_by moment n reply) → Appends a c (entry_lines e)
-both_printed a b c e n moment cause reply at when on with first last =
+both_printed a b c e n moment cause reply node_is moment_is cause_is reply_is first last =
     subst (λ (l : List ℕ). Appends a c l) same (appends_twice a b c (asked_by moment n cause) (answered_by moment n reply) first last)
   where
     same : asked_by moment n cause ++ answered_by moment n reply ≡ entry_lines e
     same =
-        ap (λ (m : ℕ). asked_by m n cause ++ answered_by m n reply) when
-        ∙ (ap (λ (k : Node). asked_by e.moment k cause ++ answered_by e.moment k reply) (sym at)
-        ∙ (ap (λ (t : StepCause). asked_by e.moment e.node t ++ answered_by e.moment e.node reply) on
-        ∙ ap (λ (o : Option Answer). asked_by e.moment e.node e.cause ++ answered_by e.moment e.node o) with))
+        ap (λ (m : ℕ). asked_by m n cause ++ answered_by m n reply) moment_is
+        ∙ (ap (λ (k : Node). asked_by e.moment k cause ++ answered_by e.moment k reply) (sym node_is)
+        ∙ (ap (λ (t : StepCause). asked_by e.moment e.node t ++ answered_by e.moment e.node reply) cause_is
+        ∙ ap (λ (o : Option Answer). asked_by e.moment e.node e.cause ++ answered_by e.moment e.node o) reply_is))
+
+nothing_of : (moment : ℕ) (n : Node) (cause : StepCause) (reply : Option Answer) → is_client n ≡ false → asked_by moment n cause ++ answered_by moment n reply ≡ []
+nothing_of moment node.Master cause reply is = refl
+nothing_of moment (node.Server s) cause reply is = refl
+nothing_of moment (node.Client c) cause reply is = absurd (let both : true ≡ false = is in cc)
+
+-- of one that is no client's
+pub none_of_it : (a : Option (List ℕ)) (e : Entry) → is_client e.node ≡ false → Appends a a (entry_lines e)
+none_of_it a e is = subst (λ (l : List ℕ). Appends a a l) (sym (nothing_of e.moment e.node e.cause e.out.answer is)) (appends_none a)
 
 -- of a list
 

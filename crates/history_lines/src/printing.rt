@@ -1,11 +1,12 @@
 //! Prints the lines of a history.
 
-ghost use Rattle.std.specs.Prelude.{◌≡◌, ◌≢◌, ◌++◌, ◌∷◌, [], IfErr, IfSome, OnOk, length, ◌<◌};
+ghost use Rattle.std.specs.Prelude.{◌≡◌, ◌≢◌, ◌++◌, ◌∷◌, [], false, IfErr, IfSome, IfNone, OnOk, length, ◌<◌};
 ghost use Rattle.std.specs.Io.KnownBytes.{Appends};
 ghost use Rattle.history_lines.specs.declared.history_fault.HistoryFault.TheVariants.{Partial};
 ghost use Rattle.cell_journal.specs.Entries.{cause_of};
 ghost use Rattle.cell_journal.specs.Retained.{gone_of};
 ghost use Rattle.cell_journal.specs.WholeHistories.{whole_of};
+ghost use Rattle.cell_looks.specs.Noted.{is_client};
 ghost use Rattle.gfs_types.specs.declared.ids.Node.TheVariants.{Client};
 ghost use Rattle.history_lines.specs.HistoryLines.{asked_by, answered_by, entry_lines, history_lines, IsHistoryFault};
 
@@ -57,9 +58,19 @@ fn print_entry<W: Write>(entry: &JournalEntry, writer: &mut W) -> Result<(), His
     ensures printed { OnOk result (Appends (W.contents writer.old) (W.contents writer.new) (entry_lines entry.now)) }
     ensures fault { IfErr result (λ f. f ≢ Partial) }
 {
-    match entry.node() {
-        Node::Client(client) => print_step(client, entry, writer),
-        Node::Master | Node::Server(_) => Ok(()),
+    match client_of(entry.node()) {
+        Some(client) => print_step(client, entry, writer),
+        None => Ok(()),
+    }
+}
+
+fn client_of(node: Node) -> Option<ClientId>
+    ensures some { IfSome result (λ c. node ≡ Client c) }
+    ensures none { IfNone result (is_client node ≡ false) }
+{
+    match node {
+        Node::Client(client) => Some(client),
+        Node::Master | Node::Server(_) => None,
     }
 }
 
@@ -77,6 +88,7 @@ fn print_step<W: Write>(
     print_answer(moment, client, &entry.out().answer, writer)
 }
 
+#[tactic(auto, using(crate::proofs::Printed::appends_none))]
 fn print_call<W: Write>(
     moment: Moment,
     client: ClientId,
@@ -99,6 +111,7 @@ fn print_call<W: Write>(
     }
 }
 
+#[tactic(auto, using(crate::proofs::Printed::appends_none))]
 fn print_answer<W: Write>(
     moment: Moment,
     client: ClientId,

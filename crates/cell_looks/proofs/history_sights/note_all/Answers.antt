@@ -2,6 +2,8 @@ use Rattle.std.proofs.Common.{◌≡◌, ◌<◌, length, sym, ap, ◌∙◌, ar
 use Rattle.std.specs.Option.{option_copied}
 use Rattle.cell_journal.proofs.Retained.{entry_is}
 use Rattle.cell_looks.proofs.Noted.{note_more, was_gone, none_left}
+use Rattle.cell_looks.specs.declared.look_fault.LookFault.TheVariants.{NoMemory}
+use Rattle.cell_looks.proofs.Handing.{handed_on}
 use Rattle.cell_looks.proofs.history_sights.note_all.Goals as goal
 
 pub loop-place-preserved : goal.loop-place-preserved
@@ -26,3 +28,6 @@ returns-clause-seen c =
     let j = c.args.history.now in
     let all : c.loop-place.place ≡ length j.entries = omega (arith, c.len.ensures) in
     none_left j.entries c.loop-place.place c.loop-place.sights.seen _ all c.loop-place.invariant.seen
+
+pub returns-in_err-note-clause-fault : goal.returns-in_err-note-clause-fault
+returns-in_err-note-clause-fault c = handed_on c.from_residual.result _ NoMemory c.from_residual.ensures.1 tt

@@ -5,6 +5,8 @@ use Rattle.cell_journal.specs.WholeHistories.{whole_of}
 use Rattle.cell_seats.specs.Journals.{all_in}
 use Rattle.cell_world.specs.Kept.{blank_seen}
 use Rattle.cell_looks.specs.Noted.{noted_in}
+use Rattle.cell_looks.specs.declared.look_fault.LookFault.TheVariants.{NoMemory}
+use Rattle.cell_looks.proofs.Handing.{handed_on}
 use Rattle.cell_looks.proofs.Behind.{each_of, popped_one, popped_are}
 use Rattle.cell_looks.proofs.Noted.{first_noted, note_first, last_noted, fault_of_one}
 use Rattle.cell_looks.proofs.history_sights.sights_of.Goals as goal
@@ -35,7 +37,11 @@ returns-in_err-note_all-clause-fault c =
     let left = c.loop-earliest.left.items in
     let one = popped_one left c.pop.new.self.items c.pop.result c.in-Some.earliest c.pop.ensures.items c.in-Some.is in
     let there = (popped_are (λ j. Contains (all_in c.args.journal.now) j.now.now) left c.pop.new.self.items c.in-Some.earliest one was.are).1 in
-    fault_of_one c.args.journal.now c.history.result.now c.in_err-note_all.field (subst (λ (j : Closed). Contains (all_in c.args.journal.now) j) (sym c.history.ensures.history) there) c.in_err-note_all.ensures.fault
+    handed_on c.from_residual-in_err-note_all.result _ c.in_err-note_all.field-0.0 c.from_residual-in_err-note_all.ensures.1
+    (fault_of_one c.args.journal.now c.history.result.now c.in_err-note_all.field-0.0 (subst (λ (j : Closed). Contains (all_in c.args.journal.now) j) (sym c.history.ensures.history) there) c.in_err-note_all.ensures.fault)
+
+pub returns-in_err-left-clause-fault : goal.returns-in_err-left-clause-fault
+returns-in_err-left-clause-fault c = handed_on c.from_residual.result _ NoMemory c.from_residual.ensures.1 tt
 
 pub returns-clause-seen : goal.returns-clause-seen
 returns-clause-seen c =

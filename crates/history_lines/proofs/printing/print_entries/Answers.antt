@@ -1,6 +1,7 @@
 use Rattle.std.proofs.Common.{◌<◌, ◌≤◌, length, sym, ap, ◌∙◌, arith}
 use Rattle.std.specs.Option.{option_copied}
 use Rattle.cell_journal.proofs.Retained.{entry_is}
+use Rattle.cell_looks.proofs.Handing.{handed_on}
 use Rattle.cell_looks.proofs.Noted.{was_gone}
 use Rattle.history_lines.proofs.Printed.{appends_none, next_printed, all_printed}
 use Rattle.history_lines.proofs.printing.print_entries.Goals as goal
@@ -26,3 +27,7 @@ returns-clause-printed g c =
     let j = c.args.history.now in
     let past : length j.entries ≤ c.loop-place.place = omega (arith, c.loop-place-test.false, c.len.ensures) in
     all_printed _ _ j.entries c.loop-place.place past c.loop-place.invariant
+
+pub returns-in_err-print_entry-clause-fault : goal.returns-in_err-print_entry-clause-fault
+returns-in_err-print_entry-clause-fault g c =
+    handed_on c.from_residual.result _ c.in_err-print_entry.field-0.0 c.from_residual.ensures.1 (λ is. absurd (c.in_err-print_entry.ensures.fault is))

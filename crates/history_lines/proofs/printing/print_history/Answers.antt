@@ -4,6 +4,8 @@ use Rattle.std.specs.Io.KnownBytes.{Appends}
 use Rattle.cell_journal.specs.Identity.{Closed}
 use Rattle.cell_journal.specs.WholeHistories.{whole_of}
 use Rattle.cell_seats.specs.Journals.{all_in}
+use Rattle.cell_looks.proofs.Handing.{handed_on}
+use Rattle.history_lines.specs.declared.history_fault.HistoryFault.TheVariants.{NoMemory}
 use Rattle.cell_looks.proofs.Behind.{each_of, popped_one, popped_are}
 use Rattle.history_lines.specs.HistoryLines.{history_lines}
 use Rattle.history_lines.proofs.Printed.{none_printed, one_printed, whole_printed, fault_of_one}
@@ -35,8 +37,11 @@ returns-in_err-print_entries-clause-fault g c =
     let left = c.loop-earliest.left.items in
     let one = popped_one left c.pop.new.self.items c.pop.result c.in-Some.earliest c.pop.ensures.items c.in-Some.is in
     let there = (popped_are (λ j. Contains (all_in c.args.journal.now) j.now.now) left c.pop.new.self.items c.in-Some.earliest one was.are).1 in
-    fault_of_one c.args.journal.now c.history.result.now c.in_err-print_entries.field (subst (λ (j : Closed). Contains (all_in c.args.journal.now) j) (sym c.history.ensures.history) there)
-    c.in_err-print_entries.ensures.fault
+    handed_on c.from_residual-in_err-print_entries.result _ c.in_err-print_entries.field-0.0 c.from_residual-in_err-print_entries.ensures.1
+    (fault_of_one c.args.journal.now c.history.result.now c.in_err-print_entries.field-0.0 (subst (λ (j : Closed). Contains (all_in c.args.journal.now) j) (sym c.history.ensures.history) there) c.in_err-print_entries.ensures.fault)
+
+pub returns-in_err-left-clause-fault : goal.returns-in_err-left-clause-fault
+returns-in_err-left-clause-fault g c = handed_on c.from_residual.result _ NoMemory c.from_residual.ensures.1 tt
 
 pub returns-clause-printed : goal.returns-clause-printed
 returns-clause-printed g c =
