@@ -4,7 +4,7 @@ use Rattle.std.proofs.lemmas.List.Elements.{All-nil}
 use Rattle.live.proofs.ending.park_alone.Goals as goal
 
 pub park-requires : goal.park-requires
-park-requires g c κs = subst (All (λ s. s.cell.name ≡ c.args.cell.of.name)) (sym c.new.ensures.items) (All-nil (λ s. s.cell.name ≡ c.args.cell.of.name))
+park-requires g c = subst (All (λ s. s.cell.name ≡ c.args.cell.of.name)) (sym c.new.ensures.items) (All-nil (λ s. s.cell.name ≡ c.args.cell.of.name))
 
 pub returns-in-Ok-clause-cell : goal.returns-in-Ok-clause-cell
 returns-in-Ok-clause-cell g c = c.in-Ok.ensures.parked.cell_is
