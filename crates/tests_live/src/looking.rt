@@ -9,8 +9,10 @@ use cell_seats::gate::OpenGate;
 use gfs_types::ids::FileId;
 use gfs_types::lists::Text;
 use gfs_types::path::Path;
+use history_lines::print_history;
 use relaxed_file::region::Region;
 use std::alloc::Global;
+use std::str;
 use std::sync::Wait;
 use std::test::*;
 use std::thread::Threads;
@@ -118,6 +120,40 @@ fn records_are_determined(rt: HostRuntime) -> Result<(), Fail> {
     // Behind a parking a record may be padded over and tried again.
     assert!(rt; second.first == 64);
     assert!(rt; second.second > 16);
+    Ok(())
+}
+
+// A cell that was parked twice, each time behind a client's records.
+fn parked_twice<R: Threads + Wait + Clock + Copy + Send + 'static>(
+    rt: R,
+    alloc: Global,
+    cell: Cell,
+) -> Option<Parked> {
+    let mut cell = cell;
+    create(&rt, alloc, &mut cell)?;
+    append_all(&rt, alloc, &mut cell)?;
+    let parked = park(&rt, alloc, cell)?;
+    let Ok((mut cell, _none)) = parked.resume(rt, OpenGate) else {
+        return None;
+    };
+    append_all(&rt, alloc, &mut cell)?;
+    park(&rt, alloc, cell)
+}
+
+#[test]
+fn calls_of_both_journals_are_written(rt: HostRuntime) -> Result<(), Fail> {
+    let alloc = rt.alloc();
+    let cell = Cell::start(rt, alloc, small(3), 3, OpenGate)?;
+    let Some(parked) = parked_twice(rt, alloc, cell) else {
+        return Err(Fail::new("not parked"));
+    };
+    let mut out = Vec::new(alloc);
+    assert!(rt; print_history(alloc, parked.journal(), &mut out).is_ok());
+    let text = str::from_utf8(out.as_slice())?;
+    // A create, and an open and the records of two clients, each with its answer.
+    assert_eq!(rt; text.lines().count(), 2 * (1 + 2 * (1 + RECORDS)));
+    let appended = text.lines().filter(|line| line.contains(" -> at "));
+    assert_eq!(rt; appended.count(), 2 * RECORDS);
     Ok(())
 }
 
