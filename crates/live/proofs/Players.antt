@@ -26,8 +26,8 @@ use Rattle.journal_headline.specs.Journals.{AreExplained}
 use Rattle.cell_journal.proofs.Begins.{prefix_self, prefix_trans, prefix_shorter}
 use Rattle.cell_journal.proofs.Grown.{none_lawful}
 use Rattle.cell_journal.specs.Clocks.{are_clocks_kept}
-use Rattle.cell_journal.specs.Identity.{Identity}
-use Rattle.cell_journal.specs.WholeHistories.{IsHistoryOf}
+use Rattle.cell_journal.specs.Identity.{Identity, Closed}
+use Rattle.cell_journal.specs.WholeHistories.{IsHistoryOf, whole_of}
 use Rattle.cell_seats.specs.Seen.{visible_of}
 use Rattle.cell_seats.proofs.Sitting.{explains}
 use Rattle.cell_seats.specs.Seats.{SeatState, shown, IsAnswered, IsLost, GoesOver}
@@ -37,7 +37,7 @@ use Rattle.cell_run.specs.ParkedSeats.{ParkedSeatState}
 use Rattle.cell_run.specs.Cells.{IsCellOf}
 use Rattle.live.specs.declared.play.Player.{Player}
 use Rattle.live.specs.declared.reopen.Unseated.{Unseated}
-use Rattle.live.specs.Live.{HasSeenPart, AreAnswersOf}
+use Rattle.live.specs.Live.{HasSeenPart, AreAnswersOf, AreAnswersIn}
 use Rattle.live.specs.Playing.{calls_on, calls_of, reopens_in, first_number, AreAnswered, HasPlayed, IsSamePlayer, HasMade, PlaysOn, Plays, IsNewPlayer, HasCalled, IsPlayed, Reopens, AllReopen, IsReopened, rest_of, player_of, seated, Each, AllPlay}
 use Rattle.live.proofs.Playing.{nothing_played, answered_one_more, refused_more, reopened, played_more, played_whole, replicate_one_more, calls_append}
 
@@ -544,13 +544,13 @@ told_by_longest options cell entries longest xs players cell_is count all lacked
     mapped_length [] = refl
     mapped_length (p ∷ ps) = ap (λ (k : ℕ). suc k) (mapped_length ps)
 
-pub told_so : (options : Options) (cell : Identity) (entries : List Entry) (xs : List LiveLine) (players : List Player) → IsCellOf options.config options.servers cell → length players ≡ options.clients
-    → Each (IsPlayed cell xs) players → ((k : ℕ) (p : Player) → slice_get players k ≡ Some p → p.lacked_memory ≡ false) → ((k : ℕ) (p : Player) → slice_get players k ≡ Some p → HasSeenPart entries p.seat)
-    → AreAnswersOf options xs (map (λ p. p.answers.items) players)
-told_so options cell entries xs players cell_is count all lacked parts =
+pub told_so : (options : Options) (cell : Identity) (journal : Closed) (xs : List LiveLine) (players : List Player) → IsCellOf options.config options.servers cell → length players ≡ options.clients
+    → Each (IsPlayed cell xs) players → ((k : ℕ) (p : Player) → slice_get players k ≡ Some p → p.lacked_memory ≡ false) → journal.cell ≡ cell
+    → ((k : ℕ) (p : Player) → slice_get players k ≡ Some p → HasSeenPart (whole_of journal) p.seat) → AreAnswersIn options xs journal (map (λ p. p.answers.items) players)
+told_so options cell journal xs players cell_is count all lacked same parts =
     let in_range : first_out_of_range cell.config ≡ None = subst (λ (x : Config). first_out_of_range x ≡ None) (sym cell_is.config_is) cell_is.in_range in
-    let found = longest_of cell players entries in_range (λ k q at. ((all k q at).cell_is, parts k q at)) in
-    told_by_longest options cell entries found.0 xs players cell_is count all lacked found.1
+    let found = longest_of cell players (whole_of journal) in_range (λ k q at. ((all k q at).cell_is, parts k q at)) in
+    (told_by_longest options cell (whole_of journal) found.0 xs players cell_is count all lacked found.1, sym same, found.1.begins)
 
 -- a cell that goes on is as its first one
 pub still_of : (config : Config) (servers : ℕ) (old new : Identity) → IsReopened old new → IsCellOf config servers old → IsCellOf config servers new
