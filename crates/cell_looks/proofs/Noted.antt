@@ -1,5 +1,5 @@
 -- What is noted of steps, by the parts of their list.
-use Rattle.std.proofs.Common.{◌≡◌, ℕ, zero, suc, ◌+◌, ◌<◌, Bool, true, false, List, [], ◌∷◌, ◌++◌, length, map, drop, Option, Some, None, refl, sym, ap, ◌∙◌, append_assoc, arith}
+use Rattle.std.proofs.Common.{◌≡◌, ℕ, zero, suc, ◌+◌, ◌<◌, ◌≤◌, Bool, true, false, List, [], ◌∷◌, ◌++◌, length, map, drop, Option, Some, None, refl, sym, ap, ◌∙◌, append_assoc, arith}
 use Rattle.std.specs.Prelude.{if◌then◌else◌, Contains, slice_get, nat_lt}
 use Rattle.std.proofs.lemmas.Bool.Decides.{nat_tests}
 use Rattle.std.proofs.lemmas.List.{append-nil, map-append, drop_all}
@@ -46,9 +46,9 @@ note_more es place e was now end at is inv =
     ∙ (ap (λ (l : List Seen). was ++ l) (sym (map-append blank_seen (noted_of e.node e.seen) (noted_in (drop (suc place) es))))
     ∙ (ap (λ (xs : List Entry). was ++ map blank_seen (noted_in xs)) (sym (drop_at es place e at)) ∙ inv))))
 
-pub none_left : (es : List Entry) (place : ℕ) (seen end : List Seen) → place ≡ length es → seen ++ map blank_seen (noted_in (drop place es)) ≡ end → seen ≡ end
-none_left es place seen end all inv =
-    let none : drop place es ≡ [] = drop_all place es (omega (arith, all)) in
+pub none_left : (es : List Entry) (place : ℕ) (seen end : List Seen) → length es ≤ place → seen ++ map blank_seen (noted_in (drop place es)) ≡ end → seen ≡ end
+none_left es place seen end past inv =
+    let none : drop place es ≡ [] = drop_all place es past in
     sym (ap (λ (xs : List Entry). seen ++ map blank_seen (noted_in xs)) none ∙ append-nil seen) ∙ inv
 
 -- an entry that is not there any more was let go

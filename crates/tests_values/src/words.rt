@@ -88,8 +88,8 @@ fn words(alloc: Global, line: &str) -> Result<Vec<String>, AllocError> {
 }
 
 /// What a command line asks for: a script's file, the size of the names' region and the settings that aren't the defaults; the same of a cell with threads, that
-/// has no region, with how many entries of its journal stay, and whether progress is told; its file, the regions that are told and the history's file; how many stay, and the settings, of such a cell that is served; a
-/// text with these words in it; or nothing.
+/// has no region, with how many entries of its journal stay, and whether progress is told; its file, the path whose regions are told and the file of its history;
+/// how many stay, and the settings, of such a cell that is served; a text with these words in it; or nothing.
 #[derive(Clone, Copy)]
 enum Command<'a> {
     Sim(&'a str, Option<u64>, &'a [(&'a str, u64)]),

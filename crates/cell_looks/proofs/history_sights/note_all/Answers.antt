@@ -1,4 +1,4 @@
-use Rattle.std.proofs.Common.{◌≡◌, ◌<◌, length, sym, ap, ◌∙◌, arith}
+use Rattle.std.proofs.Common.{◌<◌, ◌≤◌, length, sym, ap, ◌∙◌, arith}
 use Rattle.std.specs.Option.{option_copied}
 use Rattle.cell_journal.proofs.Retained.{entry_is}
 use Rattle.cell_looks.proofs.Noted.{note_more, was_gone, none_left}
@@ -26,8 +26,8 @@ returns-in_default-clause-fault c =
 pub returns-clause-seen : goal.returns-clause-seen
 returns-clause-seen c =
     let j = c.args.history.now in
-    let all : c.loop-place.place ≡ length j.entries = omega (arith, c.len.ensures) in
-    none_left j.entries c.loop-place.place c.loop-place.sights.seen _ all c.loop-place.invariant.seen
+    let past : length j.entries ≤ c.loop-place.place = omega (arith, c.loop-place-test.false, c.len.ensures) in
+    none_left j.entries c.loop-place.place c.loop-place.sights.seen _ past c.loop-place.invariant.seen
 
 pub returns-in_err-note-clause-fault : goal.returns-in_err-note-clause-fault
 returns-in_err-note-clause-fault c = handed_on c.from_residual.result _ NoMemory c.from_residual.ensures.1 tt
