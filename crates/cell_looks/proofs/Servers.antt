@@ -44,6 +44,10 @@ led_more f j was now x before is count led all k s at =
         subst (λ (n : ℕ). IsLedBy j.cell (the_server n) (whole_of j) (ServerStands s)) number
         (subst (λ (t : ServerState). IsLedBy j.cell (the_server (before + 1)) (whole_of j) (ServerStands t)) both.1 led)
 
+-- what is stored on the same servers
+pub stored_alike : {X : Type 0} {xs ys : List X} → xs ≡ ys → (f : X → ServerState) (handle : ℕ) → filter_map (stored_on handle) (map f xs) ≡ filter_map (stored_on handle) (map f ys)
+stored_alike same f handle = ap (λ l. filter_map (stored_on handle) (map f l)) same
+
 -- what is stored on the server at a place, and on those behind it
 module _ {X : Type 0} (f : X → ServerState) (handle : ℕ) (xs : List X) (i : ℕ) (x : X) (was : List StoredReplica) (end : List StoredAt) (within : i < length xs) (at : x ≡ get_or xs i x)
     (inv : map as_stored was ++ filter_map (stored_on handle) (map f (drop i xs)) ≡ end) where

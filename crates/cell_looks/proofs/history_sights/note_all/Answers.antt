@@ -20,13 +20,13 @@ loop-place-preserved c =
 pub returns-in_default-clause-fault : goal.returns-in_default-clause-fault
 returns-in_default-clause-fault c =
     let j = c.args.history.now in
-    let within : c.loop-place.place < length j.entries = omega (arith, c.loop-place-test.true, c.len.ensures) in
+    let within : c.loop-place.place < length j.entries = omega (arith, c.loop-place-test.true, c.len-place-end.ensures) in
     was_gone j.cell.retention j.entries c.loop-place.place within (sym (ap option_copied c.in_default.is) ∙ c.event.ensures)
 
 pub returns-clause-seen : goal.returns-clause-seen
 returns-clause-seen c =
     let j = c.args.history.now in
-    let past : length j.entries ≤ c.loop-place.place = omega (arith, c.loop-place-test.false, c.len.ensures) in
+    let past : length j.entries ≤ c.loop-place.place = omega (arith, c.loop-place-test.false, c.len-place-end.ensures) in
     none_left j.entries c.loop-place.place c.loop-place.sights.seen _ past c.loop-place.invariant.seen
 
 pub returns-in_err-note-clause-fault : goal.returns-in_err-note-clause-fault

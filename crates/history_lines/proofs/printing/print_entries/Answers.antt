@@ -19,13 +19,13 @@ loop-place-preserved g c =
 pub returns-in_default-clause-fault : goal.returns-in_default-clause-fault
 returns-in_default-clause-fault g c = λ _.
     let j = c.args.history.now in
-    let within : c.loop-place.place < length j.entries = omega (arith, c.loop-place-test.true, c.len.ensures) in
+    let within : c.loop-place.place < length j.entries = omega (arith, c.loop-place-test.true, c.len-place-end.ensures) in
     was_gone j.cell.retention j.entries c.loop-place.place within (sym (ap option_copied c.in_default.is) ∙ c.event.ensures)
 
 pub returns-clause-printed : goal.returns-clause-printed
 returns-clause-printed g c =
     let j = c.args.history.now in
-    let past : length j.entries ≤ c.loop-place.place = omega (arith, c.loop-place-test.false, c.len.ensures) in
+    let past : length j.entries ≤ c.loop-place.place = omega (arith, c.loop-place-test.false, c.len-place-end.ensures) in
     all_printed _ _ j.entries c.loop-place.place past c.loop-place.invariant
 
 pub returns-in_err-print_entry-clause-fault : goal.returns-in_err-print_entry-clause-fault
