@@ -1,6 +1,6 @@
 use Rattle.std.proofs.Common.{ap, ◌∙◌}
 use Rattle.cell_journal.specs.Identity.{Closed}
-use Rattle.live.proofs.Ending.{still_world}
+use Rattle.live.proofs.EndedWorlds.{still_world}
 use Rattle.live.proofs.ending.end_looked.Goals as goal
 
 pub returns-in-Ok-clause-cell : goal.returns-in-Ok-clause-cell
