@@ -18,7 +18,7 @@ use Rattle.script.specs.declared.options.Options.{Options}
 use Rattle.script.proofs.Bytes.{keeps_all}
 use Rattle.live.specs.declared.play.Player.{Player}
 use Rattle.live.specs.Faults.{IsOfRun}
-use Rattle.live.specs.Live.{IsScript, HasAnswers, AreAnswersOf, AreAnswersIn, AreRegionsOf, Prints, PrintsWith, Stops, told_from, told_regions}
+use Rattle.live.specs.Live.{IsScript, HasAnswers, AreAnswersIn, AreRegionsOf, Prints, PrintsWith, Stops, told_from, told_regions}
 use Rattle.live.proofs.Telling.{appends_twice}
 use Rattle.script.specs.LiveLines.{is_reopen}
 use Rattle.live.specs.Playing.{calls_on, calls_of, reopens_in}
@@ -33,19 +33,24 @@ no_more_reopens : (lines : List LiveLine) → reopens_in lines ≡ reopens_in (l
 no_more_reopens [] = refl
 no_more_reopens (line ∷ rest) = ap (λ (n : ℕ). (if is_reopen line then 1 else 0) + n) (no_more_reopens rest)
 
-answers_of_more : (options : Options) (lines : List LiveLine) (answers : List (List Answer)) → AreAnswersOf options lines answers → AreAnswersOf options (lines ++ Nothing ∷ []) answers
-answers_of_more options lines answers a = record {
-  cell = a.cell;
-  cell_is = a.cell_is;
-  entries = a.entries;
-  lawful = a.lawful;
-  clocks = a.clocks;
-  explained = a.explained;
-  clients = a.clients;
-  each = λ k replies at.
-      subst (λ (n : ℕ). HasAnswers a.entries (suc k) n (calls_of (suc k) (lines ++ Nothing ∷ [])) replies) (no_more_reopens lines)
-      (subst (λ (calls : List Call). HasAnswers a.entries (suc k) (reopens_in lines) calls replies) (no_more_calls (suc k) lines) (a.each k replies at));
-}
+answers_of_more : (options : Options) (lines : List LiveLine) (journal : Closed) (answers : List (List Answer)) → AreAnswersIn options lines journal answers
+    → AreAnswersIn options (lines ++ Nothing ∷ []) journal answers
+answers_of_more options lines journal answers (a, same, begins) = (
+  record {
+    cell = a.cell;
+    cell_is = a.cell_is;
+    entries = a.entries;
+    lawful = a.lawful;
+    clocks = a.clocks;
+    explained = a.explained;
+    clients = a.clients;
+    each = λ k replies at.
+        subst (λ (n : ℕ). HasAnswers a.entries (suc k) n (calls_of (suc k) (lines ++ Nothing ∷ [])) replies) (no_more_reopens lines)
+        (subst (λ (calls : List Call). HasAnswers a.entries (suc k) (reopens_in lines) calls replies) (no_more_calls (suc k) lines) (a.each k replies at));
+  },
+  same,
+  begins,
+)
 
 -- each line of what was read is in the language
 pub script_read : (clients : ℕ) (script : Option (List ℕ)) (lines : List LiveLine) → IfSome script (λ s. AreReadLines clients s lines) → IfSome script (IsScript clients)
@@ -65,7 +70,7 @@ module _ (options : Options) (path : Option Path) (journal : Closed) (before mid
         lines = lines ++ Nothing ∷ [];
         lines_are = whole;
         answers = answers;
-        answered = (answers_of_more options lines answers answered.0, answered.1, answered.2);
+        answered = answers_of_more options lines journal answers answered;
         regions = regions;
         regions_are = are;
         printed = printed;
