@@ -1,4 +1,4 @@
-use Rattle.std.proofs.Common.{List, ℕ, Vec, Global, sym, ap, subst, ◌∙◌}
+use Rattle.std.proofs.Common.{List, ℕ, Vec, Global, sym, subst}
 use Rattle.std.specs.Io.KnownBytes.{Appends}
 use Rattle.std.proofs.lemmas.List.Folds.{flat_map-map}
 use Rattle.relaxed_file.specs.declared.region.Region.{Region}
@@ -12,7 +12,7 @@ loop-before-init g c = appends_none _
 pub loop-before-preserved : goal.loop-before-preserved
 loop-before-preserved g c =
     let at = c.index-chunks-before in
-    let line = subst (λ (rs : List Region). Appends (g.W.Write.contents c.loop-before.writer) (g.W.Write.contents c.print_line.new.writer) (told_chunk rs)) (c.as_slice.ensures.value ∙ ap (λ (v : Vec Region Global). v.items) (sym at.is)) c.in_ok-print_line.ensures.printed in
+    let line = subst (λ (rs : List Region). Appends (g.W.Write.contents c.loop-before.writer) (g.W.Write.contents c.print_line.new.writer) (told_chunk rs)) c.as_slice.ensures.value c.in_ok-print_line.ensures.printed in
     lines_next (λ (v : Vec Region Global). told_chunk v.items) _ _ _ c.args.chunks.now c.loop-before.before at.result c.loop-before-test.true at.is c.loop-before.invariant line
 
 pub returns-clause-printed : goal.returns-clause-printed
