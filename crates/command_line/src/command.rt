@@ -364,12 +364,12 @@ pub fn parse<'a>(alloc: Global, words: &'a [String]) -> Result<Request<'a>, Comm
     let names_heap = given_number(given, "names-heap")?;
     let keep = given_number(given, "keep")?;
     let options = options(given)?;
-    let told = telling(given);
+    let told = told_in(given);
     Ok(request_for(name, file, names_heap, keep, told, options))
 }
 
 /// What is to be told of a run beside its answers.
-fn telling<'a>(matches: &ArgMatches<'a>) -> Telling<'a>
+fn told_in<'a>(matches: &ArgMatches<'a>) -> Telling<'a>
     ensures { told_of result ≡ told_by (rows_of (found_of matches.now)) }
 {
     Telling {

@@ -3,7 +3,7 @@ use Rattle.clap.specs.Walk.{Text}
 use Rattle.clap.specs.Words.{found_of}
 use Rattle.clap.proofs.WalkLemmas.{first_value-rows}
 use Rattle.command_line.specs.Asking.{told}
-use Rattle.command_line.proofs.command.telling.Goals as goal
+use Rattle.command_line.proofs.command.told_in.Goals as goal
 
 pub returns : goal.returns
 returns c =
