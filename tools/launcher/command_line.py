@@ -16,9 +16,9 @@ COUNTS = {'servers': 3, 'clients': 1}
 MOST_NODES = 64
 WAYS = ('sim', 'live', 'serve')
 
-# the subcommand, its file, which `serve` has none of, and each option with a number that is given, by its name
-Asked = namedtuple('Asked', 'way file given')
-Texts = namedtuple('Texts', 'version about sim live serve options region keep progress')
+# the subcommand, its file, which `serve` has none of, each option with a number that is given, by its name, and each with a word
+Asked = namedtuple('Asked', 'way file given words')
+Texts = namedtuple('Texts', 'version about sim live serve options region keep words progress')
 
 
 class Bad(Exception):
@@ -41,9 +41,10 @@ def texts():
     options, region, keep = [re.findall(r'\(\s*"([^"]+)",\s*"([^"]+)",?\s*\)', table) for table in tables]
     abouts = dict(re.findall(r'runner\(alloc, "(\w+)", "([^"]+)"\)', source))
     serve = re.search(r'Command::new\(alloc, "serve"\)\s*\.about\(\s*"([^"]+)"', source)[1]
+    words = re.findall(r'\(word_option\(\s*alloc,\s*"([^"]+)",\s*"([^"]+)",\s*"([^"]+)"', source)
     progress = re.search(r'\(flag\(\s*alloc,\s*"([^"]+)",\s*"([^"]+)"', source).groups()
     version, about = re.search(r'\.version\("([^"]+)"\)\s*\.about\("([^"]+)"\)', source).groups()
-    return Texts(version, about, abouts['sim'], abouts['live'], serve, options, region, keep, progress)
+    return Texts(version, about, abouts['sim'], abouts['live'], serve, options, region, keep, words, progress)
 
 
 # ---- the help
@@ -71,13 +72,18 @@ def options_of(way):
     return said.options + (said.region if way == 'sim' else said.keep)
 
 
+def words_of(way):
+    """The options of a subcommand that take a word, with what the help calls it and what it says of each."""
+    return texts().words if way == 'live' else []
+
+
 def flags_of(way):
     """The options of a subcommand that take none."""
     return [texts().progress] if way == 'live' else []
 
 
 def subcommand_help(way):
-    rows = [(f'    --{name} <N>', said) for name, said in options_of(way)]
+    rows = [(f'    --{name} <N>', said) for name, said in options_of(way)] + [(f'    --{name} <{word}>', said) for name, word, said in words_of(way)]
     flags = rows + [(f'    --{name}', said) for name, said in flags_of(way)] + [('-h, --help', 'Print help')]
     file = '' if way == 'serve' else f'Arguments:\n{aligned([("<FILE>", "The script, or - for standard input")])}\n'
     return f'{about_of(way)}\n\nUsage: gfscell {way} [OPTIONS]{" <FILE>" if file else ""}\n\n{file}Options:\n{aligned(flags)}'
@@ -108,7 +114,7 @@ class Words:
 
     def __init__(self, way):
         self.way = way
-        self.names = [name for name, _ in options_of(way)]
+        self.names = [name for name, _ in options_of(way)] + [name for name, _, _ in words_of(way)]
         self.flags = [name for name, _ in flags_of(way)]
         self.given = {}
         self.pending = None
@@ -119,7 +125,7 @@ class Words:
         name, value = self.pending
         self.pending = None
         if value is None:
-            raise Bad(f'--{name}: a number is missing')
+            raise Bad(f'--{name}: its value is missing')
         if name in self.given:
             raise Bad(f'--{name} stands twice')
         self.given[name] = value
@@ -207,10 +213,11 @@ def parse(words):
     given = Words(way).taken(words[1:])
     file = given.pop('FILE', None)
     given = {name: value for name, value in given.items() if value is not None}
+    words = {name: given.pop(name) for name, _, _ in words_of(way) if name in given}
     for name, value in given.items():
         if number(value) is None:
             raise Bad(f'--{name}: {value} is no decimal number below 2^64')
-    return Asked(way, file, {name.replace('-', '_'): number(value) for name, value in given.items()})
+    return Asked(way, file, {name.replace('-', '_'): number(value) for name, value in given.items()}, words)
 
 
 def options_in(script):

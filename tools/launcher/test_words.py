@@ -40,6 +40,8 @@ def asked_by(line):
         return ('Nothing',)
     except command_line.Shown as shown:
         return ('Shows', str(shown))
+    if asked.words:
+        return ('Told', asked.file, asked.words)
     given = dict(asked.given)
     number = given.pop('names_heap' if asked.way == 'sim' else 'keep', None)
     servers, clients, others = command_line.settings_of(given)
@@ -52,6 +54,9 @@ def is_wanted(found, kind, text):
         return found[0] == kind
     if kind == 'Shows':
         return re.match(r'"(.*)"', text)[1] in found[1]
+    if kind == 'Told':
+        file, regions, history = re.match(r'"(.*?)", (?:None|Some\("(.*?)"\)), (?:None|Some\("(.*?)"\)?)', text).groups()
+        return found[1:] == (file, {name: word for name, word in (('regions', regions), ('history', history)) if word is not None})
     file = None if kind == 'Serve' else re.match(r'"(.*?)"', text)[1]
     number = re.search(r'Some\(([\d_]+)\)', text)
     wanted = settings(text)

@@ -1,13 +1,14 @@
 //! The place of the master in a cell: it lets the log's disk stop, and opens the master over it again.
 
-ghost use Rattle.std.specs.Prelude.{◌≡◌, ◌≤◌, true, [], IfErr, IfOk, IfSome, nat_le, ◌&&◌, length};
+ghost use Rattle.std.specs.Prelude.{◌≡◌, ◌≤◌, true, [], IfErr, IfOk, IfSome, nat_le, ◌&&◌, length, option_map, option_and_then};
 ghost use Rattle.std.specs.FinMap as table;
 ghost use Rattle.disk.specs.Failing.{FuseState};
 ghost use Rattle.disk.specs.Writes.{LeftBy};
 ghost use Rattle.protocol.specs.Logged.{new_log};
 ghost use Rattle.protocol.specs.Master.{stopped_master};
 ghost use Rattle.protocol.specs.MasterStep.{new_master};
-ghost use Rattle.protocol.specs.Tables.{moment_limit};
+ghost use Rattle.protocol.specs.Sending.{handle_of};
+ghost use Rattle.protocol.specs.Tables.{element_at, moment_limit};
 ghost use Rattle.stored_log.specs.Kept.{IsDiskSize, LeavesDecided};
 ghost use Rattle.cell_core.specs.MasterSlots.{IsLetGo};
 ghost use Rattle.cell_core.specs.Starts.{IsOfMemory};
@@ -164,6 +165,14 @@ impl<A: Allocator + Clone> MasterSlot<A> {
             files,
             stops: StopPlan::new(),
         })
+    }
+
+    /// The handle of a file's chunk of this index, from 0, while the master is up.
+    pub fn current_handle_at(&self, file: FileId, index: u64) -> Option<Handle>
+        requires { self.now.state.up ≡ true }
+        ensures { result ≡ option_map handle_of (option_and_then (λ handles. element_at handles index) (table.get self.now.state.logged.table.files file.0)) }
+    {
+        handle_in(&self.files, file, index)
     }
 
     // The disk of the master's log. The master is put down and let go.

@@ -18,8 +18,8 @@ follow_first sent (x ∷ xs) ys h = (h.0, follow_first (with_messages sent x) xs
 runs_first : (s : NodeState) (xs ys : List Entry) (t : NodeState) → RunsTo s (xs ++ ys) t → (u : NodeState) × RunsTo s xs u
 runs_first s [] ys t h = (s, refl)
 runs_first s (x ∷ xs) ys t h =
-    let rest = runs_first (node_step s x.moment x.cause h.0).state xs ys t h.3 in
-    (rest.0, (h.0, h.1, h.2, rest.1))
+    let rest = runs_first (node_step s x.moment x.cause h.0).state xs ys t h.4 in
+    (rest.0, (h.0, h.1, h.2, h.3, rest.1))
 
 first_none : (xs ys : List Entry) → xs ++ ys ≡ [] → xs ≡ []
 first_none [] ys h = refl

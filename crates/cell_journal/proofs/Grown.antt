@@ -90,7 +90,7 @@ journal_grows cell log v e of here mine lawful step =
     subst (λ (es : List Entry). IsForNode (sent_after [] es) e.node e.cause) (sym here) (for_node_stays step.read v.seen e.node e.cause step.before step.reads) in (
       _,
       whole_journals_grow cell.config cell.servers cell.clients cell.base log ends (at_state cell (history_of cell log) e.node step.state lawful.0 lawful.1 leads) e step.state step.choice at
-          (step.moment, reads) step.may step.gives,
+          (step.moment, reads) step.may step.gives step.sees,
     )
 
 -- a step more leaves those alone of which nothing more is written

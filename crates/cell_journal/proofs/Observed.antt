@@ -8,8 +8,9 @@ use Rattle.gfs_types.specs.declared.answer.Answer.{Answer}
 use Rattle.gfs_types.specs.declared.config.Config.{Config}
 use Rattle.gfs_types.specs.declared.ids.Node.{Node}
 use Rattle.gfs_types.specs.declared.ids.Node.TheVariants as node
+use Rattle.protocol.specs.declared.seen.Seen.{Seen}
 use Rattle.protocol.specs.Observer.{Observer, new_observer}
-use Rattle.protocol_journal.specs.Journal.{StepCause, Calls, Takes, Restarts, Entry, asked, answered, entry_observed, observed_after, observer_of}
+use Rattle.protocol_journal.specs.Journal.{StepCause, Calls, Takes, Restarts, Entry, asked, noticed, answered, entry_observed, observed_after, observer_of}
 use Rattle.cell_journal.specs.declared.clocks.Clocks.{Clocks}
 use Rattle.cell_journal.specs.Clocks.{moved, clocks_of, clocks_after}
 
@@ -39,6 +40,11 @@ moved_twice skew c m =
     ap (λ (g : ℕ). clocks g ((c.kept && nat_le c.greatest (m + skew)) && nat_le (max c.greatest m) (m + skew))) (max_twice c.greatest m)
     ∙ ap (λ (k : Bool). clocks (max c.greatest m) k) (and_twice c.kept (nat_le c.greatest (m + skew)) (nat_le (max c.greatest m) (m + skew)) (kept_twice c.greatest m skew (nat_le c.greatest (m + skew)) refl))
 
+notice_moves_nothing : (o : Observer) (n : Node) (seen : List Seen) → clocks_of (noticed o n seen) ≡ clocks_of o
+notice_moves_nothing o node.Master seen = refl
+notice_moves_nothing o (node.Server s) seen = refl
+notice_moves_nothing o (node.Client c) seen = refl
+
 answer_moves_nothing : (o : Observer) (n : Node) (reply : Option Answer) → clocks_of (answered o n reply) ≡ clocks_of o
 answer_moves_nothing o node.Master reply = refl
 answer_moves_nothing o (node.Server s) reply = refl
@@ -53,7 +59,7 @@ asked_moves skew o m (node.Client c) (Takes given) = refl
 asked_moves skew o m (node.Client c) Restarts = refl
 
 step_moves : (skew : ℕ) (o : Observer) (e : Entry) → clocks_of (entry_observed skew o e) ≡ moved skew (clocks_of o) e.moment
-step_moves skew o e = answer_moves_nothing _ e.node e.out.answer ∙ asked_moves skew o e.moment e.node e.cause
+step_moves skew o e = answer_moves_nothing _ e.node e.out.answer ∙ (notice_moves_nothing _ e.node e.seen ∙ asked_moves skew o e.moment e.node e.cause)
 
 observed_more : (skew : ℕ) (o : Observer) (es : List Entry) (e : Entry) → observed_after skew o (es ++ e ∷ []) ≡ entry_observed skew (observed_after skew o es) e
 observed_more skew o [] e = refl

@@ -72,6 +72,7 @@ step_later v m y e t s =
       leads = s.leads;
       may = s.may;
       gives = s.gives;
+      sees = s.sees;
       moment = s.moment;
       read = s.read;
       before = prefix_trans s.read v.seen y.entries s.before t.grows;

@@ -103,6 +103,7 @@ pub record IsStepOf (v : View) (e : Entry) : Type 0 where
   pub leads : LeadsTo (node_in (new_world v.of.config v.of.servers v.of.clients) e.node) (all_steps v e.node) (Some state)
   pub may : IsTrue (may_take state e.cause)
   pub gives : (node_step state e.moment e.cause choice).out ≡ e.out
+  pub sees : (node_step state e.moment e.cause choice).seen ≡ e.seen
   pub moment : IsTrue (nat_le e.moment moment_limit)
   pub read : List Entry
   pub before : IsPrefix read v.seen

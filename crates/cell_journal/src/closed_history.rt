@@ -17,7 +17,7 @@ use crate::lookup::entry_at;
 use crate::raised_entry::RaisedEntry;
 use crate::retained_rows::RetainedRows;
 use crate::retention::Retention;
-use crate::{Beginning, WholeList};
+use crate::{Beginning, GrowingList, WholeList};
 use std::marker::Model;
 
 /// The journal of a cell that was closed or parked. Of its entries those can be looked at that stay.
@@ -105,6 +105,14 @@ impl ClosedHistory {
         ensures { option_copied result ≡ kept_entry self.now.cell.retention self.now.entries place }
     {
         entry_at(&self.rows, place)
+    }
+
+    /// The same journal, once its cell is closed with the list of its history.
+    pub fn close(self, list: GrowingList<RaisedEntry>) -> ClosedHistory
+        requires { list ≡ listed self.cell.name (whole_of self) }
+        ensures { result ≡ closed self.cell self.entries true }
+    {
+        self.ended(list.close())
     }
 
     /// The same journal, of a cell that was closed with this list.

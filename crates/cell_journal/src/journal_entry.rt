@@ -6,14 +6,16 @@ ghost use Rattle.cell_journal.specs.Entries.{cause_of};
 pub use crate::step_cause::StepCause;
 use gfs_types::ids::{Moment, Node};
 use messages::event::StepOut;
+use protocol::seen::SeenList;
 use std::marker::Model;
 
-/// A step of a node, and what it gave.
+/// A step of a node, what it gave, and what an observer sees of it.
 pub struct JournalEntry {
     node: Node,
     moment: Moment,
     cause: StepCause,
     out: StepOut,
+    seen: SeenList,
 }
 
 // Stands here, once, so that no function that lets one go, here or above, takes its fields apart.
@@ -24,6 +26,7 @@ impl Drop for JournalEntry {
             moment: _,
             cause: _cause,
             out: _out,
+            seen: _seen,
         } = self;
     }
 }
@@ -34,18 +37,25 @@ impl Model for JournalEntry {
 
     ghost Value = { Entry };
 
-    ghost view = { λ e. entry e.node e.moment.0 (cause_of e.cause) e.out };
+    ghost view = { λ e. entry e.node e.moment.0 (cause_of e.cause) e.out e.seen };
 }
 
 impl JournalEntry {
-    pub fn new(node: Node, moment: Moment, cause: StepCause, out: StepOut) -> JournalEntry
-        ensures { result ≡ record { node = node; moment = moment.0; cause = cause_of cause; out = out } }
+    pub fn new(
+        node: Node,
+        moment: Moment,
+        cause: StepCause,
+        out: StepOut,
+        seen: SeenList,
+    ) -> JournalEntry
+        ensures { result ≡ record { node = node; moment = moment.0; cause = cause_of cause; out = out; seen = seen } }
     {
         JournalEntry {
             node,
             moment,
             cause,
             out,
+            seen,
         }
     }
 
@@ -72,5 +82,12 @@ impl JournalEntry {
         ensures { result.now ≡ self.now.out }
     {
         &self.out
+    }
+
+    /// What an observer sees of the step: what came to chunks.
+    pub fn seen(&self) -> &SeenList
+        ensures { result.now ≡ self.now.seen }
+    {
+        &self.seen
     }
 }

@@ -5,6 +5,7 @@ pub mod Standing
 pub mod NewSeats
 pub mod NewLocks
 pub mod Parking
+pub mod Led
 pub mod Anew
 pub mod Fresh
 pub mod Going

@@ -127,7 +127,7 @@ slot_send : IsSend (Slot.the_row Heap.the_row ghosts)
 slot_send = let a = inside_send in search sendable
 
 node_send : IsSend (Node.the_row (Slot.the_row Heap.the_row ghosts))
-node_send = declared_send (Node.the_type (Slot.the_row Heap.the_row ghosts)) (slot_send, tt)
+node_send = declared_send (Node.the_type (Slot.the_row Heap.the_row ghosts)) (heap.the_send, (slot_send, tt))
 
 pub running_send : IsSend Running.the_row
 running_send = declared_send Running.the_type (node_send, tt)

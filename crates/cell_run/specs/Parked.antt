@@ -45,6 +45,11 @@ pub record AreNodesOf (cell : Identity) (servers count : ℕ) (nodes : List Park
   pub names : map name_of nodes ≡ names_of cell servers
   pub seen : All (λ p. HasSeenAll p.cell count p) nodes
 
+-- the master and the servers of a cell have seen all that this list has, under the cell's name
+pub record HaveSeen (cell : Identity) (servers : ℕ) (list : Listed Entry) (nodes : List ParkedNodeState) : Type 0 where
+  pub nodes_are : AreNodesOf cell servers (length list.items) nodes
+  pub name_is : list.name ≡ cell.name
+
 -- a seat of this name, whose client, if it is there, saw so many entries
 pub record IsSeatOf (cell : Identity) (count : ℕ) (s : ParkedSeatState) : Type 0 where
   pub named : s.seat.cell.name ≡ cell.name

@@ -1,6 +1,6 @@
 //! A client of a running cell.
 
-ghost use Rattle.std.specs.Prelude.{◌≡◌, ◌<◌, IfOk, OnErr, IsSome};
+ghost use Rattle.std.specs.Prelude.{◌≡◌, ◌<◌, [], IfOk, OnErr, IsSome};
 ghost use Rattle.protocol.specs.Client.{stopped_client};
 ghost use Rattle.protocol.specs.Conforms.{ClientCalls, ClientSteps};
 ghost use Rattle.protocol.specs.Seen.{down_output};
@@ -18,6 +18,7 @@ use gfs_types::config::Config;
 use gfs_types::ids::Moment;
 use gfs_types::no_memory::NoMemory;
 use messages::event::{NodeInput, StepOut};
+use protocol::seen::SeenList;
 use std::alloc::Global;
 use step_outcome::down_output;
 
@@ -52,6 +53,7 @@ impl Stepper for ClientNode {
 fn calls(client: &mut Client, now: Moment, asked: &Call, copy: Option<Call>) -> NodeStep
     requires { IsCopyOf (CallTaken asked.now) copy }
     ensures steps { ClientCalls client.old now.0 asked.now result.out client.new }
+    ensures seen { result.seen ≡ [] }
     ensures answer { result.answer ≡ result.out.answer }
 {
     let config = client.config();
@@ -68,6 +70,7 @@ fn calls(client: &mut Client, now: Moment, asked: &Call, copy: Option<Call>) -> 
 // A message or a tick.
 fn takes(client: &mut Client, now: Moment, input: &NodeInput) -> NodeStep
     ensures steps { ClientSteps client.old now.0 input.now result.out client.new }
+    ensures seen { result.seen ≡ [] }
     ensures answer { result.answer ≡ result.out.answer }
 {
     let config = client.config();
@@ -81,17 +84,23 @@ fn takes(client: &mut Client, now: Moment, input: &NodeInput) -> NodeStep
 fn with_copy(client: &mut Client, config: Config, id: u64, out: StepOut) -> NodeStep
     requires { 0 < config.chunk }
     ensures step { IsCopiedOrStopped client.old client.new config id out result.out }
+    ensures seen { result.seen ≡ [] }
     ensures answer { result.answer ≡ result.out.answer }
 {
     let alloc = client.alloc();
     let copy = copied(alloc, &out.answer);
     match copy {
-        Ok(answer) => NodeStep { out, answer },
+        Ok(answer) => NodeStep {
+            out,
+            answer,
+            seen: SeenList::empty(alloc),
+        },
         Err(_) => {
             client.stops(config, id);
             NodeStep {
                 out: down_output(alloc),
                 answer: None,
+                seen: SeenList::empty(alloc),
             }
         }
     }
@@ -110,6 +119,7 @@ fn copied(alloc: Global, answer: &Option<Answer>) -> Result<Option<Answer>, NoMe
 fn stops(client: &mut Client) -> NodeStep
     ensures client { client.new ≡ stopped_client client.old }
     ensures out { result.out ≡ down_output }
+    ensures seen { result.seen ≡ [] }
     ensures answer { result.answer ≡ result.out.answer }
 {
     let config = client.config();
@@ -119,5 +129,6 @@ fn stops(client: &mut Client) -> NodeStep
     NodeStep {
         out: down_output(alloc),
         answer: None,
+        seen: SeenList::empty(alloc),
     }
 }

@@ -14,10 +14,14 @@ use cell_world::master::{CellMaster, RestartedMaster};
 use gfs_types::call::Call;
 use gfs_types::ids::Moment;
 use messages::event::StepOut;
+use protocol::seen::SeenList;
+use std::alloc::Global;
+use step_outcome::{Outcome, no_output};
 
 /// A master that takes steps.
 #[derive(Drop)]
 pub struct MasterNode<M: CellMaster + Drop> {
+    pub alloc: Global,
     pub master: M,
 }
 
@@ -34,24 +38,38 @@ impl<M: RestartedMaster + Drop> Stepper for MasterNode<M> {
 
     fn step(&mut self, now: Moment, cause: &StepCause, call: Option<Call>) -> NodeStep {
         let _none = call;
+        let (out, seen) = step_master(&mut self.master, self.alloc, now, cause);
         NodeStep {
-            out: step_master(&mut self.master, now, cause),
+            out,
             answer: None,
+            seen,
         }
     }
 }
 
-// A step, which has no answer.
-fn step_master<M: RestartedMaster + Drop>(master: &mut M, now: Moment, cause: &StepCause) -> StepOut
+// A step, which has no answer, and what was seen of it.
+fn step_master<M: RestartedMaster + Drop>(
+    master: &mut M,
+    alloc: Global,
+    now: Moment,
+    cause: &StepCause,
+) -> (StepOut, SeenList)
     requires moment { now.0 ≤ moment_limit }
     requires may { (s : NodeState) → MasterStands (M.state master.old) s → IsTrue (may_take s (cause_of cause.now)) }
-    ensures steps { (s : NodeState) → MasterStands (M.state master.old) s → StepsSo s now.0 (cause_of cause.now) result (MasterStands (M.state master.new)) }
-    ensures silent { result.answer ≡ None }
+    ensures steps { (s : NodeState) → MasterStands (M.state master.old) s → StepsSo s now.0 (cause_of cause.now) result.0 result.1 (MasterStands (M.state master.new)) }
+    ensures silent { result.0.answer ≡ None }
 {
     match cause {
-        StepCause::Takes(input) => master.step(now, message_in(input)).out,
-        StepCause::Restarts => master.restart(now),
+        StepCause::Takes(input) => {
+            let Outcome {
+                out,
+                seen,
+                cause: _,
+            } = master.step(now, message_in(input));
+            (out, seen)
+        }
+        StepCause::Restarts => (master.restart(now), SeenList::empty(alloc)),
         // It takes no call.
-        StepCause::Calls(_) => master.step(now, None).out,
+        StepCause::Calls(_) => (no_output(alloc), SeenList::empty(alloc)),
     }
 }

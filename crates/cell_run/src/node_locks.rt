@@ -1,21 +1,27 @@
 //! The locks of a running cell's nodes, which its threads share with it.
 
-ghost use Rattle.std.specs.Prelude.{◌≡◌, ◌≤◌, ◌<◌, ◌+◌, ◌^◌, ◌∷◌, suc, true, false, [], map, length, get_or, All, vec_capacity, IfOk, IfSome};
+ghost use Rattle.std.specs.Prelude.{◌≡◌, ◌≤◌, ◌<◌, ℕ, ◌+◌, ◌^◌, ◌∷◌, suc, true, false, [], map, length, get_or, All, vec_capacity, IfOk, IfSome};
 ghost use Rattle.std.specs.Arc.{arc_value};
 ghost use Rattle.cell_seats.specs.NodeLocks.{node_name, IsNamed};
+ghost use Rattle.gfs_types.specs.declared.ids.Node.TheVariants.{Master};
+ghost use Rattle.cell_journal.specs.Identity.{Identity};
 ghost use Rattle.cell_journal.specs.Roles.{node_at};
 ghost use Rattle.cell_journal.specs.WholeHistories.{is_retired};
-ghost use Rattle.cell_seats.specs.ParkedNodes.{name_of, HasSeenAll, HasSeenBase};
+ghost use Rattle.cell_seats.specs.ParkedNodes.{name_of, HasSeenAll, HasSeenBase, IsLedBy};
 ghost use Rattle.cell_seats.specs.Registries.{IsSameRegistry};
 ghost use Rattle.protocol.specs.Tables.{first_numbers};
 ghost use Rattle.protocol.specs.Sending.{the_server};
 ghost use Rattle.cell_run.specs.Cells.{names_of};
+ghost use Rattle.cell_run.specs.Parked.{HaveSeen};
+ghost use Rattle.cell_run.specs.Standing.{MasterStands, ServerStands};
 
 use crate::running_master::RunningMaster;
 use crate::running_server::RunningServer;
 use crate::seating::hold;
 use crate::start_fault::StartFault;
+use cell_journal::Beginning;
 use cell_journal::identity::CellIdentity;
+use cell_journal::raised_entry::RaisedEntry;
 use cell_seats::node_lock::{NodeIdentity, NodeLock};
 use cell_seats::node_registry::NodeRegistry;
 use cell_seats::parked_node::{ParkedNode, park};
@@ -210,12 +216,39 @@ impl ParkedNodes {
         (master, servers)
     }
 
+    /// The master, as this history, which it has seen, left it.
+    pub fn led_master(&self, history: &Beginning<RaisedEntry>) -> &RunningMaster
+        requires { (cell : Identity) × (servers : ℕ) × HaveSeen cell servers history.now self.now }
+        ensures { (cell : Identity) (servers : ℕ) → HaveSeen cell servers history.now self.now → IsLedBy cell Master history.now.items (MasterStands result.now.node.master.state) }
+    {
+        self.master.meets(history);
+        self.master.stepper()
+    }
+
+    /// The server of the next number behind this one, as this history, which it has seen, left it.
+    pub fn led_server(&self, before: u16, history: &Beginning<RaisedEntry>) -> &RunningServer
+        requires { (cell : Identity) × (servers : ℕ) × HaveSeen cell servers history.now self.now × (before < servers) }
+        ensures { (cell : Identity) (servers : ℕ) → HaveSeen cell servers history.now self.now → before < servers → IsLedBy cell (the_server (before + 1)) history.now.items (ServerStands result.now.server) }
+    {
+        let server = server_at(self.servers.as_slice(), before);
+        server.meets(history);
+        server.stepper()
+    }
+
     /// How many entries of the history each has seen.
     pub fn count(&self) -> usize
         ensures { All (λ p. HasSeenAll p.cell result p) self.now }
     {
         self.count
     }
+}
+
+// The server at this place.
+fn server_at(servers: &[ParkedNode<RunningServer>], before: u16) -> &ParkedNode<RunningServer>
+    requires { before < length servers.now }
+    ensures { result.now ≡ get_or servers.now before result.now }
+{
+    &servers[usize::from(before)]
 }
 
 // Takes a node out of its lock, once it saw the whole history, which has so many entries, where their number is given.

@@ -1,16 +1,22 @@
 //! A cell that is parked.
 
 ghost use Rattle.std.specs.Prelude.{◌≡◌, ◌≤◌, ◌<◌, ◌+◌, ℕ, [], true, false, length, get_or, All, IsSome, IsTrue};
-ghost use Rattle.gfs_types.specs.declared.ids.Node.TheVariants.{Client};
+ghost use Rattle.gfs_types.specs.declared.ids.Node.TheVariants.{Client, Master};
+ghost use Rattle.protocol.specs.Sending.{the_server};
 ghost use Rattle.protocol_journal.specs.Journal.{own};
 ghost use Rattle.cell_journal.specs.Clocks.{are_clocks_kept};
+ghost use Rattle.cell_journal.specs.Identity.{closed};
 ghost use Rattle.cell_journal.specs.Log.{listed};
 ghost use Rattle.cell_journal.specs.WholeHistories.{whole_of};
+ghost use Rattle.cell_seats.specs.ParkedNodes.{IsLedBy};
 ghost use Rattle.cell_run.specs.Parked.{AreNodesOf, IsSeatOf};
 ghost use Rattle.cell_run.specs.ParkedSeats.{count_anew};
+ghost use Rattle.cell_run.specs.Standing.{MasterStands, ServerStands};
 
 use crate::node_locks::ParkedNodes;
 use crate::parked_seat::ParkedSeat;
+use crate::running_master::RunningMaster;
+use crate::running_server::RunningServer;
 use cell_journal::raised_entry::RaisedEntry;
 use cell_journal::{Beginning, GrowingList};
 use cell_seats::journal::Journal;
@@ -78,6 +84,32 @@ impl ParkedParts {
         ensures { result ≡ self.now.made + count_anew self.now.seats }
     {
         sum_of(self.made, self.count_anew())
+    }
+
+    fn server_count(&self) -> u16
+        ensures { result ≡ self.now.journal.cell.servers }
+    {
+        self.servers
+    }
+
+    fn into_journal(self) -> Journal
+        ensures { result.now ≡ self.journal }
+    {
+        let (kept, _nodes, _seats) = self.taken_apart();
+        let KeptParts {
+            alloc: _,
+            made: _,
+            journal,
+            nothing: _nothing,
+        } = kept;
+        journal
+    }
+
+    // The master and the servers.
+    fn nodes(&self) -> &ParkedNodes
+        ensures { AreNodesOf self.now.journal.cell self.now.journal.cell.servers (length (whole_of self.now.journal)) result.now }
+    {
+        &self.nodes
     }
 
     /// Of which clients nothing more is written once the cell goes on: of all that were made but those whose seats go on as they are.
@@ -242,6 +274,30 @@ impl Parked {
         &self.parts.journal
     }
 
+    /// How many servers it has.
+    pub fn server_count(&self) -> u16
+        ensures { result ≡ self.now.journal.cell.servers }
+    {
+        self.parts.server_count()
+    }
+
+    /// The master, as the cell's whole history left it.
+    pub fn master(&self) -> &RunningMaster
+        ensures { IsLedBy self.now.journal.cell Master (whole_of self.now.journal) (MasterStands result.now.node.master.state) }
+    {
+        let history = self.list.beginning();
+        self.parts.nodes().led_master(&history)
+    }
+
+    /// The server of the next number behind this one, as the cell's whole history left it.
+    pub fn server_behind(&self, before: u16) -> &RunningServer
+        requires { before < self.now.journal.cell.servers }
+        ensures { IsLedBy self.now.journal.cell (the_server (before + 1)) (whole_of self.now.journal) (ServerStands result.now.server) }
+    {
+        let history = self.list.beginning();
+        self.parts.nodes().led_server(before, &history)
+    }
+
     /// Its parts, and the list of its history.
     pub(crate) fn into_parts(self) -> (ParkedParts, GrowingList<RaisedEntry>)
         ensures parts { result.0 ≡ self }
@@ -249,6 +305,14 @@ impl Parked {
     {
         let Self { parts, list } = self;
         (parts, list)
+    }
+
+    /// The cell is closed as it was parked: nothing is added to its history any more.
+    pub fn close(self) -> Journal
+        ensures { result.now ≡ closed self.journal.cell self.journal.entries true }
+    {
+        let (parts, list) = self.into_parts();
+        parts.into_journal().close(list)
     }
 
     /// Whether the client of each seat came out of it: none was left behind by an earlier parking.

@@ -37,7 +37,7 @@ impl RunningMaster {
     {
         match MasterSlot::new(alloc, config, servers, alloc) {
             Ok(master) => Ok(RunningMaster {
-                node: MasterNode { master },
+                node: MasterNode { alloc, master },
             }),
             Err(_) => Err(NoMemory),
         }

@@ -19,18 +19,24 @@ use gfs_types::config::Config;
 use gfs_types::ids::{Moment, ServerId};
 use gfs_types::no_memory::NoMemory;
 use messages::event::StepOut;
+use protocol::seen::SeenList;
 use server_cell::server_slot::ServerSlot;
 use std::alloc::Global;
+use step_outcome::{Outcome, no_output};
 
 /// A server of a running cell. At a restart its disk stops, and it is opened over what that left.
 pub struct RunningServer {
+    pub alloc: Global,
     pub server: ServerSlot,
 }
 
 // Stands here, once, so that no crate above proves the drops of all that a server owns.
 impl Drop for RunningServer {
     fn drop(self) {
-        let Self { server: _server } = self;
+        let Self {
+            alloc: _alloc,
+            server: _server,
+        } = self;
     }
 }
 
@@ -41,7 +47,7 @@ impl RunningServer {
         ensures { IfOk result (λ r. r.server ≡ started_server config id.0 (new_server_disk config.chunk config.block config.slots) 0) }
     {
         match new_server(alloc, config, id) {
-            Ok(server) => Ok(RunningServer { server }),
+            Ok(server) => Ok(RunningServer { alloc, server }),
             Err(_) => Err(NoMemory),
         }
     }
@@ -60,24 +66,38 @@ impl Stepper for RunningServer {
 
     fn step(&mut self, now: Moment, cause: &StepCause, call: Option<Call>) -> NodeStep {
         let _none = call;
+        let (out, seen) = step_server(&mut self.server, self.alloc, now, cause);
         NodeStep {
-            out: step_server(&mut self.server, now, cause),
+            out,
             answer: None,
+            seen,
         }
     }
 }
 
-// A step, which has no answer.
-fn step_server(server: &mut ServerSlot, now: Moment, cause: &StepCause) -> StepOut
+// A step, which has no answer, and what was seen of it.
+fn step_server(
+    server: &mut ServerSlot,
+    alloc: Global,
+    now: Moment,
+    cause: &StepCause,
+) -> (StepOut, SeenList)
     requires moment { now.0 ≤ moment_limit }
     requires may { (s : NodeState) → ServerStands server.old s → IsTrue (may_take s (cause_of cause.now)) }
-    ensures steps { (s : NodeState) → ServerStands server.old s → StepsSo s now.0 (cause_of cause.now) result (ServerStands server.new) }
-    ensures silent { result.answer ≡ None }
+    ensures steps { (s : NodeState) → ServerStands server.old s → StepsSo s now.0 (cause_of cause.now) result.0 result.1 (ServerStands server.new) }
+    ensures silent { result.0.answer ≡ None }
 {
     match cause {
-        StepCause::Takes(input) => server.step(now, message_in(input)).out,
-        StepCause::Restarts => server.restart(now),
+        StepCause::Takes(input) => {
+            let Outcome {
+                out,
+                seen,
+                cause: _,
+            } = server.step(now, message_in(input));
+            (out, seen)
+        }
+        StepCause::Restarts => (server.restart(now), SeenList::empty(alloc)),
         // It takes no call.
-        StepCause::Calls(_) => server.step(now, None).out,
+        StepCause::Calls(_) => (no_output(alloc), SeenList::empty(alloc)),
     }
 }

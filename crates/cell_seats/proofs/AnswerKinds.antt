@@ -192,7 +192,7 @@ answers_only (Some reply) = tt
 
 runs_without : (s : NodeState) (es : List Entry) (t : NodeState) → IsNoClient s → RunsTo s es t → AreNoCalls (visible_of es)
 runs_without s [] t none way = tt
-runs_without s (e ∷ es) t none (choice, may, gives, way) =
+runs_without s (e ∷ es) t none (choice, may, gives, sees, way) =
     no_calls_append (asked_in e.cause ++ answered_in e.out.answer) (visible_of es)
     (no_calls_append (asked_in e.cause) (answered_in e.out.answer) (makes_none s e.cause none may) (answers_only e.out.answer))
     (runs_without (node_step s e.moment e.cause choice).state es t (stays_so s e.moment e.cause choice none) way)

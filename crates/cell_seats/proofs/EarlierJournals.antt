@@ -28,9 +28,9 @@ first_base cell (j ∷ []) (Some b) is few behind =
     subst (λ (x : JournalState). (cell.base ≡ whole_of x.now) × (joined (j ∷ []) ≡ all_in x)) (sym same) (behind.0, append-nil (all_in j))
 first_base cell (j ∷ k ∷ rest) (Some b) is few behind = absurd (omega (arith, few))
 
-pub no_base : (cell : Identity) (items : List JournalState) (first : Option JournalState) → first ≡ slice_get items 0 → AreBehind cell (joined items) → IfNone first (cell.base ≡ [])
+pub no_base : (cell : Identity) (items : List JournalState) (first : Option JournalState) → first ≡ slice_get items 0 → AreBehind cell (joined items) → IfNone first ((cell.base ≡ []) × (joined items ≡ []))
 no_base cell items (Some b) is behind = tt
-no_base cell [] None is behind = behind
+no_base cell [] None is behind = (behind, refl)
 no_base cell (j ∷ rest) None is behind = absurd (let none : None ≡ Some j = is in cc)
 
 -- the last one is taken away

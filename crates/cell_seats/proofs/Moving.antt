@@ -25,22 +25,23 @@ use Rattle.cell_journal.specs.Rules.{IsStepOf}
 use Rattle.cell_journal.specs.Writers.{IsNodeWriter, IsLater, IsRead, GoesOn, IsSeen}
 use Rattle.gfs_types.specs.declared.refusal.Refusal.{Refusal}
 use Rattle.cell_seats.specs.declared.slot.StepResult.{StepResult}
+use Rattle.protocol.specs.declared.seen.Seen.{Seen}
 use Rattle.cell_seats.specs.declared.mailboxes.Input.{Input}
 use Rattle.cell_seats.specs.declared.mailboxes.Input.TheVariants.{Deliver, Tick, Restart}
 use Rattle.cell_seats.specs.Slots.{StepsSo, IsLedTo, IsTakenOn, IsInputOf, IsCopyOf, number_in, told_where, StepTaken, ActsOn, Acts}
 
 runs_more : (s t : NodeState) (es : List Entry) (e : Entry) (choice : Choice) → RunsTo s es t → IsTrue (may_take t e.cause) → (node_step t e.moment e.cause choice).out ≡ e.out
-    → RunsTo s (es ++ e ∷ []) (node_step t e.moment e.cause choice).state
-runs_more s t [] e choice h may out =
-    subst (λ (x : NodeState). RunsTo x (e ∷ []) (node_step t e.moment e.cause choice).state) (sym h) (choice, may, out, refl)
-runs_more s t (x ∷ es) e choice h may out = (h.0, h.1, h.2, runs_more (node_step s x.moment x.cause h.0).state t es e choice h.3 may out)
+    → (node_step t e.moment e.cause choice).seen ≡ e.seen → RunsTo s (es ++ e ∷ []) (node_step t e.moment e.cause choice).state
+runs_more s t [] e choice h may out sees =
+    subst (λ (x : NodeState). RunsTo x (e ∷ []) (node_step t e.moment e.cause choice).state) (sym h) (choice, may, out, sees, refl)
+runs_more s t (x ∷ es) e choice h may out sees = (h.0, h.1, h.2, h.3, runs_more (node_step s x.moment x.cause h.0).state t es e choice h.4 may out sees)
 
 leads_more : (o : Option NodeState) (t : NodeState) (es : List Entry) (e : Entry) (choice : Choice) → LeadsTo o es (Some t) → IsTrue (may_take t e.cause) → (node_step t e.moment e.cause choice).out ≡ e.out
-    → LeadsTo o (es ++ e ∷ []) (Some (node_step t e.moment e.cause choice).state)
-leads_more None t es e choice h may out = absurd (let some_is_none : Some t ≡ None = h.1 in cc)
-leads_more (Some s) t es e choice h may out =
+    → (node_step t e.moment e.cause choice).seen ≡ e.seen → LeadsTo o (es ++ e ∷ []) (Some (node_step t e.moment e.cause choice).state)
+leads_more None t es e choice h may out sees = absurd (let some_is_none : Some t ≡ None = h.1 in cc)
+leads_more (Some s) t es e choice h may out sees =
     let same : t ≡ h.0 = (let is : Some t ≡ Some h.0 = h.1 in cc) in
-    ((node_step t e.moment e.cause choice).state, refl, runs_more s t es e choice (subst (λ (x : NodeState). RunsTo s es x) (sym same) h.2) may out)
+    ((node_step t e.moment e.cause choice).state, refl, runs_more s t es e choice (subst (λ (x : NodeState). RunsTo s es x) (sym same) h.2) may out sees)
 
 module _ (v w : View) (n : Node) where
   pub led_later : (Stands : NodeState → Type 0) → IsLater v w → IsLedTo v n Stands → IsLedTo w n Stands
@@ -52,9 +53,9 @@ module _ (v w : View) (n : Node) where
   }
 
   -- it stands for the state to which its step led
-  pub led_on : (Stands After : NodeState → Type 0) (moment : ℕ) (cause : StepCause) (out : StepOut) → (led : IsLedTo v n Stands) → IsTrue (may_take led.state cause) → StepsSo led.state moment cause out After
-      → GoesOn v w (entry n moment cause out) → IsLedTo w n After
-  led_on Stands After moment cause out led may steps goes = record {
+  pub led_on : (Stands After : NodeState → Type 0) (moment : ℕ) (cause : StepCause) (out : StepOut) (seen : List Seen) → (led : IsLedTo v n Stands) → IsTrue (may_take led.state cause)
+      → StepsSo led.state moment cause out seen After → GoesOn v w (entry n moment cause out seen) → IsLedTo w n After
+  led_on Stands After moment cause out seen led may steps goes = record {
     state = (node_step led.state moment cause steps.choice).state;
     leads = subst (λ (es : List Entry). LeadsTo (node_in (new_world w.of.config w.of.servers w.of.clients) n) (steps_of w.of n es) (Some after)) (sym goes.mine)
         (subst (λ (c : Identity). LeadsTo (node_in (new_world c.config c.servers c.clients) n) (steps_of c n (v.mine ++ e ∷ [])) (Some after)) (sym goes.of)
@@ -63,7 +64,7 @@ module _ (v w : View) (n : Node) where
   }
     where
       e : Entry
-      e = entry n moment cause out
+      e = entry n moment cause out seen
 
       k : ℕ
       k = length (sent_after [] v.of.base)
@@ -82,11 +83,11 @@ module _ (v w : View) (n : Node) where
       on =
           subst (λ (t : Taken NodeState). LeadsTo start (all_steps v n ++ raised_entry k e ∷ []) (Some t.state)) same
           (leads_more start led.state (all_steps v n) (raised_entry k e) steps.choice led.leads (subst (λ (b : Bool). IsTrue b) (sym (may_same k led.state cause)) may)
-          (ap (λ (t : Taken NodeState). t.out) same ∙ steps.gives))
+          (ap (λ (t : Taken NodeState). t.out) same ∙ steps.gives) (ap (λ (t : Taken NodeState). t.seen) same ∙ steps.sees))
 
-pub step_of : (v : View) (c : List (ℕ × Option Filled)) (n : Node) (Stands After : NodeState → Type 0) (moment : ℕ) (cause : StepCause) (out : StepOut) → IsNodeWriter n (v, c) → is_retired v.of n ≡ false → (led : IsLedTo v n Stands)
-    → IsTrue (may_take led.state cause) → StepsSo led.state moment cause out After → moment ≤ moment_limit → IsForNode (sent_after [] v.seen) n cause → IsStepOf v (entry n moment cause out)
-step_of v c n Stands After moment cause out writer goes_on led may steps within reads = record {
+pub step_of : (v : View) (c : List (ℕ × Option Filled)) (n : Node) (Stands After : NodeState → Type 0) (moment : ℕ) (cause : StepCause) (out : StepOut) (seen : List Seen) → IsNodeWriter n (v, c) → is_retired v.of n ≡ false → (led : IsLedTo v n Stands)
+    → IsTrue (may_take led.state cause) → StepsSo led.state moment cause out seen After → moment ≤ moment_limit → IsForNode (sent_after [] v.seen) n cause → IsStepOf v (entry n moment cause out seen)
+step_of v c n Stands After moment cause out seen writer goes_on led may steps within reads = record {
   role = writer.role;
   goes_on = goes_on;
   state = led.state;
@@ -94,6 +95,7 @@ step_of v c n Stands After moment cause out writer goes_on led may steps within 
   leads = led.leads;
   may = may;
   gives = steps.gives;
+  sees = steps.sees;
   moment = le-leb moment moment_limit within;
   read = v.seen;
   before = prefix_self v.seen;
@@ -101,11 +103,11 @@ step_of v c n Stands After moment cause out writer goes_on led may steps within 
 }
 
 -- a step that stands in the journal, with what its caller is told of its answer
-pub step_taken : (n : Node) (v w : View) (moment : ℕ) (cause : StepCause) (out : StepOut) (answer : Option Answer) (told : Result (Option Answer) Refusal) (beginning : Listed Entry) (count : ℕ) (kept : Bool)
-    → GoesOn v w (entry n moment cause out) × IsSeen w beginning count → kept ≡ are_clocks_kept w.of (all_seen w) → answer ≡ out.answer → told ≡ told_where kept answer
+pub step_taken : (n : Node) (v w : View) (moment : ℕ) (cause : StepCause) (out : StepOut) (noticed : List Seen) (answer : Option Answer) (told : Result (Option Answer) Refusal) (beginning : Listed Entry) (count : ℕ) (kept : Bool)
+    → GoesOn v w (entry n moment cause out noticed) × IsSeen w beginning count → kept ≡ are_clocks_kept w.of (all_seen w) → answer ≡ out.answer → told ≡ told_where kept answer
     → StepTaken n v w cause told beginning count
-step_taken n v w moment cause out answer told beginning count kept (goes, seen) clocks same is = record {
-  entry = entry n moment cause out;
+step_taken n v w moment cause out noticed answer told beginning count kept (goes, seen) clocks same is = record {
+  entry = entry n moment cause out noticed;
   node_is = refl;
   goes = goes;
   cause_is = refl;

@@ -11,7 +11,7 @@ use Rattle.gfs_types.specs.declared.ids.Node.{Node}
 use Rattle.gfs_types.specs.declared.ids.Node.TheVariants as node
 use Rattle.relaxed_file.specs.Run as run
 use Rattle.protocol.specs.Observer.{Observer, new_observer, observed_moment, observed_call, observed_answer}
-use Rattle.protocol_journal.specs.Journal.{StepCause, Calls, Takes, Restarts, Entry, is_node, own, asked, answered, entry_observed, observed_after, observer_of}
+use Rattle.protocol_journal.specs.Journal.{StepCause, Calls, Takes, Restarts, Entry, is_node, own, asked, noticed, answered, entry_observed, observed_after, observer_of}
 use Rattle.cell_seats.specs.Seats.{SeatState}
 use Rattle.cell_seats.specs.Seen.{Visible, Asked, Answered, asked_in, answered_in, visible_of, of_client}
 
@@ -69,7 +69,7 @@ visible_in e = asked_in e.cause ++ answered_in e.out.answer
 
 -- an observer after a step, as if it were this node's
 abbrev seen_of : ℕ → Observer → Entry → Node → Observer
-seen_of skew o e n = answered (observed_moment skew (asked skew o e.moment n e.cause) e.moment) n e.out.answer
+seen_of skew o e n = answered (noticed (observed_moment skew (asked skew o e.moment n e.cause) e.moment) n e.seen) n e.out.answer
 
 -- what a step of a client shows
 client_shows : (client skew : ℕ) (o : Observer) (k : ClientId) (e : Entry)

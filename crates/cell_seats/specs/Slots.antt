@@ -10,6 +10,7 @@ use Rattle.messages.specs.declared.message.Message.{Message}
 use Rattle.messages.specs.declared.event.StepOut.{StepOut}
 use Rattle.messages.specs.declared.event.NodeInput.TheVariants as input
 use Rattle.protocol.specs.Choice.{Choice}
+use Rattle.protocol.specs.declared.seen.Seen.{Seen}
 use Rattle.protocol.specs.World.{new_world, numbered_from_1}
 use Rattle.protocol_journal.specs.Journal.{StepCause, Calls, Takes, Restarts, Entry, NodeState, node_in, node_step, sent_after, LeadsTo}
 use Rattle.cell_journal.specs.Log.{Listed}
@@ -28,10 +29,11 @@ pub record SlotState : Type 0 where
 abbrev pub slot_state : Node → View → SlotState
 slot_state node view = record { node = node; view = view }
 
--- The step of a node gave this, for some choice; the code's node stands for the state to which it led.
-pub record StepsSo (s : NodeState) (moment : ℕ) (cause : StepCause) (out : StepOut) (Stands : NodeState → Type 0) : Type 0 where
+-- The step of a node gave this and was seen so, for some choice; the code's node stands for the state to which it led.
+pub record StepsSo (s : NodeState) (moment : ℕ) (cause : StepCause) (out : StepOut) (seen : List Seen) (Stands : NodeState → Type 0) : Type 0 where
   pub choice : Choice
   pub gives : (node_step s moment cause choice).out ≡ out
+  pub sees : (node_step s moment cause choice).seen ≡ seen
   pub stands : Stands (node_step s moment cause choice).state
 
 -- all steps of the node, as its writer knows them, led to a state for which it stands

@@ -10,14 +10,17 @@ ghost use Rattle.cell_journal.specs.Clocks.{are_clocks_kept};
 ghost use Rattle.cell_journal.specs.Rules.{IsJournalOf};
 ghost use Rattle.protocol_journal.specs.Journal.{Restarts};
 ghost use Rattle.cell_journal.specs.Entries.{cause_of};
+ghost use Rattle.cell_journal.specs.Identity.{closed};
+ghost use Rattle.cell_journal.specs.Log.{listed};
 ghost use Rattle.cell_journal.specs.WholeHistories.{whole_of, AreRestarts};
-ghost use Rattle.cell_seats.specs.Journals.{joined, all_in, steps_in, first_kept, kept_step, AreBehind, AreSkipped, HasRestart};
+ghost use Rattle.cell_seats.specs.Journals.{journal_state, joined, all_in, steps_in, first_kept, kept_step, AreBehind, AreSkipped, HasRestart};
 
 use crate::seat::Seat;
 use crate::stepper::Stepper;
-use cell_journal::closed_history;
 use cell_journal::closed_history::ClosedHistory;
 use cell_journal::journal_entry::{JournalEntry, StepCause};
+use cell_journal::raised_entry::RaisedEntry;
+use cell_journal::{GrowingList, closed_history};
 use gfs_types::ids::{Node, ServerId};
 use std::marker::Model;
 
@@ -95,6 +98,23 @@ impl Journal {
         &self.history
     }
 
+    /// The same journal, once its cell is closed with the list of its history.
+    pub fn close(self, list: GrowingList<RaisedEntry>) -> Journal
+        requires { list ≡ listed self.now.cell.name (whole_of self.now) }
+        ensures { result ≡ journal_state (closed self.now.cell self.now.entries true) self.earlier self.skip }
+    {
+        let Self {
+            history,
+            skip,
+            base,
+        } = self;
+        Journal {
+            history: history.close(list),
+            skip,
+            base,
+        }
+    }
+
     // The journal that it stands behind, if there is one.
     fn into_base(self) -> Vec<Journal>
         ensures { joined result.items ≡ self.earlier }
@@ -110,7 +130,7 @@ impl Journal {
     /// The journal up to which its cell was parked before. None: its cell is a new one.
     pub fn base(&self) -> Option<&Journal>
         ensures some { IfSome result (λ b. (self.now.now.cell.base ≡ whole_of b.now.now) × (self.now.earlier ≡ all_in b.now)) }
-        ensures none { IfNone result (self.now.now.cell.base ≡ []) }
+        ensures none { IfNone result ((self.now.now.cell.base ≡ []) × (self.now.earlier ≡ [])) }
     {
         self.base.as_slice().first()
     }

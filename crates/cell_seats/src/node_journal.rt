@@ -22,6 +22,7 @@ use gfs_types::ids::{Moment, Node};
 use gfs_types::refusal::Refusal;
 use messages::event::StepOut;
 use messages::message::Message;
+use protocol::seen::SeenList;
 use script::kinds::Kind as MessageKind;
 use std::alloc::Global;
 use std::sync::atomic::Ordering;
@@ -137,16 +138,17 @@ impl NodeJournal {
         now: Moment,
         cause: StepCause,
         out: StepOut,
+        seen: SeenList,
     ) -> Option<ExtendedHistory>
         requires room { 0 < self.old.writer.me.0.rooms }
-        requires step { IsStepOf self.old.writer.me.0 (entry self.old.node now.0 (cause_of cause) out) }
+        requires step { IsStepOf self.old.writer.me.0 (entry self.old.node now.0 (cause_of cause) out seen) }
         ensures node { self.new.node ≡ self.old.node }
-        ensures some { IfSome result (λ l. GoesOn self.old.writer.me.0 self.new.writer.me.0 (entry self.old.node now.0 (cause_of cause) out) × IsSeen self.new.writer.me.0 l.beginning l.count) }
+        ensures some { IfSome result (λ l. GoesOn self.old.writer.me.0 self.new.writer.me.0 (entry self.old.node now.0 (cause_of cause) out seen) × IsSeen self.new.writer.me.0 l.beginning l.count) }
         ensures clocks { IfSome result (λ l. l.are_clocks_kept ≡ are_clocks_kept self.new.writer.me.0.of (all_seen self.new.writer.me.0)) }
         ensures none { IfNone result (self.new.writer.me ≡ self.old.writer.me) }
     {
         let receivers = receivers_of(alloc, &out);
-        let entry = JournalEntry::new(self.node, now, cause, out);
+        let entry = JournalEntry::new(self.node, now, cause, out, seen);
         let extended = end(
             rt,
             &self.shared.table.shared,

@@ -2,7 +2,7 @@
 
 ghost use Rattle.std.specs.Prelude.{◌≡◌, true, IfSome, length};
 ghost use Rattle.cell_journal.specs.Writers.{IsLater, HasLooked};
-ghost use Rattle.cell_seats.specs.ParkedNodes.{parked_node, IsBehind};
+ghost use Rattle.cell_seats.specs.ParkedNodes.{parked_node, IsBehind, IsLedBy};
 ghost use Rattle.cell_seats.specs.Slots.{slot_state};
 
 use crate::node_journal::NodeJournal;
@@ -96,6 +96,13 @@ impl<N: Stepper + Drop> ParkedNode<N> {
         ensures { result ≡ self.now.node }
     {
         self.node
+    }
+
+    /// The node itself, to whose state all steps led that its cell's history has of it.
+    pub fn stepper(&self) -> &N
+        ensures { IsLedBy self.now.cell self.now.node self.now.history.items (N.stands result.now) }
+    {
+        &self.stepper
     }
 
     /// Whether its cell has the settings of this one, and so many servers and clients.

@@ -338,8 +338,8 @@ fn step_with<R: Wait, N: Stepper + Drop>(
 {
     let mut node = node;
     let given = node.step(now, &cause, call);
-    let NodeStep { out, answer } = given;
-    match journal.end(rt, alloc, now, cause, out) {
+    let NodeStep { out, answer, seen } = given;
+    match journal.end(rt, alloc, now, cause, out, seen) {
         Some(extended) => {
             let told = told_where(extended.are_clocks_kept, answer);
             Some(SteppedNode {

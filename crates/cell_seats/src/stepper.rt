@@ -11,12 +11,14 @@ use gfs_types::answer::Answer;
 use gfs_types::call::Call;
 use gfs_types::ids::Moment;
 use messages::event::StepOut;
+use protocol::seen::SeenList;
 
-/// What a step gave, with a copy of its answer.
+/// What a step gave, with a copy of its answer, and what an observer sees of it.
 #[derive(Drop)]
 pub struct NodeStep {
     pub out: StepOut,
     pub answer: Option<Answer>,
+    pub seen: SeenList,
 }
 
 /// A node that takes steps.
@@ -34,6 +36,6 @@ pub trait Stepper {
         requires moment { now.0 ≤ moment_limit }
         requires may { (s : NodeState) → stands self.old s → IsTrue (may_take s (cause_of cause.now)) }
         requires copy { IsCopyOf (cause_of cause.now) call }
-        ensures steps { (s : NodeState) → stands self.old s → StepsSo s now.0 (cause_of cause.now) result.out (stands self.new) }
+        ensures steps { (s : NodeState) → stands self.old s → StepsSo s now.0 (cause_of cause.now) result.out result.seen (stands self.new) }
         ensures answer { result.answer ≡ result.out.answer };
 }

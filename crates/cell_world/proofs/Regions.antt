@@ -19,7 +19,7 @@ use Rattle.cell_world.specs.FileNames.{file_in}
 use Rattle.protocol.specs.Lookups.{StoredAt, handle_at, regions_at, replicas_at, replicas_of, stored_on, file_named}
 use Rattle.cell_world.specs.Kept.{blank_placed}
 use Rattle.cell_world.specs.Seeing.{entries_seen, orders_seen}
-use Rattle.cell_world.specs.Held.{HeldCell, IsHeldAs}
+use Rattle.cell_world.specs.Held.{HeldCell, IsHeldAs, AreHeldAs}
 
 abbrev entries_in : List Placed → List Entry
 entries_in ps = map (λ p. p.entry) ps
@@ -58,12 +58,14 @@ regions_alike ps =
     ap (regions_from (entries_in (map blank_placed ps)) 0) (length_alike ps)
     ∙ from_alike ps (order_length (entries_in ps)) 0
 
--- the regions of a handle, by what was seen
-pub regions_seen : (w : WorldState) (h : HeldCell) (handle : ℕ) → IsHeldAs w h
-    → regions_of (entries_seen h.seen handle) ≡ regions_of (entries_in (order_of w.observer handle))
-regions_seen w h handle g =
-    sym (regions_alike (placed_in (orders_seen h.seen) handle))
-    ∙ (ap (λ ps. regions_of (entries_in ps)) (sym (g.orders handle)) ∙ regions_alike (order_of w.observer handle))
+-- the regions of a handle, by orders that are the same but for bytes
+pub regions_by : (orders held : Table (List Placed)) (handle : ℕ) → AreHeldAs orders held → regions_of (entries_in (placed_in held handle)) ≡ regions_of (entries_in (placed_in orders handle))
+regions_by orders held handle same =
+    sym (regions_alike (placed_in held handle)) ∙ (ap (λ ps. regions_of (entries_in ps)) (sym (same handle)) ∙ regions_alike (placed_in orders handle))
+
+-- and by what was seen
+regions_seen : (w : WorldState) (h : HeldCell) (handle : ℕ) → IsHeldAs w h → regions_of (entries_seen h.seen handle) ≡ regions_of (entries_in (order_of w.observer handle))
+regions_seen w h handle g = regions_by w.observer.orders (orders_seen h.seen) handle g.orders
 
 pub handle_there : (o : Option ℕ) (found : Option Handle) → found ≡ option_map handle_of o → o ≡ option_map (λ h. h.0) found
 handle_there None found e = rw e refl

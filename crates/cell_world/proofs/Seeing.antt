@@ -49,6 +49,11 @@ pub seen_last : (past last seen : List Seen) → 0 < 1 - length last → past ++
 seen_last past last seen room =
     ap (λ xs. xs ++ map blank_seen seen) (sym (ap (λ xs. past ++ map blank_seen xs) (none_left last room) ∙ append-nil past))
 
+-- what is kept of what was seen besides, where nothing was seen last
+pub noted_too : (past more : List Sighting) (last seen : List Seen) → 0 < 1 - length last → map seen_of more ≡ map blank_seen seen
+    → map seen_of (past ++ more) ++ map blank_seen last ≡ (map seen_of past ++ map blank_seen last) ++ map blank_seen seen
+noted_too past more last seen room same = kept_too past more seen last same (none_left last room) ∙ seen_last (map seen_of past) last seen room
+
 -- all that is kept, one part after the other
 pub replayed : (past more kept : List Seen) (first middle orders : Table (List Placed)) → first ≡ table.empty → middle ≡ orders_after_all [] first past → orders ≡ orders_after_all [] middle kept → kept ≡ more
     → orders ≡ orders_seen (past ++ more)

@@ -21,6 +21,6 @@ mod rebasing;
 pub mod record;
 mod run;
 mod servers;
-mod shown;
+pub mod shown;
 mod sighting;
 pub mod sights;

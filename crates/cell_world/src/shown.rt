@@ -98,7 +98,8 @@ fn stored_on_all(
     Ok(all)
 }
 
-fn stored(server: &ServerSlot, handle: Handle) -> Option<StoredReplica>
+/// The replica that is stored on a server, if it is up and has one.
+pub fn stored(server: &ServerSlot, handle: Handle) -> Option<StoredReplica>
     ensures { option_map as_stored result ≡ stored_on handle.0 server.now }
 {
     if !server.is_up() {

@@ -38,7 +38,8 @@ impl Model for Sights {
 impl Sights {
     /// Takes no memory.
     pub fn new(alloc: Global) -> Sights
-        ensures { result.seen ≡ [] }
+        ensures seen { result.seen ≡ [] }
+        ensures room { 0 < result.room }
     {
         Sights {
             alloc,
@@ -67,6 +68,18 @@ impl Sights {
         ensures { self.new.seen ≡ self.old.seen ++ map blank_seen seen }
     {
         self.last = seen;
+    }
+
+    /// This was seen of a step. No bytes of it are kept here.
+    #[tactic(auto, using(crate::proofs::Seeing::noted_too))]
+    pub fn notes(&mut self, seen: &SeenList) -> Result<(), NoMemory>
+        requires { 0 < self.old.room }
+        ensures seen { OnOk result (self.new.seen ≡ self.old.seen ++ map blank_seen seen.now) }
+        ensures room { OnOk result (0 < self.new.room) }
+    {
+        let mut kept = sightings(self.alloc, seen.as_slice())?;
+        self.past.append(&mut kept)?;
+        Ok(())
     }
 
     /// The regions of a handle's chunk. It replays all that was seen.

@@ -14,7 +14,7 @@ use Rattle.clap.specs.declared.error.kind.ErrorKind.{ErrorKind}
 use Rattle.clap.proofs.OnLiterals.{clap_on_literals}
 use Rattle.command_line.specs.Program.{keep, names_heap, option_names, program}
 use Rattle.command_line.proofs.FaultLemmas.{are_alike, faults_are_alike, first_tells}
-use Rattle.command_line.specs.Asking.{Asked, asked, asked_by, asked_on, Wanted, to_run, to_simulate, to_play, to_serve, to_be_shown, nothing, Answers, Becomes, Runs, Serves, all_numbered, faults, is_live, is_numbered, is_served, is_shown, meant, run_by, run_of, served_of, wanted_by}
+use Rattle.command_line.specs.Asking.{Asked, asked, asked_by, asked_on, Told, Wanted, to_run, to_simulate, to_play, to_be_shown, nothing, Answers, Becomes, Runs, Serves, all_numbered, faults, is_live, is_numbered, is_served, is_shown, meant, run_by, run_of, served_of, wanted_by}
 use Rattle.script.specs.declared.options.Options.{Options}
 use Rattle.command_line.specs.declared.command.CommandFault.{CommandFault}
 use Rattle.command_line.specs.declared.command.CommandFault.TheVariants.{Bad, NoMemory}
@@ -132,14 +132,14 @@ pub of_bad : (words : List Text) (r : Result Request CommandFault) (fault : Comm
 of_bad words (Ok x) fault is bad none run = absurd is
 of_bad words (Err e) fault is bad none run = subst (λ e. Answers words (Err e)) (sym (is ∙ bad)) (ap₂ asked_by none run)
 
-pub of_run : (words : List Text) (live : Bool) (file : Text) (bytes most : Option ℕ) (tells : Bool) (options : Options) (r : Request)
+pub of_run : (words : List Text) (live : Bool) (file : Text) (bytes most : Option ℕ) (tells : Told) (options : Options) (r : Request)
     → asked words ≡ to_run (live, (file, (bytes, (most, (tells, options))))) → Runs live file bytes most tells options r → Answers words (Ok r)
 of_run words live file bytes most tells options (Sim f b o) is runs =
     is ∙ ap (λ (l : Bool). to_run (l, (file, (bytes, (most, (tells, options)))))) runs.0
     ∙ ap₂ (λ (g : Text) (w : Option ℕ × Options). to_simulate g w.0 w.1) (sym runs.1) (λ i. (sym runs.2 i, sym runs.3 i))
 of_run words live file bytes most tells options (Live f m t o) is runs =
     is ∙ ap (λ (l : Bool). to_run (l, (file, (bytes, (most, (tells, options)))))) runs.0
-    ∙ ap₂ (λ (g : Text) (w : Option ℕ × (Bool × Options)). to_play g w.0 w.1.0 w.1.1) (sym runs.1) (λ i. (sym runs.2 i, (sym runs.3 i, sym runs.4 i)))
+    ∙ ap₂ (λ (g : Text) (w : Option ℕ × (Told × Options)). to_play g w.0 w.1.0 w.1.1) (sym runs.1) (λ i. (sym runs.2 i, (sym runs.3 i, sym runs.4 i)))
 of_run words live file bytes most tells options (Serve m o) is runs = absurd runs
 of_run words live file bytes most tells options (Show text) is runs = absurd runs
 

@@ -12,10 +12,11 @@ use Rattle.clap.specs.declared.error.kind.ErrorKind.TheVariants.{DisplayHelp, Di
 use Rattle.gfs_types.specs.Settings.{block_for, default_settings}
 use Rattle.gfs_types.specs.declared.config.Config.{Config}
 use Rattle.script.specs.Numbers.{number_of}
-use Rattle.command_line.specs.Program.{keep, names_heap, option_names, progress, program}
+use Rattle.command_line.specs.Program.{keep, names_heap, option_names, regions, history, progress, program}
 use Rattle.script.specs.declared.options.Options.{Options}
 use Rattle.command_line.specs.declared.command.CommandFault.{CommandFault}
 use Rattle.command_line.specs.declared.command.CommandFault.TheVariants.{Bad, NoMemory}
+use Rattle.command_line.specs.declared.command.Telling.{Telling}
 use Rattle.command_line.specs.declared.command.Request.{Request}
 use Rattle.command_line.specs.declared.command.Request.TheVariants.{Sim, Live, Serve, Show}
 
@@ -72,12 +73,27 @@ all_numbered rows names = list_all (is_numbered rows) names
 
 -- ---- the command line
 
--- the bytes of the names' region, how many entries of the journal stay, whether progress is told, and the options
+-- what is told of a run beside its answers: how far it is, the regions of a file, and its history, into a file
+pub record Told : Type 0 where
+  pub progress : Bool
+  pub regions : Option Text
+  pub history : Option Text
+
+abbrev pub told : Bool → Option Text → Option Text → Told
+told progress regions history = record { progress = progress; regions = regions; history = history }
+
+abbrev pub told_by : List Row → Told
+told_by rows = told (is_given rows progress) (first_of regions rows) (first_of history rows)
+
+abbrev pub told_of : Telling → Told
+told_of t = told t.progress (option_map (λ s. s.now) t.regions) (option_map (λ s. s.now) t.history)
+
+-- the bytes of the names' region, how many entries of the journal stay, what is told, and the options
 abbrev pub Wanted : Type 0
-Wanted = Option ℕ × (Option ℕ × (Bool × Options))
+Wanted = Option ℕ × (Option ℕ × (Told × Options))
 
 abbrev pub wanted_by : List Row → Wanted
-wanted_by rows = (given_number rows names_heap, (given_number rows keep, (is_given rows progress, options_of rows)))
+wanted_by rows = (given_number rows names_heap, (given_number rows keep, (told_by rows, options_of rows)))
 
 -- the file, and what the rows of a subcommand say of the run
 abbrev pub run_of : List Row → Option (Text × Wanted)
@@ -101,11 +117,11 @@ is_shown DisplayHelp = true
 is_shown DisplayVersion = true
 is_shown _ = false
 
--- to run a script's file by the simulator, with a region for the names or none, or on threads, with so many entries that stay or all, and progress told or not,
+-- to run a script's file by the simulator, with a region for the names or none, or on threads, with so many entries that stay or all, and more told than the answers,
 -- to serve a cell with so many entries that stay or all, to be shown the help or the version, or nothing
 pub data Asked : Type 0 where
   to_simulate : Text → Option ℕ → Options → Asked
-  to_play : Text → Option ℕ → Bool → Options → Asked
+  to_play : Text → Option ℕ → Told → Options → Asked
   to_serve : Option ℕ → Options → Asked
   to_be_shown : Asked
   nothing : Asked
@@ -141,7 +157,7 @@ asked words = asked_by (faults words) (meant words)
 -- the answer says what the words ask for, or memory ran out
 abbrev pub Answers : List Text → Result Request CommandFault → Type 0
 Answers words (Ok (Sim file bytes options)) = asked words ≡ to_simulate file.now bytes options
-Answers words (Ok (Live file most tells options)) = asked words ≡ to_play file.now most tells options
+Answers words (Ok (Live file most tells options)) = asked words ≡ to_play file.now most (told_of tells) options
 Answers words (Ok (Serve most options)) = asked words ≡ to_serve most options
 Answers words (Ok (Show text)) = asked words ≡ to_be_shown
 Answers words (Err Bad) = asked words ≡ nothing
@@ -157,9 +173,9 @@ Becomes kind (Err Bad) = (is_shown kind ≡ false) × (kind ≡ OutOfMemory → 
 Becomes kind (Err NoMemory) = (is_shown kind ≡ true) ⊎ (kind ≡ OutOfMemory)
 
 -- to run a script on threads or by the simulator
-abbrev pub Runs : Bool → Text → Option ℕ → Option ℕ → Bool → Options → Request → Type 0
+abbrev pub Runs : Bool → Text → Option ℕ → Option ℕ → Told → Options → Request → Type 0
 Runs live file bytes most tells options (Sim f b o) = (live ≡ false) × (f.now ≡ file) × (b ≡ bytes) × (o ≡ options)
-Runs live file bytes most tells options (Live f m t o) = (live ≡ true) × (f.now ≡ file) × (m ≡ most) × (t ≡ tells) × (o ≡ options)
+Runs live file bytes most tells options (Live f m t o) = (live ≡ true) × (f.now ≡ file) × (m ≡ most) × (told_of t ≡ tells) × (o ≡ options)
 Runs live file bytes most tells options (Serve m o) = ⊥
 Runs live file bytes most tells options (Show text) = ⊥
 

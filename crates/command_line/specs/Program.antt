@@ -48,12 +48,20 @@ simulator = record (runner (codes "sim")) { rules = (runner (codes "sim")).rules
 abbrev pub keep : Text
 keep = codes "keep"
 
--- the flag of the one that runs a script
+-- the options and the flag of the one that runs a script
+abbrev pub regions : Text
+regions = codes "regions"
+
+abbrev pub history : Text
+history = codes "history"
+
 abbrev pub progress : Text
 progress = codes "progress"
 
 abbrev pub player : Shape
-player = record (runner (codes "live")) { rules = ((runner (codes "live")).rules ++ (option_named keep ∷ [])) ++ (flag_named progress ∷ []) }
+player = record (runner (codes "live")) {
+  rules = ((((runner (codes "live")).rules ++ (option_named keep ∷ [])) ++ (option_named regions ∷ [])) ++ (option_named history ∷ [])) ++ (flag_named progress ∷ []);
+}
 
 -- the subcommand that serves a cell with threads
 abbrev pub server : Shape

@@ -3,7 +3,7 @@
 ghost use Rattle.std.specs.Prelude.{◌≡◌, Some, IfOk, IfErr, is_ok, map, string_bytes, false};
 ghost use Rattle.clap.specs.Words.{app_of, shape_of, found_of, kind_of, rows_of, rule_of};
 ghost use Rattle.command_line.specs.Program.{flag_named, names, option_named, option_names, player, program, runner, server, setting_names, simulator, with_options};
-ghost use Rattle.command_line.specs.Asking.{Answers, Becomes, Runs, Serves, all_numbered, config_of, given_number, is_given, is_live, is_numbered, is_served, narrow_for, number_for, options_of};
+ghost use Rattle.command_line.specs.Asking.{Answers, Becomes, Runs, Serves, all_numbered, config_of, given_number, is_given, is_live, is_numbered, is_served, narrow_for, number_for, options_of, told_by, told_of};
 ghost use Rattle.command_line.specs.Faults.{fault_text};
 ghost use Rattle.command_line.specs.declared.command.CommandFault.TheVariants.{Bad, NoMemory};
 
@@ -26,11 +26,11 @@ pub enum Request<'a> {
         names_heap: Option<u64>,
         options: Options,
     },
-    /// To run it on a cell with threads, of whose journal so many entries stay, or all, and perhaps to tell meanwhile how far it is.
+    /// To run it on a cell with threads, of whose journal so many entries stay, or all, and to tell more of it than the answers.
     Live {
         file: &'a str,
         keep: Option<u64>,
-        tells_progress: bool,
+        told: Telling<'a>,
         options: Options,
     },
     /// To serve a cell with threads, of whose journal so many entries stay, or all.
@@ -40,6 +40,15 @@ pub enum Request<'a> {
     },
     /// To print this text: the help or the version.
     Show(String),
+}
+
+/// What is told of a run on a cell with threads beside its answers: how far it is meanwhile, the regions of the file of a path at its end, and into which
+/// file its history is written.
+#[derive(Clone, Copy, Debug)]
+pub struct Telling<'a> {
+    pub progress: bool,
+    pub regions: Option<&'a str>,
+    pub history: Option<&'a str>,
 }
 
 /// Why a command line asks for nothing.
@@ -148,6 +157,18 @@ fn option<'a>(alloc: Global, name: &'a str, help: &'a str) -> Arg<'a>
         .action(ArgAction::Set)
 }
 
+/// An option by a long name, which takes one word, of which the help says this.
+fn word_option<'a>(alloc: Global, name: &'a str, word: &'a str, help: &'a str) -> Arg<'a>
+    ensures rule { rule_of result ≡ option_named name.entry.now }
+    ensures local { result.global ≡ false }
+{
+    Arg::new(alloc, name)
+        .long(name)
+        .value_name(word)
+        .help(help)
+        .action(ArgAction::Set)
+}
+
 /// The command with an option for each of these, which are names and what the help says of them.
 fn with_options<'a>(
     alloc: Global,
@@ -196,6 +217,18 @@ fn player<'a>(alloc: Global) -> Result<Command<'a>, AllocError>
 {
     let command = runner(alloc, "live", "Runs a script on a cell with threads")?;
     let command = with_options(alloc, command, &KEEP)?;
+    let command = command.arg(word_option(
+        alloc,
+        "regions",
+        "PATH",
+        "Prints the regions of the chunks of this file behind all answers",
+    ))?;
+    let command = command.arg(word_option(
+        alloc,
+        "history",
+        "TO",
+        "Writes all calls and answers into this file, in the order of the journal",
+    ))?;
     command.arg(flag(
         alloc,
         "progress",
@@ -331,8 +364,19 @@ pub fn parse<'a>(alloc: Global, words: &'a [String]) -> Result<Request<'a>, Comm
     let names_heap = given_number(given, "names-heap")?;
     let keep = given_number(given, "keep")?;
     let options = options(given)?;
-    let tells_progress = is_given(given, "progress");
-    Ok(request_for(name, file, names_heap, keep, tells_progress, options))
+    let told = told_in(given);
+    Ok(request_for(name, file, names_heap, keep, told, options))
+}
+
+/// What is to be told of a run beside its answers.
+fn told_in<'a>(matches: &ArgMatches<'a>) -> Telling<'a>
+    ensures { told_of result ≡ told_by (rows_of (found_of matches.now)) }
+{
+    Telling {
+        progress: is_given(matches, "progress"),
+        regions: matches.get_str("regions"),
+        history: matches.get_str("history"),
+    }
 }
 
 /// Whether it is the subcommand that serves a cell.
@@ -357,16 +401,16 @@ fn request_for<'a>(
     file: &'a str,
     names_heap: Option<u64>,
     keep: Option<u64>,
-    tells_progress: bool,
+    told: Telling<'a>,
     options: Options,
 ) -> Request<'a>
-    ensures { Runs (is_live name.now) file.now names_heap keep tells_progress options result }
+    ensures { Runs (is_live name.now) file.now names_heap keep (told_of told.entry) options result }
 {
     if name == "live" {
         Request::Live {
             file,
             keep,
-            tells_progress,
+            told,
             options,
         }
     } else {

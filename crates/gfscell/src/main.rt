@@ -8,17 +8,23 @@ ghost use Rattle.gfscell.specs.Status.{status_of};
 ghost use Rattle.gfscell.specs.declared.ProgramFault.TheVariants as faults;
 
 use cell_run::{Progress, Retention, Watcher};
-use command_line::command::{CommandFault, Request, parse};
+use cell_seats::journal::Journal;
+use command_line::command::{CommandFault, Request, Telling, parse};
 use command_line::narrowed::narrowed;
-use live::run::run_live_watched;
+use gfs_types::path::Path;
+use history_lines::{HistoryFault, print_history};
+use live::run::run_live_with;
+use script::fault::LineFault;
 use script::options::Options;
 use script::script_fault::ScriptFault;
+use script::words::read_full_path;
 use serve::reading::LineFaults;
 use serve::run::run_serve;
 use shell::run::{run_script, run_script_in_region};
+use std::alloc::Global;
 use std::error::Error;
 use std::fs::File;
-use std::io::{self, BufReader, BufWriter, ErrorKind, Read};
+use std::io::{self, BufReader, BufWriter, ErrorKind, Read, Write};
 use std::process::ExitCode;
 use std::sync::Wait;
 use std::thread::Threads;
@@ -122,48 +128,84 @@ fn retention_of(keep: Option<u64>) -> Retention {
     }
 }
 
-/// Runs the script that a source gives on a cell with threads, and tells meanwhile how far it is, where that is wanted.
+/// The path of the file whose regions are wanted.
+fn path_of(alloc: Global, word: Option<&str>) -> Result<Option<Path>, CommandFault> {
+    let Some(word) = word else {
+        return Ok(None);
+    };
+    match read_full_path(alloc, word.as_bytes()) {
+        Ok(path) => Ok(Some(path)),
+        Err(LineFault::Bad) => Err(CommandFault::Bad),
+        Err(LineFault::NoMemory) => Err(CommandFault::NoMemory),
+    }
+}
+
+/// Writes all calls and answers of a journal into the file of this name.
+fn write_history(rt: &HostRuntime, journal: &Journal, name: &str) -> Result<(), ScriptFault> {
+    let alloc = rt.alloc();
+    let file = File::create(rt, name).map_err(|e| ScriptFault::of_write(&e))?;
+    let mut writer = BufWriter::new(alloc, file).map_err(|e| ScriptFault::of_write(&e))?;
+    match print_history(alloc, journal, &mut writer) {
+        Ok(()) => writer.flush().map_err(|e| ScriptFault::of_write(&e)),
+        Err(HistoryFault::Write) => Err(ScriptFault::Write),
+        Err(_) => Err(ScriptFault::NoMemory),
+    }
+}
+
+/// Runs the script that a source gives on a cell with threads, and tells of it what is wanted.
 fn play<T: Threads + Wait + Clock + Copy + Send + Sync + 'static, S: Read + Drop>(
     threads: T,
     rt: &HostRuntime,
     keep: Option<u64>,
-    tells_progress: bool,
+    told: Telling<'_>,
+    path: Option<&Path>,
     options: &Options,
     source: S,
 ) -> Result<(), ScriptFault> {
     let alloc = rt.alloc();
     let mut reader = BufReader::new(alloc, source).map_err(|e| ScriptFault::of_read(&e))?;
     let mut writer = BufWriter::new(alloc, io::writer(rt)).map_err(|e| ScriptFault::of_write(&e))?;
-    let watcher = if tells_progress {
+    let watcher = if told.progress {
         Some(ErrorWatcher { rt: *rt })
     } else {
         None
     };
-    run_live_watched(
+    let journal = run_live_with(
         threads,
         alloc,
         options,
         retention_of(keep),
+        path,
         watcher,
         &mut reader,
         &mut writer,
-    )
+    )?;
+    match told.history {
+        Some(name) => write_history(rt, &journal, name),
+        None => Ok(()),
+    }
 }
 
-/// The same of a file's script, where `-` is standard input.
+/// The same of a file's script, where `-` is standard input. Of a journal whose entries go nothing can be told at the end.
 fn play_file<T: Threads + Wait + Clock + Copy + Send + Sync + 'static>(
     threads: T,
     rt: &HostRuntime,
     file: &str,
     keep: Option<u64>,
-    tells_progress: bool,
+    told: Telling<'_>,
     options: &Options,
-) -> Result<(), ScriptFault> {
+) -> Result<(), ProgramFault> {
+    if keep.is_some() && (told.regions.is_some() || told.history.is_some()) {
+        return Err(ProgramFault::Command(CommandFault::Bad));
+    }
+    let path = path_of(rt.alloc(), told.regions)?;
     if file == "-" {
-        return play(threads, rt, keep, tells_progress, options, rt.reader());
+        play(threads, rt, keep, told, path.as_ref(), options, rt.reader())?;
+        return Ok(());
     }
     let script = File::open(rt, file).map_err(|e| ScriptFault::of_read(&e))?;
-    play(threads, rt, keep, tells_progress, options, script)
+    play(threads, rt, keep, told, path.as_ref(), options, script)?;
+    Ok(())
 }
 
 /// Tells of each bad line on standard error.
@@ -236,9 +278,9 @@ fn run<T: Threads + Wait + Clock + Copy + Send + Sync + 'static>(
         Request::Live {
             file,
             keep,
-            tells_progress,
+            told,
             options,
-        } => play_file(threads, rt, file, keep, tells_progress, &options)?,
+        } => play_file(threads, rt, file, keep, told, &options)?,
         Request::Serve { keep, options } => serve(threads, rt, keep, &options)?,
     }
     Ok(())

@@ -12,7 +12,7 @@ use Rattle.protocol.specs.Choice.{Choice}
 use Rattle.protocol.specs.Observer.{Observer, observed_moment}
 use Rattle.protocol.specs.Seen.{Taken}
 use Rattle.protocol.specs.World.{new_world}
-use Rattle.protocol_journal.specs.Journal.{StepCause, Calls, Takes, Restarts, Entry, NodeState, MasterIs, ServerIs, ClientIs, node_in, taken_by, node_step, may_take, is_node, own, RunsTo, LeadsTo, with_messages, sent_after, IsForNode, EachMayFollow, IsLawful, asked, answered, entry_observed, observed_after, with_end}
+use Rattle.protocol_journal.specs.Journal.{StepCause, Calls, Takes, Restarts, Entry, NodeState, MasterIs, ServerIs, ClientIs, node_in, taken_by, node_step, may_take, is_node, own, RunsTo, LeadsTo, with_messages, sent_after, IsForNode, EachMayFollow, IsLawful, asked, noticed, answered, entry_observed, observed_after, with_end}
 use Rattle.protocol_journal.proofs.Journals.{journals_grow}
 use Rattle.laws_rebase.specs.Rebased.{raised, all_raised, raised_number}
 use Rattle.laws_rebase.specs.Whole.{raised_cause, raised_entry, whole}
@@ -138,13 +138,14 @@ runs_raised k s t (e ∷ rest) h = (
   h.0,
   subst (λ (b : Bool). IsTrue b) (sym (may_same k s e.cause)) h.1,
   ap (λ (x : Taken NodeState). x.out) (step_same k s e.moment e.cause h.0) ∙ h.2,
+  ap (λ (x : Taken NodeState). x.seen) (step_same k s e.moment e.cause h.0) ∙ h.3,
   subst (λ (x : Taken NodeState). RunsTo x.state (raised_all k rest) t) (sym (step_same k s e.moment e.cause h.0))
-      (runs_raised k (node_step s e.moment e.cause h.0).state t rest h.3),
+      (runs_raised k (node_step s e.moment e.cause h.0).state t rest h.4),
 )
 
 runs_append : (s m t : NodeState) (xs ys : List Entry) → RunsTo s xs m → RunsTo m ys t → RunsTo s (xs ++ ys) t
 runs_append s m t [] ys h later = subst (λ (x : NodeState). RunsTo x ys t) (sym h) later
-runs_append s m t (x ∷ xs) ys h later = (h.0, h.1, h.2, runs_append (node_step s x.moment x.cause h.0).state m t xs ys h.3 later)
+runs_append s m t (x ∷ xs) ys h later = (h.0, h.1, h.2, h.3, runs_append (node_step s x.moment x.cause h.0).state m t xs ys h.4 later)
 
 leads_raised : (k : ℕ) (o end : Option NodeState) (es : List Entry) → LeadsTo o es end → LeadsTo o (raised_all k es) end
 leads_raised k None end es h = (ap (λ (l : List Entry). raised_all k l) h.0, h.1)
@@ -173,7 +174,7 @@ journals_with_bases_are_lawful config servers clients base es middles ends befor
 
 -- one entry more
 pub whole_journals_grow : WholeJournalsGrow
-whole_journals_grow config servers clients base es ends lawful e s choice at follows may out =
+whole_journals_grow config servers clients base es ends lawful e s choice at follows may out sees =
     let earlier : List Message = sent_after [] base in
     let k : ℕ = length earlier in
     let all : List Entry = whole base es in
@@ -184,8 +185,9 @@ whole_journals_grow config servers clients base es ends lawful e s choice at fol
     (for_node_raised earlier (sent_after [] es) e.node e.cause follows.1) in
     let may_here : IsTrue (may_take s here.cause) = subst (λ (b : Bool). IsTrue b) (sym (may_same k s e.cause)) may in
     let out_here : (node_step s e.moment here.cause choice).out ≡ here.out = ap (λ (x : Taken NodeState). x.out) stepped ∙ out in
+    let seen_here : (node_step s e.moment here.cause choice).seen ≡ here.seen = ap (λ (x : Taken NodeState). x.seen) stepped ∙ sees in
     let longer : IsLawful config servers clients (all ++ here ∷ []) (with_end ends e.node (node_step s e.moment here.cause choice).state) =
-    journals_grow config servers clients all ends lawful here s choice at (follows.0, reads) may_here out_here in
+    journals_grow config servers clients all ends lawful here s choice at (follows.0, reads) may_here out_here seen_here in
     let list_is : all ++ here ∷ [] ≡ whole base (es ++ e ∷ []) =
     sym (whole_more base es e) in
     subst (λ (l : List Entry). IsLawful config servers clients l (with_end ends e.node (node_step s e.moment e.cause choice).state)) list_is
@@ -215,7 +217,7 @@ asked_alike skew k o moment (node.Client c) (Takes i) = refl
 asked_alike skew k o moment (node.Client c) Restarts = refl
 
 entry_alike : (skew k : ℕ) (o : Observer) (e : Entry) → entry_observed skew o (raised_entry k e) ≡ entry_observed skew o e
-entry_alike skew k o e = ap (λ (a : Observer). answered (observed_moment skew a e.moment) e.node e.out.answer) (asked_alike skew k o e.moment e.node e.cause)
+entry_alike skew k o e = ap (λ (a : Observer). answered (noticed (observed_moment skew a e.moment) e.node e.seen) e.node e.out.answer) (asked_alike skew k o e.moment e.node e.cause)
 
 pub bases_change_nothing_seen : BasesChangeNothingSeen
 bases_change_nothing_seen skew k o [] = refl

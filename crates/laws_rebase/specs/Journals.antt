@@ -13,7 +13,7 @@ WholeJournalsGrow =
     (config : Config) (servers clients : ℕ) (base entries : List Entry) (ends : Node → Option NodeState)
     → IsLawful config servers clients (whole base entries) ends
     → (e : Entry) (s : NodeState) (choice : Choice) → ends e.node ≡ Some s → MayFollow (sent_after [] entries) e
-    → IsTrue (may_take s e.cause) → (node_step s e.moment e.cause choice).out ≡ e.out
+    → IsTrue (may_take s e.cause) → (node_step s e.moment e.cause choice).out ≡ e.out → (node_step s e.moment e.cause choice).seen ≡ e.seen
     → IsLawful config servers clients (whole base (entries ++ e ∷ [])) (with_end ends e.node (node_step s e.moment e.cause choice).state)
 
 -- Entries that lead on from where a lawful base led, with messages counted anew, are lawful behind it.
@@ -28,7 +28,7 @@ JournalsWithBasesAreLawful =
 abbrev pub JournalsWithoutBasesAreWhole : Type 0
 JournalsWithoutBasesAreWhole = (entries : List Entry) → whole [] entries ≡ entries
 
--- The same is seen of entries under raised numbers: calls, answers, moments, clocks.
+-- The same is seen of entries under raised numbers: calls, answers, chunks' orders, moments, clocks.
 abbrev pub BasesChangeNothingSeen : Type 0
 BasesChangeNothingSeen =
     (skew before : ℕ) (o : Observer) (entries : List Entry) → observed_after skew o (map (raised_entry before) entries) ≡ observed_after skew o entries

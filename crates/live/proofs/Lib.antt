@@ -2,3 +2,4 @@ pub mod Players
 pub mod Playing
 pub mod Running
 pub mod Telling
+pub mod EndedWorlds

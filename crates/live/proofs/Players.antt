@@ -26,8 +26,8 @@ use Rattle.journal_headline.specs.Journals.{AreExplained}
 use Rattle.cell_journal.proofs.Begins.{prefix_self, prefix_trans, prefix_shorter}
 use Rattle.cell_journal.proofs.Grown.{none_lawful}
 use Rattle.cell_journal.specs.Clocks.{are_clocks_kept}
-use Rattle.cell_journal.specs.Identity.{Identity}
-use Rattle.cell_journal.specs.WholeHistories.{IsHistoryOf}
+use Rattle.cell_journal.specs.Identity.{Identity, Closed}
+use Rattle.cell_journal.specs.WholeHistories.{IsHistoryOf, whole_of}
 use Rattle.cell_seats.specs.Seen.{visible_of}
 use Rattle.cell_seats.proofs.Sitting.{explains}
 use Rattle.cell_seats.specs.Seats.{SeatState, shown, IsAnswered, IsLost, GoesOver}
@@ -37,7 +37,7 @@ use Rattle.cell_run.specs.ParkedSeats.{ParkedSeatState}
 use Rattle.cell_run.specs.Cells.{IsCellOf}
 use Rattle.live.specs.declared.play.Player.{Player}
 use Rattle.live.specs.declared.reopen.Unseated.{Unseated}
-use Rattle.live.specs.Live.{HasSeenPart, AreAnswersOf}
+use Rattle.live.specs.Live.{HasSeenPart, AreAnswersIn}
 use Rattle.live.specs.Playing.{calls_on, calls_of, reopens_in, first_number, AreAnswered, HasPlayed, IsSamePlayer, HasMade, PlaysOn, Plays, IsNewPlayer, HasCalled, IsPlayed, Reopens, AllReopen, IsReopened, rest_of, player_of, seated, Each, AllPlay}
 use Rattle.live.proofs.Playing.{nothing_played, answered_one_more, refused_more, reopened, played_more, played_whole, replicate_one_more, calls_append}
 
@@ -514,43 +514,47 @@ longest_of cell (p ∷ ps) entries in_range all =
     longer cell p ps entries found.0 here.0 here.1 found.1 (nat_le (length p.seat.seen) (length found.0)) refl
 
 -- what the journal has of them
-told_by_longest : (options : Options) (cell : Identity) (entries longest : List Entry) (xs : List LiveLine) (players : List Player) → IsCellOf options.config options.servers cell → length players ≡ options.clients
-    → Each (IsPlayed cell xs) players → ((k : ℕ) (p : Player) → slice_get players k ≡ Some p → p.lacked_memory ≡ false) → IsLongest cell players entries longest
-    → AreAnswersOf options xs (map (λ p. p.answers.items) players)
-told_by_longest options cell entries longest xs players cell_is count all lacked is = record {
-  cell = cell;
-  cell_is = cell_is;
-  entries = longest;
-  lawful = is.lawful;
-  clocks = is.clocks;
-  explained = is.explained;
-  clients = mapped_length players ∙ count;
-  each = λ k replies at.
-      let found = mapped_at (λ (p : Player). p.answers.items) players k replies at in
-      let played = all k found.0 found.1 in
-      record {
-        seen = found.0.seat.seen;
-        begins = is.all k found.0 found.1;
-        earlier = found.0.seat.earlier;
-        now = found.0.seat.node;
-        first = played.first;
-        few = played.few;
-        answered = subst (AreAnswered (shown found.0.seat) (reopens_in xs) (calls_of (suc k) xs)) found.2
-            (played_whole (shown found.0.seat) found.0.seat.is_lost (reopens_in xs) (calls_of (suc k) xs) found.0.answers.items (played.made (lacked k found.0 found.1)));
-      };
-}
+told_by_longest : (options : Options) (cell : Identity) (journal : Closed) (longest : List Entry) (xs : List LiveLine) (players : List Player) → IsCellOf options.config options.servers cell → length players ≡ options.clients
+    → Each (IsPlayed cell xs) players → ((k : ℕ) (p : Player) → slice_get players k ≡ Some p → p.lacked_memory ≡ false) → journal.cell ≡ cell → IsLongest cell players (whole_of journal) longest
+    → AreAnswersIn options xs journal (map (λ p. p.answers.items) players)
+told_by_longest options cell journal longest xs players cell_is count all lacked same is = (
+  record {
+    cell = cell;
+    cell_is = cell_is;
+    entries = longest;
+    lawful = is.lawful;
+    clocks = is.clocks;
+    explained = is.explained;
+    clients = mapped_length players ∙ count;
+    each = λ k replies at.
+        let found = mapped_at (λ (p : Player). p.answers.items) players k replies at in
+        let played = all k found.0 found.1 in
+        record {
+          seen = found.0.seat.seen;
+          begins = is.all k found.0 found.1;
+          earlier = found.0.seat.earlier;
+          now = found.0.seat.node;
+          first = played.first;
+          few = played.few;
+          answered = subst (AreAnswered (shown found.0.seat) (reopens_in xs) (calls_of (suc k) xs)) found.2
+              (played_whole (shown found.0.seat) found.0.seat.is_lost (reopens_in xs) (calls_of (suc k) xs) found.0.answers.items (played.made (lacked k found.0 found.1)));
+        };
+  },
+  sym same,
+  is.begins,
+)
   where
     mapped_length : (ps : List Player) → length (map (λ (p : Player). p.answers.items) ps) ≡ length ps
     mapped_length [] = refl
     mapped_length (p ∷ ps) = ap (λ (k : ℕ). suc k) (mapped_length ps)
 
-pub told_so : (options : Options) (cell : Identity) (entries : List Entry) (xs : List LiveLine) (players : List Player) → IsCellOf options.config options.servers cell → length players ≡ options.clients
-    → Each (IsPlayed cell xs) players → ((k : ℕ) (p : Player) → slice_get players k ≡ Some p → p.lacked_memory ≡ false) → ((k : ℕ) (p : Player) → slice_get players k ≡ Some p → HasSeenPart entries p.seat)
-    → AreAnswersOf options xs (map (λ p. p.answers.items) players)
-told_so options cell entries xs players cell_is count all lacked parts =
+pub told_so : (options : Options) (cell : Identity) (journal : Closed) (xs : List LiveLine) (players : List Player) → IsCellOf options.config options.servers cell → length players ≡ options.clients
+    → Each (IsPlayed cell xs) players → ((k : ℕ) (p : Player) → slice_get players k ≡ Some p → p.lacked_memory ≡ false) → journal.cell ≡ cell
+    → ((k : ℕ) (p : Player) → slice_get players k ≡ Some p → HasSeenPart (whole_of journal) p.seat) → AreAnswersIn options xs journal (map (λ p. p.answers.items) players)
+told_so options cell journal xs players cell_is count all lacked same parts =
     let in_range : first_out_of_range cell.config ≡ None = subst (λ (x : Config). first_out_of_range x ≡ None) (sym cell_is.config_is) cell_is.in_range in
-    let found = longest_of cell players entries in_range (λ k q at. ((all k q at).cell_is, parts k q at)) in
-    told_by_longest options cell entries found.0 xs players cell_is count all lacked found.1
+    let found = longest_of cell players (whole_of journal) in_range (λ k q at. ((all k q at).cell_is, parts k q at)) in
+    told_by_longest options cell journal found.0 xs players cell_is count all lacked same found.1
 
 -- a cell that goes on is as its first one
 pub still_of : (config : Config) (servers : ℕ) (old new : Identity) → IsReopened old new → IsCellOf config servers old → IsCellOf config servers new

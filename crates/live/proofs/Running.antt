@@ -1,9 +1,13 @@
 -- What was read is played, and what was answered is printed.
-use Rattle.std.proofs.Common.{◌≡◌, ◌⊎◌, ℕ, suc, ◌+◌, List, [], ◌∷◌, ◌++◌, ⊎_elim, Option, Some, None, map, refl, sym, ap, subst}
+use Rattle.std.proofs.Common.{◌≡◌, ◌⊎◌, ℕ, suc, ◌+◌, List, [], ◌∷◌, ◌++◌, ⊎_elim, Option, Some, None, map, refl, sym, ap, subst, ◌∙◌}
 use Rattle.std.specs.Prelude.{IfSome, if◌then◌else◌}
 use Rattle.std.specs.Io.KnownBytes.{Appends, Keeps}
+use Rattle.std.proofs.lemmas.List.{append-nil}
 use Rattle.gfs_types.specs.declared.answer.Answer.{Answer}
 use Rattle.gfs_types.specs.declared.call.Call.{Call}
+use Rattle.gfs_types.specs.Paths.{Path}
+use Rattle.relaxed_file.specs.declared.region.Region.{Region}
+use Rattle.cell_journal.specs.Identity.{Closed}
 use Rattle.script.specs.declared.live_lines.LiveLine.{LiveLine}
 use Rattle.script.specs.declared.live_lines.LiveLine.TheVariants.{Nothing}
 use Rattle.script.specs.declared.script_fault.ScriptFault.{ScriptFault}
@@ -14,7 +18,8 @@ use Rattle.script.specs.declared.options.Options.{Options}
 use Rattle.script.proofs.Bytes.{keeps_all}
 use Rattle.live.specs.declared.play.Player.{Player}
 use Rattle.live.specs.Faults.{IsOfRun}
-use Rattle.live.specs.Live.{IsScript, HasAnswers, AreAnswersOf, Prints, Stops, told_from}
+use Rattle.live.specs.Live.{IsScript, HasAnswers, AreAnswersIn, AreRegionsOf, Prints, PrintsWith, Stops, told_from, told_regions}
+use Rattle.live.proofs.Telling.{appends_twice}
 use Rattle.script.specs.LiveLines.{is_reopen}
 use Rattle.live.specs.Playing.{calls_on, calls_of, reopens_in}
 
@@ -28,41 +33,68 @@ no_more_reopens : (lines : List LiveLine) → reopens_in lines ≡ reopens_in (l
 no_more_reopens [] = refl
 no_more_reopens (line ∷ rest) = ap (λ (n : ℕ). (if is_reopen line then 1 else 0) + n) (no_more_reopens rest)
 
-answers_of_more : (options : Options) (lines : List LiveLine) (answers : List (List Answer)) → AreAnswersOf options lines answers → AreAnswersOf options (lines ++ Nothing ∷ []) answers
-answers_of_more options lines answers a = record {
-  cell = a.cell;
-  cell_is = a.cell_is;
-  entries = a.entries;
-  lawful = a.lawful;
-  clocks = a.clocks;
-  explained = a.explained;
-  clients = a.clients;
-  each = λ k replies at.
-      subst (λ (n : ℕ). HasAnswers a.entries (suc k) n (calls_of (suc k) (lines ++ Nothing ∷ [])) replies) (no_more_reopens lines)
-      (subst (λ (calls : List Call). HasAnswers a.entries (suc k) (reopens_in lines) calls replies) (no_more_calls (suc k) lines) (a.each k replies at));
-}
+answers_of_more : (options : Options) (lines : List LiveLine) (journal : Closed) (answers : List (List Answer)) → AreAnswersIn options lines journal answers
+    → AreAnswersIn options (lines ++ Nothing ∷ []) journal answers
+answers_of_more options lines journal answers (a, same, begins) = (
+  record {
+    cell = a.cell;
+    cell_is = a.cell_is;
+    entries = a.entries;
+    lawful = a.lawful;
+    clocks = a.clocks;
+    explained = a.explained;
+    clients = a.clients;
+    each = λ k replies at.
+        subst (λ (n : ℕ). HasAnswers a.entries (suc k) n (calls_of (suc k) (lines ++ Nothing ∷ [])) replies) (no_more_reopens lines)
+        (subst (λ (calls : List Call). HasAnswers a.entries (suc k) (reopens_in lines) calls replies) (no_more_calls (suc k) lines) (a.each k replies at));
+  },
+  same,
+  begins,
+)
 
 -- each line of what was read is in the language
 pub script_read : (clients : ℕ) (script : Option (List ℕ)) (lines : List LiveLine) → IfSome script (λ s. AreReadLines clients s lines) → IfSome script (IsScript clients)
 script_read clients None lines are = tt
 script_read clients (Some s) lines are = ⊎_elim (λ all. (lines, all)) (λ all. (lines ++ Nothing ∷ [], all)) are
 
-module _ (options : Options) (before after : Option (List ℕ)) (lines : List LiveLine) (answers : List (List Answer)) (answered : AreAnswersOf options lines answers) (told : Appends before after (told_from 1 answers)) where
-  prints_read : (script : Option (List ℕ)) → IfSome script (λ s. AreReadLines options.clients s lines) → Prints options script before after
-  prints_read None are = record { lines = lines; lines_are = tt; answers = answers; answered = answered; printed = told }
-  prints_read (Some s) are = ⊎_elim
-      (λ all. record { lines = lines; lines_are = all; answers = answers; answered = answered; printed = told })
-      (λ all. record { lines = lines ++ Nothing ∷ []; lines_are = all; answers = answers; answered = answers_of_more options lines answers answered; printed = told })
-      are
+module _ (options : Options) (path : Option Path) (journal : Closed) (before middle after : Option (List ℕ)) (lines : List LiveLine) (answers : List (List Answer)) (regions : List (List Region))
+    (answered : AreAnswersIn options lines journal answers) (are : AreRegionsOf path journal regions) (told : Appends before middle (told_from 1 answers)) (more : Appends middle after (told_regions regions)) where
+  printed : Appends before after (told_from 1 answers ++ told_regions regions)
+  printed = appends_twice before middle after (told_from 1 answers) (told_regions regions) told more
 
-pub prints_so : (options : Options) (script before after : Option (List ℕ)) (lines played : List LiveLine) (players printed : List Player) → IfSome script (λ s. AreReadLines options.clients s lines)
-    → played ≡ lines → AreAnswersOf options played (map (λ (p : Player). p.answers.items) players) → printed ≡ players
-    → Appends before after (told_from 1 (map (λ (p : Player). p.answers.items) printed)) → Prints options script before after
-prints_so options script before after lines played players printed are all answered these told =
-    prints_read options before after lines (map (λ (p : Player). p.answers.items) players)
-    (subst (λ (l : List LiveLine). AreAnswersOf options l (map (λ (p : Player). p.answers.items) players)) all answered)
-    (subst (λ (l : List Player). Appends before after (told_from 1 (map (λ (p : Player). p.answers.items) l))) these told)
-    script are
+  with_read : (script : Option (List ℕ)) → IfSome script (λ s. AreReadLines options.clients s lines) → PrintsWith options path journal script before after
+  with_read None all = record { lines = lines; lines_are = tt; answers = answers; answered = answered; regions = regions; regions_are = are; printed = printed }
+  with_read (Some s) all = ⊎_elim
+      (λ whole. record { lines = lines; lines_are = whole; answers = answers; answered = answered; regions = regions; regions_are = are; printed = printed })
+      (λ whole. record {
+        lines = lines ++ Nothing ∷ [];
+        lines_are = whole;
+        answers = answers;
+        answered = answers_of_more options lines journal answers answered;
+        regions = regions;
+        regions_are = are;
+        printed = printed;
+      })
+      all
+
+pub prints_with : (options : Options) (path : Option Path) (journal : Closed) (script before middle after : Option (List ℕ)) (lines played : List LiveLine) (players printed : List Player) (regions shown : List (List Region))
+    → IfSome script (λ s. AreReadLines options.clients s lines) → played ≡ lines → AreAnswersIn options played journal (map (λ (p : Player). p.answers.items) players) → AreRegionsOf path journal regions → printed ≡ players
+    → shown ≡ regions → Appends before middle (told_from 1 (map (λ (p : Player). p.answers.items) printed)) → Appends middle after (told_regions shown) → PrintsWith options path journal script before after
+prints_with options path journal script before middle after lines played players printed regions shown are all answered found these those told more =
+    with_read options path journal before middle after lines (map (λ (p : Player). p.answers.items) players) regions
+    (subst (λ (l : List LiveLine). AreAnswersIn options l journal (map (λ (p : Player). p.answers.items) players)) all answered) found
+    (subst (λ (l : List Player). Appends before middle (told_from 1 (map (λ (p : Player). p.answers.items) l))) these told)
+    (subst (λ (l : List (List Region)). Appends middle after (told_regions l)) those more) script are
+
+-- answers alone
+pub prints_alone : (options : Options) (journal : Closed) (script before after : Option (List ℕ)) → PrintsWith options None journal script before after → Prints options script before after
+prints_alone options journal script before after p = record {
+  lines = p.lines;
+  lines_are = p.lines_are;
+  answers = p.answers;
+  answered = p.answered.0;
+  printed = subst (λ (l : List ℕ). Appends before after l) (ap (λ (rs : List (List Region)). told_from 1 p.answers ++ told_regions rs) p.regions_are ∙ append-nil (told_from 1 p.answers)) p.printed;
+}
 
 -- a script that is not read to its end
 pub stops_reading : (clients : ℕ) (script known : Option (List ℕ)) (f : ScriptFault) → HasFault clients script f → Stops clients script known known f

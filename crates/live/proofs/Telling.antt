@@ -2,7 +2,8 @@
 use Rattle.std.proofs.Common.{◌≡◌, ℕ, zero, suc, ◌+◌, ◌<◌, ◌≤◌, List, [], ◌∷◌, ◌++◌, length, get_or, take, map, Option, Some, None, refl, sym, ap, subst, ◌∙◌, append_assoc, arith}
 use Rattle.std.specs.Io.KnownBytes.{Appends, Keeps}
 use Rattle.std.proofs.Math.Seq.{take-suc}
-use Rattle.std.proofs.lemmas.List.{append-nil, map-append, length-map, length-take-le}
+use Rattle.std.specs.List.{flat_map}
+use Rattle.std.proofs.lemmas.List.{append-nil, map-append, length-map, length-take-le, flat_map_more}
 use Rattle.gfs_types.specs.declared.answer.Answer.{Answer}
 use Rattle.live.specs.Live.{told_line, told_by, told_from}
 
@@ -64,6 +65,18 @@ appends_kept None b c xs p q = tt
 appends_kept (Some x) None c xs p q = absurd p
 appends_kept (Some x) (Some y) None xs p q = absurd q
 appends_kept (Some x) (Some y) (Some z) xs p q = q ∙ p
+
+-- lines of any kind, one for each element
+module _ {X : Type 0} (text : X → List ℕ) where
+  pub lines_next : (a b c : Option (List ℕ)) (xs : List X) (k : ℕ) (x : X) → k < length xs → x ≡ get_or xs k x → Appends a b (flat_map text (take k xs)) → Appends b c (text x) → Appends a c (flat_map text (take (k + 1) xs))
+  lines_next a b c xs k x within at before line =
+      let next : k + 1 ≡ suc k = omega arith in
+      subst (Appends a c)
+      (sym (ap (λ (n : ℕ). flat_map text (take n xs)) next ∙ (ap (flat_map text) (take-suc xs k x within) ∙ (sym (flat_map_more text [] (take k xs) (get_or xs k x)) ∙ ap (λ (y : X). flat_map text (take k xs) ++ text y) (sym at)))))
+      (appends_twice a b c (flat_map text (take k xs)) (text x) before line)
+
+  pub lines_all : (a b c : Option (List ℕ)) (xs : List X) (k : ℕ) → length xs ≤ k → Appends a b (flat_map text (take k xs)) → Keeps b c → Appends a c (flat_map text xs)
+  lines_all a b c xs k past told keeps = appends_kept a b c (flat_map text xs) (subst (λ (l : List X). Appends a b (flat_map text l)) (take_all xs k past) told) keeps
 
 -- all clients' answers were printed
 pub from_all : {P : Type 0} (f : P → List Answer) (a b c : Option (List ℕ)) (players : List P) (k : ℕ) → length players ≤ k → Appends a b (told_from 1 (map f (take k players))) → Keeps b c → Appends a c (told_from 1 (map f players))

@@ -1,5 +1,5 @@
 -- What running a script on a running cell comes to.
-use Rattle.std.specs.Prelude.{◌≡◌, ◌≤◌, ⊤, ℕ, suc, List, [], ◌∷◌, ◌++◌, length, slice_get, Option, Some, IfSome, IsTrue}
+use Rattle.std.specs.Prelude.{◌≡◌, ◌≤◌, ⊤, ℕ, suc, List, [], ◌∷◌, ◌++◌, length, slice_get, Option, Some, None, IfSome, IsTrue, option_map, unwrap_or}
 use Rattle.std.specs.List.{flat_map}
 use Rattle.std.specs.Io.KnownBytes.{Appends, Keeps}
 use mathlib.Core.List.{IsPrefix}
@@ -7,16 +7,23 @@ use Rattle.gfs_types.specs.declared.answer.Answer.{Answer}
 use Rattle.gfs_types.specs.declared.call.Call.{Call}
 use Rattle.gfs_types.specs.declared.ids.Node.{Node}
 use Rattle.gfs_types.specs.declared.ids.Node.TheVariants.{Client}
-use Rattle.protocol_journal.specs.Journal.{Entry, own}
+use Rattle.gfs_types.specs.Paths.{Path}
+use Rattle.relaxed_file.specs.declared.region.Region.{Region}
+use Rattle.protocol.specs.Lookups.{file_named}
+use Rattle.protocol.specs.World.{WorldState, IsReached}
+use Rattle.protocol_journal.specs.Journal.{Entry, NodeState, own}
+use Rattle.protocol_journal.specs.Laws.{Shows}
 use Rattle.journal_headline.specs.Journals.{AreExplained}
 use Rattle.cell_journal.specs.Clocks.{are_clocks_kept}
-use Rattle.cell_journal.specs.Identity.{Identity}
-use Rattle.cell_journal.specs.WholeHistories.{IsHistoryOf}
+use Rattle.cell_journal.specs.Identity.{Identity, Closed}
+use Rattle.cell_journal.specs.WholeHistories.{IsHistoryOf, whole_of}
 use Rattle.cell_seats.specs.Seats.{SeatState}
 use Rattle.cell_seats.specs.Seen.{Visible, visible_of, answered_only}
 use Rattle.cell_run.specs.Cells.{IsCellOf}
+use Rattle.cell_looks.specs.ParkedWorlds.{file_regions}
 use Rattle.script.specs.declared.options.Options.{Options}
 use Rattle.script.specs.Answers.{answer_line}
+use Rattle.script.specs.Chunks.{regions_line}
 use Rattle.script.specs.declared.script_fault.ScriptFault.{ScriptFault}
 use Rattle.script.specs.declared.script_fault.ScriptFault.TheVariants as fault
 use Rattle.script.specs.declared.live_lines.LiveLine.{LiveLine}
@@ -78,6 +85,42 @@ pub record Prints (options : Options) (script before after : Option (List ℕ)) 
   pub answers : List (List Answer)
   pub answered : AreAnswersOf options lines answers
   pub printed : Appends before after (told_from 1 answers)
+
+-- A world to which a cell's whole history led.
+pub record IsHistoryWorld (journal : Closed) (w : WorldState) : Type 0 where
+  pub reached : IsReached journal.cell.config journal.cell.servers journal.cell.clients w
+  pub ends : Node → Option NodeState
+  pub shows : Shows w (whole_of journal) ends
+
+-- the regions of each chunk of the file that a path names, by their indexes
+abbrev pub regions_named : WorldState → Path → List (List Region)
+regions_named w path = unwrap_or (option_map (file_regions w) (file_named w path)) []
+
+-- the regions that were asked for, of the world to which the history led
+abbrev pub AreRegionsOf : Option Path → Closed → List (List Region) → Type 0
+AreRegionsOf None journal regions = regions ≡ []
+AreRegionsOf (Some path) journal regions = (w : WorldState) × IsHistoryWorld journal w × (regions ≡ regions_named w path)
+
+abbrev pub told_chunk : List Region → List ℕ
+told_chunk regions = regions_line regions ++ 10 ∷ []
+
+-- a line for each chunk
+abbrev pub told_regions : List (List Region) → List ℕ
+told_regions all = flat_map told_chunk all
+
+-- these answers were given in the history of this journal
+abbrev pub AreAnswersIn : Options → List LiveLine → Closed → List (List Answer) → Type 0
+AreAnswersIn options lines journal answers = (told : AreAnswersOf options lines answers) × (told.cell ≡ journal.cell) × IsPrefix told.entries (whole_of journal)
+
+-- The answers to all calls of the script were printed, by client, and behind them the regions that were asked for.
+pub record PrintsWith (options : Options) (path : Option Path) (journal : Closed) (script before after : Option (List ℕ)) : Type 0 where
+  pub lines : List LiveLine
+  pub lines_are : IfSome script (λ s. AreLines options.clients s lines)
+  pub answers : List (List Answer)
+  pub answered : AreAnswersIn options lines journal answers
+  pub regions : List (List Region)
+  pub regions_are : AreRegionsOf path journal regions
+  pub printed : Appends before after (told_from 1 answers ++ told_regions regions)
 
 -- Why a script was not run, or not printed. Where a line is bad, or there is no cell, nothing was printed.
 abbrev pub Stops : ℕ → Option (List ℕ) → Option (List ℕ) → Option (List ℕ) → ScriptFault → Type 0

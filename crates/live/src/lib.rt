@@ -1,6 +1,7 @@
 //! Runs scripts of calls on a running cell, each client's calls on a thread of its own.
 #![tactic(auto)]
 
+mod ending;
 mod play;
 mod printing;
 mod reopen;

@@ -3,12 +3,14 @@
 ghost use Rattle.std.specs.Prelude.{◌++◌, ◌∷◌, [], IfErr, IfSome, OnOk, map};
 ghost use Rattle.std.specs.Io.KnownBytes.{Appends, Keeps};
 ghost use Rattle.script.specs.ScriptFaults.{IsOfWrite};
-ghost use Rattle.live.specs.Live.{told_by, told_from};
+ghost use Rattle.live.specs.Live.{told_by, told_from, told_regions};
 
 use crate::play::Player;
 use gfs_types::answer::Answer;
 use gfs_types::ids::ClientId;
+use relaxed_file::region::Region;
 use script::answers::AnswerLine;
+use script::chunk_lines::RegionsLine;
 use script::script_fault::ScriptFault;
 use std::fmt;
 use std::io::Write;
@@ -41,6 +43,19 @@ fn print_answers<W: Write>(
         };
         print_line(&line, writer)?;
     }
+    Ok(())
+}
+
+/// Prints the regions of each chunk, a line for each.
+pub fn print_regions<W: Write>(chunks: &[Vec<Region>], writer: &mut W) -> Result<(), ScriptFault>
+    ensures printed { OnOk result (Appends (W.contents writer.old) (W.contents writer.new) (told_regions (map (λ v. v.items) chunks.now))) }
+    ensures fault { IfErr result IsOfWrite }
+{
+    for before in 0..chunks.len() {
+        let line = RegionsLine(chunks[before].as_slice());
+        print_line(&line, writer)?;
+    }
+    flush(writer)?;
     Ok(())
 }
 

@@ -3,13 +3,15 @@
 ghost use Rattle.std.specs.Prelude.{ℕ, ◌≡◌, ◌+◌, ◌≤◌, ◌<◌, IfOk, IfErr, IfSome, OnOk, Some, length, slice_get, map, true, false};
 ghost use Rattle.cell_journal.specs.WholeHistories.{whole_of};
 ghost use Rattle.cell_run.specs.Cells.{IsNewCell};
-ghost use Rattle.live.specs.Live.{IsScript, HasSeenPart, AreAnswersOf, Prints, Stops};
+ghost use Rattle.std.specs.Option.{option_copied};
+ghost use Rattle.live.specs.Live.{IsScript, HasSeenPart, AreAnswersIn, AreRegionsOf, Prints, PrintsWith, Stops};
 ghost use Rattle.live.specs.Faults.{IsOfRun};
 ghost use Rattle.live.specs.Playing.{IsNewPlayer, IsPlayed, IsReopened, Plays, AllPlay, AllReopen, Each};
 ghost use Rattle.script.specs.LiveLines.{is_barrier, is_reopen};
 
+use crate::ending::{Ended, end};
 use crate::play::Player;
-use crate::printing::print_all;
+use crate::printing::{print_all, print_regions};
 use crate::reopen::reopen;
 use cell_journal::Retention;
 use cell_run::cell::{Cell, StartFault};
@@ -19,6 +21,7 @@ use cell_seats::journal::{Journal, agree};
 use cell_seats::shared_state::Progress;
 use gfs_types::ids::ClientId;
 use gfs_types::no_memory::NoMemory;
+use gfs_types::path::Path;
 use script::live_lines::LiveLine;
 use script::options::Options;
 use script::plan::read_script;
@@ -59,20 +62,27 @@ pub fn run_live<T: Threads + Wait + Clock + Copy + Send + Sync + 'static, R: Rea
     ensures prints { OnOk result (Prints options.now (R.remaining reader.old) (W.contents writer.old) (W.contents writer.new)) }
     ensures stops { IfErr result (Stops options.now.clients (R.remaining reader.old) (W.contents writer.old) (W.contents writer.new)) }
 {
-    run_live_watched(
+    match run_live_with(
         rt,
         alloc,
         options,
         Retention::Whole,
+        None,
         None::<NoWatcher>,
         reader,
         writer,
-    )
+    ) {
+        Ok(_journal) => Ok(()),
+        Err(fault) => Err(fault),
+    }
 }
 
-/// The same on a cell of whose journal these entries stay, where a watcher, if there is one, is told once a second how far the cell is, until all
-/// calls were answered. Without memory or a thread for it the script runs all the same.
-pub fn run_live_watched<
+/// The same on a cell of whose journal these entries stay. Where a path is given, a line for each chunk of its file is printed behind all answers, with
+/// the chunk's regions at the end. A watcher, if there is one, is told once a second how far the cell is, until all calls were answered; without memory
+/// or a thread for it the script runs all the same. Gives the cell's journal.
+///
+/// - `NoMemory`: also where a path is given and entries were let go.
+pub fn run_live_with<
     T: Threads + Wait + Clock + Copy + Send + Sync + 'static,
     P: Watcher + Send + Drop + 'static,
     R: Read,
@@ -82,17 +92,37 @@ pub fn run_live_watched<
     alloc: Global,
     options: &Options,
     retention: Retention,
+    path: Option<&Path>,
     watcher: Option<P>,
     reader: &mut R,
     writer: &mut W,
-) -> Result<(), ScriptFault>
-    ensures script { OnOk result (IfSome (R.remaining reader.old) (IsScript options.now.clients)) }
-    ensures prints { OnOk result (Prints options.now (R.remaining reader.old) (W.contents writer.old) (W.contents writer.new)) }
+) -> Result<Journal, ScriptFault>
+    ensures script { IfOk result (λ _. IfSome (R.remaining reader.old) (IsScript options.now.clients)) }
+    ensures prints { IfOk result (λ journal. PrintsWith options.now (option_copied path.entry) journal.now (R.remaining reader.old) (W.contents writer.old) (W.contents writer.new)) }
     ensures stops { IfErr result (Stops options.now.clients (R.remaining reader.old) (W.contents writer.old) (W.contents writer.new)) }
 {
     let lines = read_script(alloc, options.clients, reader)?;
-    let players = play_on_new(rt, alloc, options, retention, lines.as_slice(), watcher)?;
-    print_all(players.as_slice(), writer)
+    let played = play_on_new(
+        rt,
+        alloc,
+        options,
+        retention,
+        path,
+        lines.as_slice(),
+        watcher,
+    )?;
+    let Played { players, ended } = played;
+    let Ended { journal, regions } = ended;
+    print_all(players.as_slice(), writer)?;
+    print_regions(regions.as_slice(), writer)?;
+    Ok(journal)
+}
+
+/// The clients of a cell that ended, and what is left of it.
+#[derive(Drop)]
+struct Played {
+    players: Vec<Player>,
+    ended: Ended,
 }
 
 // The clients of a new cell once all lines were played and the cell was closed.
@@ -104,10 +134,12 @@ fn play_on_new<
     alloc: Global,
     options: &Options,
     retention: Retention,
+    path: Option<&Path>,
     lines: &[LiveLine],
     watcher: Option<P>,
-) -> Result<Vec<Player>, ScriptFault>
-    ensures players { IfOk result (λ players. AreAnswersOf options.now lines.now (map (λ p. p.answers.items) players.items)) }
+) -> Result<Played, ScriptFault>
+    ensures answers { IfOk result (λ p. AreAnswersIn options.now lines.now p.ended.journal.now (map (λ q. q.answers.items) p.players.items)) }
+    ensures regions { IfOk result (λ p. AreRegionsOf (option_copied path.entry) p.ended.journal.now (map (λ v. v.items) p.ended.regions.items)) }
     ensures fault { IfErr result IsOfRun }
 {
     if options.clients == 0 || options.clients > MOST_CLIENTS {
@@ -115,9 +147,9 @@ fn play_on_new<
     }
     let cell = start(rt, alloc, options, retention)?;
     let (cell, players) = play_in(rt, alloc, cell, options.clients, lines, watcher)?;
-    let journal = cell.close(&rt);
-    agree_all(players.as_slice(), &journal);
-    Ok(players)
+    let ended = end(&rt, alloc, cell, path)?;
+    agree_all(players.as_slice(), &ended.journal);
+    Ok(Played { players, ended })
 }
 
 // The thread that tells the watcher, if there is one.

@@ -14,6 +14,7 @@ use Rattle.messages.specs.declared.event.NodeInput.TheVariants as input
 use Rattle.messages.specs.declared.event.StepOut.{StepOut}
 use Rattle.protocol.specs.Tables.{moment_limit}
 use Rattle.protocol.specs.Choice.{Choice}
+use Rattle.protocol.specs.declared.seen.Seen.{Seen}
 use Rattle.protocol.specs.Seen.{Taken}
 use Rattle.protocol.specs.Server.{ServerState}
 use Rattle.protocol.specs.ServerStep.{server_step, server_restart}
@@ -23,20 +24,20 @@ use Rattle.protocol.specs.Client.{ClientState}
 use Rattle.protocol.specs.ClientStep.{may_call, client_call, client_step}
 use Rattle.protocol.specs.Observer.{Observer, observed_moment, observed_call, observed_answer}
 use Rattle.protocol.specs.World.{WorldState, Happened, nothing_happens, numbered_from_1, stamped, after_master, after_server, after_client, server_moves, client_moves, moves, delivered, server_restarts_at, restarts, call_moves, at_moment, happens}
-use Rattle.protocol_journal.specs.Journal.{StepCause, Calls, Takes, Restarts, NodeState, MasterIs, ServerIs, ClientIs, node_in, node_step, may_take, is_node, IsForNode, asked, answered}
+use Rattle.protocol_journal.specs.Journal.{StepCause, Calls, Takes, Restarts, NodeState, MasterIs, ServerIs, ClientIs, node_in, node_step, may_take, is_node, IsForNode, asked, noticed, answered}
 use Rattle.protocol_journal.proofs.Nodes.{none_some, true_false, false_true, number_is, numbered_here, numbered_else}
 use Rattle.protocol_journal.proofs.Views.{View, view}
 
--- What came to pass is that this node's step left it so and gave this, where the observer had seen its call, if it was one.
-pub record Did (w : WorldState) (h : Happened) (n : Node) (moment : ℕ) (o : Observer) (out : StepOut) (state : NodeState) : Type 0 where
+-- What came to pass is that this node's step left it so, gave this and was seen so, where the observer had seen its call, if it was one.
+pub record Did (w : WorldState) (h : Happened) (n : Node) (moment : ℕ) (o : Observer) (out : StepOut) (seen_so : List Seen) (state : NodeState) : Type 0 where
   pub here : node_in h.world n ≡ Some state
   pub others : (m : Node) → is_node n m ≡ false → node_in h.world m ≡ node_in w m
   pub sent : h.world.sent ≡ w.sent ++ stamped (suc (length w.sent)) out.sent
-  pub seen : view h.world.observer ≡ view (answered (observed_moment w.config.skew_ms o moment) n out.answer)
+  pub seen : view h.world.observer ≡ view (answered (noticed (observed_moment w.config.skew_ms o moment) n seen_so) n out.answer)
   pub config : h.world.config ≡ w.config
   pub disks : h.world.observer.are_disks_kept ≡ o.are_disks_kept
 
-master_did : (w : WorldState) (moment : ℕ) (t : Taken MasterState) → Did w (after_master w moment t) node.Master moment w.observer t.out (MasterIs t.state)
+master_did : (w : WorldState) (moment : ℕ) (t : Taken MasterState) → Did w (after_master w moment t) node.Master moment w.observer t.out t.seen (MasterIs t.state)
 master_did w moment t = record { here = refl; others = others; sent = refl; seen = refl; config = refl; disks = refl }
   where
     others : (m : Node) → is_node node.Master m ≡ false → node_in (after_master w moment t).world m ≡ node_in w m
@@ -45,7 +46,7 @@ master_did w moment t = record { here = refl; others = others; sent = refl; seen
     others (node.Client c) h = refl
 
 server_did : (w : WorldState) (n moment : ℕ) (s : ServerState) (t : Taken ServerState) → numbered_from_1 w.servers n ≡ Some s
-    → Did w (after_server w (n - 1) moment t) (node.Server (record { 0 = n })) moment w.observer t.out (ServerIs t.state)
+    → Did w (after_server w (n - 1) moment t) (node.Server (record { 0 = n })) moment w.observer t.out t.seen (ServerIs t.state)
 server_did w n moment s t at =
     record { here = ap (option_map ServerIs) (numbered_here w.servers n s t.state at); others = others; sent = refl; seen = refl; config = refl; disks = refl }
   where
@@ -55,7 +56,7 @@ server_did w n moment s t at =
     others (node.Client c) h = refl
 
 client_did : (w : WorldState) (o : Observer) (n moment : ℕ) (s : ClientState) (t : Taken ClientState) → numbered_from_1 w.clients n ≡ Some s
-    → Did w (after_client (record w { observer = o }) (n - 1) moment t) (node.Client (record { 0 = n })) moment o t.out (ClientIs t.state)
+    → Did w (after_client (record w { observer = o }) (n - 1) moment t) (node.Client (record { 0 = n })) moment o t.out t.seen (ClientIs t.state)
 client_did w o n moment s t at =
     record {
       here = ap (option_map ClientIs) (numbered_here w.clients n s t.state at);
@@ -92,7 +93,7 @@ input_event w n moment input.Tick choice limit is = (event.Tick n (record { 0 = 
 -- an entry is an event which leads so
 abbrev pub IsEvent : WorldState → Node → ℕ → StepCause → Choice → NodeState → Type 0
 IsEvent w n moment cause choice s =
-    (e : Event) × Did w (happens w e choice) n moment (asked w.config.skew_ms w.observer moment n cause) (node_step s moment cause choice).out (node_step s moment cause choice).state
+    (e : Event) × Did w (happens w e choice) n moment (asked w.config.skew_ms w.observer moment n cause) (node_step s moment cause choice).out (node_step s moment cause choice).seen (node_step s moment cause choice).state
 
 master_event : (w : WorldState) (moment : ℕ) (cause : StepCause) (choice : Choice) → nat_le moment moment_limit ≡ true → IsForNode w.sent node.Master cause
     → may_take (MasterIs w.master) cause ≡ true → IsEvent w node.Master moment cause choice (MasterIs w.master)
@@ -101,13 +102,13 @@ master_event w moment (Takes i) choice limit is may =
     let given = input_event w node.Master moment i choice limit is in
     let t : Taken MasterState = master_step w.master moment i choice in (
       given.0,
-      subst (λ (h : Happened). Did w h node.Master moment w.observer t.out (MasterIs t.state))
+      subst (λ (h : Happened). Did w h node.Master moment w.observer t.out t.seen (MasterIs t.state))
           (sym (given.1 ∙ cond_is w.master.up (after_master w moment t) (nothing_happens w) may)) (master_did w moment t),
     )
 master_event w moment Restarts choice limit is may =
     let t : Taken MasterState = master_restart w.master moment choice in (
       event.Restart node.Master (record { 0 = moment }),
-      subst (λ (h : Happened). Did w h node.Master moment w.observer t.out (MasterIs t.state))
+      subst (λ (h : Happened). Did w h node.Master moment w.observer t.out t.seen (MasterIs t.state))
           (sym (cond_is (nat_le moment moment_limit) (after_master w moment t) (nothing_happens w) limit)) (master_did w moment t),
     )
 
@@ -119,14 +120,14 @@ server_event w n moment s (Takes i) choice at limit is may =
     let given = input_event w here moment i choice limit is in
     let t : Taken ServerState = server_step s moment i choice in (
       given.0,
-      subst (λ (h : Happened). Did w h here moment w.observer t.out (ServerIs t.state))
+      subst (λ (h : Happened). Did w h here moment w.observer t.out t.seen (ServerIs t.state))
           (sym (given.1 ∙ ap (server_moves w (n - 1) moment i choice) at ∙ cond_is s.up (after_server w (n - 1) moment t) (nothing_happens w) may)) (server_did w n moment s t at),
     )
 server_event w n moment s Restarts choice at limit is may =
     let here : Node = node.Server (record { 0 = n }) in
     let t : Taken ServerState = server_restart s moment choice in (
       event.Restart here (record { 0 = moment }),
-      subst (λ (h : Happened). Did w h here moment w.observer t.out (ServerIs t.state))
+      subst (λ (h : Happened). Did w h here moment w.observer t.out t.seen (ServerIs t.state))
           (sym (cond_is (nat_le moment moment_limit) _ (nothing_happens w) limit ∙ ap (server_restarts_at w (n - 1) moment choice) at)) (server_did w n moment s t at),
     )
 
@@ -137,7 +138,7 @@ client_event w n moment s (Calls call) choice at limit is may =
     let t : Taken ClientState = client_call s moment call choice in
     let with_call : ℕ → Observer = λ k. observed_call (observed_moment w.config.skew_ms w.observer moment) k call in (
       event.Call (record { 0 = n }) call (record { 0 = moment }),
-      subst (λ (h : Happened). Did w h here moment (with_call n) t.out (ClientIs t.state))
+      subst (λ (h : Happened). Did w h here moment (with_call n) t.out t.seen (ClientIs t.state))
           (sym (cond_is (nat_le moment moment_limit) _ (nothing_happens w) limit ∙ ap (call_moves w (n - 1) moment call choice) at
           ∙ cond_is (may_call s) _ (nothing_happens w) may
           ∙ ap (λ (k : ℕ). after_client (record w { observer = with_call k }) (n - 1) moment t) (number_is w.clients n s at)))
@@ -148,7 +149,7 @@ client_event w n moment s (Takes i) choice at limit is may =
     let given = input_event w here moment i choice limit is in
     let t : Taken ClientState = client_step s moment i choice in (
       given.0,
-      subst (λ (h : Happened). Did w h here moment w.observer t.out (ClientIs t.state))
+      subst (λ (h : Happened). Did w h here moment w.observer t.out t.seen (ClientIs t.state))
           (sym (given.1 ∙ ap (client_moves w (n - 1) moment i choice) at ∙ cond_is s.up (after_client w (n - 1) moment t) (nothing_happens w) may)) (client_did w w.observer n moment s t at),
     )
 client_event w n moment s Restarts choice at limit is may = false_true may

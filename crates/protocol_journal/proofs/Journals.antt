@@ -8,6 +8,7 @@ use Rattle.messages.specs.declared.event.Event.{Event}
 use Rattle.messages.specs.declared.event.StepOut.{StepOut}
 use Rattle.messages.specs.declared.message.Message.{Message}
 use Rattle.protocol.specs.Choice.{Choice}
+use Rattle.protocol.specs.declared.seen.Seen.{Seen}
 use Rattle.protocol.specs.Observer.{Observer}
 use Rattle.protocol.specs.World.{WorldState, Happened, new_world, happens, after_events}
 use Rattle.protocol_journal.specs.Journal.{StepCause, Calls, Takes, Restarts, Entry, NodeState, node_in, node_step, may_take, is_node, own, RunsTo, LeadsTo, with_messages, sent_after, MayFollow, EachMayFollow, IsLawful, asked, entry_observed, observed_after, with_end}
@@ -46,7 +47,7 @@ asked_disks : (skew : ℕ) (o : Observer) (e : Entry) → (asked skew o e.moment
 asked_disks skew o e = disks_of skew o e.moment e.node e.cause
 
 -- where each node stands after an entry, its further entries lead on
-led_on : (w : WorldState) (h : Happened) (e : Entry) (rest : List Entry) (ends : Node → Option NodeState) (o : Observer) (state t : NodeState) → Did w h e.node e.moment o e.out state
+led_on : (w : WorldState) (h : Happened) (e : Entry) (rest : List Entry) (ends : Node → Option NodeState) (o : Observer) (state t : NodeState) → Did w h e.node e.moment o e.out e.seen state
     → ends e.node ≡ Some t → RunsTo state (own e.node rest) t → (n : Node) → LeadsTo (node_in w n) (own n (e ∷ rest)) (ends n)
     → (b : Bool) → is_node e.node n ≡ b → LeadsTo (node_in h.world n) (own n rest) (ends n)
 led_on w h e rest ends o state t did end others n led true is =
@@ -65,13 +66,14 @@ module _ (w : WorldState) (e : Entry) (rest : List Entry) (ends : Node → Optio
   abbrev before : Observer
   before = asked w.config.skew_ms w.observer e.moment e.node e.cause
 
-  goes : (s t : NodeState) → node_in w e.node ≡ Some s → ends e.node ≡ Some t → (choice : Choice) → may_take s e.cause ≡ true → (node_step s e.moment e.cause choice).out ≡ e.out
+  goes : (s t : NodeState) → node_in w e.node ≡ Some s → ends e.node ≡ Some t → (choice : Choice) → may_take s e.cause ≡ true → (node_step s e.moment e.cause choice).out ≡ e.out → (node_step s e.moment e.cause choice).seen ≡ e.seen
       → RunsTo (node_step s e.moment e.cause choice).state (own e.node rest) t → After w (e ∷ rest) ends
-  goes s t at end choice may out others =
+  goes s t at end choice may out sees others =
       let event = entry_event w e.node e.moment e.cause s choice at follow.0.0 follow.0.1 may in
       let h : Happened = happens w event.0 choice in
       let state : NodeState = (node_step s e.moment e.cause choice).state in
-      let did : Did w h e.node e.moment before e.out state = subst (λ (o : StepOut). Did w h e.node e.moment before o state) out event.1 in
+      let did : Did w h e.node e.moment before e.out e.seen state = subst (λ (x : List Seen). Did w h e.node e.moment before e.out x state) sees
+      (subst (λ (o : StepOut). Did w h e.node e.moment before o (node_step s e.moment e.cause choice).seen state) out event.1) in
       let after = later h.world (subst (λ (ms : List Message). EachMayFollow ms rest) (sym did.sent) follow.1)
       (λ n. led_on w h e rest ends before state t did end others n (leads n) (is_node e.node n) refl) in
       record {
@@ -85,7 +87,7 @@ module _ (w : WorldState) (e : Entry) (rest : List Entry) (ends : Node → Optio
       }
 
   unfolds : (s t : NodeState) → node_in w e.node ≡ Some s → ends e.node ≡ Some t → RunsTo s (e ∷ own e.node rest) t → After w (e ∷ rest) ends
-  unfolds s t at end h = goes s t at end h.0 h.1 h.2 h.3
+  unfolds s t at end h = goes s t at end h.0 h.1 h.2 h.3 h.4
 
   first : (o : Option NodeState) → node_in w e.node ≡ o → LeadsTo o (e ∷ own e.node rest) (ends e.node) → After w (e ∷ rest) ends
   first None at h = absurd (let none : e ∷ own e.node rest ≡ [] = h.0 in cc)
@@ -110,6 +112,7 @@ journals_are_runs config servers clients entries ends lawful =
         nodes_are = after.nodes;
         sent_is = after.sent;
         trace_is = ap (λ (v : View). v.trace) seen;
+        orders_are = ap (λ (v : View). v.orders) seen;
         clocks_are = ap (λ (v : View). v.are_clocks_kept) seen;
         disks_are_kept = after.disks;
       },
@@ -131,19 +134,19 @@ own_append n (x ∷ xs) ys = by_test (is_node x.node n) (own_append n xs ys)
     by_test false h = h
 
 runs_on : (xs : List Entry) (s t : NodeState) (e : Entry) (choice : Choice) → RunsTo s xs t → may_take t e.cause ≡ true → (node_step t e.moment e.cause choice).out ≡ e.out
-    → RunsTo s (xs ++ e ∷ []) (node_step t e.moment e.cause choice).state
-runs_on [] s t e choice h may out =
-    subst (λ (x : NodeState). RunsTo x (e ∷ []) (node_step t e.moment e.cause choice).state) (sym h) (choice, may, out, refl)
-runs_on (x ∷ xs) s t e choice h may out = (h.0, h.1, h.2, runs_on xs (node_step s x.moment x.cause h.0).state t e choice h.3 may out)
+    → (node_step t e.moment e.cause choice).seen ≡ e.seen → RunsTo s (xs ++ e ∷ []) (node_step t e.moment e.cause choice).state
+runs_on [] s t e choice h may out sees =
+    subst (λ (x : NodeState). RunsTo x (e ∷ []) (node_step t e.moment e.cause choice).state) (sym h) (choice, may, out, sees, refl)
+runs_on (x ∷ xs) s t e choice h may out sees = (h.0, h.1, h.2, h.3, runs_on xs (node_step s x.moment x.cause h.0).state t e choice h.4 may out sees)
 
 leads_on : (o : Option NodeState) (xs : List Entry) (t : NodeState) (e : Entry) (choice : Choice) → LeadsTo o xs (Some t) → may_take t e.cause ≡ true
-    → (node_step t e.moment e.cause choice).out ≡ e.out → LeadsTo o (xs ++ e ∷ []) (Some (node_step t e.moment e.cause choice).state)
-leads_on None xs t e choice h may out = none_some t (sym h.1)
-leads_on (Some s) xs t e choice h may out =
-    ((node_step t e.moment e.cause choice).state, refl, runs_on xs s t e choice (subst (λ (x : NodeState). RunsTo s xs x) (let same : Some t ≡ Some h.0 = h.1 in cc) h.2) may out)
+    → (node_step t e.moment e.cause choice).out ≡ e.out → (node_step t e.moment e.cause choice).seen ≡ e.seen → LeadsTo o (xs ++ e ∷ []) (Some (node_step t e.moment e.cause choice).state)
+leads_on None xs t e choice h may out sees = none_some t (sym h.1)
+leads_on (Some s) xs t e choice h may out sees =
+    ((node_step t e.moment e.cause choice).state, refl, runs_on xs s t e choice (subst (λ (x : NodeState). RunsTo s xs x) (let same : Some t ≡ Some h.0 = h.1 in cc) h.2) may out sees)
 
 pub journals_grow : JournalsGrow
-journals_grow config servers clients entries ends lawful e s choice at follows may out =
+journals_grow config servers clients entries ends lawful e s choice at follows may out sees =
     record { follow = follows_on entries [] e lawful.follow follows; nodes = λ n. led n (is_node e.node n) refl }
   where
     start : Node → Option NodeState
@@ -160,7 +163,7 @@ journals_grow config servers clients entries ends lawful e s choice at follows m
         subst (λ o. LeadsTo (start n) (own n (entries ++ e ∷ [])) o) (sym (end_is n true is))
         (subst (λ (xs : List Entry). LeadsTo (start n) xs (Some state)) (sym (own_append n entries (e ∷ []) ∙ ap (λ xs. own n entries ++ xs) (own_first n e [] is)))
         (subst (λ (m : Node). LeadsTo (start m) (own m entries ++ e ∷ []) (Some state)) (node_is e.node n is)
-        (leads_on (start e.node) (own e.node entries) s e choice (subst (λ o. LeadsTo (start e.node) (own e.node entries) o) at (lawful.nodes e.node)) may out)))
+        (leads_on (start e.node) (own e.node entries) s e choice (subst (λ o. LeadsTo (start e.node) (own e.node entries) o) at (lawful.nodes e.node)) may out sees)))
     led n false is =
         subst (λ o. LeadsTo (start n) (own n (entries ++ e ∷ [])) o) (sym (end_is n false is))
         (subst (λ (xs : List Entry). LeadsTo (start n) xs (ends n)) (sym (own_append n entries (e ∷ []) ∙ ap (λ xs. own n entries ++ xs) (own_later n e [] is) ∙ append-nil (own n entries)))

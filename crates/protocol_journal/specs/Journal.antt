@@ -1,4 +1,4 @@
--- A journal: what the nodes of a cell did, in one order. Each entry is a step of one node, which took a call, a message, a tick or a restart; the choices of steps are not in it.
+-- A journal: what the nodes of a cell did, in one order. Each entry is a step of one node, which took a call, a message, a tick or a restart, what it gave and what was seen of it; the choices of steps are not in it.
 use Rattle.std.specs.Prelude.{◌≡◌, ℕ, suc, Bool, true, false, ◌==◌, nat_le, if◌then◌else◌, List, [], ◌∷◌, ◌++◌, length, Option, Some, None, option_map, IsTrue}
 use Rattle.std.specs.FinMap as table
 use Rattle.gfs_types.specs.declared.config.Config.{Config}
@@ -12,6 +12,7 @@ use Rattle.messages.specs.declared.event.NodeInput.TheVariants as input
 use Rattle.messages.specs.declared.event.StepOut.{StepOut}
 use Rattle.protocol.specs.Tables.{moment_limit}
 use Rattle.protocol.specs.Choice.{Choice}
+use Rattle.protocol.specs.declared.seen.Seen.{Seen}
 use Rattle.protocol.specs.Seen.{Taken, no_step}
 use Rattle.protocol.specs.Server.{ServerState}
 use Rattle.protocol.specs.ServerStep.{server_step, server_restart}
@@ -19,7 +20,7 @@ use Rattle.protocol.specs.Master.{MasterState}
 use Rattle.protocol.specs.MasterStep.{master_step, master_restart}
 use Rattle.protocol.specs.Client.{ClientState}
 use Rattle.protocol.specs.ClientStep.{may_call, client_call, client_step}
-use Rattle.protocol.specs.Observer.{Observer, new_observer, observed_moment, observed_call, observed_answer}
+use Rattle.protocol.specs.Observer.{Observer, new_observer, observed_moment, observed_call, observed_answer, observed_all}
 use Rattle.protocol.specs.World.{WorldState, new_world, numbered_from_1, stamped}
 
 -- what a node takes a step on
@@ -28,12 +29,13 @@ pub data StepCause : Type 0 where
   Takes : (given : NodeInput) → StepCause
   Restarts : StepCause
 
--- a step of a node, and what it gave
+-- a step of a node, what it gave, and what an observer sees of it
 pub record Entry : Type 0 where
   pub node : Node
   pub moment : ℕ
   pub cause : StepCause
   pub out : StepOut
+  pub seen : List Seen
 
 -- a node's state
 pub data NodeState : Type 0 where
@@ -81,11 +83,12 @@ abbrev pub own : Node → List Entry → List Entry
 own n [] = []
 own n (e ∷ rest) = if is_node e.node n then e ∷ own n rest else own n rest
 
--- From one state to another by these entries, each of which is a step that gave what the entry says, for some choice.
+-- From one state to another by these entries, each of which is a step that gave what the entry says and was seen so, for some choice.
 abbrev pub RunsTo : NodeState → List Entry → NodeState → Type 0
 RunsTo s [] t = s ≡ t
 RunsTo s (e ∷ rest) t =
-    (choice : Choice) × IsTrue (may_take s e.cause) × ((node_step s e.moment e.cause choice).out ≡ e.out) × RunsTo (node_step s e.moment e.cause choice).state rest t
+    (choice : Choice) × IsTrue (may_take s e.cause) × ((node_step s e.moment e.cause choice).out ≡ e.out) × ((node_step s e.moment e.cause choice).seen ≡ e.seen)
+    × RunsTo (node_step s e.moment e.cause choice).state rest t
 
 -- a node that is not there has no entries
 abbrev pub LeadsTo : Option NodeState → List Entry → Option NodeState → Type 0
@@ -119,17 +122,22 @@ pub record IsLawful (config : Config) (servers clients : ℕ) (entries : List En
   pub follow : EachMayFollow [] entries
   pub nodes : (n : Node) → LeadsTo (node_in (new_world config servers clients) n) (own n entries) (ends n)
 
--- What an observer sees of an entry: its call, its moment, its answer.
+-- What an observer sees of an entry: its call, its moment, what came to chunks, its answer.
 abbrev pub asked : ℕ → Observer → ℕ → Node → StepCause → Observer
 asked skew o moment (node.Client c) (Calls call) = observed_call (observed_moment skew o moment) c.0 call
 asked skew o moment n other = o
+
+-- no chunk's order changes by a client's step
+abbrev pub noticed : Observer → Node → List Seen → Observer
+noticed o (node.Client c) seen = o
+noticed o other seen = observed_all o seen
 
 abbrev pub answered : Observer → Node → Option Answer → Observer
 answered o (node.Client c) reply = observed_answer o c.0 reply
 answered o other reply = o
 
 abbrev pub entry_observed : ℕ → Observer → Entry → Observer
-entry_observed skew o e = answered (observed_moment skew (asked skew o e.moment e.node e.cause) e.moment) e.node e.out.answer
+entry_observed skew o e = answered (noticed (observed_moment skew (asked skew o e.moment e.node e.cause) e.moment) e.node e.seen) e.node e.out.answer
 
 abbrev pub observed_after : ℕ → Observer → List Entry → Observer
 observed_after skew o [] = o

@@ -12,6 +12,8 @@ mod gate;
 #[cfg(test)]
 mod keeping;
 #[cfg(test)]
+mod looking;
+#[cfg(test)]
 mod parking;
 #[cfg(test)]
 mod producers;

@@ -7,3 +7,5 @@ mod options;
 mod parks;
 #[cfg(test)]
 mod scripts;
+#[cfg(test)]
+mod telling;

@@ -1,6 +1,6 @@
 //! Tests: what words of a command line set, refuse and show. Names and defaults are those of `docs/SCRIPT.md`.
 
-use command_line::command::{CommandFault, Request, parse};
+use command_line::command::{CommandFault, Request, Telling, parse};
 use gfs_types::config::Config;
 use script::options::Options;
 use std::alloc::{AllocError, Global};
@@ -88,12 +88,13 @@ fn words(alloc: Global, line: &str) -> Result<Vec<String>, AllocError> {
 }
 
 /// What a command line asks for: a script's file, the size of the names' region and the settings that aren't the defaults; the same of a cell with threads, that
-/// has no region, with how many entries of its journal stay, and whether progress is told; how many stay, and the settings, of such a cell that is served; a
-/// text with these words in it; or nothing.
+/// has no region, with how many entries of its journal stay, and whether progress is told; its file, the path whose regions are told and the file of its history;
+/// how many stay, and the settings, of such a cell that is served; a text with these words in it; or nothing.
 #[derive(Clone, Copy)]
 enum Command<'a> {
     Sim(&'a str, Option<u64>, &'a [(&'a str, u64)]),
     Live(&'a str, Option<u64>, bool, &'a [(&'a str, u64)]),
+    Told(&'a str, Option<&'a str>, Option<&'a str>),
     Serve(Option<u64>, &'a [(&'a str, u64)]),
     Shows(&'a str),
     Nothing,
@@ -111,7 +112,7 @@ fn is_sim(file: &str, names_heap: Option<u64>, options: &Options, wanted: &Comma
 fn is_live(
     file: &str,
     keep: Option<u64>,
-    tells_progress: bool,
+    told: &Telling,
     options: &Options,
     wanted: &Command,
 ) -> bool {
@@ -119,9 +120,28 @@ fn is_live(
         Command::Live(name, most, tells, changes) => {
             file == *name
                 && keep == *most
-                && tells_progress == *tells
+                && told.progress == *tells
+                && told.regions.is_none()
+                && told.history.is_none()
                 && numbers(options) == changed(changes)
         }
+        Command::Told(name, regions, history) => {
+            file == *name
+                && keep.is_none()
+                && !told.progress
+                && is_word(told.regions, *regions)
+                && is_word(told.history, *history)
+                && numbers(options) == changed(&[])
+        }
+        _ => false,
+    }
+}
+
+/// Whether a word is given that is wanted, or neither is.
+fn is_word(given: Option<&str>, wanted: Option<&str>) -> bool {
+    match (given, wanted) {
+        (Some(word), Some(other)) => word == other,
+        (None, None) => true,
         _ => false,
     }
 }
@@ -151,9 +171,9 @@ fn is_request(request: &Request, wanted: &Command) -> bool {
         Request::Live {
             file,
             keep,
-            tells_progress,
+            told,
             options,
-        } => is_live(file, *keep, *tells_progress, options, wanted),
+        } => is_live(file, *keep, told, options, wanted),
         Request::Serve { keep, options } => is_serve(*keep, options, wanted),
         Request::Show(text) => shows(text.as_str(), wanted),
     }
@@ -206,7 +226,7 @@ fn sets_each_option(rt: HostRuntime) -> Result<(), Fail> {
 }
 
 /// Command lines that ask for a region, for threads, or for settings together.
-const LINES: [(&str, Command); 18] = [
+const LINES: [(&str, Command); 20] = [
     (
         "gfscell sim a.gfs --names-heap 16384 --servers 5",
         Command::Sim("a.gfs", Some(16_384), &[("servers", 5)]),
@@ -226,6 +246,14 @@ const LINES: [(&str, Command); 18] = [
     (
         "gfscell live --keep=7 --progress a.live --servers 5",
         Command::Live("a.live", Some(7), true, &[("servers", 5)]),
+    ),
+    (
+        "gfscell live a.live --regions /log --history h",
+        Command::Told("a.live", Some("/log"), Some("h")),
+    ),
+    (
+        "gfscell live --history=h a.live",
+        Command::Told("a.live", None, Some("h")),
     ),
     ("gfscell serve", Command::Serve(None, &[])),
     (
@@ -279,7 +307,7 @@ fn sets_options_together(rt: HostRuntime) -> Result<(), Fail> {
     Ok(())
 }
 
-const REFUSED: [(&str, Command); 40] = [
+const REFUSED: [(&str, Command); 43] = [
     ("gfscell", Command::Nothing),
     ("gfscell help", Command::Nothing),
     ("gfscell live", Command::Nothing),
@@ -298,6 +326,9 @@ const REFUSED: [(&str, Command); 40] = [
     ("gfscell live a.live --names-heap 16384", Command::Nothing),
     ("gfscell sim a.gfs --progress", Command::Nothing),
     ("gfscell sim a.gfs --keep 1000", Command::Nothing),
+    ("gfscell sim a.gfs --regions /log", Command::Nothing),
+    ("gfscell serve --history h", Command::Nothing),
+    ("gfscell live a.live --regions", Command::Nothing),
     ("gfscell live a.live --keep", Command::Nothing),
     ("gfscell live a.live --keep x", Command::Nothing),
     (

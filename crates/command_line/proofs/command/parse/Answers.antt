@@ -1,7 +1,7 @@
 use Rattle.std.proofs.Common.{◌∙◌, Some, map, ap, ap₂, refl, sym, string_bytes, codes, option_map}
 use Rattle.clap.specs.Words.{app_of, found_of, rows_of}
 use Rattle.clap.proofs.WalkLemmas.{first_value-rows}
-use Rattle.command_line.specs.Asking.{asked_by, is_live}
+use Rattle.command_line.specs.Asking.{asked_by, is_live, told_of}
 use Rattle.command_line.proofs.ParseLemmas.{a_fault, fault_of_none, no_fault, no_file, no_heap, no_keep, no_number, of_bad, of_fault, meant_found, of_run, of_serve, run_is, run_none, run_some}
 use Rattle.command_line.proofs.command.parse.Goals as goal
 
@@ -78,10 +78,10 @@ returns c =
     let heap = c.in_ok-names_heap.names_heap in
     let most = c.in_ok-keep.keep in
     let options = c.in_ok-options.options in
-    let tells = c.is_given-tells_progress.result in
+    let tells = told_of c.told_in-told.result in
     let found =
     run_is rows c.in_ok-file.file.now c.in_ok-names_heap.ensures.all c.in_ok-keep.ensures.all c.in_ok-options.ensures.all file
     ∙ ap₂ (λ b w. Some (c.in_ok-file.file.now, (b, w))) (sym c.in_ok-names_heap.ensures.ok)
-    (ap₂ (λ m w. (m, w)) (sym c.in_ok-keep.ensures.ok) (ap₂ (λ t o. (t, o)) (sym c.is_given-tells_progress.ensures) (sym c.in_ok-options.ensures.ok))) in
+    (ap₂ (λ m w. (m, w)) (sym c.in_ok-keep.ensures.ok) (ap₂ (λ t o. (t, o)) (sym c.told_in-told.ensures) (sym c.in_ok-options.ensures.ok))) in
     of_run words (is_live name) c.in_ok-file.file.now heap most tells options c.request_for.result
     (ap₂ asked_by none (run ∙ run_some name rows (is_live name) c.in_ok-file.file.now (heap, (most, (tells, options))) (sym c.is_serve.ensures ∙ c.if-is_serve.false) refl found)) c.request_for.ensures

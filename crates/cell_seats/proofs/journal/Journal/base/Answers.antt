@@ -21,4 +21,4 @@ returns-clause-none c =
     let first = option_copied c.first.result in
     let at : first ≡ slice_get j.base.items 0 = c.first.ensures.value ∙ ap (λ (l : List JournalState). slice_get l 0) c.as_slice.ensures.value in
     none_mapped _ c.first.result _
-    (subst (λ (s : JournalState). IfNone first (s.now.cell.base ≡ [])) c.self.view_is (no_base j.history.cell j.base.items first at c.self.invariant.3))
+    (subst (λ (s : JournalState). IfNone first ((s.now.cell.base ≡ []) × (s.earlier ≡ []))) c.self.view_is (no_base j.history.cell j.base.items first at c.self.invariant.3))

@@ -1,0 +1,4 @@
+pub mod Noted
+pub mod Looks
+pub mod ParkedWorlds
+pub mod Faults

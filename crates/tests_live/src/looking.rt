@@ -1,0 +1,184 @@
+//! What a parked cell tells of bytes.
+
+use crate::cells::{hasty, small};
+use bytes::Bytes;
+use cell_looks::{LookFault, Looks};
+use cell_run::cell::Cell;
+use cell_run::{Parked, Retention};
+use cell_seats::gate::OpenGate;
+use gfs_types::ids::FileId;
+use gfs_types::lists::Text;
+use gfs_types::path::Path;
+use history_lines::print_history;
+use relaxed_file::region::Region;
+use std::alloc::Global;
+use std::str;
+use std::sync::Wait;
+use std::test::*;
+use std::thread::Threads;
+use std::time::Clock;
+
+/// How many records of eight bytes a client appends, of which eight fill a chunk.
+const RECORDS: usize = 10;
+
+/// Up to where the first chunk and the second one are determined, and how many replicas of the first one are stored.
+#[derive(Clone, Copy, PartialEq, Eq)]
+struct Shown {
+    first: u64,
+    second: u64,
+    replicas: usize,
+}
+
+// A new client of the cell appends its records.
+fn append_all<R: Wait + Clock>(rt: &R, alloc: Global, cell: &mut Cell) -> Option<()> {
+    let Ok(mut seat) = cell.client() else {
+        return None;
+    };
+    let path = Text::from_str("/log", alloc).ok()?;
+    let fd = seat.open(rt, path).ok()?;
+    for _ in 0..RECORDS {
+        seat.append(rt, fd, Bytes::from_static(b"a record")).ok()?;
+    }
+    Some(())
+}
+
+// Makes the file.
+fn create<R: Wait + Clock>(rt: &R, alloc: Global, cell: &mut Cell) -> Option<()> {
+    let Ok(mut seat) = cell.client() else {
+        return None;
+    };
+    let path = Text::from_str("/log", alloc).ok()?;
+    seat.create(rt, path, None).ok()
+}
+
+// The end of a region at a chunk's beginning whose bytes are all determined.
+fn end_of(region: &Region) -> Option<u64> {
+    if region.from == 0 && region.determined {
+        Some(region.to)
+    } else {
+        None
+    }
+}
+
+// The end of a chunk that has one region, in which all bytes are determined.
+fn determined_to(alloc: Global, looks: &Looks<'_>, file: FileId, index: u64) -> Option<u64> {
+    let regions = looks.regions(alloc, file, index).ok()?;
+    let regions = regions?;
+    match regions.as_slice() {
+        [region] => end_of(region),
+        _ => None,
+    }
+}
+
+fn shown(alloc: Global, parked: &Parked) -> Option<Shown> {
+    let looks = Looks::at(alloc, parked).ok()?;
+    let path = Path::parse("/log", alloc).ok()?;
+    let file = looks.file(&path)?;
+    let replicas = looks.replicas(alloc, file, 0).ok()?;
+    let (_handle, replicas) = replicas?;
+    Some(Shown {
+        first: determined_to(alloc, &looks, file, 0)?,
+        second: determined_to(alloc, &looks, file, 1)?,
+        replicas: replicas.len(),
+    })
+}
+
+#[tactic(auto, using(crate::proofs::Parkings::none_named))]
+fn park<R: Threads + Wait + Clock>(rt: &R, alloc: Global, cell: Cell) -> Option<Parked> {
+    cell.park(rt, Vec::new(alloc)).ok()
+}
+
+// What is shown after a client's records, and after those of another one behind a parking.
+fn shown_twice<R: Threads + Wait + Clock + Copy + Send + 'static>(
+    rt: R,
+    alloc: Global,
+    cell: Cell,
+) -> Option<(Shown, Shown)> {
+    let mut cell = cell;
+    create(&rt, alloc, &mut cell)?;
+    append_all(&rt, alloc, &mut cell)?;
+    let parked = park(&rt, alloc, cell)?;
+    let first = shown(alloc, &parked)?;
+    let Ok((mut cell, _none)) = parked.resume(rt, OpenGate) else {
+        return None;
+    };
+    append_all(&rt, alloc, &mut cell)?;
+    let parked = park(&rt, alloc, cell)?;
+    Some((first, shown(alloc, &parked)?))
+}
+
+#[test]
+fn records_are_determined(rt: HostRuntime) -> Result<(), Fail> {
+    let alloc = rt.alloc();
+    let cell = Cell::start(rt, alloc, small(3), 3, OpenGate)?;
+    let Some((first, second)) = shown_twice(rt, alloc, cell) else {
+        return Err(Fail::new("nothing is shown"));
+    };
+    assert!(rt; first.first == 64);
+    assert!(rt; first.second == 16);
+    assert!(rt; first.replicas == 3);
+    // Behind a parking a record may be padded over and tried again.
+    assert!(rt; second.first == 64);
+    assert!(rt; second.second > 16);
+    Ok(())
+}
+
+// A cell that was parked twice, each time behind a client's records.
+fn parked_twice<R: Threads + Wait + Clock + Copy + Send + 'static>(
+    rt: R,
+    alloc: Global,
+    cell: Cell,
+) -> Option<Parked> {
+    let mut cell = cell;
+    create(&rt, alloc, &mut cell)?;
+    append_all(&rt, alloc, &mut cell)?;
+    let parked = park(&rt, alloc, cell)?;
+    let Ok((mut cell, _none)) = parked.resume(rt, OpenGate) else {
+        return None;
+    };
+    append_all(&rt, alloc, &mut cell)?;
+    park(&rt, alloc, cell)
+}
+
+#[test]
+fn calls_of_both_journals_are_written(rt: HostRuntime) -> Result<(), Fail> {
+    let alloc = rt.alloc();
+    let cell = Cell::start(rt, alloc, small(3), 3, OpenGate)?;
+    let Some(parked) = parked_twice(rt, alloc, cell) else {
+        return Err(Fail::new("not parked"));
+    };
+    let mut out = Vec::new(alloc);
+    assert!(rt; print_history(alloc, parked.journal(), &mut out).is_ok());
+    let text = str::from_utf8(out.as_slice())?;
+    // A create, and an open and the records of two clients, each with its answer.
+    assert_eq!(rt; text.lines().count(), 2 * (1 + 2 * (1 + RECORDS)));
+    let appended = text.lines().filter(|line| line.contains(" -> at "));
+    assert_eq!(rt; appended.count(), 2 * RECORDS);
+    Ok(())
+}
+
+// Why the regions of a file that was let go in part are not told.
+fn fault_of(alloc: Global, parked: &Parked) -> Option<LookFault> {
+    let looks = Looks::at(alloc, parked).ok()?;
+    let path = Path::parse("/log", alloc).ok()?;
+    let file = looks.file(&path)?;
+    looks.regions(alloc, file, 0).err()
+}
+
+#[test]
+fn a_part_of_a_history_tells_no_regions(rt: HostRuntime) -> Result<(), Fail> {
+    let alloc = rt.alloc();
+    let retention = Retention::Last(40);
+    let mut cell = Cell::start_retaining(rt, alloc, hasty(3), 3, retention, OpenGate)?;
+    if create(&rt, alloc, &mut cell).is_none() {
+        return Err(Fail::new("no file"));
+    }
+    if append_all(&rt, alloc, &mut cell).is_none() {
+        return Err(Fail::new("no records"));
+    }
+    let Some(parked) = park(&rt, alloc, cell) else {
+        return Err(Fail::new("not parked"));
+    };
+    assert!(rt; fault_of(alloc, &parked) == Some(LookFault::Partial));
+    Ok(())
+}
