@@ -1,5 +1,5 @@
 -- Rows of a journal, of which the last stay.
-use Rattle.std.specs.Prelude.{◌≡◌, ℕ, ◌+◌, ◌-◌, ◌≤◌, max, nat_lt, nat_le, if◌then◌else◌, List, [], length, take, slice_get, Option, None}
+use Rattle.std.specs.Prelude.{◌≡◌, ℕ, ◌+◌, ◌-◌, ◌≤◌, ◌^◌, max, nat_lt, nat_le, if◌then◌else◌, List, [], length, take, slice_get, Option, None}
 use Rattle.messages.specs.declared.message.Message.{Message}
 use Rattle.protocol.specs.World.{numbered_from_1}
 use Rattle.protocol_journal.specs.Journal.{Entry, sent_after}
@@ -16,6 +16,11 @@ gone_of (Last most) count = count - max most 1
 -- how many stay
 abbrev pub stays_of : Retention → ℕ → ℕ
 stays_of retention count = count - gone_of retention count
+
+-- how many entries there may be, where the settings allow so many of a journal that stays whole
+abbrev pub most_entries : Retention → ℕ → ℕ
+most_entries Whole journal = journal
+most_entries (Last most) journal = 2 ^ 62
 
 -- which rows stay, all that there were, and for how many there is memory
 pub record Rows : Type 0 where

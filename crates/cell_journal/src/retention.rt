@@ -1,7 +1,7 @@
 //! Which rows of a journal stay.
 
 ghost use Rattle.std.specs.Prelude.{◌≡◌, ◌≤◌, ◌^◌};
-ghost use Rattle.cell_journal.specs.Retained.{gone_of, stays_of};
+ghost use Rattle.cell_journal.specs.Retained.{gone_of, most_entries, stays_of};
 
 /// How many entries a journal may have of which only the last stay.
 const MOST_ENTRIES: u64 = 1 << 62;
@@ -27,7 +27,8 @@ impl Retention {
     /// How many entries there may be, where the settings allow so many of a journal that stays whole.
     pub fn most_entries(self, journal: u64) -> u64
         requires { journal ≤ 2 ^ 62 }
-        ensures { result ≤ 2 ^ 62 }
+        ensures most { result ≡ most_entries self journal }
+        ensures within { result ≤ 2 ^ 62 }
     {
         match self {
             Self::Whole => journal,
