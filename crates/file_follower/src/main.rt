@@ -25,7 +25,7 @@ use std::time::Clock;
 const STRETCHES: u32 = 3;
 
 /// The clock bounds of the trials, in milliseconds: where clocks were not kept, there is one more, with the next of them.
-const CLOCK_BOUNDS: [u64; 3] = [1_000, 2_000, 4_000];
+const CLOCK_BOUNDS: [u64; 3] = [1_000, 2_000, 3_000];
 
 /// One message of so many is lost, one repeated, and one held up.
 const FAULTS: Policy = Policy {
