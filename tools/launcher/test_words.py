@@ -40,13 +40,13 @@ def asked_by(line):
         return ('Nothing',)
     except command_line.Shown as shown:
         return ('Shows', str(shown))
-    if asked.words:
+    if asked.words and asked.way == 'live':
         return ('Told', asked.file, asked.words)
     given = dict(asked.given)
     number = given.pop('names_heap' if asked.way == 'sim' else 'keep', None)
     servers, clients, others = command_line.settings_of(given)
     found = {'servers': servers, 'clients': clients, **others}
-    return (asked.way.capitalize(), asked.file, number, {name: value for name, value in found.items() if name in given or name == 'block'})
+    return (asked.way.capitalize(), asked.file, number, {name: value for name, value in found.items() if name in given or name == 'block'}, asked.words.get('regions'))
 
 
 def is_wanted(found, kind, text):
@@ -59,17 +59,18 @@ def is_wanted(found, kind, text):
         return found[1:] == (file, {name: word for name, word in (('regions', regions), ('history', history)) if word is not None})
     file = None if kind == 'Serve' else re.match(r'"(.*?)"', text)[1]
     number = re.search(r'Some\(([\d_]+)\)', text)
+    path = re.search(r'Some\("(.*?)"\)', text)
     wanted = settings(text)
     if 'chunk' in wanted and 'block' not in wanted:
         # the tests leave out what is the default
         wanted['block'] = 65536
-    return found[1] == file and found[2] == (int(number[1].replace('_', '')) if number else None) and found[3] == wanted
+    return found[1] == file and found[2] == (int(number[1].replace('_', '')) if number else None) and found[3:] == (wanted, path and path[1])
 
 
 def tables():
     """How many command lines there are in the tables, and those that are taken otherwise."""
     count, faults = 0, []
-    for table, least in (('LINES', 18), ('REFUSED', 40), ('SHOWN', 8)):
+    for table, least in (('LINES', 21), ('REFUSED', 44), ('SHOWN', 8)):
         rows = [(row[0] or row[3], row[1] or row[4], row[2]) for row in expected_in(table)]
         if len(rows) != least:
             faults.append(f'{table} of {TESTS}: {len(rows)} command lines are read')
