@@ -16,8 +16,9 @@ MORE_BAD = [
     'sim a --servers -- 3', 'sim a --chunk 99999999999999999999999', 'sim a -- b', 'sim --names-heap 1 --names-heap 1 a', 'simm a',
     'sim a --servers\t3', '--version=1', '--help=', 'live a --progress=', 'serve a', 'serve -', 'serve --progress', 'serve --clients', 'live a --progress --progress', 'sim a --progress',
     'live --servers --progress a', 'sim a --keep 1', 'live a --keep', 'live --keep 1 --keep 1 a', 'serve --keep', 'serve --keep 1 --keep 1',
-    'live a --history', 'live a --history h --history h', 'live --regions / a b', 'sim a --history h', 'serve --regions /',
-    'live a --regions f', 'live a --regions /f/', 'live a --regions /./f', 'live a --keep 7 --history h', 'live a --regions /f --keep 7']
+    'live a --history', 'live a --history h --history h', 'live --regions / a b', 'sim a --history h', 'serve --history h', 'serve --regions',
+    'live a --regions f', 'live a --regions /f/', 'live a --regions /./f', 'live a --keep 7 --history h', 'live a --regions /f --keep 7',
+    'serve --regions f', 'serve --keep 7 --regions /f', 'serve --regions /f --regions /f']
 MORE_SHOWN = {'sim --servers x --help': 'sim', 'sim a b --help': None, 'live -h': 'live', 'serve -h': 'serve', 'serve --help a': 'serve', 'live a.live -hx': 'live', '-hV': '', 'sim --servers=9 -h': 'sim'}
 
 
@@ -116,6 +117,7 @@ def at_once():
         (['live', 'none', '--keep', '1', '--history', 'h'], BAD), (['live', 'none', '--regions', 'f'], BAD), (['live', 'none', '--regions', '/f', '--history', 'h'], cannot['read']),
         (['--help'], (0, expected_text('help'), b'')), (['-h'], (0, expected_text('help'), b'')), (['sim', '--help'], (0, expected_text('help_sim'), b'')),
         (['live', 'none', '-h'], (0, expected_text('help_live'), b'')), (['serve', '-h'], (0, expected_text('help_serve'), b'')), (['serve', 'a'], BAD),
+        (['serve', '--regions', 'f'], BAD), (['serve', '--regions', '/f', '--keep', '7'], BAD), (['serve', '--regions', '/f'], (0, b'', b'')),
         (['serve', '--servers', '0'], cannot['start']), (['--version'], (0, b'gfscell 0.1.0\n', b'')), (['-V'], (0, b'gfscell 0.1.0\n', b'')),
         (['sim', 'none'], cannot['read']), (['live', 'none', '--chunk', '63'], cannot['read']), (['sim', ''], cannot['read']), (['sim', '.'], cannot['read']),
         (['live', '.', '--chunk', '63'], cannot['read']), (['sim', '-', '--chunk', '63'], cannot['start']), (['sim', '--servers=0', '--', '-f'], cannot['start']),
