@@ -1,4 +1,4 @@
-use Rattle.std.proofs.Common.{◌∙◌, ℕ, List, map, replicate, sym, ap, subst}
+use Rattle.std.proofs.Common.{◌∙◌, ℕ, List, Vec, Global, map, replicate, sym, ap, subst}
 use Rattle.std.specs.Option.{option_copied}
 use Rattle.std.specs.Io.KnownBytes.{Appends}
 use Rattle.std.proofs.lemmas.Result.{on_ok_weaker, IfErr-weaker}
@@ -11,6 +11,9 @@ use Rattle.serve.specs.Printing.{Stand, AllBegin, AllPrinted, AreComparable, Are
 use Rattle.serve.proofs.Finishing.{stops_starting, stops_writing, ends_well, stopped, stopped_unlooked}
 use Rattle.serve.proofs.Taken.{none_asked}
 use Rattle.serve.proofs.run.serve.Goals as goal
+
+abbrev regions_in : List (Vec Region Global) → List (List Region)
+regions_in chunks = map (λ (v : Vec Region Global). v.items) chunks
 
 pub start_reading-requires-clause-asked : goal.start_reading-requires-clause-asked
 start_reading-requires-clause-asked g c κs lives =
@@ -81,10 +84,10 @@ returns-clause-serves g c =
     let begin = subst (AllBegin (whole_of ended.journal.now)) c.as_slice-2.ensures.value c.agree_all.ensures in
     let done = subst (AreAllDone s) c.as_slice-3.ensures.value c.in_ok-outcome_of.ensures.done in
     let same = sym (c.in_ok-ended.ensures.cell ∙ (c.print_told.ensures.cell ∙ (c.in_ok-clients.ensures.cell ∙ c.requires.cell))) in
-    let regions = map (λ v. v.items) ended.regions.items in
-    let shown = ap (map (λ v. v.items)) c.as_slice-4.ensures.value in
+    let regions = regions_in ended.regions.items in
+    let shown = ap regions_in c.as_slice-4.ensures.value in
     on_ok_weaker c.print_regions.result
-    (λ (told : Appends middle after (told_regions (map (λ v. v.items) c.as_slice-4.result.now))).
+    (λ (told : Appends middle after (told_regions (regions_in c.as_slice-4.result.now))).
     ends_well options (option_copied c.args.path) s (sym c.requires.clients) cell c.requires.some (g.R.Read.remaining c.args.reader) (g.W.Write.contents c.args.writer.now) middle (sym c.requires.input)
     c.in_ok-clients.clients.printed.items c.print_told.new.printed.items c.in_ok-clients.ensures.count c.in_ok-clients.ensures.order c.in_ok-clients.ensures.new c.in_ok-print_told.ensures.printed all meet
     ended.journal.now regions after done same begin c.in_ok-ended.ensures.regions (subst (λ (l : List (List Region)). Appends middle after (told_regions l)) shown told))
