@@ -141,12 +141,14 @@ module _ (options : Options) (s : Service) (same_clients : s.clients ≡ options
         subst (λ (n : ℕ). count.0 ≡ length (calls_for n (suc k) i)) same_clients (counted k count.0 count.1) in
         same_length calls (calls_for options.clients (suc k) i) (number ∙ printed.each k count.0 p.0 count.1 p.1 ∙ expected) first
 
-    abbrev pub serves_all : (counts : List ℕ) (input : Option (List ℕ)) → s.input ≡ input → AreAllPrinted counts stands → IfSome input (λ i. AreCounts counts (calls_served s.clients i)) → Serves options input before after
+    abbrev pub serves_all : (counts : List ℕ) (input : Option (List ℕ)) → s.input ≡ input → AreAllPrinted counts stands
+        → IfSome input (λ i. AreCounts counts (calls_served s.clients i)) → Serves options input before after
     serves_all counts input is printed counted = record { asked = asked.0; all = all_calls counts input is printed counted; prints = prints_answers }
 
     -- and what each client saw begins this history of the cell
-    pub serves_in : (counts : List ℕ) (input : Option (List ℕ)) → s.input ≡ input → AreAllPrinted counts stands → IfSome input (λ i. AreCounts counts (calls_served s.clients i)) → (journal : Closed) → s.cell ≡ journal.cell
-        → AllBegin (whole_of journal) stands → (serves : Serves options input before after) × (serves.prints.answered.cell ≡ journal.cell) × IsPrefix serves.prints.answered.entries (whole_of journal)
+    pub serves_in : (counts : List ℕ) (input : Option (List ℕ)) → s.input ≡ input → AreAllPrinted counts stands
+        → IfSome input (λ i. AreCounts counts (calls_served s.clients i)) → (journal : Closed) → s.cell ≡ journal.cell → AllBegin (whole_of journal) stands
+        → (serves : Serves options input before after) × (serves.prints.answered.cell ≡ journal.cell) × IsPrefix serves.prints.answered.entries (whole_of journal)
     serves_in counts input is printed counted journal same begin =
         let one = longest.1.one_is in
         (serves_all counts input is printed counted, same, subst (λ (l : List Entry). IsPrefix l (whole_of journal)) one.3 (begin one.0 one.1 one.2))

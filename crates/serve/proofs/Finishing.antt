@@ -44,13 +44,14 @@ pub serves_alone : (options : Options) (input before after : Option (List ℕ)) 
 serves_alone options input before after with_none =
     let s = with_none.serves in
     let p = s.prints in
-    let text = appends_twice before with_none.middle after (flat_map printed_text p.printed) (told_regions with_none.regions) p.text with_none.told in
+    let answers = flat_map printed_text p.printed in
+    let text = appends_twice before with_none.middle after answers (told_regions with_none.regions) p.text with_none.told in
     record {
       asked = s.asked;
       all = s.all;
       prints = record {
         printed = p.printed;
-        text = subst (Appends before after) (ap (λ (rs : List (List Region)). flat_map printed_text p.printed ++ told_regions rs) with_none.regions_are ∙ append-nil (flat_map printed_text p.printed)) text;
+        text = subst (Appends before after) (ap (λ (rs : List (List Region)). answers ++ told_regions rs) with_none.regions_are ∙ append-nil answers) text;
         answers = p.answers;
         answered = p.answered;
         each = p.each;
@@ -76,11 +77,12 @@ module _ (options : Options) (path : Option Path) (s : Service) (same_clients : 
   places = order_kept news ends before middle prints order
 
   -- all was printed, and what each client saw begins the history of this journal
-  pub ends_well : (journal : Closed) (regions : List (List Region)) (after : Option (List ℕ)) → AreAllDone s ends → s.cell ≡ journal.cell → AllBegin (whole_of journal) ends → AreRegionsOf path journal regions
-      → Appends middle after (told_regions regions) → ServesWith options path input before after
+  pub ends_well : (journal : Closed) (regions : List (List Region)) (after : Option (List ℕ)) → AreAllDone s ends → s.cell ≡ journal.cell
+      → AllBegin (whole_of journal) ends → AreRegionsOf path journal regions → Appends middle after (told_regions regions) → ServesWith options path input before after
   ends_well journal regions after d same begin are told =
       let counted = subst (λ (o : Option (List ℕ)). IfSome o (λ i. AreCounts d.counts (calls_served s.clients i))) input_is d.asked in
-      let found = serves_in options s same_clients cell_is some ends (prints.count ∙ many) places all meet news before middle order fresh prints d.counts input input_is d.printed counted journal same begin in
+      let found =
+      serves_in options s same_clients cell_is some ends (prints.count ∙ many) places all meet news before middle order fresh prints d.counts input input_is d.printed counted journal same begin in
       record { middle = middle; serves = found.0; journal = journal; cell_is = found.1; begins = found.2; regions = regions; regions_are = are; told = told }
 
   -- what was printed, where not all was
