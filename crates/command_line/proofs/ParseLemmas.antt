@@ -14,7 +14,8 @@ use Rattle.clap.specs.declared.error.kind.ErrorKind.{ErrorKind}
 use Rattle.clap.proofs.OnLiterals.{clap_on_literals}
 use Rattle.command_line.specs.Program.{keep, names_heap, option_names, program, regions}
 use Rattle.command_line.proofs.FaultLemmas.{are_alike, faults_are_alike, first_tells}
-use Rattle.command_line.specs.Asking.{Asked, asked, asked_by, asked_on, Told, Wanted, to_run, to_simulate, to_play, to_serve, to_be_shown, nothing, Answers, Becomes, Runs, Serves, all_numbered, faults, given_number, is_live, is_numbered, is_served, is_shown, meant, options_of, run_by, run_of, served_of, wanted_by}
+use Rattle.command_line.specs.Asking.{Asked, asked, asked_by, asked_on, Told, Wanted, to_run, to_simulate, to_play, to_serve, to_be_shown, nothing, Answers, Becomes}
+use Rattle.command_line.specs.Asking.{Runs, Serves, all_numbered, faults, given_number, is_live, is_numbered, is_served, is_shown, meant, options_of, run_by, run_of, served_of, wanted_by}
 use Rattle.script.specs.declared.options.Options.{Options}
 use Rattle.command_line.specs.declared.command.CommandFault.{CommandFault}
 use Rattle.command_line.specs.declared.command.CommandFault.TheVariants.{Bad, NoMemory}
