@@ -141,7 +141,7 @@ module _ (options : Options) (s : Service) (same_clients : s.clients ≡ options
         subst (λ (n : ℕ). count.0 ≡ length (calls_for n (suc k) i)) same_clients (counted k count.0 count.1) in
         same_length calls (calls_for options.clients (suc k) i) (number ∙ printed.each k count.0 p.0 count.1 p.1 ∙ expected) first
 
-    abbrev pub serves_all : (counts : List ℕ) (input : Option (List ℕ)) → s.input ≡ input → AreAllPrinted counts stands
+    abbrev serves_all : (counts : List ℕ) (input : Option (List ℕ)) → s.input ≡ input → AreAllPrinted counts stands
         → IfSome input (λ i. AreCounts counts (calls_served s.clients i)) → Serves options input before after
     serves_all counts input is printed counted = record { asked = asked.0; all = all_calls counts input is printed counted; prints = prints_answers }
 

@@ -1,5 +1,5 @@
 -- What serving comes to, once all threads have ended, or where it was not begun.
-use Rattle.std.proofs.Common.{◌≡◌, ◌<◌, ◌++◌, ℕ, List, inl, inr, ⊎_elim, length, Option, Some, None, sym, ap, subst, ◌∙◌}
+use Rattle.std.proofs.Common.{◌≡◌, ◌<◌, ◌++◌, ℕ, true, false, List, inl, inr, ⊎_elim, length, Option, None, sym, ap, subst, ◌∙◌}
 use Rattle.std.specs.Prelude.{Result, OnOk, IfSome, IsTrue, is_some}
 use Rattle.std.specs.Io.KnownBytes.{Appends}
 use Rattle.std.specs.List.{flat_map}
@@ -61,7 +61,7 @@ serves_alone options input before after with_none =
 pub stops_alone : (options : Options) (input before after : Option (List ℕ)) (f : ScriptFault) → StopsWith options None input before after f → Stops options input before after f
 stops_alone options input before after (fault.Line number) stops = stops
 stops_alone options input before after (fault.NoEnd number) stops = stops
-stops_alone options input before after fault.Start stops = ⊎_elim (λ keeps. keeps) (λ wanted. absurd wanted.0) stops
+stops_alone options input before after fault.Start stops = ⊎_elim (λ keeps. keeps) (λ wanted. absurd (let both : true ≡ false = sym wanted.0 in cc)) stops
 stops_alone options input before after fault.NoMemory stops = stops
 stops_alone options input before after fault.Read stops = stops
 stops_alone options input before after fault.Write stops = stops
