@@ -146,12 +146,7 @@ fn is_word(given: Option<&str>, wanted: Option<&str>) -> bool {
     }
 }
 
-fn is_serve(
-    keep: Option<u64>,
-    regions: Option<&str>,
-    options: &Options,
-    wanted: &Command,
-) -> bool {
+fn is_serve(keep: Option<u64>, regions: Option<&str>, options: &Options, wanted: &Command) -> bool {
     match wanted {
         Command::Serve(most, path, changes) => {
             keep == *most && is_word(regions, *path) && numbers(options) == changed(changes)
