@@ -1,4 +1,4 @@
-"""Wrong bodies of one function each, which alone is proved, over the libraries that the gate has built: for those for which `rt` would prove a large
+"""Wrong bodies of one function each, which alone is proved, over the libraries that the gate has just built: the gate's way for those for which `rt` would prove a large
 crate once more."""
 import concurrent.futures
 import os
