@@ -203,6 +203,21 @@ def subcommand(words):
     raise Bad('sim, live or serve is missing')
 
 
+def is_full_path(word):
+    """Whether a word is a full path: a slash alone, or parts with a slash before each."""
+    path = word.encode()
+    parts = path[1:].split(b'/')
+    return path == b'/' or (path[:1] == b'/' and len(path) <= 4096 and not re.search(rb'[\r\0]', path) and all(0 < len(it) < 256 and it not in (b'.', b'..') for it in parts))
+
+
+def look_at_words(given, words):
+    """Whether what is told of a run can be told; else Bad."""
+    if 'keep' in given and words:
+        raise Bad(f'--{next(iter(words))} stands beside --keep')
+    if not is_full_path(words.get('regions', '/')):
+        raise Bad(f'--regions: {words["regions"]} is no full path')
+
+
 def parse(words):
     """What the words ask for; Shown, or Bad."""
     try:
@@ -217,6 +232,7 @@ def parse(words):
     for name, value in given.items():
         if number(value) is None:
             raise Bad(f'--{name}: {value} is no decimal number below 2^64')
+    look_at_words(given, words)
     return Asked(way, file, {name.replace('-', '_'): number(value) for name, value in given.items()}, words)
 
 

@@ -15,7 +15,9 @@ MORE_BAD = [
     '--', '-- sim a', 'sim --', 'sim a --servers --help', 'sim a --servers 3 --servers 3 --help', 'sim a --help=x', '-x', 'sim a -x', 'sim a --=3', '-', 'live',
     'sim a --servers -- 3', 'sim a --chunk 99999999999999999999999', 'sim a -- b', 'sim --names-heap 1 --names-heap 1 a', 'simm a',
     'sim a --servers\t3', '--version=1', '--help=', 'live a --progress=', 'serve a', 'serve -', 'serve --progress', 'serve --clients', 'live a --progress --progress', 'sim a --progress',
-    'live --servers --progress a', 'sim a --keep 1', 'live a --keep', 'live --keep 1 --keep 1 a', 'serve --keep', 'serve --keep 1 --keep 1']
+    'live --servers --progress a', 'sim a --keep 1', 'live a --keep', 'live --keep 1 --keep 1 a', 'serve --keep', 'serve --keep 1 --keep 1',
+    'live a --history', 'live a --history h --history h', 'live --regions / a b', 'sim a --history h', 'serve --regions /',
+    'live a --regions f', 'live a --regions /f/', 'live a --regions /./f', 'live a --keep 7 --history h', 'live a --regions /f --keep 7']
 MORE_SHOWN = {'sim --servers x --help': 'sim', 'sim a b --help': None, 'live -h': 'live', 'serve -h': 'serve', 'serve --help a': 'serve', 'live a.live -hx': 'live', '-hV': '', 'sim --servers=9 -h': 'sim'}
 
 
@@ -69,7 +71,7 @@ def is_wanted(found, kind, text):
 def tables():
     """How many command lines there are in the tables, and those that are taken otherwise."""
     count, faults = 0, []
-    for table, least in (('LINES', 18), ('REFUSED', 40), ('SHOWN', 8)):
+    for table, least in (('LINES', 20), ('REFUSED', 43), ('SHOWN', 8)):
         rows = [(row[0] or row[3], row[1] or row[4], row[2]) for row in expected_in(table)]
         if len(rows) != least:
             faults.append(f'{table} of {TESTS}: {len(rows)} command lines are read')
@@ -110,6 +112,7 @@ def at_once():
     return [
         ([], BAD), (['help'], BAD), (['sim'], BAD), (['sim', 'a.gfs', '--servers', '3', '--servers', '3'], BAD), (['sim', 'a.gfs', '--chunk', 'x'], BAD),
         (['sim', b'\xff'], BAD), (['sim', 'a.gfs', '--servers', ''], BAD), (['live', 'a.live', '--names-heap', '1'], BAD), (['sim', 'a.gfs', '--keep', '1'], BAD),
+        (['live', 'none', '--keep', '1', '--history', 'h'], BAD), (['live', 'none', '--regions', 'f'], BAD), (['live', 'none', '--regions', '/f', '--history', 'h'], cannot['read']),
         (['--help'], (0, expected_text('help'), b'')), (['-h'], (0, expected_text('help'), b'')), (['sim', '--help'], (0, expected_text('help_sim'), b'')),
         (['live', 'none', '-h'], (0, expected_text('help_live'), b'')), (['serve', '-h'], (0, expected_text('help_serve'), b'')), (['serve', 'a'], BAD),
         (['serve', '--servers', '0'], cannot['start']), (['--version'], (0, b'gfscell 0.1.0\n', b'')), (['-V'], (0, b'gfscell 0.1.0\n', b'')),

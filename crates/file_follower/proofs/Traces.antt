@@ -10,8 +10,9 @@ use Rattle.gfs_types.specs.declared.config.Config.{Config}
 use Rattle.gfs_types.specs.declared.ids.Node.{Node}
 use Rattle.gfs_types.specs.declared.ids.Node.TheVariants as node
 use Rattle.relaxed_file.specs.Run as run
+use Rattle.protocol.specs.declared.seen.Seen.{Seen}
 use Rattle.protocol.specs.Observer.{Observer, new_observer, observed_moment, observed_call}
-use Rattle.protocol_journal.specs.Journal.{StepCause, Calls, Takes, Restarts, Entry, asked, answered, entry_observed, observed_after, observer_of}
+use Rattle.protocol_journal.specs.Journal.{StepCause, Calls, Takes, Restarts, Entry, asked, noticed, answered, entry_observed, observed_after, observer_of}
 use Rattle.promises.specs.Answered.{waiting_call, WasAnswered}
 use Rattle.promises.proofs.Lists.{parts_of}
 use Rattle.promises.proofs.WaitingCalls.{waiting-append, waiting_since}
@@ -49,6 +50,11 @@ asked_goes skew o moment (node.Client c) Restarts = goes_nowhere o.trace
 asked_goes skew o moment node.Master cause = goes_nowhere o.trace
 asked_goes skew o moment (node.Server s) cause = goes_nowhere o.trace
 
+noticed_goes : (o : Observer) (n : Node) (seen : List Seen) → Goes o.trace (noticed o n seen).trace
+noticed_goes o node.Master seen = goes_nowhere o.trace
+noticed_goes o (node.Server s) seen = goes_nowhere o.trace
+noticed_goes o (node.Client c) seen = goes_nowhere o.trace
+
 answered_goes : (o : Observer) (n : Node) (reply : Option Answer) → Goes o.trace (answered o n reply).trace
 answered_goes o (node.Client c) None = goes_nowhere o.trace
 answered_goes o (node.Client c) (Some reply) = (run.Answered c.0 reply ∷ [], refl)
@@ -59,8 +65,9 @@ entry_goes : (skew : ℕ) (o : Observer) (e : Entry) → Goes o.trace (entry_obs
 entry_goes skew o e =
     let one : Observer = asked skew o e.moment e.node e.cause in
     let two : Observer = observed_moment skew one e.moment in
-    goes_on o.trace two.trace (answered two e.node e.out.answer).trace
-    (goes_on o.trace one.trace two.trace (asked_goes skew o e.moment e.node e.cause) (moment_goes skew one e.moment)) (answered_goes two e.node e.out.answer)
+    let three : Observer = noticed two e.node e.seen in
+    let moments : Goes o.trace two.trace = goes_on o.trace one.trace two.trace (asked_goes skew o e.moment e.node e.cause) (moment_goes skew one e.moment) in
+    goes_on o.trace three.trace (answered three e.node e.out.answer).trace (goes_on o.trace two.trace three.trace moments (noticed_goes two e.node e.seen)) (answered_goes three e.node e.out.answer)
 
 entries_go : (skew : ℕ) (o : Observer) (es : List Entry) → Goes o.trace (observed_after skew o es).trace
 entries_go skew o [] = goes_nowhere o.trace

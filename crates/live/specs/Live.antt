@@ -57,7 +57,7 @@ pub record HasSeenPart (entries : List Entry) (s : SeatState) : Type 0 where
 abbrev pub shown_under : List Node → Node → List Entry → List Visible
 shown_under earlier now seen = flat_map (λ n. answered_only (visible_of (own n seen))) earlier ++ visible_of (own now seen)
 
--- A client, of this number at first, made these calls and was answered so, by a beginning of this history. It had one number more at most than its cell was parked.
+-- A client, of this number at first, made these calls and was answered so: a beginning of this history shows all answers but refusals 19 to 21, which are the cell's own, and behind the first of which come such alone until the cell is parked. It had one number more at most than its cell was parked.
 pub record HasAnswers (entries : List Entry) (client reopens : ℕ) (calls : List Call) (replies : List Answer) : Type 0 where
   pub seen : List Entry
   pub begins : IsPrefix seen entries
@@ -67,7 +67,7 @@ pub record HasAnswers (entries : List Entry) (client reopens : ℕ) (calls : Lis
   pub few : length earlier ≤ reopens
   pub answered : AreAnswered (shown_under earlier now seen) reopens calls replies
 
--- These clients' calls of the lines were answered so by one cell, whose lawful history shows it. Clocks were kept in it, and all its calls and answers, in its order, are one run of the machine.
+-- These clients' calls of the lines were answered so by one cell, whose lawful history shows all answers but refusals 19 to 21. Clocks were kept in it, and all its calls and answers, in its order, are one run of the machine.
 pub record AreAnswersOf (options : Options) (lines : List LiveLine) (answers : List (List Answer)) : Type 0 where
   pub cell : Identity
   pub cell_is : IsCellOf options.config options.servers cell

@@ -18,7 +18,7 @@ use Rattle.live.specs.Live.{HasAnswers}
 use Rattle.serve.specs.Served.{Printed, answers_to, printed_text}
 use Rattle.serve.specs.Messages.{calls_for}
 
--- Each client made these calls and was answered so by one cell, whose lawful history shows it. Clocks were kept in it, and all its calls and answers, in its order, are one run of the machine.
+-- Each client made these calls and was answered so by one cell, whose lawful history shows all answers but refusals 19 to 21: these are the cell's own, and behind a client's first one come such alone. Clocks were kept in it, and all its calls and answers, in its order, are one run of the machine.
 pub record AreServedAnswers (options : Options) (asked : List (List Call)) (answers : List (List Answer)) : Type 0 where
   pub cell : Identity
   pub cell_is : IsCellOf options.config options.servers cell

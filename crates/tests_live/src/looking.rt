@@ -70,7 +70,7 @@ fn determined_to(alloc: Global, looks: &Looks<'_>, file: FileId, index: u64) -> 
     }
 }
 
-fn shown(alloc: Global, parked: &Parked) -> Option<Shown> {
+fn look_at(alloc: Global, parked: &Parked) -> Option<Shown> {
     let looks = Looks::at(alloc, parked).ok()?;
     let path = Path::parse("/log", alloc).ok()?;
     let file = looks.file(&path)?;
@@ -98,13 +98,13 @@ fn shown_twice<R: Threads + Wait + Clock + Copy + Send + 'static>(
     create(&rt, alloc, &mut cell)?;
     append_all(&rt, alloc, &mut cell)?;
     let parked = park(&rt, alloc, cell)?;
-    let first = shown(alloc, &parked)?;
+    let first = look_at(alloc, &parked)?;
     let Ok((mut cell, _none)) = parked.resume(rt, OpenGate) else {
         return None;
     };
     append_all(&rt, alloc, &mut cell)?;
     let parked = park(&rt, alloc, cell)?;
-    Some((first, shown(alloc, &parked)?))
+    Some((first, look_at(alloc, &parked)?))
 }
 
 #[test]
