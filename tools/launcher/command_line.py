@@ -41,7 +41,7 @@ def texts():
     options, region, keep = [re.findall(r'\(\s*"([^"]+)",\s*"([^"]+)",?\s*\)', table) for table in tables]
     abouts = dict(re.findall(r'runner\(alloc, "(\w+)", "([^"]+)"\)', source))
     serve = re.search(r'Command::new\(alloc, "serve"\)\s*\.about\(\s*"([^"]+)"', source)[1]
-    words = re.findall(r'\(word_option\(\s*alloc,\s*"([^"]+)",\s*"([^"]+)",\s*"([^"]+)"', source)
+    words = re.findall(r'word_option\(\s*alloc,\s*"([^"]+)",\s*"([^"]+)",\s*"([^"]+)"', source)
     progress = re.search(r'\(flag\(\s*alloc,\s*"([^"]+)",\s*"([^"]+)"', source).groups()
     version, about = re.search(r'\.version\("([^"]+)"\)\s*\.about\("([^"]+)"\)', source).groups()
     return Texts(version, about, abouts['sim'], abouts['live'], serve, options, region, keep, words, progress)
@@ -74,7 +74,8 @@ def options_of(way):
 
 def words_of(way):
     """The options of a subcommand that take a word, with what the help calls it and what it says of each."""
-    return texts().words if way == 'live' else []
+    words = texts().words
+    return words if way == 'live' else [row for row in words if way == 'serve' and row[0] == 'regions']
 
 
 def flags_of(way):

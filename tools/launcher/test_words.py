@@ -16,8 +16,9 @@ MORE_BAD = [
     'sim a --servers -- 3', 'sim a --chunk 99999999999999999999999', 'sim a -- b', 'sim --names-heap 1 --names-heap 1 a', 'simm a',
     'sim a --servers\t3', '--version=1', '--help=', 'live a --progress=', 'serve a', 'serve -', 'serve --progress', 'serve --clients', 'live a --progress --progress', 'sim a --progress',
     'live --servers --progress a', 'sim a --keep 1', 'live a --keep', 'live --keep 1 --keep 1 a', 'serve --keep', 'serve --keep 1 --keep 1',
-    'live a --history', 'live a --history h --history h', 'live --regions / a b', 'sim a --history h', 'serve --regions /',
-    'live a --regions f', 'live a --regions /f/', 'live a --regions /./f', 'live a --keep 7 --history h', 'live a --regions /f --keep 7']
+    'live a --history', 'live a --history h --history h', 'live --regions / a b', 'sim a --history h', 'serve --history h', 'serve --regions',
+    'live a --regions f', 'live a --regions /f/', 'live a --regions /./f', 'live a --keep 7 --history h', 'live a --regions /f --keep 7',
+    'serve --regions f', 'serve --keep 7 --regions /f', 'serve --regions /f --regions /f']
 MORE_SHOWN = {'sim --servers x --help': 'sim', 'sim a b --help': None, 'live -h': 'live', 'serve -h': 'serve', 'serve --help a': 'serve', 'live a.live -hx': 'live', '-hV': '', 'sim --servers=9 -h': 'sim'}
 
 
@@ -42,13 +43,13 @@ def asked_by(line):
         return ('Nothing',)
     except command_line.Shown as shown:
         return ('Shows', str(shown))
-    if asked.words:
+    if asked.words and asked.way == 'live':
         return ('Told', asked.file, asked.words)
     given = dict(asked.given)
     number = given.pop('names_heap' if asked.way == 'sim' else 'keep', None)
     servers, clients, others = command_line.settings_of(given)
     found = {'servers': servers, 'clients': clients, **others}
-    return (asked.way.capitalize(), asked.file, number, {name: value for name, value in found.items() if name in given or name == 'block'})
+    return (asked.way.capitalize(), asked.file, number, {name: value for name, value in found.items() if name in given or name == 'block'}, asked.words.get('regions'))
 
 
 def is_wanted(found, kind, text):
@@ -61,17 +62,18 @@ def is_wanted(found, kind, text):
         return found[1:] == (file, {name: word for name, word in (('regions', regions), ('history', history)) if word is not None})
     file = None if kind == 'Serve' else re.match(r'"(.*?)"', text)[1]
     number = re.search(r'Some\(([\d_]+)\)', text)
+    path = re.search(r'Some\("(.*?)"\)', text)
     wanted = settings(text)
     if 'chunk' in wanted and 'block' not in wanted:
         # the tests leave out what is the default
         wanted['block'] = 65536
-    return found[1] == file and found[2] == (int(number[1].replace('_', '')) if number else None) and found[3] == wanted
+    return found[1] == file and found[2] == (int(number[1].replace('_', '')) if number else None) and found[3:] == (wanted, path and path[1])
 
 
 def tables():
     """How many command lines there are in the tables, and those that are taken otherwise."""
     count, faults = 0, []
-    for table, least in (('LINES', 20), ('REFUSED', 43), ('SHOWN', 8)):
+    for table, least in (('LINES', 21), ('REFUSED', 44), ('SHOWN', 8)):
         rows = [(row[0] or row[3], row[1] or row[4], row[2]) for row in expected_in(table)]
         if len(rows) != least:
             faults.append(f'{table} of {TESTS}: {len(rows)} command lines are read')
@@ -115,6 +117,7 @@ def at_once():
         (['live', 'none', '--keep', '1', '--history', 'h'], BAD), (['live', 'none', '--regions', 'f'], BAD), (['live', 'none', '--regions', '/f', '--history', 'h'], cannot['read']),
         (['--help'], (0, expected_text('help'), b'')), (['-h'], (0, expected_text('help'), b'')), (['sim', '--help'], (0, expected_text('help_sim'), b'')),
         (['live', 'none', '-h'], (0, expected_text('help_live'), b'')), (['serve', '-h'], (0, expected_text('help_serve'), b'')), (['serve', 'a'], BAD),
+        (['serve', '--regions', 'f'], BAD), (['serve', '--regions', '/f', '--keep', '7'], BAD),
         (['serve', '--servers', '0'], cannot['start']), (['--version'], (0, b'gfscell 0.1.0\n', b'')), (['-V'], (0, b'gfscell 0.1.0\n', b'')),
         (['sim', 'none'], cannot['read']), (['live', 'none', '--chunk', '63'], cannot['read']), (['sim', ''], cannot['read']), (['sim', '.'], cannot['read']),
         (['live', '.', '--chunk', '63'], cannot['read']), (['sim', '-', '--chunk', '63'], cannot['start']), (['sim', '--servers=0', '--', '-f'], cannot['start']),

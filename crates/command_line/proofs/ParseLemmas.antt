@@ -12,9 +12,10 @@ use Rattle.clap.specs.declared.parser.matches.ArgMatches.TheViews.{out-ArgMatche
 use Rattle.clap.specs.Matches.{subcommand_name_of}
 use Rattle.clap.specs.declared.error.kind.ErrorKind.{ErrorKind}
 use Rattle.clap.proofs.OnLiterals.{clap_on_literals}
-use Rattle.command_line.specs.Program.{keep, names_heap, option_names, program}
+use Rattle.command_line.specs.Program.{keep, names_heap, option_names, program, regions}
 use Rattle.command_line.proofs.FaultLemmas.{are_alike, faults_are_alike, first_tells}
-use Rattle.command_line.specs.Asking.{Asked, asked, asked_by, asked_on, Told, Wanted, to_run, to_simulate, to_play, to_be_shown, nothing, Answers, Becomes, Runs, Serves, all_numbered, faults, is_live, is_numbered, is_served, is_shown, meant, run_by, run_of, served_of, wanted_by}
+use Rattle.command_line.specs.Asking.{Asked, asked, asked_by, asked_on, Told, Wanted, to_run, to_simulate, to_play, to_serve, to_be_shown, nothing, Answers, Becomes}
+use Rattle.command_line.specs.Asking.{Runs, Serves, all_numbered, faults, given_number, is_live, is_numbered, is_served, is_shown, meant, options_of, run_by, run_of, served_of, wanted_by}
 use Rattle.script.specs.declared.options.Options.{Options}
 use Rattle.command_line.specs.declared.command.CommandFault.{CommandFault}
 use Rattle.command_line.specs.declared.command.CommandFault.TheVariants.{Bad, NoMemory}
@@ -83,6 +84,17 @@ run_is rows file heap most all is =
     ∙ ap (λ b. given rows (b && all_numbered rows option_names) (first_of (codes "FILE") rows)) (sym most)
     ∙ ap (λ b. given rows b (first_of (codes "FILE") rows)) (sym all) ∙ ap (given rows true) (sym is)
 
+-- what is served
+abbrev serving : Bool → Option ℕ → Option Text → Options → Option Asked
+serving b most path options = cond b (Some (to_serve most path options)) None
+
+pub serve_is : (rows : List Row) (most : Option ℕ) (path : Option Text) (options : Options) → true ≡ is_numbered rows keep → true ≡ all_numbered rows option_names → most ≡ given_number rows keep
+    → path ≡ first_of regions rows → options ≡ options_of rows → served_of rows ≡ Some (to_serve most path options)
+serve_is rows most path options kept all most_is path_is options_is =
+    ap (λ b. serving (b && all_numbered rows option_names) (given_number rows keep) (first_of regions rows) (options_of rows)) (sym kept)
+    ∙ (ap (λ b. serving b (given_number rows keep) (first_of regions rows) (options_of rows)) (sym all)
+    ∙ ap₂ (λ (m : Option ℕ) (w : Option Text × Options). Some (to_serve m w.0 w.1)) (sym most_is) (λ i. (sym path_is i, sym options_is i)))
+
 pub no_file : (rows : List Row) → None ≡ first_of (codes "FILE") rows → run_of rows ≡ None
 no_file rows is = ap (given rows (all_numbered rows (names_heap ∷ keep ∷ option_names))) (sym is) ∙ go (all_numbered rows (names_heap ∷ keep ∷ option_names))
   where
@@ -112,7 +124,7 @@ by_fault (first ∷ rest) run k b alike among is = ap (λ b. cond b to_be_shown 
 pub of_fault : (words : List Text) (e : Error) (r : Result Request CommandFault) → HasKind (faults words) e → Becomes (kind_of e) r → Answers words r
 of_fault words e (Ok (Sim file bytes options)) h b = absurd b
 of_fault words e (Ok (Live file most tells options)) h b = absurd b
-of_fault words e (Ok (Serve most options)) h b = absurd b
+of_fault words e (Ok (Serve most path options)) h b = absurd b
 of_fault words e (Ok (Show text)) (inl is) b = absurd (true≢false (sym b ∙ ap is_shown is))
 of_fault words e (Ok (Show text)) (inr among) b = by_fault (faults words) (meant words) (kind_of e) true (faults_are_alike words) among b
 of_fault words e (Err Bad) (inl is) b = absurd (b.1 is)
@@ -140,14 +152,14 @@ of_run words live file bytes most tells options (Sim f b o) is runs =
 of_run words live file bytes most tells options (Live f m t o) is runs =
     is ∙ ap (λ (l : Bool). to_run (l, (file, (bytes, (most, (tells, options)))))) runs.0
     ∙ ap₂ (λ (g : Text) (w : Option ℕ × (Told × Options)). to_play g w.0 w.1.0 w.1.1) (sym runs.1) (λ i. (sym runs.2 i, (sym runs.3 i, sym runs.4 i)))
-of_run words live file bytes most tells options (Serve m o) is runs = absurd runs
+of_run words live file bytes most tells options (Serve m p o) is runs = absurd runs
 of_run words live file bytes most tells options (Show text) is runs = absurd runs
 
 pub of_serve : (words : List Text) (name : Text) (rows : List Row) (r : Result Request CommandFault) → faults words ≡ [] → meant words ≡ asked_on (name, rows) → is_served name ≡ true → Serves rows r
     → Answers words r
 of_serve words name rows (Ok (Sim f b o)) none is named serves = absurd serves
 of_serve words name rows (Ok (Live f m t o)) none is named serves = absurd serves
-of_serve words name rows (Ok (Serve m o)) none is named serves = ap₂ asked_by none (is ∙ serve_asked name rows named ∙ serves)
+of_serve words name rows (Ok (Serve m p o)) none is named serves = ap₂ asked_by none (is ∙ serve_asked name rows named ∙ serves)
 of_serve words name rows (Ok (Show text)) none is named serves = absurd serves
 of_serve words name rows (Err Bad) none is named serves = ap₂ asked_by none (is ∙ serve_asked name rows named ∙ serves)
 of_serve words name rows (Err NoMemory) none is named serves = tt

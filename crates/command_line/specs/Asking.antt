@@ -118,11 +118,11 @@ is_shown DisplayVersion = true
 is_shown _ = false
 
 -- to run a script's file by the simulator, with a region for the names or none, or on threads, with so many entries that stay or all, and more told than the answers,
--- to serve a cell with so many entries that stay or all, to be shown the help or the version, or nothing
+-- to serve a cell with so many entries that stay or all, and tell the regions of a file at its end, to be shown the help or the version, or nothing
 pub data Asked : Type 0 where
   to_simulate : Text → Option ℕ → Options → Asked
   to_play : Text → Option ℕ → Told → Options → Asked
-  to_serve : Option ℕ → Options → Asked
+  to_serve : Option ℕ → Option Text → Options → Asked
   to_be_shown : Asked
   nothing : Asked
 
@@ -135,7 +135,7 @@ is_served name = bytes_eq name (codes "serve")
 
 -- what the rows of that subcommand ask for
 abbrev pub served_of : List Row → Option Asked
-served_of rows = if all_numbered rows (keep ∷ option_names) then Some (to_serve (given_number rows keep) (options_of rows)) else None
+served_of rows = if all_numbered rows (keep ∷ option_names) then Some (to_serve (given_number rows keep) (first_of regions rows) (options_of rows)) else None
 
 -- what the rows of a subcommand ask for
 abbrev pub asked_on : Text × List Row → Option Asked
@@ -158,7 +158,7 @@ asked words = asked_by (faults words) (meant words)
 abbrev pub Answers : List Text → Result Request CommandFault → Type 0
 Answers words (Ok (Sim file bytes options)) = asked words ≡ to_simulate file.now bytes options
 Answers words (Ok (Live file most tells options)) = asked words ≡ to_play file.now most (told_of tells) options
-Answers words (Ok (Serve most options)) = asked words ≡ to_serve most options
+Answers words (Ok (Serve most path options)) = asked words ≡ to_serve most (option_map (λ s. s.now) path) options
 Answers words (Ok (Show text)) = asked words ≡ to_be_shown
 Answers words (Err Bad) = asked words ≡ nothing
 Answers words (Err NoMemory) = ⊤
@@ -167,7 +167,7 @@ Answers words (Err NoMemory) = ⊤
 abbrev pub Becomes : ErrorKind → Result Request CommandFault → Type 0
 Becomes kind (Ok (Sim file bytes options)) = ⊥
 Becomes kind (Ok (Live file most tells options)) = ⊥
-Becomes kind (Ok (Serve most options)) = ⊥
+Becomes kind (Ok (Serve most path options)) = ⊥
 Becomes kind (Ok (Show text)) = is_shown kind ≡ true
 Becomes kind (Err Bad) = (is_shown kind ≡ false) × (kind ≡ OutOfMemory → ⊥)
 Becomes kind (Err NoMemory) = (is_shown kind ≡ true) ⊎ (kind ≡ OutOfMemory)
@@ -176,12 +176,12 @@ Becomes kind (Err NoMemory) = (is_shown kind ≡ true) ⊎ (kind ≡ OutOfMemory
 abbrev pub Runs : Bool → Text → Option ℕ → Option ℕ → Told → Options → Request → Type 0
 Runs live file bytes most tells options (Sim f b o) = (live ≡ false) × (f.now ≡ file) × (b ≡ bytes) × (o ≡ options)
 Runs live file bytes most tells options (Live f m t o) = (live ≡ true) × (f.now ≡ file) × (m ≡ most) × (told_of t ≡ tells) × (o ≡ options)
-Runs live file bytes most tells options (Serve m o) = ⊥
+Runs live file bytes most tells options (Serve m p o) = ⊥
 Runs live file bytes most tells options (Show text) = ⊥
 
 -- to serve a cell, where each value that is given is a number
 abbrev pub Serves : List Row → Result Request CommandFault → Type 0
-Serves rows (Ok (Serve most options)) = served_of rows ≡ Some (to_serve most options)
+Serves rows (Ok (Serve most path options)) = served_of rows ≡ Some (to_serve most (option_map (λ s. s.now) path) options)
 Serves rows (Ok other) = ⊥
 Serves rows (Err Bad) = served_of rows ≡ None
 Serves rows (Err NoMemory) = ⊥

@@ -44,14 +44,14 @@ names_heap = codes "names-heap"
 abbrev pub simulator : Shape
 simulator = record (runner (codes "sim")) { rules = (runner (codes "sim")).rules ++ (option_named names_heap ∷ []) }
 
--- the option of both cells with threads
+-- the options of both cells with threads
 abbrev pub keep : Text
 keep = codes "keep"
 
--- the options and the flag of the one that runs a script
 abbrev pub regions : Text
 regions = codes "regions"
 
+-- the option and the flag of the one that runs a script
 abbrev pub history : Text
 history = codes "history"
 
@@ -65,7 +65,7 @@ player = record (runner (codes "live")) {
 
 -- the subcommand that serves a cell with threads
 abbrev pub server : Shape
-server = record (new_shape (codes "serve")) { rules = map option_named option_names ++ (option_named keep ∷ []) }
+server = record (new_shape (codes "serve")) { rules = (map option_named option_names ++ (option_named keep ∷ [])) ++ (option_named regions ∷ []) }
 
 abbrev pub gfscell : Shape
 gfscell = record (new_shape (codes "gfscell")) {

@@ -2,7 +2,7 @@
 
 ghost use Rattle.std.specs.Prelude.{◌≡◌, Some, IfOk, IfErr, is_ok, map, string_bytes, false};
 ghost use Rattle.clap.specs.Words.{app_of, shape_of, found_of, kind_of, rows_of, rule_of};
-ghost use Rattle.command_line.specs.Program.{flag_named, names, option_named, option_names, player, program, runner, server, setting_names, simulator, with_options};
+ghost use Rattle.command_line.specs.Program.{flag_named, names, option_named, option_names, player, program, regions, runner, server, setting_names, simulator, with_options};
 ghost use Rattle.command_line.specs.Asking.{Answers, Becomes, Runs, Serves, all_numbered, config_of, given_number, is_given, is_live, is_numbered, is_served, narrow_for, number_for, options_of, told_by, told_of};
 ghost use Rattle.command_line.specs.Faults.{fault_text};
 ghost use Rattle.command_line.specs.declared.command.CommandFault.TheVariants.{Bad, NoMemory};
@@ -33,9 +33,10 @@ pub enum Request<'a> {
         told: Telling<'a>,
         options: Options,
     },
-    /// To serve a cell with threads, of whose journal so many entries stay, or all.
+    /// To serve a cell with threads, of whose journal so many entries stay, or all, and to tell the regions of the file of a path at its end.
     Serve {
         keep: Option<u64>,
+        regions: Option<&'a str>,
         options: Options,
     },
     /// To print this text: the help or the version.
@@ -169,6 +170,19 @@ fn word_option<'a>(alloc: Global, name: &'a str, word: &'a str, help: &'a str) -
         .action(ArgAction::Set)
 }
 
+/// The option of both cells with threads that names the file whose regions are wanted.
+fn regions_option<'a>(alloc: Global) -> Arg<'a>
+    ensures rule { rule_of result ≡ option_named regions }
+    ensures local { result.global ≡ false }
+{
+    word_option(
+        alloc,
+        "regions",
+        "PATH",
+        "Prints the regions of the chunks of this file behind all answers",
+    )
+}
+
 /// The command with an option for each of these, which are names and what the help says of them.
 fn with_options<'a>(
     alloc: Global,
@@ -189,7 +203,8 @@ fn server<'a>(alloc: Global) -> Result<Command<'a>, AllocError>
 {
     let command = Command::new(alloc, "serve").about("Serves a cell with threads through a pipe");
     let command = with_options(alloc, command, &OPTIONS)?;
-    with_options(alloc, command, &KEEP)
+    let command = with_options(alloc, command, &KEEP)?;
+    command.arg(regions_option(alloc))
 }
 
 /// A subcommand that runs a script.
@@ -217,12 +232,7 @@ fn player<'a>(alloc: Global) -> Result<Command<'a>, AllocError>
 {
     let command = runner(alloc, "live", "Runs a script on a cell with threads")?;
     let command = with_options(alloc, command, &KEEP)?;
-    let command = command.arg(word_option(
-        alloc,
-        "regions",
-        "PATH",
-        "Prints the regions of the chunks of this file behind all answers",
-    ))?;
+    let command = command.arg(regions_option(alloc))?;
     let command = command.arg(word_option(
         alloc,
         "history",
@@ -387,12 +397,17 @@ fn is_serve(name: &str) -> bool
 }
 
 /// What the subcommand asks for that serves a cell.
-fn serving<'a>(matches: &ArgMatches<'_>) -> Result<Request<'a>, CommandFault>
+fn serving<'a>(matches: &ArgMatches<'a>) -> Result<Request<'a>, CommandFault>
     ensures { Serves (rows_of (found_of matches.now)) result }
 {
     let keep = given_number(matches, "keep")?;
     let options = options(matches)?;
-    Ok(Request::Serve { keep, options })
+    let regions = matches.get_str("regions");
+    Ok(Request::Serve {
+        keep,
+        regions,
+        options,
+    })
 }
 
 /// What the subcommand of a name asks for that runs a script.

@@ -1,35 +1,31 @@
 //! A reader follows a file over rounds, while two producers append to it, messages are lost, repeated and held up, and the nodes begin again. Between
-//! stretches the cell is parked and goes on, with new seats. In the end the reader reads all, and is asked for each record that was answered.
+//! stretches the cell is parked and goes on, with new seats. In the end the reader reads all, and is asked for each record that was answered: one that
+//! it missed is an error.
 #![tactic(auto)]
 
+mod clients;
 mod follower;
 mod producer;
 mod record;
+mod stretch;
 mod taken;
+mod trial_fault;
 
-use crate::follower::{CHUNK, Follower};
-use crate::producer::{MOST_TRIES, Producer, pass};
-use crate::taken::has;
+use crate::clients::{Clients, Counts, take_seats};
+use crate::follower::CHUNK;
+use crate::stretch::{PATH, follow_on, read_all, run_stretch};
+use crate::trial_fault::{TrialFault, of_parking};
 use anyhow::Result;
-use cell_run::{Cell, Config, Node, OpenGate, Policy, Refusal, ServerId, Text};
+use cell_run::{Cell, ClientSeat, Config, OpenGate, Policy, Refusal, Text};
 use std::alloc::Global;
 use std::sync::Wait;
-use std::sync::atomic::{AtomicU64, Ordering};
-use std::thread;
 use std::thread::Threads;
-use std::time::{Clock, Duration};
-
-const PATH: &str = "/log";
+use std::time::Clock;
 
 const STRETCHES: u32 = 3;
 
-/// How many producers there are, and how many records each appends in a stretch.
-const PRODUCERS: u32 = 2;
-
-const RECORDS: u32 = 60;
-
-/// How long a node runs before the next one begins again.
-const PAUSE_MS: u64 = 100;
+/// The clock bounds of the trials, in milliseconds: where clocks were not kept, there is one more, with the next of them.
+const CLOCK_BOUNDS: [u64; 3] = [1_000, 2_000, 3_000];
 
 /// One message of so many is lost, one repeated, and one held up.
 const FAULTS: Policy = Policy {
@@ -38,187 +34,87 @@ const FAULTS: Policy = Policy {
     hold_every: 211,
 };
 
-const NODES: [Node; 4] = [
-    Node::Server(ServerId(1)),
-    Node::Master,
-    Node::Server(ServerId(2)),
-    Node::Server(ServerId(3)),
-];
-
 // A master that begins again reads half of its disk in one step: a small disk lets the clock bound be small, which each lost message costs its client.
-fn settings() -> Config {
+fn settings(skew_ms: u64) -> Config {
     Config {
         chunk: CHUNK as u32,
         block: 64,
         slots: 128,
         goal: 2,
-        lease_ms: 2_000,
-        skew_ms: 1_000,
+        lease_ms: skew_ms.saturating_mul(2),
+        skew_ms,
         attempt_ms: 200,
         log_bytes: 262_144,
         ..Config::default()
     }
 }
 
-/// The clients: the producers, and the reader.
-#[derive(Drop)]
-struct Clients {
-    producers: Vec<Producer>,
-    follower: Follower,
+fn start<R: Threads + Wait + Clock + Copy + Send + 'static>(
+    rt: R,
+    alloc: Global,
+    skew_ms: u64,
+) -> Result<Cell> {
+    let cell = Cell::start(rt, alloc, settings(skew_ms), 3, OpenGate)?;
+    Ok(cell)
 }
 
-impl Clients {
-    fn new(alloc: Global, cell: &mut Cell) -> Result<Clients> {
-        let mut producers = Vec::new(alloc);
-        for number in 0..PRODUCERS {
-            producers.push(Producer {
-                seat: cell.client()?,
-                next: number.wrapping_mul(1_000_000),
-                answered: Vec::new(alloc),
-                outcome: Ok(()),
-            })?;
-        }
-        let follower = Follower {
-            seat: cell.client()?,
-            chunks: Vec::new(alloc),
-            taken: Vec::new(alloc),
-        };
-        Ok(Clients {
-            producers,
-            follower,
-        })
-    }
-
-    /// Why a producer could not append all its records, if one could not.
-    fn outcome(&self) -> Result<()> {
-        for producer in self.producers.as_slice() {
-            if let Err(refusal) = &producer.outcome {
-                return Err((*refusal).into());
-            }
-        }
-        Ok(())
-    }
-
-    /// Whether the reader saw all that the producers did, and so the answers of all their records.
-    fn has_reader_seen_all(&self) -> bool {
-        for producer in self.producers.as_slice() {
-            if producer.seat.seen() > self.follower.seat.seen() {
-                return false;
-            }
-        }
-        true
-    }
-
-    /// How many records were answered, and how many of these the reader took where they were answered.
-    fn counts(&self) -> (u64, u64) {
-        let mut answered: u64 = 0;
-        let mut taken: u64 = 0;
-        for producer in self.producers.as_slice() {
-            for one in producer.answered.as_slice() {
-                answered = answered.wrapping_add(1);
-                if has(self.follower.taken.as_slice(), *one) {
-                    taken = taken.wrapping_add(1);
-                }
-            }
-        }
-        (answered, taken)
-    }
-}
-
-// Each client gets a new seat.
-fn take_seats(cell: &mut Cell, producers: &mut [Producer], follower: &mut Follower) -> Result<()> {
-    for place in 0..producers.len() {
-        producers[place].seat = cell.client()?;
-    }
-    follower.seat = cell.client()?;
+fn make_file<R: Wait + Clock>(rt: &R, alloc: Global, seat: &mut ClientSeat) -> Result<(), Refusal> {
+    let Ok(name) = Text::from_str(PATH, alloc) else {
+        return Err(Refusal::NoMemory);
+    };
+    seat.create(rt, name, None)?;
     Ok(())
 }
 
-// Each node begins again in turn.
-fn restart_nodes<R: Wait + Clock>(rt: &R, cell: &mut Cell) {
-    for node in NODES {
-        thread::sleep(rt, Duration::from_millis(PAUSE_MS));
-        cell.restart(rt, node);
-    }
-}
-
-// Follows the file until the producers are done. What nobody could serve is tried again.
-fn follow_until<R: Wait + Clock>(
+// What of the records is taken once nothing more is appended: first as the reader follows the file to its end, and then as it reads all.
+fn count_taken<R: Wait + Clock>(
     rt: &R,
     alloc: Global,
-    follower: &mut Follower,
-    done: &AtomicU64,
-) -> Result<(), Refusal> {
-    for _ in rt.forever() {
-        if done.load(Ordering::SeqCst) != 0 {
-            return Ok(());
-        }
-        if let Err(refusal) = follower.follow(rt, alloc, PATH) {
-            pass(rt, refusal)?;
-        }
-        thread::sleep(rt, Duration::from_millis(10));
+    clients: &mut Clients,
+    stretch: u32,
+) -> Result<Counts, TrialFault> {
+    follow_on(rt, alloc, &mut clients.follower)?;
+    let (_, followed) = clients.counts();
+    // Behind an answer the reader has seen what producers saw before; what had been answered by then it takes now.
+    read_all(rt, alloc, &mut clients.follower)?;
+    if !clients.has_reader_seen_all() {
+        return Err(anyhow::anyhow!("a producer saw more than the reader").into());
     }
-    unreachable!()
+    read_all(rt, alloc, &mut clients.follower)?;
+    let (answered, taken) = clients.counts();
+    let counts = Counts {
+        stretch,
+        answered,
+        followed,
+        taken,
+    };
+    counts.checked()
 }
 
-// Reads all, once more where nobody could serve.
-fn read_all<R: Wait + Clock>(
-    rt: &R,
-    alloc: Global,
-    follower: &mut Follower,
-) -> Result<(), Refusal> {
-    for _ in 0..MOST_TRIES {
-        match follower.read_all(rt, alloc, PATH) {
-            Ok(()) => return Ok(()),
-            Err(refusal) => pass(rt, refusal)?,
-        }
-    }
-    Err(Refusal::Unknown)
-}
-
-// The reader follows the file while the nodes begin again.
-fn follow_meanwhile<R: Threads + Wait + Clock + Sync>(
+// A stretch with new seats, and behind it what of the records was taken.
+fn measure_stretch<R: Threads + Wait + Clock + Sync>(
     rt: &R,
     alloc: Global,
     cell: &mut Cell,
-    follower: &mut Follower,
-    done: &AtomicU64,
-) -> Result<(), Refusal> {
-    let (followed, _) = thread::join(
+    clients: &mut Clients,
+    stretch: u32,
+) -> Result<Counts, TrialFault> {
+    take_seats(
+        cell,
+        clients.producers.as_mut_slice(),
+        &mut clients.follower,
+    )?;
+    cell.net(FAULTS);
+    run_stretch(
         rt,
-        || follow_until(rt, alloc, follower, done),
-        || restart_nodes(rt, cell),
-    );
-    followed
-}
-
-// The producers append, each on a thread of its own.
-fn produce_all<R: Threads + Wait + Clock + Sync>(
-    rt: &R,
-    alloc: Global,
-    producers: &mut [Producer],
-    done: &AtomicU64,
-) {
-    let produce = |_: usize, producer: &mut Producer| producer.produce(rt, alloc, PATH, RECORDS);
-    thread::for_each_mut(rt, producers, PRODUCERS as usize, &produce);
-    done.store(1, Ordering::SeqCst);
-}
-
-// The producers append, the reader follows, and the nodes begin again, all at the same time.
-fn run_stretch<R: Threads + Wait + Clock + Sync>(
-    rt: &R,
-    alloc: Global,
-    cell: &mut Cell,
-    producers: &mut [Producer],
-    follower: &mut Follower,
-) -> Result<(), Refusal> {
-    let done = AtomicU64::new(0);
-    let (_, followed) = thread::join(
-        rt,
-        || produce_all(rt, alloc, producers, &done),
-        || follow_meanwhile(rt, alloc, cell, follower, &done),
-    );
-    followed
+        alloc,
+        cell,
+        clients.producers.as_mut_slice(),
+        &mut clients.follower,
+    )?;
+    cell.net(Policy::NONE);
+    clients.outcome()?;
+    count_taken(rt, alloc, clients, stretch)
 }
 
 // The cell is parked without seats, and goes on.
@@ -226,49 +122,66 @@ fn reopen<R: Threads + Wait + Clock + Copy + Send + 'static>(
     rt: R,
     alloc: Global,
     cell: Cell,
-) -> Result<Cell> {
-    let Ok(parked) = cell.park(&rt, Vec::new(alloc)) else {
-        return Err(anyhow::anyhow!("the cell was not parked"));
+) -> Result<Cell, TrialFault> {
+    let parked = match cell.park(&rt, Vec::new(alloc)) {
+        Ok(parked) => parked,
+        Err(fault) => return Err(of_parking(&fault)),
     };
     match parked.resume(rt, OpenGate) {
         Ok((cell, _seats)) => Ok(cell),
-        Err((_, fault)) => Err(fault.into()),
+        Err((_, fault)) => Err(TrialFault::Failed(fault.into())),
     }
 }
 
-fn main(rt: HostRuntime) -> Result<()> {
-    let alloc = rt.alloc();
-    let mut cell = Cell::start(rt, alloc, settings(), 3, OpenGate)?;
-    let mut maker = cell.client()?;
-    maker.create(&rt, Text::from_str(PATH, alloc)?, None)?;
+// Closes the cell of a trial that is given up.
+fn give_up<R: Threads + Wait + Clock>(rt: &R, cell: Cell, fault: TrialFault) -> TrialFault {
+    let _journal = cell.close(rt);
+    fault
+}
+
+// All stretches, with one cell.
+fn run_trial<R: Threads + Wait + Clock + Copy + Send + Sync + 'static>(
+    rt: R,
+    alloc: Global,
+    skew_ms: u64,
+) -> Result<Vec<Counts>, TrialFault> {
+    let mut cell = start(rt, alloc, skew_ms)?;
     let mut clients = Clients::new(alloc, &mut cell)?;
+    if let Err(refusal) = make_file(&rt, alloc, &mut clients.follower.seat) {
+        return Err(give_up(&rt, cell, refusal.into()));
+    }
+    let mut found = Vec::new(alloc);
     for stretch in 1..=STRETCHES {
-        take_seats(
-            &mut cell,
-            clients.producers.as_mut_slice(),
-            &mut clients.follower,
-        )?;
-        cell.net(FAULTS);
-        run_stretch(
-            &rt,
-            alloc,
-            &mut cell,
-            clients.producers.as_mut_slice(),
-            &mut clients.follower,
-        )?;
-        cell.net(Policy::NONE);
-        clients.outcome()?;
-        // Behind an answer the reader has seen what producers saw before; what had been answered by then it takes now.
-        read_all(&rt, alloc, &mut clients.follower)?;
-        if !clients.has_reader_seen_all() {
-            return Err(anyhow::anyhow!("a producer saw more than the reader"));
+        match measure_stretch(&rt, alloc, &mut cell, &mut clients, stretch) {
+            Ok(counts) => {
+                if found.push(counts).is_err() {
+                    return Err(Refusal::NoMemory.into());
+                }
+            }
+            Err(fault) => return Err(give_up(&rt, cell, fault)),
         }
-        read_all(&rt, alloc, &mut clients.follower)?;
-        let (answered, taken) = clients.counts();
-        println!(rt; "stretch {stretch}: {answered} records answered, {taken} of them taken")?;
         cell = reopen(rt, alloc, cell)?;
     }
-    let journal = cell.close(&rt);
-    println!(rt; "clocks were kept: {}", journal.are_clocks_kept())?;
-    Ok(())
+    if !cell.close(&rt).are_clocks_kept() {
+        return Err(TrialFault::ClockBroken);
+    }
+    Ok(found)
+}
+
+fn main(rt: HostRuntime) -> Result<()> {
+    for skew_ms in CLOCK_BOUNDS {
+        match run_trial(rt, rt.alloc(), skew_ms) {
+            Ok(found) => {
+                for counts in found.as_slice() {
+                    println!(rt; "{counts}")?;
+                }
+                return Ok(());
+            }
+            Err(TrialFault::ClockBroken) => {
+                eprintln!(rt; "clocks were not kept within {skew_ms} ms")?;
+            }
+            Err(TrialFault::Failed(error)) => return Err(error),
+        }
+    }
+    Err(anyhow::anyhow!("clocks were not kept"))
 }

@@ -8,6 +8,9 @@ use std::sync::Wait;
 use std::thread;
 use std::time::{Clock, Duration};
 
+/// How many records a producer appends in a stretch.
+pub const RECORDS: u32 = 60;
+
 /// How often a call is tried at most.
 pub const MOST_TRIES: u32 = 1_000;
 

@@ -19,7 +19,7 @@ use script::options::Options;
 use script::script_fault::ScriptFault;
 use script::words::read_full_path;
 use serve::reading::LineFaults;
-use serve::run::run_serve;
+use serve::run::run_serve_with;
 use shell::run::{run_script, run_script_in_region};
 use std::alloc::Global;
 use std::error::Error;
@@ -221,26 +221,34 @@ impl LineFaults for ErrorFaults {
     }
 }
 
-/// Serves a cell with threads: its lines come from standard input.
+/// Serves a cell with threads: its lines come from standard input. Where a path is given the regions of its file are told at the end, which those of a
+/// journal whose entries go can't be.
 fn serve<T: Threads + Wait + Clock + Copy + Send + 'static>(
     threads: T,
     rt: &HostRuntime,
     keep: Option<u64>,
+    regions: Option<&str>,
     options: &Options,
-) -> Result<(), ScriptFault> {
+) -> Result<(), ProgramFault> {
+    if keep.is_some() && regions.is_some() {
+        return Err(ProgramFault::Command(CommandFault::Bad));
+    }
     let alloc = rt.alloc();
+    let path = path_of(alloc, regions)?;
     let reader = BufReader::new(alloc, rt.stdin()).map_err(|e| ScriptFault::of_read(&e))?;
     let mut writer = BufWriter::new(alloc, io::writer(rt)).map_err(|e| ScriptFault::of_write(&e))?;
     let faults = ErrorFaults { rt: *rt };
-    run_serve(
+    run_serve_with(
         threads,
         alloc,
         options,
         retention_of(keep),
+        path.as_ref(),
         reader,
         &mut writer,
         faults,
-    )
+    )?;
+    Ok(())
 }
 
 /// The words of the command line. Words that are no text are a bad command line.
@@ -281,7 +289,11 @@ fn run<T: Threads + Wait + Clock + Copy + Send + Sync + 'static>(
             told,
             options,
         } => play_file(threads, rt, file, keep, told, &options)?,
-        Request::Serve { keep, options } => serve(threads, rt, keep, &options)?,
+        Request::Serve {
+            keep,
+            regions,
+            options,
+        } => serve(threads, rt, keep, regions, &options)?,
     }
     Ok(())
 }

@@ -1,6 +1,6 @@
 //! How the cell of a script ends: it is closed, and looked at before where that is wanted.
 
-ghost use Rattle.std.specs.Prelude.{◌≡◌, true, map, IfOk, IfErr};
+ghost use Rattle.std.specs.Prelude.{◌≡◌, true, map, is_some, IfOk, IfErr, IsTrue};
 ghost use Rattle.std.specs.Option.{option_copied};
 ghost use Rattle.protocol.specs.World.{WorldState};
 ghost use Rattle.live.specs.Faults.{IsOfRun};
@@ -40,6 +40,7 @@ pub fn end<R: Threads + Wait + Clock>(
     ensures over { IfOk result (λ e. e.journal.now.is_over ≡ true) }
     ensures regions { IfOk result (λ e. AreRegionsOf (option_copied path.entry) e.journal.now (map (λ v. v.items) e.regions.items)) }
     ensures fault { IfErr result IsOfRun }
+    ensures wanted { IfErr result (λ _. IsTrue (is_some (option_copied path.entry))) }
 {
     match path {
         Some(path) => end_looked(rt, alloc, cell, path),

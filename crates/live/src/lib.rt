@@ -1,8 +1,8 @@
 //! Runs scripts of calls on a running cell, each client's calls on a thread of its own.
 #![tactic(auto)]
 
-mod ending;
+pub mod ending;
 mod play;
-mod printing;
+pub mod printing;
 mod reopen;
 pub mod run;

@@ -8,6 +8,8 @@ use Rattle.gfs_types.specs.declared.answer.Answer.{Answer}
 use Rattle.gfs_types.specs.declared.call.Call.{Call}
 use Rattle.gfs_types.specs.declared.ids.Node.TheVariants.{Client}
 use Rattle.protocol_journal.specs.Journal.{Entry}
+use Rattle.cell_journal.specs.Identity.{Closed}
+use Rattle.cell_journal.specs.WholeHistories.{whole_of}
 use Rattle.cell_run.specs.Cells.{IsCellOf}
 use Rattle.script.specs.declared.options.Options.{Options}
 use Rattle.live.specs.Live.{HasAnswers}
@@ -15,7 +17,7 @@ use Rattle.live.specs.Playing.{Stretch, IsStretch, heard_in}
 use Rattle.serve.specs.Served.{answers_to, calls_served}
 use Rattle.serve.specs.Messages.{Service, IsPrinted, AreCounts, calls_for}
 use Rattle.serve.specs.Outcomes.{AreServedAnswers, PrintsAnswers, Serves, ServesFirst}
-use Rattle.serve.specs.Printing.{Stand, AreInOrder, AreNew, AllPrinted, PrintsOn, AreComparable, AreAllPrinted}
+use Rattle.serve.specs.Printing.{Stand, AreInOrder, AreNew, AllBegin, AllPrinted, PrintsOn, AreComparable, AreAllPrinted}
 use Rattle.serve.proofs.Longest.{IsLongest, longest_of}
 use Rattle.serve.proofs.Places.{there}
 use Rattle.serve.proofs.Printed.{same_length, printed_count}
@@ -84,7 +86,7 @@ module _ (options : Options) (s : Service) (same_clients : s.clients ≡ options
     };
   }
 
-  are_answers : AreServedAnswers options asked.0 (map (λ (p : Stand). p.answers) stands)
+  abbrev are_answers : AreServedAnswers options asked.0 (map (λ (p : Stand). p.answers) stands)
   are_answers = record {
     cell = s.cell;
     cell_is = cell_is;
@@ -99,7 +101,7 @@ module _ (options : Options) (s : Service) (same_clients : s.clients ≡ options
   }
 
   module _ (news : List Stand) (before after : Option (List ℕ)) (order : AreInOrder news) (fresh : AreNew news) (prints : PrintsOn news stands before after) where
-    prints_answers : PrintsAnswers options asked.0 before after
+    abbrev prints_answers : PrintsAnswers options asked.0 before after
     prints_answers = record {
       printed = prints.printed;
       text = prints.text;
@@ -139,5 +141,14 @@ module _ (options : Options) (s : Service) (same_clients : s.clients ≡ options
         subst (λ (n : ℕ). count.0 ≡ length (calls_for n (suc k) i)) same_clients (counted k count.0 count.1) in
         same_length calls (calls_for options.clients (suc k) i) (number ∙ printed.each k count.0 p.0 count.1 p.1 ∙ expected) first
 
-    pub serves_all : (counts : List ℕ) (input : Option (List ℕ)) → s.input ≡ input → AreAllPrinted counts stands → IfSome input (λ i. AreCounts counts (calls_served s.clients i)) → Serves options input before after
+    abbrev serves_all : (counts : List ℕ) (input : Option (List ℕ)) → s.input ≡ input → AreAllPrinted counts stands
+        → IfSome input (λ i. AreCounts counts (calls_served s.clients i)) → Serves options input before after
     serves_all counts input is printed counted = record { asked = asked.0; all = all_calls counts input is printed counted; prints = prints_answers }
+
+    -- and what each client saw begins this history of the cell
+    pub serves_in : (counts : List ℕ) (input : Option (List ℕ)) → s.input ≡ input → AreAllPrinted counts stands
+        → IfSome input (λ i. AreCounts counts (calls_served s.clients i)) → (journal : Closed) → s.cell ≡ journal.cell → AllBegin (whole_of journal) stands
+        → (serves : Serves options input before after) × (serves.prints.answered.cell ≡ journal.cell) × IsPrefix serves.prints.answered.entries (whole_of journal)
+    serves_in counts input is printed counted journal same begin =
+        let one = longest.1.one_is in
+        (serves_all counts input is printed counted, same, subst (λ (l : List Entry). IsPrefix l (whole_of journal)) one.3 (begin one.0 one.1 one.2))

@@ -1,7 +1,14 @@
 -- What serving comes to, once all threads have ended, or where it was not begun.
-use Rattle.std.proofs.Common.{◌≡◌, ◌<◌, ℕ, List, ⊎_elim, length, Option, sym, subst, ◌∙◌}
-use Rattle.std.specs.Prelude.{Result, OnOk, IfErr, IfSome}
-use Rattle.std.proofs.lemmas.Result.{on_ok_weaker, IfErr-weaker}
+use Rattle.std.proofs.Common.{◌≡◌, ◌<◌, ◌++◌, ℕ, true, false, List, inl, inr, ⊎_elim, length, Option, None, sym, ap, subst, ◌∙◌}
+use Rattle.std.specs.Prelude.{Result, OnOk, IfSome, IsTrue, is_some}
+use Rattle.std.specs.Io.KnownBytes.{Appends}
+use Rattle.std.specs.List.{flat_map}
+use Rattle.std.proofs.lemmas.List.{append-nil}
+use Rattle.std.proofs.lemmas.Result.{on_ok_weaker}
+use Rattle.gfs_types.specs.Paths.{Path}
+use Rattle.relaxed_file.specs.declared.region.Region.{Region}
+use Rattle.cell_journal.specs.Identity.{Closed}
+use Rattle.cell_journal.specs.WholeHistories.{whole_of}
 use Rattle.cell_run.specs.Cells.{IsCellOf}
 use Rattle.script.proofs.Bytes.{keeps_all}
 use Rattle.script.specs.ScriptFaults.{IsOfWrite}
@@ -9,49 +16,88 @@ use Rattle.script.specs.declared.options.Options.{Options}
 use Rattle.script.specs.declared.script_fault.ScriptFault.{ScriptFault}
 use Rattle.script.specs.declared.script_fault.ScriptFault.TheVariants as fault
 use Rattle.live.specs.Faults.{IsOfRun}
-use Rattle.serve.specs.Served.{calls_served}
+use Rattle.live.specs.Live.{AreRegionsOf, told_regions}
+use Rattle.live.proofs.Telling.{appends_twice}
+use Rattle.serve.specs.Served.{calls_served, printed_text}
 use Rattle.serve.specs.Messages.{Service, AreAsked, AreCounts, IsOfReading}
-use Rattle.serve.specs.Outcomes.{Serves, Stops}
-use Rattle.serve.specs.Printing.{Stand, AreInOrder, AreNew, AllPrinted, PrintsOn, AreComparable, AreAllPrinted, AreAllDone}
-use Rattle.serve.proofs.Ending.{serves_all, serves_first}
+use Rattle.serve.specs.Outcomes.{Serves, ServesWith, Stops, StopsWith}
+use Rattle.serve.specs.Printing.{Stand, AreInOrder, AreNew, AllBegin, AllPrinted, PrintsOn, AreComparable, AreAllPrinted, AreAllDone}
+use Rattle.serve.proofs.Ending.{serves_in, serves_first}
 use Rattle.serve.proofs.Prints.{order_kept}
 
 -- a cell or a thread that is not to be had
-pub stops_starting : (options : Options) (input known : Option (List ℕ)) (f : ScriptFault) → IsOfRun f → Stops options input known known f
-stops_starting options input known f of = ⊎_elim
-    (λ (is : f ≡ fault.NoMemory). subst (λ (g : ScriptFault). Stops options input known known g) (sym is) tt)
-    (λ (is : f ≡ fault.Start). subst (λ (g : ScriptFault). Stops options input known known g) (sym is) (keeps_all known))
+pub stops_starting : (options : Options) (path : Option Path) (input known : Option (List ℕ)) (f : ScriptFault) → IsOfRun f → StopsWith options path input known known f
+stops_starting options path input known f of = ⊎_elim
+    (λ (is : f ≡ fault.NoMemory). subst (λ (g : ScriptFault). StopsWith options path input known known g) (sym is) tt)
+    (λ (is : f ≡ fault.Start). subst (λ (g : ScriptFault). StopsWith options path input known known g) (sym is) (inl (keeps_all known)))
     of
 
 -- a writer that fails
-pub stops_writing : (options : Options) (input before after : Option (List ℕ)) (f : ScriptFault) → IsOfWrite f → Stops options input before after f
-stops_writing options input before after f of = ⊎_elim
-    (λ (is : f ≡ fault.NoMemory). subst (λ (g : ScriptFault). Stops options input before after g) (sym is) tt)
-    (λ (is : f ≡ fault.Write). subst (λ (g : ScriptFault). Stops options input before after g) (sym is) tt)
+pub stops_writing : (options : Options) (path : Option Path) (input before after : Option (List ℕ)) (f : ScriptFault) → IsOfWrite f → StopsWith options path input before after f
+stops_writing options path input before after f of = ⊎_elim
+    (λ (is : f ≡ fault.NoMemory). subst (λ (g : ScriptFault). StopsWith options path input before after g) (sym is) tt)
+    (λ (is : f ≡ fault.Write). subst (λ (g : ScriptFault). StopsWith options path input before after g) (sym is) tt)
     of
+
+-- no regions were asked for
+pub serves_alone : (options : Options) (input before after : Option (List ℕ)) → ServesWith options None input before after → Serves options input before after
+serves_alone options input before after with_none =
+    let s = with_none.serves in
+    let p = s.prints in
+    let answers = flat_map printed_text p.printed in
+    let text = appends_twice before with_none.middle after answers (told_regions with_none.regions) p.text with_none.told in
+    record {
+      asked = s.asked;
+      all = s.all;
+      prints = record {
+        printed = p.printed;
+        text = subst (Appends before after) (ap (λ (rs : List (List Region)). answers ++ told_regions rs) with_none.regions_are ∙ append-nil answers) text;
+        answers = p.answers;
+        answered = p.answered;
+        each = p.each;
+      };
+    }
+
+pub stops_alone : (options : Options) (input before after : Option (List ℕ)) (f : ScriptFault) → StopsWith options None input before after f → Stops options input before after f
+stops_alone options input before after (fault.Line number) stops = stops
+stops_alone options input before after (fault.NoEnd number) stops = stops
+stops_alone options input before after fault.Start stops = ⊎_elim (λ keeps. keeps) (λ wanted. absurd (let both : true ≡ false = sym wanted.0 in cc)) stops
+stops_alone options input before after fault.NoMemory stops = stops
+stops_alone options input before after fault.Read stops = stops
+stops_alone options input before after fault.Write stops = stops
 
 -- as many answers were printed as the lines have calls
 pub all_done : (s : Service) (outcome : Result (Unit {0}) ScriptFault) (counts : List ℕ) (ends : List Stand) → AreAsked s outcome counts → AreAllPrinted counts ends → OnOk outcome (AreAllDone s ends)
 all_done s outcome counts ends asked printed = on_ok_weaker outcome (λ of_all. record { counts = counts; asked = of_all; printed = printed }) asked.all
 
-module _ (options : Options) (s : Service) (same_clients : s.clients ≡ options.clients) (cell_is : IsCellOf options.config options.servers s.cell) (some : 0 < options.clients) (input before after : Option (List ℕ)) (input_is : s.input ≡ input)
-    (news ends : List Stand) (many : length news ≡ options.clients) (order : AreInOrder news) (fresh : AreNew news) (prints : PrintsOn news ends before after) (all : AllPrinted s ends) (meet : AreComparable ends) where
+module _ (options : Options) (path : Option Path) (s : Service) (same_clients : s.clients ≡ options.clients) (cell_is : IsCellOf options.config options.servers s.cell) (some : 0 < options.clients)
+    (input before middle : Option (List ℕ)) (input_is : s.input ≡ input) (news ends : List Stand) (many : length news ≡ options.clients) (order : AreInOrder news) (fresh : AreNew news)
+    (prints : PrintsOn news ends before middle) (all : AllPrinted s ends) (meet : AreComparable ends) where
   places : AreInOrder ends
-  places = order_kept news ends before after prints order
+  places = order_kept news ends before middle prints order
 
-  pub ends_well : (r : Result (Unit {0}) ScriptFault) → OnOk r (AreAllDone s ends) → OnOk r (Serves options input before after)
-  ends_well r done = on_ok_weaker r
-      (λ (d : AreAllDone s ends). serves_all options s same_clients cell_is some ends (prints.count ∙ many) places all meet news before after order fresh prints d.counts input input_is d.printed
-      (subst (λ (o : Option (List ℕ)). IfSome o (λ i. AreCounts d.counts (calls_served s.clients i))) input_is d.asked))
-      done
+  -- all was printed, and what each client saw begins the history of this journal
+  pub ends_well : (journal : Closed) (regions : List (List Region)) (after : Option (List ℕ)) → AreAllDone s ends → s.cell ≡ journal.cell
+      → AllBegin (whole_of journal) ends → AreRegionsOf path journal regions → Appends middle after (told_regions regions) → ServesWith options path input before after
+  ends_well journal regions after d same begin are told =
+      let counted = subst (λ (o : Option (List ℕ)). IfSome o (λ i. AreCounts d.counts (calls_served s.clients i))) input_is d.asked in
+      let found =
+      serves_in options s same_clients cell_is some ends (prints.count ∙ many) places all meet news before middle order fresh prints d.counts input input_is d.printed counted journal same begin in
+      record { middle = middle; serves = found.0; journal = journal; cell_is = found.1; begins = found.2; regions = regions; regions_are = are; told = told }
 
-  stopped : (f : ScriptFault) → IsOfReading f → Stops options input before after f
+  -- what was printed, where not all was
+  pub stopped : (f : ScriptFault) → IsOfReading f → StopsWith options path input before middle f
   stopped (fault.Line number) of = absurd of
   stopped (fault.NoEnd number) of = absurd of
   stopped fault.Start of = absurd of
   stopped fault.NoMemory of = tt
-  stopped fault.Read of = serves_first options s same_clients cell_is some ends (prints.count ∙ many) places all meet news before after order fresh prints input input_is
+  stopped fault.Read of = serves_first options s same_clients cell_is some ends (prints.count ∙ many) places all meet news before middle order fresh prints input input_is
   stopped fault.Write of = tt
 
-  pub ends_badly : (r : Result (Unit {0}) ScriptFault) → IfErr r IsOfReading → IfErr r (Stops options input before after)
-  ends_badly r of = IfErr-weaker r IsOfReading (Stops options input before after) stopped of
+  -- and where the cell could not be looked at
+  pub stopped_unlooked : (f : ScriptFault) → IsOfRun f → IsTrue (is_some path) → StopsWith options path input before middle f
+  stopped_unlooked f of wanted = ⊎_elim
+      (λ (is : f ≡ fault.NoMemory). subst (λ (g : ScriptFault). StopsWith options path input before middle g) (sym is) tt)
+      (λ (is : f ≡ fault.Start). subst (λ (g : ScriptFault). StopsWith options path input before middle g) (sym is)
+      (inr (wanted, serves_first options s same_clients cell_is some ends (prints.count ∙ many) places all meet news before middle order fresh prints input input_is)))
+      of

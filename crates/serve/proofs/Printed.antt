@@ -12,7 +12,10 @@ use Rattle.gfs_types.specs.declared.ids.Node.TheVariants.{Client}
 use Rattle.gfs_types.specs.declared.refusal.Refusal.{Refusal}
 use Rattle.protocol_journal.specs.Journal.{Entry, own}
 use Rattle.cell_journal.proofs.Grown.{own_append}
+use Rattle.cell_journal.specs.Identity.{Closed}
+use Rattle.cell_journal.specs.ListEnds.{Agrees}
 use Rattle.cell_journal.specs.Log.{Listed}
+use Rattle.cell_journal.specs.WholeHistories.{whole_of}
 use Rattle.cell_seats.specs.Seats.{is_the_cells}
 use Rattle.cell_seats.specs.Seen.{Visible, Asked, Answered, asked_in, answered_in, visible_of}
 use Rattle.live.specs.Playing.{shown_as, AreOfTheCell}
@@ -182,3 +185,9 @@ pub meets_so : (p q one other : Stand) → p ≡ one → q ≡ other → (length
 meets_so p q one other same_one same_other meet =
     subst (λ (x : Stand). length one.seen.items ≤ length x.seen.items → IsPrefix one.seen.items x.seen.items) same_other
     (subst (λ (x : Stand). length x.seen.items ≤ length q.seen.items → IsPrefix x.seen.items q.seen.items) same_one meet)
+
+-- what was seen begins the history of a closed journal
+pub begins_so : (p one : Stand) (j k : Closed) → p ≡ one → j ≡ k → Agrees p.seen.items (whole_of j) j.is_over → k.is_over ≡ true → IsPrefix one.seen.items (whole_of k)
+begins_so p one j k same_one same_journal agrees over =
+    subst (λ (x : Stand). IsPrefix x.seen.items (whole_of k)) same_one
+    (subst (λ (x : Closed). IsPrefix p.seen.items (whole_of x)) same_journal (agrees.over (ap (λ (x : Closed). x.is_over) same_journal ∙ over)))

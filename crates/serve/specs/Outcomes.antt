@@ -1,20 +1,22 @@
 -- What serving a cell comes to.
-use Rattle.std.specs.Prelude.{◌≡◌, ⊤, ℕ, suc, List, length, slice_get, Option, Some, IfSome, IsTrue}
+use Rattle.std.specs.Prelude.{◌≡◌, ◌⊎◌, ⊤, ℕ, suc, List, length, slice_get, Option, Some, IfSome, IsTrue, is_some}
 use Rattle.std.specs.List.{flat_map}
 use Rattle.std.specs.Io.KnownBytes.{Appends, Keeps}
 use mathlib.Core.List.{IsPrefix}
 use Rattle.gfs_types.specs.declared.answer.Answer.{Answer}
 use Rattle.gfs_types.specs.declared.call.Call.{Call}
+use Rattle.gfs_types.specs.Paths.{Path}
+use Rattle.relaxed_file.specs.declared.region.Region.{Region}
 use Rattle.protocol_journal.specs.Journal.{Entry}
 use Rattle.journal_headline.specs.Journals.{AreExplained}
 use Rattle.cell_journal.specs.Clocks.{are_clocks_kept}
-use Rattle.cell_journal.specs.Identity.{Identity}
-use Rattle.cell_journal.specs.WholeHistories.{IsHistoryOf}
+use Rattle.cell_journal.specs.Identity.{Identity, Closed}
+use Rattle.cell_journal.specs.WholeHistories.{IsHistoryOf, whole_of}
 use Rattle.cell_run.specs.Cells.{IsCellOf}
 use Rattle.script.specs.declared.options.Options.{Options}
 use Rattle.script.specs.declared.script_fault.ScriptFault.{ScriptFault}
 use Rattle.script.specs.declared.script_fault.ScriptFault.TheVariants as fault
-use Rattle.live.specs.Live.{HasAnswers}
+use Rattle.live.specs.Live.{HasAnswers, AreRegionsOf, told_regions}
 use Rattle.serve.specs.Served.{Printed, answers_to, printed_text}
 use Rattle.serve.specs.Messages.{calls_for}
 
@@ -57,3 +59,19 @@ Stops options input before after fault.Start = Keeps before after
 Stops options input before after fault.Read = ServesFirst options input before after
 Stops options input before after fault.Write = ⊤
 Stops options input before after fault.NoMemory = ⊤
+
+-- Those to all calls of the input, and behind them the regions that were asked for, of the world to which the history led that has these answers.
+pub record ServesWith (options : Options) (path : Option Path) (input before after : Option (List ℕ)) : Type 0 where
+  pub middle : Option (List ℕ)
+  pub serves : Serves options input before middle
+  pub journal : Closed
+  pub cell_is : serves.prints.answered.cell ≡ journal.cell
+  pub begins : IsPrefix serves.prints.answered.entries (whole_of journal)
+  pub regions : List (List Region)
+  pub regions_are : AreRegionsOf path journal regions
+  pub told : Appends middle after (told_regions regions)
+
+-- Why it ended before that. Where regions were asked for and clocks were not kept, the answers to each client's first calls were printed.
+abbrev pub StopsWith : Options → Option Path → Option (List ℕ) → Option (List ℕ) → Option (List ℕ) → ScriptFault → Type 0
+StopsWith options path input before after fault.Start = Keeps before after ⊎ (IsTrue (is_some path) × ServesFirst options input before after)
+StopsWith options path input before after other = Stops options input before after other

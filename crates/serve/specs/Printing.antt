@@ -62,6 +62,10 @@ MeetsEach stands i = (j : ℕ) (p q : Stand) → slice_get stands i ≡ Some p �
 abbrev pub AreComparable : List Stand → Type 0
 AreComparable stands = (i : ℕ) → MeetsEach stands i
 
+-- what was seen of each client begins these entries
+abbrev pub AllBegin : List Entry → List Stand → Type 0
+AllBegin entries stands = (k : ℕ) (p : Stand) → slice_get stands k ≡ Some p → IsPrefix p.seen.items entries
+
 -- of each client so many answers were printed as it was asked for calls
 pub record AreAllPrinted (asked : List ℕ) (stands : List Stand) : Type 0 where
   pub clients : length asked ≡ length stands

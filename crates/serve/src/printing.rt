@@ -3,6 +3,7 @@
 ghost use Rattle.std.specs.Prelude.{◌≡◌, ◌≤◌, ◌++◌, ◌∷◌, [], List, Some, OnOk, IfErr, IfSome, length, true};
 ghost use Rattle.std.specs.Io.KnownBytes.{Appends, Keeps};
 ghost use mathlib.Core.List.{IsPrefix};
+ghost use Rattle.cell_journal.specs.WholeHistories.{whole_of};
 ghost use Rattle.script.specs.ScriptFaults.{IsOfWrite};
 ghost use Rattle.live.specs.Live.{told_line};
 ghost use Rattle.serve.specs.Served.{room_line};
@@ -10,9 +11,11 @@ ghost use Rattle.serve.specs.Printing.{Stand, AreInOrder, PrintsOn, IsNextOf, Is
 
 use crate::reading::place_of;
 use crate::served_messages::{Reply, Serving, Told};
+use cell_journal::closed_history::agree;
 use cell_journal::raised_entry::RaisedEntry;
 use cell_journal::{Beginning, meet};
 use cell_run::cell::Cell;
+use cell_seats::journal::Journal;
 use crossbeam_channel::Receiver;
 use gfs_types::answer::Answer;
 use gfs_types::ids::ClientId;
@@ -221,6 +224,15 @@ impl<S: Serving> PrintedAnswers<S> {
         ensures { length self.now.seen.items ≤ length other.now.seen.items → IsPrefix self.now.seen.items other.now.seen.items }
     {
         meet(&self.seen, &other.seen);
+    }
+
+    /// What was seen of the client begins the whole history of the cell, which was closed.
+    pub fn agree(&self, journal: &Journal)
+        requires cell { journal.now.now.cell ≡ S.of.cell }
+        requires over { journal.now.now.is_over ≡ true }
+        ensures { IsPrefix self.now.seen.items (whole_of journal.now.now) }
+    {
+        agree(&self.seen, journal.history());
     }
 }
 

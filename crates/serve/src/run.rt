@@ -1,12 +1,14 @@
 //! Serves a new cell.
 
 ghost use Rattle.std.specs.Prelude.{◌≡◌, ◌+◌, ◌++◌, ◌∷◌, [], ◌<◌, IfOk, IfErr, OnOk, length, replicate, true};
+ghost use Rattle.std.specs.Option.{option_copied};
+ghost use Rattle.cell_journal.specs.WholeHistories.{whole_of};
 ghost use Rattle.cell_run.specs.Cells.{IsCellOf, IsNewCell};
 ghost use Rattle.script.specs.ScriptFaults.{IsOfWrite};
 ghost use Rattle.live.specs.Faults.{IsOfRun};
 ghost use Rattle.serve.specs.Messages.{HaveAsked, IsOfReading, IsUnused};
-ghost use Rattle.serve.specs.Outcomes.{Serves, Stops};
-ghost use Rattle.serve.specs.Printing.{AllPrinted, AreAllDone, AreAllPrinted, AreComparable, AreInOrder, AreNew, MeetsEach, PrintsOn};
+ghost use Rattle.serve.specs.Outcomes.{Serves, ServesWith, Stops, StopsWith};
+ghost use Rattle.serve.specs.Printing.{AllBegin, AllPrinted, AreAllDone, AreAllPrinted, AreComparable, AreInOrder, AreNew, MeetsEach, PrintsOn};
 
 use crate::printing::{PrintedAnswers, print_all};
 use crate::reading::{LineFaults, Receivers};
@@ -15,10 +17,14 @@ use crate::served_messages::{Asked, AskedCall, Serving, Told};
 use cell_journal::Retention;
 use cell_run::cell::{Cell, ClientSeat, StartFault};
 use cell_seats::gate::OpenGate;
+use cell_seats::journal::Journal;
 use cell_seats::shared_state::MOST_CLIENTS;
 use crossbeam_channel::{Receiver, Sender, bounded};
 use gfs_types::ids::ClientId;
+use gfs_types::path::Path;
 use ghost_list::GhostList;
+use live::ending::end;
+use live::printing::print_regions;
 use script::options::Options;
 use script::script_fault::ScriptFault;
 use std::alloc::Global;
@@ -55,8 +61,33 @@ pub fn run_serve<
     ensures serves { OnOk result (Serves options.now (R.remaining reader) (W.contents writer.old) (W.contents writer.new)) }
     ensures stops { IfErr result (Stops options.now (R.remaining reader) (W.contents writer.old) (W.contents writer.new)) }
 {
+    run_serve_with(rt, alloc, options, retention, None, reader, writer, faults)
+}
+
+/// The same. Where a path is given, a line for each chunk of its file is printed behind all answers, with the chunk's regions at the end.
+///
+/// - `Start`: also where a path is given and clocks were not kept.
+/// - `NoMemory`: also where a path is given and entries were let go.
+pub fn run_serve_with<
+    T: Threads + Wait + Clock + Copy + Send + 'static,
+    R: Read + Send + Drop + 'static,
+    W: Write,
+    F: LineFaults + Send + Drop + 'static,
+>(
+    rt: T,
+    alloc: Global,
+    options: &Options,
+    retention: Retention,
+    path: Option<&Path>,
+    reader: R,
+    writer: &mut W,
+    faults: F,
+) -> Result<(), ScriptFault>
+    ensures serves { OnOk result (ServesWith options.now (option_copied path.entry) (R.remaining reader) (W.contents writer.old) (W.contents writer.new)) }
+    ensures stops { IfErr result (StopsWith options.now (option_copied path.entry) (R.remaining reader) (W.contents writer.old) (W.contents writer.new)) }
+{
     let cell = start(rt, alloc, options, retention)?;
-    serve::<Brand, T, R, W, F>(rt, cell, alloc, options, reader, writer, faults)
+    serve::<Brand, T, R, W, F>(rt, cell, alloc, options, path, reader, writer, faults)
 }
 
 // A new cell of these options, which have a client at least.
@@ -95,6 +126,7 @@ fn serve<
     cell: Cell,
     alloc: Global,
     options: &Options,
+    path: Option<&Path>,
     reader: R,
     writer: &mut W,
     faults: F,
@@ -105,8 +137,8 @@ fn serve<
     requires cell { cell.of ≡ S.of.cell }
     requires new { IsCellOf options.now.config options.now.servers cell.of }
     requires made { cell.made ≡ 0 }
-    ensures serves { OnOk result (Serves options.now (R.remaining reader) (W.contents writer.old) (W.contents writer.new)) }
-    ensures stops { IfErr result (Stops options.now (R.remaining reader) (W.contents writer.old) (W.contents writer.new)) }
+    ensures serves { OnOk result (ServesWith options.now (option_copied path.entry) (R.remaining reader) (W.contents writer.old) (W.contents writer.new)) }
+    ensures stops { IfErr result (StopsWith options.now (option_copied path.entry) (R.remaining reader) (W.contents writer.old) (W.contents writer.new)) }
 {
     let mut cell = cell;
     let Ok((told, heard)) = bounded(alloc, MOST_WAITING) else {
@@ -130,9 +162,11 @@ fn serve<
     print_told(&rt, &heard, &mut cell, &mut printed, writer)?;
     let taken = reading.join(&rt);
     join_all(&rt, threads);
-    cell.close(&rt);
     meet_all(printed.as_slice());
-    outcome_of(taken, printed.as_slice())
+    let ended = end(&rt, alloc, cell, path)?;
+    agree_all(printed.as_slice(), &ended.journal);
+    outcome_of(taken, printed.as_slice())?;
+    print_regions(ended.regions.as_slice(), writer)
 }
 
 // So many zeros.
@@ -175,6 +209,7 @@ fn start_clients<S: Serving + Send + 'static, T: Threads + Wait + Clock + Copy +
 ) -> Result<Clients<S>, ScriptFault>
     requires cell { cell.old.of ≡ S.of.cell }
     requires made { cell.old.made ≡ 0 }
+    ensures cell { OnOk result (cell.new.of ≡ cell.old.of) }
     ensures count { IfOk result (λ c. length c.printed.items ≡ count) }
     ensures order { IfOk result (λ c. AreInOrder c.printed.items) }
     ensures new { IfOk result (λ c. AreNew c.printed.items) }
@@ -347,6 +382,7 @@ fn print_told<S: Serving, T: Wait, W: Write>(
     writer: &mut W,
 ) -> Result<(), ScriptFault>
     requires { AreInOrder printed.old.items }
+    ensures cell { cell.new.of ≡ cell.old.of }
     ensures printed { OnOk result (PrintsOn printed.old.items printed.new.items (W.contents writer.old) (W.contents writer.new)) }
     ensures fault { IfErr result IsOfWrite }
 {
@@ -378,6 +414,17 @@ fn meet_each<S: Serving>(printed: &[PrintedAnswers<S>], one: usize)
 {
     for before in 0..printed.len() {
         printed[one].meet(&printed[before]);
+    }
+}
+
+// What was seen of each client begins the whole history of the cell, which was closed.
+fn agree_all<S: Serving>(printed: &[PrintedAnswers<S>], journal: &Journal)
+    requires cell { journal.now.now.cell ≡ S.of.cell }
+    requires over { journal.now.now.is_over ≡ true }
+    ensures { AllBegin (whole_of journal.now.now) printed.now }
+{
+    for before in 0..printed.len() {
+        printed[before].agree(journal);
     }
 }
 

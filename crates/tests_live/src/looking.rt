@@ -2,7 +2,7 @@
 
 use crate::cells::{hasty, small};
 use bytes::Bytes;
-use cell_looks::{LookFault, Looks};
+use cell_looks::{LookFault, Looks, regions_of_chunk};
 use cell_run::cell::Cell;
 use cell_run::{Parked, Retention};
 use cell_seats::gate::OpenGate;
@@ -21,11 +21,13 @@ use std::time::Clock;
 /// How many records of eight bytes a client appends, of which eight fill a chunk.
 const RECORDS: usize = 10;
 
-/// Up to where the first chunk and the second one are determined, and how many replicas of the first one are stored.
+/// Up to where the first chunk and the second one are determined, the first one also by its handle and the journal alone, and how many replicas of it are
+/// stored.
 #[derive(Clone, Copy, PartialEq, Eq)]
 struct Shown {
     first: u64,
     second: u64,
+    by_handle: u64,
     replicas: usize,
 }
 
@@ -61,13 +63,17 @@ fn end_of(region: &Region) -> Option<u64> {
 }
 
 // The end of a chunk that has one region, in which all bytes are determined.
-fn determined_to(alloc: Global, looks: &Looks<'_>, file: FileId, index: u64) -> Option<u64> {
-    let regions = looks.regions(alloc, file, index).ok()?;
-    let regions = regions?;
-    match regions.as_slice() {
+fn sole_end(regions: &[Region]) -> Option<u64> {
+    match regions {
         [region] => end_of(region),
         _ => None,
     }
+}
+
+fn determined_to(alloc: Global, looks: &Looks<'_>, file: FileId, index: u64) -> Option<u64> {
+    let regions = looks.regions(alloc, file, index).ok()?;
+    let regions = regions?;
+    sole_end(regions.as_slice())
 }
 
 fn look_at(alloc: Global, parked: &Parked) -> Option<Shown> {
@@ -75,10 +81,12 @@ fn look_at(alloc: Global, parked: &Parked) -> Option<Shown> {
     let path = Path::parse("/log", alloc).ok()?;
     let file = looks.file(&path)?;
     let replicas = looks.replicas(alloc, file, 0).ok()?;
-    let (_handle, replicas) = replicas?;
+    let (handle, replicas) = replicas?;
+    let regions = regions_of_chunk(alloc, parked.journal(), handle).ok()?;
     Some(Shown {
         first: determined_to(alloc, &looks, file, 0)?,
         second: determined_to(alloc, &looks, file, 1)?,
+        by_handle: sole_end(regions.as_slice())?,
         replicas: replicas.len(),
     })
 }
@@ -116,9 +124,11 @@ fn records_are_determined(rt: HostRuntime) -> Result<(), Fail> {
     };
     assert!(rt; first.first == 64);
     assert!(rt; first.second == 16);
+    assert!(rt; first.by_handle == 64);
     assert!(rt; first.replicas == 3);
     // Behind a parking a record may be padded over and tried again.
     assert!(rt; second.first == 64);
+    assert!(rt; second.by_handle == 64);
     assert!(rt; second.second > 16);
     Ok(())
 }

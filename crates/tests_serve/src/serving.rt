@@ -2,10 +2,11 @@
 
 use cell_journal::Retention;
 use gfs_types::config::Config;
+use gfs_types::path::Path;
 use script::options::Options;
 use script::script_fault::ScriptFault;
 use serve::reading::LineFaults;
-use serve::run::run_serve;
+use serve::run::{run_serve, run_serve_with};
 use std::alloc::Global;
 use std::io::{self, Read, Write};
 use std::sync::atomic::{AtomicU64, Ordering};
@@ -133,6 +134,75 @@ fn a_cell_runs_past_its_journal(rt: HostRuntime) -> Result<(), Fail> {
     assert_eq!(rt;
         str::from_utf8(out.as_slice())?,
         "c1 done\nc1 done\nc1 done\nc1 done\nc1 done\nc1 done\nc1 done\nc1 names 8 .gone/ a/ b/ c/ d/ e/ f/ g/\n"
+    );
+    Ok(())
+}
+
+/// Serves these lines, and tells the regions of `/f` at the end. Of the journal these entries stay.
+fn served_and_looked_at<R: Threads + Wait + Clock + Copy + Send + 'static>(
+    rt: R,
+    alloc: Global,
+    retention: Retention,
+    lines: &'static [u8],
+    out: &mut Vec<u8>,
+) -> Result<Result<(), ScriptFault>, Fail> {
+    let Ok(path) = Path::parse("/f", alloc) else {
+        return Err(Fail::new("no path"));
+    };
+    let options = one_server(1);
+    let faults = NotedFaults {
+        lines: counter(alloc)?,
+    };
+    Ok(run_serve_with(
+        rt,
+        alloc,
+        &options,
+        retention,
+        Some(&path),
+        lines,
+        out,
+        faults,
+    ))
+}
+
+#[test]
+fn regions_are_told_behind_the_last_answer(rt: HostRuntime) -> Result<(), Fail> {
+    let alloc = rt.alloc();
+    let mut out = Vec::new(alloc);
+    let lines =
+        b"c1 create /f\nc1 open /f\nc1 append 1 a*16\nc1 append 1 a*16\nc1 append 1 a*16\nc1 append 1 a*16\nc1 append 1 0x00ff\nc1 read 1 64 16\n".as_slice();
+    let outcome = served_and_looked_at(rt, alloc, Retention::Whole, lines, &mut out)?;
+    assert_eq!(rt; outcome, Ok(()));
+    assert_eq!(rt;
+        str::from_utf8(out.as_slice())?,
+        "c1 done\nc1 fd 1\nc1 at 0\nc1 at 16\nc1 at 32\nc1 at 48\nc1 at 64\nc1 bytes 2 00ff rounds 1\nregions 0-64 determined\nregions 0-2 determined\n"
+    );
+    Ok(())
+}
+
+#[test]
+fn of_a_path_without_a_file_nothing_is_told(rt: HostRuntime) -> Result<(), Fail> {
+    let alloc = rt.alloc();
+    let mut out = Vec::new(alloc);
+    let lines = b"c1 create /f\nc1 delete /f\n".as_slice();
+    let outcome = served_and_looked_at(rt, alloc, Retention::Whole, lines, &mut out)?;
+    assert_eq!(rt; outcome, Ok(()));
+    assert_eq!(rt; str::from_utf8(out.as_slice())?, "c1 done\nc1 done\n");
+    Ok(())
+}
+
+// Each call takes three steps, so that some of these are let go.
+#[test]
+fn where_entries_were_let_go_no_regions_are_told(rt: HostRuntime) -> Result<(), Fail> {
+    let alloc = rt.alloc();
+    let mut out = Vec::new(alloc);
+    let lines =
+        b"c1 create /f\nc1 mkdir /a\nc1 mkdir /b\nc1 mkdir /c\nc1 mkdir /d\nc1 mkdir /e\nc1 list /\n".as_slice();
+    let outcome = served_and_looked_at(rt, alloc, Retention::Last(16), lines, &mut out)?;
+    assert_eq!(rt; outcome, Err(ScriptFault::NoMemory));
+    assert_eq!(rt;
+        str::from_utf8(out.as_slice())?,
+        "c1 done\nc1 done\nc1 done\nc1 done\nc1 done\nc1 done\nc1 names 7 .gone/ a/ b/ c/ d/ e/ f\n"
     );
     Ok(())
 }

@@ -89,13 +89,13 @@ fn words(alloc: Global, line: &str) -> Result<Vec<String>, AllocError> {
 
 /// What a command line asks for: a script's file, the size of the names' region and the settings that aren't the defaults; the same of a cell with threads, that
 /// has no region, with how many entries of its journal stay, and whether progress is told; its file, the path whose regions are told and the file of its history;
-/// how many stay, and the settings, of such a cell that is served; a text with these words in it; or nothing.
+/// how many stay, the path whose regions are told, and the settings, of such a cell that is served; a text with these words in it; or nothing.
 #[derive(Clone, Copy)]
 enum Command<'a> {
     Sim(&'a str, Option<u64>, &'a [(&'a str, u64)]),
     Live(&'a str, Option<u64>, bool, &'a [(&'a str, u64)]),
     Told(&'a str, Option<&'a str>, Option<&'a str>),
-    Serve(Option<u64>, &'a [(&'a str, u64)]),
+    Serve(Option<u64>, Option<&'a str>, &'a [(&'a str, u64)]),
     Shows(&'a str),
     Nothing,
 }
@@ -146,9 +146,11 @@ fn is_word(given: Option<&str>, wanted: Option<&str>) -> bool {
     }
 }
 
-fn is_serve(keep: Option<u64>, options: &Options, wanted: &Command) -> bool {
+fn is_serve(keep: Option<u64>, regions: Option<&str>, options: &Options, wanted: &Command) -> bool {
     match wanted {
-        Command::Serve(most, changes) => keep == *most && numbers(options) == changed(changes),
+        Command::Serve(most, path, changes) => {
+            keep == *most && is_word(regions, *path) && numbers(options) == changed(changes)
+        }
         _ => false,
     }
 }
@@ -174,7 +176,11 @@ fn is_request(request: &Request, wanted: &Command) -> bool {
             told,
             options,
         } => is_live(file, *keep, told, options, wanted),
-        Request::Serve { keep, options } => is_serve(*keep, options, wanted),
+        Request::Serve {
+            keep,
+            regions,
+            options,
+        } => is_serve(*keep, *regions, options, wanted),
         Request::Show(text) => shows(text.as_str(), wanted),
     }
 }
@@ -226,7 +232,7 @@ fn sets_each_option(rt: HostRuntime) -> Result<(), Fail> {
 }
 
 /// Command lines that ask for a region, for threads, or for settings together.
-const LINES: [(&str, Command); 20] = [
+const LINES: [(&str, Command); 21] = [
     (
         "gfscell sim a.gfs --names-heap 16384 --servers 5",
         Command::Sim("a.gfs", Some(16_384), &[("servers", 5)]),
@@ -255,14 +261,18 @@ const LINES: [(&str, Command); 20] = [
         "gfscell live --history=h a.live",
         Command::Told("a.live", None, Some("h")),
     ),
-    ("gfscell serve", Command::Serve(None, &[])),
+    ("gfscell serve", Command::Serve(None, None, &[])),
     (
         "gfscell serve --clients 4 --slots 64",
-        Command::Serve(None, &[("clients", 4), ("slots", 64)]),
+        Command::Serve(None, None, &[("clients", 4), ("slots", 64)]),
     ),
     (
         "gfscell serve --keep 1000000 --clients 4",
-        Command::Serve(Some(1_000_000), &[("clients", 4)]),
+        Command::Serve(Some(1_000_000), None, &[("clients", 4)]),
+    ),
+    (
+        "gfscell serve --regions /log --clients 4",
+        Command::Serve(None, Some("/log"), &[("clients", 4)]),
     ),
     ("gfscell sim a.gfs", Command::Sim("a.gfs", None, &[])),
     // the greatest power of two that divides the chunk and is at most 65,536
@@ -307,7 +317,7 @@ fn sets_options_together(rt: HostRuntime) -> Result<(), Fail> {
     Ok(())
 }
 
-const REFUSED: [(&str, Command); 43] = [
+const REFUSED: [(&str, Command); 44] = [
     ("gfscell", Command::Nothing),
     ("gfscell help", Command::Nothing),
     ("gfscell live", Command::Nothing),
@@ -319,6 +329,7 @@ const REFUSED: [(&str, Command); 43] = [
     ("gfscell serve --clients x", Command::Nothing),
     ("gfscell serve --keep", Command::Nothing),
     ("gfscell serve --keep x", Command::Nothing),
+    ("gfscell serve --regions", Command::Nothing),
     ("gfscell sim", Command::Nothing),
     ("gfscell a.gfs", Command::Nothing),
     ("gfscell sim a.gfs b.gfs", Command::Nothing),

@@ -1,0 +1,35 @@
+//! Why a trial was given up.
+
+use anyhow::Error;
+use cell_run::{ParkFault, Refusal};
+
+/// Why a trial was given up.
+#[derive(Drop)]
+pub enum TrialFault {
+    /// Clocks were not kept: a step took longer than the clock bound, as on a machine that is busy. Nothing is said of the file.
+    ClockBroken,
+    Failed(Error),
+}
+
+impl From<Refusal> for TrialFault {
+    fn from(refusal: Refusal) -> TrialFault {
+        match refusal {
+            Refusal::ClockBroken => TrialFault::ClockBroken,
+            _ => TrialFault::Failed(refusal.into()),
+        }
+    }
+}
+
+impl From<Error> for TrialFault {
+    fn from(error: Error) -> TrialFault {
+        TrialFault::Failed(error)
+    }
+}
+
+/// Why a cell was not parked.
+pub fn of_parking(fault: &ParkFault) -> TrialFault {
+    match fault {
+        ParkFault::Clock(_, _) => TrialFault::ClockBroken,
+        ParkFault::NoMemory(_, _) => Refusal::NoMemory.into(),
+    }
+}
