@@ -24,7 +24,22 @@ def is_built(crate):
 
 # ---------------------------------------------------------------- what is not proved
 
-def goals_unproved(crate, function, printed):
+def place_of(text, line):
+    """The name of the function in which this line of a text stands."""
+    heads = [it for it in HEAD.finditer(text) if text.count('\n', 0, it.start()) < line]
+    return heads[-1][0].split()[-1] if heads else ''
+
+
+def noted(function, printed, texts):
+    """The goals that notes name in the lines of this function, where its file is one of these texts."""
+    for path, line, goal in re.findall(r'^note: (src/\S+?\.rt):(\d+):\d+: it is not proved .*?\(`([^`]+)`\)', printed, re.M):
+        module = path.removeprefix('src/').removesuffix('.rt').replace('/', '::')
+        its = f'{module}::{function.rpartition("::")[0]}' if module == 'lib' else function.rpartition('::')[0]
+        if path in texts and its.startswith(module) and place_of(texts[path], int(line)) == function.rpartition('::')[2]:
+            yield goal
+
+
+def goals_unproved(crate, function, printed, texts):
     """The goals of this function, by the prover's names, of which it has no proof: its search finds none, or it refuses the answer that is written."""
     line = re.search(rf'^(?:fn|method) {re.escape(f"{crate}::{function}")}: (?:not proved|no proof).*', printed, re.M)
     if not line:
@@ -33,12 +48,12 @@ def goals_unproved(crate, function, printed):
     folder = re.escape('proofs/' + function.replace('::', '/'))
     answered = re.findall(rf'^(?:\./)?{folder}/\w+\.antt:\d+:\d+: error: `([^`]+)`: (.*)', printed, re.M)
     goals = re.findall('`([^`]+)`', searched[1] if searched else '')
-    return list(dict.fromkeys([*goals, *(goal for goal, said in answered if not LACKING.search(said))]))
+    return list(dict.fromkeys([*goals, *(goal for goal, said in answered if not LACKING.search(said)), *noted(function, printed, texts)]))
 
 
-def unproved(edit, printed):
+def unproved(edit, printed, texts):
     """By which goals of its functions the edit is refused, or nothing."""
-    found = {it: goals_unproved(edit.crate, it, printed) for it in edit.functions()}
+    found = {it: goals_unproved(edit.crate, it, printed, texts) for it in edit.functions()}
     return '; '.join(f'{function} by {", ".join(goals)}' for function, goals in found.items() if goals)
 
 
@@ -89,9 +104,8 @@ class Group:
             return True
         return False
 
-    def prove(self):
-        """What the prover said, its status, and the lines by which it can't read an edited text."""
-        texts, _ = self.made(self.edits)
+    def prove(self, texts):
+        """What the prover said of these texts, its status, and the lines by which it can't read one."""
         flags = ['--jobs', '1', *(word for it in self.functions() for word in ('--only', it))]
         ran = self.rt.checked(self.crate, texts, flags, None)
         if ran.returncode == -signal.SIGKILL:
@@ -101,8 +115,9 @@ class Group:
 
     def verdicts(self):
         """Of each edit whether the prover refuses it, and what is said."""
-        printed, status, unread = self.prove()
-        goals = {it: unproved(it, printed) if status == 1 and not unread else '' for it in self.edits}
+        texts, _ = self.made(self.edits)
+        printed, status, unread = self.prove(texts)
+        goals = {it: unproved(it, printed, texts) if status == 1 and not unread else '' for it in self.edits}
         found = {it: (True, f'refused, as it must be: {text}') for it, text in goals.items() if text}
         rest = [it for it in self.edits if it not in found]
         if len(self.edits) > 1:
