@@ -149,8 +149,9 @@ class Earlier:
     def __init__(self, rt, crates, anew):
         below = {it.name: it for crate in crates for it in crate.below()}
         self.refused, self.kept = rt.REFUSED, rt.Kept(list({**below, **{it.name: it for it in crates}}.values()), anew)
-        for it in below.values():
-            self.kept.is_built(it)
+        with concurrent.futures.ThreadPoolExecutor(rt.processors()) as pool:
+            # (it reads all of a library)
+            list(pool.map(self.kept.is_built, below.values()))
 
     def name(self, edit, crate):
         return self.kept.of_edit(edit.path, self.kept.key(crate))
