@@ -51,7 +51,7 @@ fn move_file<R: Wait + Clock>(
 #[test]
 fn each_call_has_its_method(rt: HostRuntime) -> Result<(), Fail> {
     let alloc = rt.alloc();
-    let mut cell = Cell::start(rt, alloc, small(3), 3, OpenGate)?;
+    let mut cell = Cell::start(rt, alloc, small(), 3, OpenGate)?;
     let mut seat = cell.client()?;
     let other = cell.client()?;
     meet(&seat, &other);

@@ -118,7 +118,7 @@ fn shown_twice<R: Threads + Wait + Clock + Copy + Send + 'static>(
 #[test]
 fn records_are_determined(rt: HostRuntime) -> Result<(), Fail> {
     let alloc = rt.alloc();
-    let cell = Cell::start(rt, alloc, small(3), 3, OpenGate)?;
+    let cell = Cell::start(rt, alloc, small(), 3, OpenGate)?;
     let Some((first, second)) = shown_twice(rt, alloc, cell) else {
         return Err(Fail::new("nothing is shown"));
     };
@@ -153,7 +153,7 @@ fn parked_twice<R: Threads + Wait + Clock + Copy + Send + 'static>(
 #[test]
 fn calls_of_both_journals_are_written(rt: HostRuntime) -> Result<(), Fail> {
     let alloc = rt.alloc();
-    let cell = Cell::start(rt, alloc, small(3), 3, OpenGate)?;
+    let cell = Cell::start(rt, alloc, small(), 3, OpenGate)?;
     let Some(parked) = parked_twice(rt, alloc, cell) else {
         return Err(Fail::new("not parked"));
     };
@@ -179,7 +179,7 @@ fn fault_of(alloc: Global, parked: &Parked) -> Option<LookFault> {
 fn a_part_of_a_history_tells_no_regions(rt: HostRuntime) -> Result<(), Fail> {
     let alloc = rt.alloc();
     let retention = Retention::Last(40);
-    let mut cell = Cell::start_retaining(rt, alloc, hasty(3), 3, retention, OpenGate)?;
+    let mut cell = Cell::start_retaining(rt, alloc, hasty(), 3, retention, OpenGate)?;
     if create(&rt, alloc, &mut cell).is_none() {
         return Err(Fail::new("no file"));
     }

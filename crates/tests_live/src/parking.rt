@@ -118,7 +118,7 @@ fn park_after_calls<R: Threads + Wait + Clock>(
 #[test]
 fn a_parked_cell_has_its_journal(rt: HostRuntime) -> Result<(), Fail> {
     let alloc = rt.alloc();
-    let cell = Cell::start(rt, alloc, small(3), 3, OpenGate)?;
+    let cell = Cell::start(rt, alloc, small(), 3, OpenGate)?;
     let is_well = match park_after_calls(&rt, alloc, cell) {
         Some((seen, Outcome::Parked(count))) => seen > 0 && seen <= count as u64,
         Some((_, outcome)) => outcome == Outcome::RunsOn(true),
@@ -150,7 +150,7 @@ fn park_by_odd_clock<R: Threads + Wait + Clock + Copy>(
 #[test]
 fn a_cell_of_odd_clocks_is_closed(rt: HostRuntime) -> Result<(), Fail> {
     let alloc = rt.alloc();
-    let cell = Cell::start(rt, alloc, small(3), 1, OpenGate)?;
+    let cell = Cell::start(rt, alloc, small(), 1, OpenGate)?;
     let is_closed = match park_by_odd_clock(&rt, alloc, cell) {
         Some(Outcome::Closed(count, seats)) => count > 0 && seats == 1,
         _ => false,
@@ -193,7 +193,7 @@ fn park_beside_a_call<R: Threads + Wait + Clock + Copy + Send + 'static>(
 #[test]
 fn a_seat_that_is_kept_back_is_refused(rt: HostRuntime) -> Result<(), Fail> {
     let alloc = rt.alloc();
-    let cell = Cell::start(rt, alloc, small(3), 3, OpenGate)?;
+    let cell = Cell::start(rt, alloc, small(), 3, OpenGate)?;
     let is_well = match park_beside_a_call(rt, alloc, cell) {
         Some((is_refused, Outcome::Parked(_))) => is_refused,
         _ => false,

@@ -46,7 +46,7 @@ fn a_full_journal_is_refused(rt: HostRuntime) -> Result<(), Fail> {
     let alloc = rt.alloc();
     let config = Config {
         journal: 16,
-        ..small(3)
+        ..small()
     };
     let mut cell = Cell::start(rt, alloc, config, 3, OpenGate)?;
     let full = full_calls(&rt, alloc, &mut cell);
@@ -87,7 +87,7 @@ fn are_refused<R: Wait + Clock + Copy>(
 fn odd_clocks_are_refused(rt: HostRuntime) -> Result<(), Fail> {
     let alloc = rt.alloc();
     for is_broken in [true, false] {
-        let mut cell = Cell::start(rt, alloc, small(3), 1, OpenGate)?;
+        let mut cell = Cell::start(rt, alloc, small(), 1, OpenGate)?;
         let is_well = are_refused(&rt, alloc, &mut cell, is_broken);
         let journal = cell.close(&rt);
         let are_kept = journal.are_clocks_kept();
@@ -101,7 +101,7 @@ fn odd_clocks_are_refused(rt: HostRuntime) -> Result<(), Fail> {
 #[test]
 fn there_are_64_clients(rt: HostRuntime) -> Result<(), Fail> {
     let alloc = rt.alloc();
-    let mut cell = Cell::start(rt, alloc, small(3), 1, OpenGate)?;
+    let mut cell = Cell::start(rt, alloc, small(), 1, OpenGate)?;
     let mut made: u64 = 0;
     for _ in 0..66 {
         if cell.client().is_ok() {
@@ -127,7 +127,7 @@ fn waiting_call<R: Threads + Wait + Clock + Copy + Send + 'static>(
 #[test]
 fn closing_ends_calls(rt: HostRuntime) -> Result<(), Fail> {
     let alloc = rt.alloc();
-    let mut cell = Cell::start(rt, alloc, small(3), 3, OpenGate)?;
+    let mut cell = Cell::start(rt, alloc, small(), 3, OpenGate)?;
     // All messages are lost, so a call comes back only when the cell closes.
     let lossy = Policy {
         drop_every: 1,
@@ -170,7 +170,7 @@ fn a_chunk_without_a_slot_is_refused(rt: HostRuntime) -> Result<(), Fail> {
     let config = Config {
         slots: 1,
         attempts: 2,
-        ..hasty(3)
+        ..hasty()
     };
     let mut cell = Cell::start(rt, alloc, config, 3, OpenGate)?;
     let mut seat = cell.client()?;

@@ -168,7 +168,7 @@ fn a_full_journal_is_gone_past(rt: HostRuntime) -> Result<(), Fail> {
     let alloc = rt.alloc();
     let config = Config {
         journal: 64,
-        ..small(3)
+        ..small()
     };
     let cell = Cell::start(rt, alloc, config, 3, OpenGate)?;
     let Some(seated) = new_seated(&rt, cell) else {
@@ -202,7 +202,7 @@ fn resume_by_odd_clock<R: Threads + Wait + Clock + Copy + Send + 'static>(
 #[test]
 fn a_clock_that_went_back_leaves_a_parked_cell(rt: HostRuntime) -> Result<(), Fail> {
     let alloc = rt.alloc();
-    let cell = Cell::start(rt, alloc, small(3), 1, OpenGate)?;
+    let cell = Cell::start(rt, alloc, small(), 1, OpenGate)?;
     let Some(seated) = new_seated(&rt, cell) else {
         return Err(Fail::new("no client"));
     };
@@ -261,7 +261,7 @@ fn run_out<R: Threads + Wait + Clock + Copy + Send + 'static>(
 #[test]
 fn numbers_of_clients_run_out(rt: HostRuntime) -> Result<(), Fail> {
     let alloc = rt.alloc();
-    let cell = Cell::start(rt, alloc, small(3), 1, OpenGate)?;
+    let cell = Cell::start(rt, alloc, small(), 1, OpenGate)?;
     let Some(seated) = new_seated(&rt, cell) else {
         return Err(Fail::new("no client"));
     };
@@ -307,7 +307,7 @@ fn goes_on<R: Threads + Wait + Clock + Copy + Send + 'static>(
 fn a_refused_parking_loses_nothing(rt: HostRuntime) -> Result<(), Fail> {
     let alloc = rt.alloc();
     // Where there is no cell, or no client of it, nothing is to be parked.
-    let Ok(cell) = Cell::start(rt, alloc, small(3), 1, OpenGate) else {
+    let Ok(cell) = Cell::start(rt, alloc, small(), 1, OpenGate) else {
         return Ok(());
     };
     let Some(seated) = new_seated(&rt, cell) else {
