@@ -1,8 +1,10 @@
--- Why a cell was not started.
-use Rattle.std.specs.Prelude.{◌≡◌, ◌⊎◌, ℕ, is_none, if◌then◌else◌, Option, Some, None}
+-- Why a cell was not started, or does not go on.
+use Rattle.std.specs.Prelude.{◌≡◌, ◌⊎◌, ℕ, ◌+◌, ◌<◌, is_none, if◌then◌else◌, Option, Some, None}
 use Rattle.gfs_types.specs.declared.config.Config.{Config}
 use Rattle.gfs_types.specs.Settings.{first_out_of_range}
 use Rattle.cell_core.specs.Starts.{is_count}
+use Rattle.cell_run.specs.Parked.{ParkedState}
+use Rattle.cell_run.specs.ParkedSeats.{count_anew}
 use Rattle.cell_run.specs.declared.start_fault.StartFault.{StartFault}
 use Rattle.cell_run.specs.declared.start_fault.StartFault.TheVariants as faults
 
@@ -18,3 +20,7 @@ IsOfMachine fault = (fault ≡ faults.NoMemory) ⊎ ((fault ≡ faults.Thread) �
 abbrev pub IsStartFault : Option StartFault → StartFault → Type 0
 IsStartFault (Some bad) fault = fault ≡ bad
 IsStartFault None fault = IsOfMachine fault
+
+-- too few numbers are left for the clients that need new ones, or it is a fault of the machine
+abbrev pub IsResumeFault : ParkedState → StartFault → Type 0
+IsResumeFault p fault = ((fault ≡ faults.Count) × (64 < p.made + count_anew p.seats)) ⊎ IsOfMachine fault
