@@ -1,6 +1,7 @@
 pub mod Standing
 pub mod NewNodes
 pub mod StartFaults
+pub mod Starts
 pub mod Cells
 pub mod SeatFaults
 pub mod Parked

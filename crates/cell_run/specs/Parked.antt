@@ -31,9 +31,9 @@ pub record IsParked (cell : Identity) (made : ℕ) (seats : List SeatState) (p :
   pub made_is : p.made ≡ made
   pub seats_are : map (λ s. s.seat) p.seats ≡ seats
 
--- the cell was closed, and the seats are those that were handed in
+-- the cell was closed, the seats are those that were handed in, and clocks were not kept in it
 abbrev pub IsClosedSo : Identity → List SeatState → Closed → List SeatState → Type 0
-IsClosedSo cell seats journal back = (journal.cell ≡ cell) × (journal.is_over ≡ true) × (back ≡ seats)
+IsClosedSo cell seats journal back = (journal.cell ≡ cell) × (journal.is_over ≡ true) × (back ≡ seats) × (are_clocks_kept journal.cell (whole_of journal) ≡ false)
 
 -- why a cell was not parked: where clocks were not kept it was closed, and where memory was refused it runs on
 abbrev pub IsNotParked : CellState → List SeatState → ParkFault → Type 0

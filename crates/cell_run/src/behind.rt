@@ -16,6 +16,8 @@ ghost use Rattle.cell_run.specs.Cells.{HasMade, cell_state, names_of};
 ghost use Rattle.cell_run.specs.Parked.{IsResumed, IsSeatOf, AllGoOver};
 ghost use Rattle.cell_run.specs.ParkedSeats.{count_anew};
 ghost use Rattle.cell_run.specs.Resumed.{HasRoom, IsRoomFor, StandsBehind, behind_of};
+ghost use Rattle.cell_run.specs.Starts.{IsOfMachine};
+ghost use Rattle.cell_run.specs.declared.start_fault.StartFault.TheVariants.{NoMemory as OutOfMemory};
 
 use crate::cell::{Cell, ClientSeat, Thread, Ticker, end_all, start_node, ticks};
 use crate::client_places::client_places;
@@ -39,6 +41,7 @@ use cell_seats::shared_state::{STARTING, SharedState};
 use cell_seats::stepper::Stepper;
 use crossbeam_channel::Receiver;
 use gfs_types::ids::{Node, ServerId};
+use gfs_types::no_memory::NoMemory;
 use std::mem;
 use std::sync::atomic::{AtomicU64, Ordering};
 use std::sync::{Arc, Wait};
@@ -74,6 +77,7 @@ pub fn begin<R: Wait + Clock>(
     ensures parts { IfOk result (λ b. b.0.parts ≡ parked) }
     ensures stands { IfOk result (λ b. StandsBehind b.0.parts b.0.registry b.0.room b.0.retired) }
     ensures back { IfErr result (λ f. f.0 ≡ parked) }
+    ensures why { IfErr result (λ f. f.1 ≡ OutOfMemory) }
 {
     let (parts, list) = parked.into_parts();
     let retired = parts.retired_then();
@@ -115,6 +119,7 @@ fn begin_in<R: Wait + Clock>(
     ensures parts { IfOk result (λ b. b.0.parts ≡ parts) }
     ensures stands { IfOk result (λ b. StandsBehind b.0.parts b.0.registry b.0.room b.0.retired) }
     ensures back { IfErr result (λ f. f.0 ≡ parts) }
+    ensures why { IfErr result (λ f. f.1 ≡ OutOfMemory) }
 {
     match open_behind(rt, &parts, history) {
         Ok((registry, room, threads)) => Ok((
@@ -143,14 +148,15 @@ fn open_behind<R: Wait + Clock>(
     ensures room { IfOk result (λ r. HasRoom history.cell parts.now r.1) }
     ensures asks { IfOk result (λ r. WritesControls (arc_value r.0.shared).controls r.1.control_writer) }
     ensures back { IfErr result (λ f. f.0 ≡ listed history.cell.name history.cell.base) }
+    ensures why { IfErr result (λ f. f.1 ≡ OutOfMemory) }
 {
     match memory_for(parts, &history) {
         Ok(memory) => open_in(rt, parts, history, memory),
-        Err(fault) => Err((history.into_list(), fault)),
+        Err(_) => Err((history.into_list(), StartFault::NoMemory)),
     }
 }
 
-fn memory_for(parts: &ParkedParts, history: &History) -> Result<ResumeMemory, StartFault>
+fn memory_for(parts: &ParkedParts, history: &History) -> Result<ResumeMemory, NoMemory>
     requires { parts.now.made + count_anew parts.now.seats ≤ 64 }
     ensures room { IfOk result (λ m. HasRoom history.now.cell parts.now m.room) }
     ensures asks { IfOk result (λ m. WritesControls m.controls m.room.control_writer) }
@@ -174,6 +180,7 @@ fn open_in<R: Wait + Clock>(
     ensures room { IfOk result (λ r. HasRoom history.cell parts.now r.1) }
     ensures asks { IfOk result (λ r. WritesControls (arc_value r.0.shared).controls r.1.control_writer) }
     ensures back { IfErr result (λ f. f.0 ≡ listed history.cell.name history.cell.base) }
+    ensures why { IfErr result (λ f. f.1 ≡ OutOfMemory) }
 {
     let ResumeMemory {
         senders,
@@ -257,7 +264,9 @@ impl Behind {
     pub fn start_threads<
         R: Threads + Wait + Clock + Copy + Send + 'static,
         G: Gate + Clone + Send + Drop + 'static,
-    >(&self, rt: R, threads: &mut ThreadRoom, gate: G) -> Result<Ticker, StartFault> {
+    >(&self, rt: R, threads: &mut ThreadRoom, gate: G) -> Result<Ticker, StartFault>
+        ensures { IfErr result IsOfMachine }
+    {
         let shared = &self.registry.shared;
         let servers = self.registry.servers;
         let alloc = self.parts.alloc;
@@ -445,7 +454,9 @@ fn start_all<
     locks: &NodeLocks,
     room: &mut ThreadRoom,
     gate: G,
-) -> Result<(), StartFault> {
+) -> Result<(), StartFault>
+    ensures { IfErr result IsOfMachine }
+{
     let master = room.master.take();
     let threads = &mut room.threads;
     start_at(
@@ -481,7 +492,9 @@ fn start_at<
     node: Node,
     inbox: Option<Receiver<MailboxItem>>,
     gate: &G,
-) -> Result<(), StartFault> {
+) -> Result<(), StartFault>
+    ensures { IfErr result IsOfMachine }
+{
     let Some(inbox) = inbox else {
         return Err(StartFault::Thread);
     };

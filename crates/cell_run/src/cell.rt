@@ -14,8 +14,10 @@ ghost use Rattle.cell_run.specs.NewNodes.{IsFitting};
 ghost use Rattle.cell_seats.specs.NodeLocks.{node_name};
 ghost use Rattle.cell_seats.specs.Registries.{IsSameRegistry};
 ghost use Rattle.cell_seats.specs.Controls.{WritesControls, no_policy, policy_in};
+ghost use Rattle.cell_core.specs.Starts.{is_count};
 ghost use Rattle.cell_run.specs.EndedCells.{IsEnded};
 ghost use Rattle.cell_run.specs.Cells.{IsCellOf, IsNewCell, IsNewSeat, IsSeatFault, more, with_policy, asked_again, names_of};
+ghost use Rattle.cell_run.specs.Starts.{IsOfMachine, IsStartFault, bad_start};
 
 use crate::node_locks::{NodeLocks, new_lock};
 use crate::node_slots::{are_fitting, client_slot, master_slot, server_slot};
@@ -41,6 +43,7 @@ use cell_seats::stepper::Stepper;
 use crossbeam_channel::{Receiver, Sender, unbounded};
 use gfs_types::config::Config;
 use gfs_types::ids::{ClientId, Node, ServerId};
+use gfs_types::no_memory::NoMemory;
 use std::alloc::Global;
 use std::marker::Model;
 use std::sync::atomic::{AtomicU64, Ordering};
@@ -133,7 +136,9 @@ impl Cell {
         R: Threads + Wait + Clock + Copy + Send + 'static,
         G: Gate + Clone + Send + Drop + 'static,
     >(rt: R, alloc: Global, config: Config, servers: u16, gate: G) -> Result<Cell, StartFault>
-        ensures { IfOk result (λ cell. IsNewCell config servers Whole cell) }
+        ensures cell { IfOk result (λ cell. IsNewCell config servers Whole cell) }
+        ensures good { OnOk result (bad_start config servers ≡ None) }
+        ensures fault { IfErr result (IsStartFault (bad_start config servers)) }
     {
         Cell::start_retaining(rt, alloc, config, servers, Retention::Whole, gate)
     }
@@ -151,12 +156,14 @@ impl Cell {
         retention: Retention,
         gate: G,
     ) -> Result<Cell, StartFault>
-        ensures { IfOk result (λ cell. IsNewCell config servers retention cell) }
+        ensures cell { IfOk result (λ cell. IsNewCell config servers retention cell) }
+        ensures good { OnOk result (bad_start config servers ≡ None) }
+        ensures fault { IfErr result (IsStartFault (bad_start config servers)) }
     {
         if !are_fitting(&config) {
             return Err(StartFault::Config);
         }
-        if servers == 0 || servers > MOST_SERVERS {
+        if !is_count(servers) {
             return Err(StartFault::Count);
         }
         let Ok(began) = rt.monotonic() else {
@@ -302,6 +309,13 @@ impl Cell {
     }
 }
 
+// Whether a cell may have so many servers.
+fn is_count(servers: u16) -> bool
+    ensures { result ≡ is_count servers }
+{
+    (1..=MOST_SERVERS).contains(&servers)
+}
+
 /// A cell whose threads have ended, without the locks of its nodes. Its journal is not closed.
 #[derive(Drop)]
 pub struct EndedCell {
@@ -335,7 +349,8 @@ fn start_with<
     requires asks { WritesControls (arc_value parts.registry.shared).controls parts.control_writer }
     requires policy { policy_in parts.control_writer.policy.me.0 ≡ no_policy }
     requires restarts { parts.control_writer.restarts.me.0 ≡ replicate 66 0 }
-    ensures { IfOk result (λ cell. IsNewCell parts.registry.config parts.registry.servers parts.registry.writer.me.0.of.retention cell) }
+    ensures cell { IfOk result (λ cell. IsNewCell parts.registry.config parts.registry.servers parts.registry.writer.me.0.of.retention cell) }
+    ensures fault { IfErr result IsOfMachine }
 {
     let Parts {
         mut registry,
@@ -392,6 +407,7 @@ fn start_nodes<
     ensures same { IsSameRegistry registry.old registry.new }
     ensures ok { OnOk result (registry.new.registered ≡ registry.old.servers + 1) }
     ensures locks { IfOk result (λ l. l ≡ names_of registry.new.cell registry.new.servers) }
+    ensures fault { IfErr result IsOfMachine }
 {
     let master = start_master(rt, alloc, registry, nodes, master, gate.clone()?)?;
     let mut locks = Vec::new(alloc);
@@ -399,7 +415,7 @@ fn start_nodes<
     inboxes.reverse();
     for before in 0..registry.servers {
         let Some(inbox) = inboxes.pop() else {
-            return Err(StartFault::Count);
+            return Err(StartFault::Thread);
         };
         let id = ServerId(before + 1);
         let lock = start_server(rt, alloc, registry, nodes, id, inbox, gate.clone()?)?;
@@ -425,6 +441,7 @@ fn start_master<R: Threads + Wait + Clock + Copy + Send + 'static, G: Gate + Sen
     ensures same { IsSameRegistry registry.old registry.new }
     ensures ok { OnOk result (registry.new.registered ≡ 1) }
     ensures lock { IfOk result (λ l. arc_value l ≡ node_name registry.new.cell Master) }
+    ensures fault { IfErr result IsOfMachine }
 {
     let slot = master_slot(alloc, registry)?;
     let lock: Arc<NodeLock<RunningMaster>> = new_lock(alloc, &registry.cell, Node::Master)?;
@@ -449,6 +466,7 @@ fn start_server<R: Threads + Wait + Clock + Copy + Send + 'static, G: Gate + Sen
     ensures same { IsSameRegistry registry.old registry.new }
     ensures ok { OnOk result (registry.new.registered ≡ id.0 + 1) }
     ensures lock { IfOk result (λ l. arc_value l ≡ node_name registry.new.cell (Server id)) }
+    ensures fault { IfErr result IsOfMachine }
 {
     let slot = server_slot(alloc, registry, id)?;
     let lock: Arc<NodeLock<RunningServer>> = new_lock(alloc, &registry.cell, Node::Server(id))?;
@@ -471,9 +489,12 @@ pub(crate) fn start_node<
     node: Node,
     inbox: Receiver<MailboxItem>,
     gate: G,
-) -> Result<(), StartFault> {
+) -> Result<(), StartFault>
+    ensures { IfErr result IsOfMachine }
+{
     let lock = Arc::try_clone(lock)?;
-    keep(nodes, runs(rt, shared, node, lock, inbox, gate)?)
+    keep(nodes, runs(rt, shared, node, lock, inbox, gate)?)?;
+    Ok(())
 }
 
 // No step is begun any more. The ticker says so until the nodes have ended and no client waits.
@@ -511,6 +532,7 @@ fn new_registry(
     ensures asks { IfOk result (λ p. WritesControls (arc_value p.registry.shared).controls p.control_writer) }
     ensures policy { IfOk result (λ p. policy_in p.control_writer.policy.me.0 ≡ no_policy) }
     ensures restarts { IfOk result (λ p. p.control_writer.restarts.me.0 ≡ replicate 66 0) }
+    ensures fault { IfErr result IsOfMachine }
 {
     let Some(history) = History::new(alloc, config, u64::from(servers), MOST_CLIENTS, retention)
     else {
@@ -550,12 +572,12 @@ fn new_registry(
     }
 }
 
-pub(crate) fn keep<T: Drop>(all: &mut Vec<T>, one: T) -> Result<(), StartFault>
+pub(crate) fn keep<T: Drop>(all: &mut Vec<T>, one: T) -> Result<(), NoMemory>
     ensures { OnOk result (all.new.items ≡ all.old.items ++ one ∷ []) }
 {
     match all.push(one) {
         Ok(()) => Ok(()),
-        Err(_) => Err(StartFault::NoMemory),
+        Err(_) => Err(NoMemory),
     }
 }
 
@@ -570,7 +592,9 @@ fn runs<
     lock: Arc<NodeLock<N>>,
     inbox: Receiver<MailboxItem>,
     gate: G,
-) -> Result<Thread, StartFault> {
+) -> Result<Thread, StartFault>
+    ensures { IfErr result IsOfMachine }
+{
     let job = move || serve(&rt, &shared, node, &lock, &inbox, &gate);
     match thread::spawn(&rt, job) {
         Ok(thread) => Ok(thread),
@@ -583,7 +607,9 @@ pub(crate) fn ticks<R: Threads + Wait + Clock + Copy + Send + 'static>(
     alloc: Global,
     shared: &Arc<SharedState>,
     servers: u16,
-) -> Result<Ticker, StartFault> {
+) -> Result<Ticker, StartFault>
+    ensures { IfErr result IsOfMachine }
+{
     let theirs = Arc::try_clone(shared)?;
     let (stop, stopped) = unbounded(alloc)?;
     let job = move || tick(&rt, &theirs, servers, &stopped);

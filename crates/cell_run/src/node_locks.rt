@@ -18,7 +18,6 @@ ghost use Rattle.cell_run.specs.Standing.{MasterStands, ServerStands};
 use crate::running_master::RunningMaster;
 use crate::running_server::RunningServer;
 use crate::seating::hold;
-use crate::start_fault::StartFault;
 use cell_journal::Beginning;
 use cell_journal::identity::CellIdentity;
 use cell_journal::raised_entry::RaisedEntry;
@@ -28,6 +27,7 @@ use cell_seats::parked_node::{ParkedNode, park};
 use cell_seats::slot::Slot;
 use cell_seats::stepper::Stepper;
 use gfs_types::ids::{Node, ServerId};
+use gfs_types::no_memory::NoMemory;
 use std::alloc::Global;
 use std::marker::Model;
 use std::sync::{Arc, Wait};
@@ -283,7 +283,7 @@ pub fn new_lock<N: Stepper + Drop>(
     alloc: Global,
     cell: &CellIdentity,
     node: Node,
-) -> Result<Arc<NodeLock<N>>, StartFault>
+) -> Result<Arc<NodeLock<N>>, NoMemory>
     ensures { IfOk result (λ l. arc_value l ≡ node_name cell.now node) }
 {
     let name = NodeIdentity {
@@ -292,6 +292,6 @@ pub fn new_lock<N: Stepper + Drop>(
     };
     match Arc::new(alloc, NodeLock::new(alloc, &name)?) {
         Ok(lock) => Ok(lock),
-        Err(_) => Err(StartFault::NoMemory),
+        Err(_) => Err(NoMemory),
     }
 }

@@ -3,6 +3,7 @@
 ghost use Rattle.std.specs.Prelude.{◌≡◌, ◌≤◌, suc, [], true, None, IfOk, IfErr, IfSome, All, map, length, vec_len, vec_capacity};
 ghost use Rattle.gfs_types.specs.Settings.{first_out_of_range};
 ghost use Rattle.protocol_journal.specs.Journal.{sent_after};
+ghost use Rattle.cell_journal.specs.Identity.{closed};
 ghost use Rattle.cell_journal.specs.Log.{listed};
 ghost use Rattle.cell_journal.specs.Rules.{IsJournalOf};
 ghost use Rattle.cell_journal.specs.WholeHistories.{whole_of};
@@ -224,7 +225,7 @@ fn journal_over(history: ParkedHistory, beside: BesideHistory) -> Journal
     requires lawful { IsJournalOf history.history.cell history.history.entries }
     requires range { first_out_of_range history.history.cell.config ≡ None }
     requires base { (vec_len beside.base ≤ 1) × AreBehind history.history.cell (joined beside.base.items) }
-    ensures { (result.now.cell ≡ history.history.cell) × (result.now.is_over ≡ true) }
+    ensures { result.now ≡ closed history.history.cell history.history.entries true }
 {
     let BesideHistory {
         alloc: _,

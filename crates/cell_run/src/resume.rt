@@ -1,9 +1,10 @@
 //! A parked cell goes on: its nodes begin again, behind all that it did. All that may fail comes before any node is touched.
 
-ghost use Rattle.std.specs.Prelude.{◌≡◌, ◌≤◌, ◌+◌, true, IfOk, IfErr, OnOk};
+ghost use Rattle.std.specs.Prelude.{◌≡◌, ◌≤◌, ◌<◌, ◌+◌, true, false, IfOk, IfErr, OnOk};
 ghost use Rattle.cell_run.specs.Parked.{IsResumed};
 ghost use Rattle.cell_run.specs.ParkedSeats.{count_anew};
 ghost use Rattle.cell_run.specs.Resumed.{StandsBehind};
+ghost use Rattle.cell_run.specs.Starts.{IsOfMachine, IsResumeFault};
 
 use crate::behind::{Behind, begin};
 use crate::cell::{Cell, ClientSeat};
@@ -30,6 +31,7 @@ impl Parked {
     >(self, rt: R, gate: G) -> Result<(Cell, Vec<ClientSeat>), (Parked, StartFault)>
         ensures resumed { IfOk result (λ r. IsResumed self r.0 r.1.items) }
         ensures fault { IfErr result (λ f. f.0 ≡ self) }
+        ensures why { IfErr result (λ f. IsResumeFault self f.1) }
     {
         match self.parts.may_resume(&rt) {
             Ok(()) => go_behind(rt, self, gate),
@@ -46,6 +48,7 @@ fn go_behind<
     requires few { parked.made + count_anew parked.seats ≤ 64 }
     ensures resumed { IfOk result (λ r. IsResumed parked r.0 r.1.items) }
     ensures fault { IfErr result (λ f. f.0 ≡ parked) }
+    ensures why { IfErr result (λ f. IsOfMachine f.1) }
 {
     match begin(&rt, parked) {
         Ok((behind, threads)) => go_on_threads(rt, behind, threads, gate),
@@ -66,6 +69,7 @@ fn go_on_threads<
     requires stands { StandsBehind behind.parts behind.registry behind.room behind.retired }
     ensures resumed { IfOk result (λ r. IsResumed behind.parts r.0 r.1.items) }
     ensures fault { IfErr result (λ f. f.0 ≡ behind.parts) }
+    ensures why { IfErr result (λ f. IsOfMachine f.1) }
 {
     let mut room = room;
     match behind.start_threads(rt, &mut room, gate) {
@@ -84,7 +88,8 @@ fn go_on_threads<
 impl ParkedParts {
     // Whether the clock went on, and there are numbers for all clients that need a new one.
     fn may_resume<R: Clock>(&self, rt: &R) -> Result<(), StartFault>
-        ensures { OnOk result (self.now.made + count_anew self.now.seats ≤ 64) }
+        ensures few { OnOk result (self.now.made + count_anew self.now.seats ≤ 64) }
+        ensures why { IfErr result (IsResumeFault self.now) }
     {
         let Some(now) = moment(rt, self.began) else {
             return Err(StartFault::Clock);
@@ -107,7 +112,8 @@ fn moment<R: Clock>(rt: &R, began: Duration) -> Option<u64> {
 
 // Whether so many clients more may be made.
 fn are_few(made: u64, anew: u64) -> bool
-    ensures { result ≡ true → made + anew ≤ 64 }
+    ensures few { result ≡ true → made + anew ≤ 64 }
+    ensures many { result ≡ false → 64 < made + anew }
 {
     made <= MOST_CLIENTS && anew <= MOST_CLIENTS && made + anew <= MOST_CLIENTS
 }

@@ -16,7 +16,6 @@ use crate::node_locks::{NodeLocks, new_lock};
 use crate::parked::ParkedParts;
 use crate::running_client::RunningClient;
 use crate::running_server::RunningServer;
-use crate::start_fault::StartFault;
 use cell_journal::identity::CellIdentity;
 use cell_seats::controls::{ControlWriter, Controls, new_controls};
 use cell_seats::journal::Journal;
@@ -26,6 +25,7 @@ use cell_seats::shared_state::MOST_CLIENTS;
 use crossbeam_channel::Receiver;
 use gfs_types::config::Config;
 use gfs_types::ids::{ClientId, Node, ServerId};
+use gfs_types::no_memory::NoMemory;
 use std::alloc::Global;
 use std::sync::Arc;
 
@@ -68,7 +68,7 @@ pub struct ResumeMemory {
 }
 
 /// The memory.
-pub fn resume_memory(parts: &ParkedParts, cell: &CellIdentity) -> Result<ResumeMemory, StartFault>
+pub fn resume_memory(parts: &ParkedParts, cell: &CellIdentity) -> Result<ResumeMemory, NoMemory>
     requires { parts.now.made + count_anew parts.now.seats ≤ 64 }
     ensures asks { IfOk result (λ m. WritesControls m.controls m.room.control_writer) }
     ensures room { IfOk result (λ m. HasRoom cell.now parts.now m.room) }
@@ -108,7 +108,7 @@ fn thread_room(
     count: u16,
     master: Receiver<MailboxItem>,
     servers: Vec<Receiver<MailboxItem>>,
-) -> Result<ThreadRoom, StartFault> {
+) -> Result<ThreadRoom, NoMemory> {
     let mut servers = servers;
     servers.reverse();
     let mut threads = Vec::new(alloc);
@@ -120,7 +120,7 @@ fn thread_room(
     })
 }
 
-fn room_for_one(alloc: Global) -> Result<Vec<Journal>, StartFault>
+fn room_for_one(alloc: Global) -> Result<Vec<Journal>, NoMemory>
     ensures { IfOk result (λ b. (b.items ≡ []) × (1 ≤ vec_capacity b)) }
 {
     let mut base = Vec::new(alloc);
@@ -136,7 +136,7 @@ fn client_room(
     anew: u64,
     count: usize,
     inboxes: Vec<Receiver<MailboxItem>>,
-) -> Result<ClientRoom, StartFault>
+) -> Result<ClientRoom, NoMemory>
     requires least { 0 < config.chunk }
     requires few { made + anew ≤ 64 }
     requires boxes { vec_len inboxes ≡ 64 }
@@ -159,7 +159,7 @@ fn client_room(
 }
 
 // The locks of a cell's nodes, in which none lies yet.
-fn new_locks(alloc: Global, servers: u16, cell: &CellIdentity) -> Result<NodeLocks, StartFault>
+fn new_locks(alloc: Global, servers: u16, cell: &CellIdentity) -> Result<NodeLocks, NoMemory>
     ensures { IfOk result (λ l. l ≡ names_of cell.now servers) }
 {
     let master = new_lock(alloc, cell, Node::Master)?;
@@ -171,7 +171,7 @@ fn server_locks(
     alloc: Global,
     servers: u16,
     cell: &CellIdentity,
-) -> Result<Vec<Arc<NodeLock<RunningServer>>>, StartFault>
+) -> Result<Vec<Arc<NodeLock<RunningServer>>>, NoMemory>
     ensures { IfOk result (λ l. map arc_value l.items ≡ map (λ s. node_name cell.now (the_server s)) (first_numbers servers)) }
 {
     let mut locks = Vec::new(alloc);
@@ -189,7 +189,7 @@ fn new_clients(
     config: Config,
     made: u64,
     anew: u64,
-) -> Result<Vec<Option<RunningClient>>, StartFault>
+) -> Result<Vec<Option<RunningClient>>, NoMemory>
     requires least { 0 < config.chunk }
     requires few { made + anew ≤ 64 }
     ensures clients { IfOk result (λ c. AreNewClients config made c.items) }

@@ -142,7 +142,8 @@ impl MailboxSenders {
         servers: u16,
         clients: u64,
     ) -> Result<(MailboxSenders, Mailboxes), NoMemory>
-        ensures { IfOk result (λ p. vec_len p.1.clients ≡ clients) }
+        ensures servers { IfOk result (λ p. vec_len p.1.servers ≡ servers) }
+        ensures clients { IfOk result (λ p. vec_len p.1.clients ≡ clients) }
     {
         let (master, masters) = unbounded(alloc)?;
         let (server_senders, servers) = make_boxes(alloc, u64::from(servers))?;

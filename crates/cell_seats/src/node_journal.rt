@@ -106,6 +106,7 @@ impl NodeJournal {
         ensures node { self.new.node ≡ self.old.node }
         ensures later { IsLater self.old.writer.me.0 self.new.writer.me.0 }
         ensures ok { IfOk result (λ m. (self.new.writer.me.0.rooms ≡ self.old.writer.me.0.rooms + 1) × IsRead (sent_after [] self.new.writer.me.0.seen) self.new.node number m) }
+        ensures err { OnErr result (self.new.writer.me.0.rooms ≡ self.old.writer.me.0.rooms) }
     {
         if self.shared.is_closing() {
             return Err(Refusal::Closed);

@@ -1,4 +1,4 @@
-use Rattle.std.proofs.Common.{◌≡◌, None, sym, ap, subst, ◌∙◌}
+use Rattle.std.proofs.Common.{◌≡◌, None, sym, subst, ◌∙◌}
 use Rattle.gfs_types.specs.Settings.{first_out_of_range}
 use Rattle.cell_journal.specs.Identity.{Closed}
 use Rattle.cell_journal.specs.Rules.{IsJournalOf}
@@ -15,6 +15,4 @@ pub new-requires-clause-behind : goal.new-requires-clause-behind
 new-requires-clause-behind c = subst (λ (j : Closed). AreBehind j.cell (joined c.args.beside.base.items)) (sym c.close.ensures) c.requires.base.1
 
 pub returns : goal.returns
-returns c =
-    let closed = c.new.ensures.journal ∙ c.close.ensures in
-    (ap (λ (j : Closed). j.cell) closed, ap (λ (j : Closed). j.is_over) closed)
+returns c = c.new.ensures.journal ∙ c.close.ensures

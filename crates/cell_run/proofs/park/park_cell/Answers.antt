@@ -1,4 +1,7 @@
 use Rattle.std.proofs.Common.{ℕ, sym, ap, ◌∙◌}
+use Rattle.cell_journal.specs.Clocks.{are_clocks_kept}
+use Rattle.cell_journal.specs.Identity.{Closed}
+use Rattle.cell_journal.specs.WholeHistories.{whole_of}
 use Rattle.cell_run.specs.Cells.{names_of}
 use Rattle.cell_run.proofs.Parking.{parked_parts, parked_so}
 use Rattle.cell_run.proofs.park.park_cell.Goals as goal
@@ -14,4 +17,7 @@ pub returns-then-kept-clause-parked : goal.returns-then-kept-clause-parked
 returns-then-kept-clause-parked g c = parked_so _ _ _ _ _ _ _ c.park_history-history.ensures.parked c.parked_with.ensures c.park_history-history.ensures.same.0
 
 pub returns-else-kept-clause-closed : goal.returns-else-kept-clause-closed
-returns-else-kept-clause-closed g c = (c.journal_over.ensures.0 ∙ c.park_history-history.ensures.parked.cell_is, c.journal_over.ensures.1, c.seats_of.ensures)
+returns-else-kept-clause-closed g c =
+    let over = c.journal_over.ensures in
+    let kept = ap (λ (j : Closed). are_clocks_kept j.cell (whole_of j)) over ∙ (sym c.are_clocks_kept-kept.ensures ∙ c.if-kept.false) in
+    (ap (λ (j : Closed). j.cell) over ∙ c.park_history-history.ensures.parked.cell_is, ap (λ (j : Closed). j.is_over) over, c.seats_of.ensures, kept)
