@@ -14,7 +14,7 @@ use std::time::Clock;
 pub const CHUNK: u64 = 512;
 
 /// What is kept of a chunk, or what a read of it gave: the round that the read named, and the place behind the last record; 0 where there is none.
-#[derive(Clone, Copy, Debug, PartialEq, Eq)]
+#[derive(Clone, Copy)]
 pub struct ChunkState {
     pub round: u64,
     pub place: u64,

@@ -23,7 +23,7 @@ const RECORDS: usize = 10;
 
 /// Up to where the first chunk and the second one are determined, the first one also by its handle and the journal alone, and how many replicas of it are
 /// stored.
-#[derive(Clone, Copy, PartialEq, Eq)]
+#[derive(Clone, Copy)]
 struct Shown {
     first: u64,
     second: u64,

@@ -18,7 +18,7 @@ const MOST_LOOKS: u64 = 50;
 const PAUSE_MS: u64 = 100;
 
 /// A record and the offset at which it was answered to stand.
-#[derive(Clone, Copy, Debug, PartialEq, Eq)]
+#[derive(Clone, Copy)]
 pub struct Stored {
     pub number: u64,
     pub offset: u64,

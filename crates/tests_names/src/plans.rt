@@ -28,7 +28,7 @@ use std::alloc::Global;
 use std::test::Fail;
 
 // Why a small cell of names and files isn't there.
-#[derive(Clone, Copy, Debug, PartialEq, Eq)]
+#[derive(Clone, Copy, Debug)]
 enum CellFault {
     Path,
     Table(TableFault),
@@ -99,7 +99,7 @@ fn kind_at(
 }
 
 // What a snapshot of `/d` at `/e` came to, at a moment before the lease's end and at that end.
-#[derive(Clone, Copy, Debug, PartialEq, Eq)]
+#[derive(Clone, Copy)]
 struct Taken {
     chunks: usize,
     before: Result<(), SnapshotFault>,
