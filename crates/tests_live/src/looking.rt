@@ -96,12 +96,12 @@ fn park<R: Threads + Wait + Clock>(rt: &R, alloc: Global, cell: Cell) -> Option<
     cell.park(rt, Vec::new(alloc)).ok()
 }
 
-// What is shown after a client's records, and after those of another one behind a parking.
-fn shown_twice<R: Threads + Wait + Clock + Copy + Send + 'static>(
+// A cell that was parked twice, each time behind a client's records, and what was shown when it was parked first.
+fn parked_twice<R: Threads + Wait + Clock + Copy + Send + 'static>(
     rt: R,
     alloc: Global,
     cell: Cell,
-) -> Option<(Shown, Shown)> {
+) -> Option<(Shown, Parked)> {
     let mut cell = cell;
     create(&rt, alloc, &mut cell)?;
     append_all(&rt, alloc, &mut cell)?;
@@ -111,15 +111,17 @@ fn shown_twice<R: Threads + Wait + Clock + Copy + Send + 'static>(
         return None;
     };
     append_all(&rt, alloc, &mut cell)?;
-    let parked = park(&rt, alloc, cell)?;
-    Some((first, look_at(alloc, &parked)?))
+    Some((first, park(&rt, alloc, cell)?))
 }
 
 #[test]
 fn records_are_determined(rt: HostRuntime) -> Result<(), Fail> {
     let alloc = rt.alloc();
     let cell = Cell::start(rt, alloc, small(), 3, OpenGate)?;
-    let Some((first, second)) = shown_twice(rt, alloc, cell) else {
+    let Some((first, parked)) = parked_twice(rt, alloc, cell) else {
+        return Err(Fail::new("not parked"));
+    };
+    let Some(second) = look_at(alloc, &parked) else {
         return Err(Fail::new("nothing is shown"));
     };
     assert!(rt; first.first == 64);
@@ -133,28 +135,11 @@ fn records_are_determined(rt: HostRuntime) -> Result<(), Fail> {
     Ok(())
 }
 
-// A cell that was parked twice, each time behind a client's records.
-fn parked_twice<R: Threads + Wait + Clock + Copy + Send + 'static>(
-    rt: R,
-    alloc: Global,
-    cell: Cell,
-) -> Option<Parked> {
-    let mut cell = cell;
-    create(&rt, alloc, &mut cell)?;
-    append_all(&rt, alloc, &mut cell)?;
-    let parked = park(&rt, alloc, cell)?;
-    let Ok((mut cell, _none)) = parked.resume(rt, OpenGate) else {
-        return None;
-    };
-    append_all(&rt, alloc, &mut cell)?;
-    park(&rt, alloc, cell)
-}
-
 #[test]
 fn calls_of_both_journals_are_written(rt: HostRuntime) -> Result<(), Fail> {
     let alloc = rt.alloc();
     let cell = Cell::start(rt, alloc, small(), 3, OpenGate)?;
-    let Some(parked) = parked_twice(rt, alloc, cell) else {
+    let Some((_, parked)) = parked_twice(rt, alloc, cell) else {
         return Err(Fail::new("not parked"));
     };
     let mut out = Vec::new(alloc);
