@@ -141,6 +141,29 @@ fn give_up<R: Threads + Wait + Clock>(rt: &R, cell: Cell, fault: TrialFault) -> 
 }
 
 // All stretches, with one cell.
+fn run_stretches<R: Threads + Wait + Clock + Copy + Send + Sync + 'static>(
+    rt: R,
+    alloc: Global,
+    cell: Cell,
+    clients: &mut Clients,
+    found: &mut Vec<Counts>,
+) -> Result<Cell, TrialFault> {
+    let mut cell = cell;
+    for stretch in 1..=STRETCHES {
+        match measure_stretch(&rt, alloc, &mut cell, clients, stretch) {
+            Ok(counts) => {
+                if found.push(counts).is_err() {
+                    return Err(Refusal::NoMemory.into());
+                }
+            }
+            Err(fault) => return Err(give_up(&rt, cell, fault)),
+        }
+        cell = reopen(rt, alloc, cell)?;
+    }
+    Ok(cell)
+}
+
+// A trial, with this clock bound. What owns clients or a cell has few ways out: a drop at the end of a scope is proved anew at each place.
 fn run_trial<R: Threads + Wait + Clock + Copy + Send + Sync + 'static>(
     rt: R,
     alloc: Global,
@@ -152,17 +175,9 @@ fn run_trial<R: Threads + Wait + Clock + Copy + Send + Sync + 'static>(
         return Err(give_up(&rt, cell, refusal.into()));
     }
     let mut found = Vec::new(alloc);
-    for stretch in 1..=STRETCHES {
-        match measure_stretch(&rt, alloc, &mut cell, &mut clients, stretch) {
-            Ok(counts) => {
-                if found.push(counts).is_err() {
-                    return Err(Refusal::NoMemory.into());
-                }
-            }
-            Err(fault) => return Err(give_up(&rt, cell, fault)),
-        }
-        cell = reopen(rt, alloc, cell)?;
-    }
+    let ended = run_stretches(rt, alloc, cell, &mut clients, &mut found);
+    drop(clients);
+    let cell = ended?;
     if !cell.close(&rt).are_clocks_kept() {
         return Err(TrialFault::ClockBroken);
     }
