@@ -10,6 +10,7 @@ use cell_run::{Answer, Bytes, Cell, ClientSeat, Config, Journal, OpenGate, Text}
 use std::alloc::Global;
 use std::sync::Wait;
 use std::thread;
+use std::thread::Threads;
 use std::time::Clock;
 
 /// How many records each producer appends.
@@ -80,6 +81,27 @@ fn answers_append(journal: &Journal, place: usize) -> bool {
     }
 }
 
+/// The producers append at the same time, and then a reader reads what they did. Prints what came of each.
+fn append_and_read<R: Threads + Wait + Clock + Print + Sync>(
+    rt: &R,
+    alloc: Global,
+    cell: &mut Cell,
+) -> Result<()> {
+    let mut producers = new_producers(alloc, cell)?;
+    let mut reader = cell.client()?;
+    reader.create(rt, Text::from_str("/log", alloc)?, None)?;
+    let run = |_: usize, producer: &mut Producer| producer.run(rt, alloc);
+    thread::for_each_mut(rt, producers.as_mut_slice(), 4, &run);
+    for producer in producers.as_slice() {
+        let is_read = producer.is_read_by(rt, alloc, &mut reader)?;
+        match &producer.outcome {
+            Ok(_) => println!(rt; "{} records, each read: {is_read}", producer.offsets.len())?,
+            Err(error) => println!(rt; "{error}")?,
+        }
+    }
+    Ok(())
+}
+
 fn main(rt: HostRuntime) -> Result<()> {
     let alloc = rt.alloc();
     println!(rt;
@@ -87,18 +109,7 @@ fn main(rt: HostRuntime) -> Result<()> {
         reads_its_record(rt, alloc)?
     )?;
     let mut cell = Cell::start(rt, alloc, Config::default(), 3, OpenGate)?;
-    let mut producers = new_producers(alloc, &mut cell)?;
-    let mut reader = cell.client()?;
-    reader.create(&rt, Text::from_str("/log", alloc)?, None)?;
-    let run = |_: usize, producer: &mut Producer| producer.run(&rt, alloc);
-    thread::for_each_mut(&rt, producers.as_mut_slice(), 4, &run);
-    for producer in producers.as_slice() {
-        let is_read = producer.is_read_by(&rt, alloc, &mut reader)?;
-        match &producer.outcome {
-            Ok(_) => println!(rt; "{} records, each read: {is_read}", producer.offsets.len())?,
-            Err(error) => println!(rt; "{error}")?,
-        }
-    }
+    append_and_read(&rt, alloc, &mut cell)?;
     let journal = cell.close(&rt);
     let answered = (0..journal.len())
         .filter(|place| answers_append(&journal, *place))

@@ -14,7 +14,7 @@ pub const PRODUCERS: u32 = 2;
 
 /// How many records were answered by the end of a stretch, and how many of these the reader took where they were answered: while it followed the
 /// file, and once it had read all.
-#[derive(Clone, Copy, Debug, PartialEq, Eq)]
+#[derive(Clone, Copy)]
 pub struct Counts {
     pub stretch: u32,
     pub answered: u64,

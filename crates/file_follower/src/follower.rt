@@ -14,7 +14,7 @@ use std::time::Clock;
 pub const CHUNK: u64 = 512;
 
 /// What is kept of a chunk, or what a read of it gave: the round that the read named, and the place behind the last record; 0 where there is none.
-#[derive(Clone, Copy, Debug, PartialEq, Eq)]
+#[derive(Clone, Copy)]
 pub struct ChunkState {
     pub round: u64,
     pub place: u64,
@@ -40,6 +40,26 @@ fn chunk_count(length: u64) -> u64
     (length - 1) / CHUNK + 1
 }
 
+// What is kept of the chunk of this index.
+fn state_of(chunks: &[ChunkState], index: usize) -> ChunkState {
+    match chunks.get(index) {
+        Some(state) => *state,
+        None => ChunkState { round: 0, place: 0 },
+    }
+}
+
+// Keeps this of the chunk of this index, which is the next one if nothing was kept of it.
+fn keep(chunks: &mut Vec<ChunkState>, index: usize, state: ChunkState) -> Result<(), Refusal> {
+    if index < chunks.len() {
+        chunks[index] = state;
+        return Ok(());
+    }
+    match chunks.push(state) {
+        Ok(()) => Ok(()),
+        Err(_) => Err(Refusal::NoMemory),
+    }
+}
+
 impl Follower {
     /// Opens the file again, asks for its length, and then reads on in each chunk below that from the place that it kept, to the chunk's end; where
     /// the read names a greater round than the one that it kept, it goes back to the chunk's beginning.
@@ -61,37 +81,21 @@ impl Follower {
     // Reads on in the chunk of this index, or goes back to its beginning.
     fn follow_chunk<R: Wait + Clock>(&mut self, rt: &R, fd: Fd, index: u64) -> Result<(), Refusal> {
         let first = index.wrapping_mul(CHUNK);
-        let before = self.state(index as usize);
+        let before = state_of(self.chunks.as_slice(), index as usize);
         let from = before.place.min(CHUNK - 1);
         let on = self.read(rt, fd, first.wrapping_add(from), CHUNK - from)?;
         if on.round > before.round {
             // What was taken may have been unsettled, and what came since may lie before the place.
             let whole = self.read(rt, fd, first, CHUNK)?;
-            return self.keep(index as usize, whole);
+            return keep(&mut self.chunks, index as usize, whole);
         }
         let round = before.round;
         let place = before.place.max(from.saturating_add(on.place));
-        self.keep(index as usize, ChunkState { round, place })
-    }
-
-    // What is kept of the chunk of this index.
-    fn state(&self, index: usize) -> ChunkState {
-        match self.chunks.as_slice().get(index) {
-            Some(state) => *state,
-            None => ChunkState { round: 0, place: 0 },
-        }
-    }
-
-    // Keeps this of the chunk of this index, which is the next one if nothing was kept of it.
-    fn keep(&mut self, index: usize, state: ChunkState) -> Result<(), Refusal> {
-        if index < self.chunks.len() {
-            self.chunks[index] = state;
-            return Ok(());
-        }
-        match self.chunks.push(state) {
-            Ok(()) => Ok(()),
-            Err(_) => Err(Refusal::NoMemory),
-        }
+        keep(
+            &mut self.chunks,
+            index as usize,
+            ChunkState { round, place },
+        )
     }
 
     /// Opens the file again, asks for its length, and then reads each chunk below that from its beginning to its end. It misses no record that had

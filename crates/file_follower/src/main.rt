@@ -13,10 +13,10 @@ mod trial_fault;
 
 use crate::clients::{Clients, Counts, take_seats};
 use crate::follower::CHUNK;
-use crate::stretch::{PATH, follow_on, read_all, run_stretch};
-use crate::trial_fault::{TrialFault, of_parking};
+use crate::stretch::{PATH, Reading, read_on, run_stretch};
+use crate::trial_fault::TrialFault;
 use anyhow::Result;
-use cell_run::{Cell, ClientSeat, Config, OpenGate, Policy, Refusal, Text};
+use cell_run::{Cell, ClientSeat, Config, OpenGate, ParkFault, Policy, Refusal, Text};
 use std::alloc::Global;
 use std::sync::Wait;
 use std::thread::Threads;
@@ -73,14 +73,14 @@ fn count_taken<R: Wait + Clock>(
     clients: &mut Clients,
     stretch: u32,
 ) -> Result<Counts, TrialFault> {
-    follow_on(rt, alloc, &mut clients.follower)?;
+    read_on(rt, alloc, &mut clients.follower, Reading::Follows)?;
     let (_, followed) = clients.counts();
     // Behind an answer the reader has seen what producers saw before; what had been answered by then it takes now.
-    read_all(rt, alloc, &mut clients.follower)?;
+    read_on(rt, alloc, &mut clients.follower, Reading::All)?;
     if !clients.has_reader_seen_all() {
         return Err(anyhow::anyhow!("a producer saw more than the reader").into());
     }
-    read_all(rt, alloc, &mut clients.follower)?;
+    read_on(rt, alloc, &mut clients.follower, Reading::All)?;
     let (answered, taken) = clients.counts();
     let counts = Counts {
         stretch,
@@ -125,7 +125,8 @@ fn reopen<R: Threads + Wait + Clock + Copy + Send + 'static>(
 ) -> Result<Cell, TrialFault> {
     let parked = match cell.park(&rt, Vec::new(alloc)) {
         Ok(parked) => parked,
-        Err(fault) => return Err(of_parking(&fault)),
+        Err(ParkFault::Clock(_, _)) => return Err(TrialFault::ClockBroken),
+        Err(ParkFault::NoMemory(_, _)) => return Err(Refusal::NoMemory.into()),
     };
     match parked.resume(rt, OpenGate) {
         Ok((cell, _seats)) => Ok(cell),
@@ -140,6 +141,29 @@ fn give_up<R: Threads + Wait + Clock>(rt: &R, cell: Cell, fault: TrialFault) -> 
 }
 
 // All stretches, with one cell.
+fn run_stretches<R: Threads + Wait + Clock + Copy + Send + Sync + 'static>(
+    rt: R,
+    alloc: Global,
+    cell: Cell,
+    clients: &mut Clients,
+    found: &mut Vec<Counts>,
+) -> Result<Cell, TrialFault> {
+    let mut cell = cell;
+    for stretch in 1..=STRETCHES {
+        match measure_stretch(&rt, alloc, &mut cell, clients, stretch) {
+            Ok(counts) => {
+                if found.push(counts).is_err() {
+                    return Err(Refusal::NoMemory.into());
+                }
+            }
+            Err(fault) => return Err(give_up(&rt, cell, fault)),
+        }
+        cell = reopen(rt, alloc, cell)?;
+    }
+    Ok(cell)
+}
+
+// A trial, with this clock bound. What owns clients or a cell has few ways out: a drop at the end of a scope is proved anew at each place.
 fn run_trial<R: Threads + Wait + Clock + Copy + Send + Sync + 'static>(
     rt: R,
     alloc: Global,
@@ -151,17 +175,9 @@ fn run_trial<R: Threads + Wait + Clock + Copy + Send + Sync + 'static>(
         return Err(give_up(&rt, cell, refusal.into()));
     }
     let mut found = Vec::new(alloc);
-    for stretch in 1..=STRETCHES {
-        match measure_stretch(&rt, alloc, &mut cell, &mut clients, stretch) {
-            Ok(counts) => {
-                if found.push(counts).is_err() {
-                    return Err(Refusal::NoMemory.into());
-                }
-            }
-            Err(fault) => return Err(give_up(&rt, cell, fault)),
-        }
-        cell = reopen(rt, alloc, cell)?;
-    }
+    let ended = run_stretches(rt, alloc, cell, &mut clients, &mut found);
+    drop(clients);
+    let cell = ended?;
     if !cell.close(&rt).are_clocks_kept() {
         return Err(TrialFault::ClockBroken);
     }

@@ -25,11 +25,7 @@ pub struct Producer {
 
 impl Producer {
     /// Appends so many records.
-    pub fn produce<R: Wait + Clock>(&mut self, rt: &R, alloc: Global, path: &str, records: u32) {
-        self.outcome = self.append_all(rt, alloc, path, records);
-    }
-
-    fn append_all<R: Wait + Clock>(
+    pub fn append_all<R: Wait + Clock>(
         &mut self,
         rt: &R,
         alloc: Global,

@@ -73,7 +73,9 @@ fn produce_all<R: Threads + Wait + Clock + Sync>(
     producers: &mut [Producer],
     done: &AtomicU64,
 ) {
-    let produce = |_: usize, producer: &mut Producer| producer.produce(rt, alloc, PATH, RECORDS);
+    let produce = |_: usize, producer: &mut Producer| {
+        producer.outcome = producer.append_all(rt, alloc, PATH, RECORDS);
+    };
     thread::for_each_mut(rt, producers, PRODUCERS as usize, &produce);
     done.store(1, Ordering::SeqCst);
 }
@@ -95,29 +97,26 @@ pub fn run_stretch<R: Threads + Wait + Clock + Sync>(
     followed
 }
 
-/// Follows the file to its end, once more where nobody could serve.
-pub fn follow_on<R: Wait + Clock>(
-    rt: &R,
-    alloc: Global,
-    follower: &mut Follower,
-) -> Result<(), Refusal> {
-    for _ in 0..MOST_TRIES {
-        match follower.follow(rt, alloc, PATH) {
-            Ok(()) => return Ok(()),
-            Err(refusal) => pass(rt, refusal)?,
-        }
-    }
-    Err(Refusal::Unknown)
+/// How a reader reads on.
+#[derive(Clone, Copy)]
+pub enum Reading {
+    Follows,
+    All,
 }
 
-/// Reads all, once more where nobody could serve.
-pub fn read_all<R: Wait + Clock>(
+/// Follows the file to its end, or reads all, once more where nobody could serve.
+pub fn read_on<R: Wait + Clock>(
     rt: &R,
     alloc: Global,
     follower: &mut Follower,
+    reading: Reading,
 ) -> Result<(), Refusal> {
     for _ in 0..MOST_TRIES {
-        match follower.read_all(rt, alloc, PATH) {
+        let outcome = match reading {
+            Reading::Follows => follower.follow(rt, alloc, PATH),
+            Reading::All => follower.read_all(rt, alloc, PATH),
+        };
+        match outcome {
             Ok(()) => return Ok(()),
             Err(refusal) => pass(rt, refusal)?,
         }

@@ -8,7 +8,7 @@ use crate::record::{SIZE, record_at};
 use std::alloc::AllocError;
 
 /// A record: its id, and the offset at which it stands.
-#[derive(Clone, Copy, Debug, PartialEq, Eq)]
+#[derive(Clone, Copy)]
 pub struct Taken {
     pub id: u32,
     pub offset: u64,

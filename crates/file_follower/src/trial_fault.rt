@@ -1,7 +1,7 @@
 //! Why a trial was given up.
 
 use anyhow::Error;
-use cell_run::{ParkFault, Refusal};
+use cell_run::Refusal;
 
 /// Why a trial was given up.
 #[derive(Drop)]
@@ -23,13 +23,5 @@ impl From<Refusal> for TrialFault {
 impl From<Error> for TrialFault {
     fn from(error: Error) -> TrialFault {
         TrialFault::Failed(error)
-    }
-}
-
-/// Why a cell was not parked.
-pub fn of_parking(fault: &ParkFault) -> TrialFault {
-    match fault {
-        ParkFault::Clock(_, _) => TrialFault::ClockBroken,
-        ParkFault::NoMemory(_, _) => Refusal::NoMemory.into(),
     }
 }

@@ -170,6 +170,26 @@ impl PlainCell {
         })
     }
 
+    /// Adds the bytes of a part of a chunk to these, and gives how many there are; none where nothing of the chunk is to be read, or it isn't there.
+    fn read_part(
+        file: &mut PlainFile,
+        index: u64,
+        start: u64,
+        wanted: u64,
+        read: &mut Vec<u8>,
+    ) -> Result<Option<u64>, NoMemory> {
+        if wanted == 0 {
+            return Ok(None);
+        }
+        let Some(held) = file.bytes(index)? else {
+            return Ok(None);
+        };
+        file.tell(index)?;
+        let part = slice_of(held.as_slice(), start as usize, wanted as usize);
+        read.extend_from_slice(part)?;
+        Ok(Some(part.len() as u64))
+    }
+
     /// A read, chunk by chunk, up to the first that has fewer bytes.
     fn read(&mut self, fd: Fd, offset: u64, count: u64) -> Result<Answer, NoMemory> {
         let (alloc, size) = (self.alloc, self.size);
@@ -185,20 +205,12 @@ impl PlainCell {
         let mut rounds = RoundList::empty(alloc);
         for index in first..first.saturating_add(MOST_PARTS) {
             let wanted = size.saturating_sub(start).min(left);
-            let held = if wanted == 0 {
-                None
-            } else {
-                file.bytes(index)?
-            };
-            let Some(held) = held else {
+            let Some(found) = Self::read_part(file, index, start, wanted, &mut read)? else {
                 break;
             };
-            file.tell(index)?;
-            let part = slice_of(held.as_slice(), start as usize, wanted as usize);
-            read.extend_from_slice(part)?;
             rounds.push(1)?;
             left = left.saturating_sub(wanted);
-            if (part.len() as u64) < wanted {
+            if found < wanted {
                 break;
             }
             start = 0;

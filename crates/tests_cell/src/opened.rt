@@ -125,6 +125,14 @@ fn lists_one(master: &mut DiskMaster, alloc: Global, name: &str) -> Result<bool,
     })
 }
 
+/// Whether a Mkdir is answered, and none of which the disk takes no record, for which the master goes down.
+fn makes_one_of_two(master: &mut DiskMaster, alloc: Global) -> Result<bool, NoMemory> {
+    let made = make(master, alloc, 1, "/d")?;
+    master.arm(0);
+    let lost = make(master, alloc, 2, "/e")?;
+    Ok(made == Some(Answer::Done) && lost.is_none() && !master.is_up())
+}
+
 /// Whether a directory that was answered is there once its master was opened again, and one that its disk took no record of isn't.
 fn outlasts_a_stop(alloc: Global) -> Result<bool, NoMemory> {
     let Some(disk) = new_disk(alloc) else {
@@ -134,17 +142,15 @@ fn outlasts_a_stop(alloc: Global) -> Result<bool, NoMemory> {
         return Ok(false);
     };
     let mut master = first;
-    let made = make(&mut master, alloc, 1, "/d")?;
-    master.arm(0);
-    let lost = make(&mut master, alloc, 2, "/e")?;
-    let is_down = !master.is_up();
+    let is_one_made = makes_one_of_two(&mut master, alloc);
     let disk = master.into_disk().stop(Torn::Old);
     let Some(second) = open_master(alloc, FuseDisk::new(disk)) else {
         return Ok(false);
     };
     let mut again = second;
-    let is_listed = lists_one(&mut again, alloc, "d/")?;
-    Ok(made == Some(Answer::Done) && lost.is_none() && is_down && is_listed)
+    let is_listed = lists_one(&mut again, alloc, "d/");
+    drop(again);
+    Ok(is_one_made? && is_listed?)
 }
 
 #[test]

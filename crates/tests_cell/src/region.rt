@@ -83,8 +83,8 @@ fn are_kept(alloc: Global) -> Result<bool, AllocError> {
     Ok(end == Ok(()) && count_done(first.as_str()) > 100 && second.as_str() == first.as_str())
 }
 
-/// Whether 204 directories with long names in common have room in a region of 131,072 bytes.
-fn have_room(alloc: Global) -> Result<bool, AllocError> {
+/// Lines for 204 directories with long names in common.
+fn deep_mkdirs(alloc: Global) -> Result<String, AllocError> {
     let part = format!(in alloc; "/{:a<255}", "")?;
     let mut front = String::new(alloc);
     let mut script = String::new(alloc);
@@ -96,6 +96,12 @@ fn have_room(alloc: Global) -> Result<bool, AllocError> {
     front.push_str("/")?;
     let more = mkdirs(alloc, front.as_str(), 200)?;
     script.push_str(more.as_str())?;
+    Ok(script)
+}
+
+/// Whether they have room in a region of 131,072 bytes.
+fn have_room(alloc: Global) -> Result<bool, AllocError> {
+    let script = deep_mkdirs(alloc)?;
     let (printed, end) = outcome(alloc, 131_072, script.as_str());
     let lines = printed.as_str().lines().count();
     Ok(end == Ok(()) && lines == 204 && count_done(printed.as_str()) == 204)

@@ -9,13 +9,13 @@ use std::alloc::Global;
 
 /// How many records were answered to stand somewhere where the master begins again after so many events. None: an append has no answer,
 /// or one that none may have, two records are to stand at one place, or one isn't read back.
-fn records_over(
+fn records_of(
     alloc: Global,
     row: &Row,
     recorded: &Recorded,
     place: usize,
+    watched: &mut Watched,
 ) -> Result<Option<usize>, ScriptFault> {
-    let mut watched = Watched::new(alloc, row)?;
     let (before, after) = recorded
         .events
         .as_slice()
@@ -35,6 +35,19 @@ fn records_over(
     } else {
         None
     })
+}
+
+/// The same on a cell of its own, which has few ways out: a drop at the end of a scope is proved anew at each place.
+fn records_over(
+    alloc: Global,
+    row: &Row,
+    recorded: &Recorded,
+    place: usize,
+) -> Result<Option<usize>, ScriptFault> {
+    let mut watched = Watched::new(alloc, row)?;
+    let count = records_of(alloc, row, recorded, place, &mut watched);
+    drop(watched);
+    count
 }
 
 /// The sum of these counts over restarts after every so many events, or the first place at which something is wrong.

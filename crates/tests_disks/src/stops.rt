@@ -29,7 +29,7 @@ const CALLS: u64 = 18;
 const OPENING_CALLS: u64 = 10;
 
 // What a run came to: whether the last call succeeded, and the first four bytes.
-#[derive(Clone, Copy, Debug, PartialEq, Eq)]
+#[derive(Clone, Copy)]
 struct RunResult {
     done: bool,
     bytes: [u8; 4],
@@ -91,7 +91,7 @@ fn stopped_twice(
 }
 
 // What every way to stop comes to.
-#[derive(Clone, Copy, Debug, PartialEq, Eq)]
+#[derive(Clone, Copy)]
 struct Outcomes {
     whole: bool,
     done: bool,

@@ -1,10 +1,18 @@
-//! Small cells, and clocks that are odd.
+//! Small cells, clocks that are odd, and calls of several tests.
 
+ghost use Rattle.std.specs.Prelude.{◌≡◌};
+
+use cell_run::cell::{Cell, ClientSeat};
+use gfs_types::answer::Answer;
+use gfs_types::call::Call;
 use gfs_types::config::Config;
-use std::io;
+use gfs_types::lists::Text;
+use gfs_types::refusal::Refusal;
+use std::alloc::Global;
 use std::sync::Wait;
-use std::thread::Threads;
+use std::thread::{JoinHandle, Threads};
 use std::time::{Clock, Duration};
+use std::{io, thread};
 
 /// The settings of a cell of small chunks, with three replicas of each, where no attempt is over soon.
 pub fn small() -> Config {
@@ -53,4 +61,37 @@ impl<R: Clock> Clock for OddClock<R> {
     fn since_1970(&self) -> io::Result<Duration> {
         self.rt.since_1970()
     }
+}
+
+/// Makes a directory.
+pub fn mkdir<R: Wait + Clock>(
+    rt: &R,
+    alloc: Global,
+    seat: &mut ClientSeat,
+    name: &str,
+) -> Result<(), Refusal>
+    ensures { seat.new.cell ≡ seat.old.cell }
+{
+    match Text::from_str(name, alloc) {
+        Ok(path) => match seat.call(rt, Call::Mkdir(path)) {
+            Ok(Answer::Done) => Ok(()),
+            Ok(Answer::Refused(refusal)) => Err(refusal),
+            Ok(_) => Err(Refusal::Unknown),
+            Err(refusal) => Err(refusal),
+        },
+        Err(_) => Err(Refusal::NoMemory),
+    }
+}
+
+/// A client's call on a thread of its own, which waits where its cell is deaf; then the client is dropped. Tells whether it was refused since the cell closes.
+pub fn waiting_call<R: Threads + Wait + Clock + Copy + Send + 'static>(
+    rt: R,
+    alloc: Global,
+    cell: &mut Cell,
+) -> Option<JoinHandle<bool>>
+    ensures { cell.new.of ≡ cell.old.of }
+{
+    let mut seat = cell.client().ok()?;
+    let job = move || mkdir(&rt, alloc, &mut seat, "/d") == Err(Refusal::Closed);
+    thread::spawn(&rt, job).ok()
 }

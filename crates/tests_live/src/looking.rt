@@ -3,10 +3,11 @@
 use crate::cells::{hasty, small};
 use bytes::Bytes;
 use cell_looks::{LookFault, Looks, regions_of_chunk};
-use cell_run::cell::Cell;
+use cell_run::cell::{Cell, ClientSeat};
 use cell_run::{Parked, Retention};
 use cell_seats::gate::OpenGate;
-use gfs_types::ids::FileId;
+use cell_seats::journal::Journal;
+use gfs_types::ids::{FileId, Handle};
 use gfs_types::lists::Text;
 use gfs_types::path::Path;
 use history_lines::print_history;
@@ -23,7 +24,7 @@ const RECORDS: usize = 10;
 
 /// Up to where the first chunk and the second one are determined, the first one also by its handle and the journal alone, and how many replicas of it are
 /// stored.
-#[derive(Clone, Copy, PartialEq, Eq)]
+#[derive(Clone, Copy)]
 struct Shown {
     first: u64,
     second: u64,
@@ -31,17 +32,24 @@ struct Shown {
     replicas: usize,
 }
 
-// A new client of the cell appends its records.
-fn append_all<R: Wait + Clock>(rt: &R, alloc: Global, cell: &mut Cell) -> Option<()> {
-    let Ok(mut seat) = cell.client() else {
-        return None;
-    };
+fn append_records<R: Wait + Clock>(rt: &R, alloc: Global, seat: &mut ClientSeat) -> Option<()> {
     let path = Text::from_str("/log", alloc).ok()?;
     let fd = seat.open(rt, path).ok()?;
     for _ in 0..RECORDS {
         seat.append(rt, fd, Bytes::from_static(b"a record")).ok()?;
     }
     Some(())
+}
+
+// A new client of the cell appends its records. What owns a seat, a cell or looks has few ways out: a drop at the end of a scope is proved anew at each
+// place.
+fn append_all<R: Wait + Clock>(rt: &R, alloc: Global, cell: &mut Cell) -> Option<()> {
+    let Ok(mut seat) = cell.client() else {
+        return None;
+    };
+    let done = append_records(rt, alloc, &mut seat);
+    drop(seat);
+    done
 }
 
 // Makes the file.
@@ -76,19 +84,39 @@ fn determined_to(alloc: Global, looks: &Looks<'_>, file: FileId, index: u64) -> 
     sole_end(regions.as_slice())
 }
 
-fn look_at(alloc: Global, parked: &Parked) -> Option<Shown> {
-    let looks = Looks::at(alloc, parked).ok()?;
+fn file_of(alloc: Global, looks: &Looks<'_>) -> Option<FileId> {
     let path = Path::parse("/log", alloc).ok()?;
-    let file = looks.file(&path)?;
+    looks.file(&path)
+}
+
+// The file's first chunk, and how many replicas of it are stored.
+fn first_chunk(alloc: Global, looks: &Looks<'_>, file: FileId) -> Option<(Handle, usize)> {
     let replicas = looks.replicas(alloc, file, 0).ok()?;
     let (handle, replicas) = replicas?;
-    let regions = regions_of_chunk(alloc, parked.journal(), handle).ok()?;
+    Some((handle, replicas.len()))
+}
+
+fn determined_by_handle(alloc: Global, journal: &Journal, handle: Handle) -> Option<u64> {
+    let regions = regions_of_chunk(alloc, journal, handle).ok()?;
+    sole_end(regions.as_slice())
+}
+
+fn shown_by(alloc: Global, looks: &Looks<'_>, journal: &Journal) -> Option<Shown> {
+    let file = file_of(alloc, looks)?;
+    let (handle, replicas) = first_chunk(alloc, looks, file)?;
     Some(Shown {
-        first: determined_to(alloc, &looks, file, 0)?,
-        second: determined_to(alloc, &looks, file, 1)?,
-        by_handle: sole_end(regions.as_slice())?,
-        replicas: replicas.len(),
+        first: determined_to(alloc, looks, file, 0)?,
+        second: determined_to(alloc, looks, file, 1)?,
+        by_handle: determined_by_handle(alloc, journal, handle)?,
+        replicas,
     })
+}
+
+fn look_at(alloc: Global, parked: &Parked) -> Option<Shown> {
+    let looks = Looks::at(alloc, parked).ok()?;
+    let shown = shown_by(alloc, &looks, parked.journal());
+    drop(looks);
+    shown
 }
 
 #[tactic(auto, using(crate::proofs::Parkings::none_named))]
@@ -96,30 +124,42 @@ fn park<R: Threads + Wait + Clock>(rt: &R, alloc: Global, cell: Cell) -> Option<
     cell.park(rt, Vec::new(alloc)).ok()
 }
 
-// What is shown after a client's records, and after those of another one behind a parking.
-fn shown_twice<R: Threads + Wait + Clock + Copy + Send + 'static>(
+// A cell that is parked behind a client's records.
+fn parked_behind_records<R: Threads + Wait + Clock>(
+    rt: &R,
+    alloc: Global,
+    cell: Cell,
+) -> Option<Parked> {
+    let mut cell = cell;
+    append_all(rt, alloc, &mut cell)?;
+    park(rt, alloc, cell)
+}
+
+// A cell that was parked twice, each time behind a client's records, and what was shown when it was parked first.
+fn parked_twice<R: Threads + Wait + Clock + Copy + Send + 'static>(
     rt: R,
     alloc: Global,
     cell: Cell,
-) -> Option<(Shown, Shown)> {
+) -> Option<(Shown, Parked)> {
     let mut cell = cell;
     create(&rt, alloc, &mut cell)?;
-    append_all(&rt, alloc, &mut cell)?;
-    let parked = park(&rt, alloc, cell)?;
-    let first = look_at(alloc, &parked)?;
-    let Ok((mut cell, _none)) = parked.resume(rt, OpenGate) else {
+    let parked = parked_behind_records(&rt, alloc, cell)?;
+    let shown = look_at(alloc, &parked);
+    let Ok((cell, _none)) = parked.resume(rt, OpenGate) else {
         return None;
     };
-    append_all(&rt, alloc, &mut cell)?;
-    let parked = park(&rt, alloc, cell)?;
-    Some((first, look_at(alloc, &parked)?))
+    let parked = parked_behind_records(&rt, alloc, cell)?;
+    Some((shown?, parked))
 }
 
 #[test]
 fn records_are_determined(rt: HostRuntime) -> Result<(), Fail> {
     let alloc = rt.alloc();
     let cell = Cell::start(rt, alloc, small(), 3, OpenGate)?;
-    let Some((first, second)) = shown_twice(rt, alloc, cell) else {
+    let Some((first, parked)) = parked_twice(rt, alloc, cell) else {
+        return Err(Fail::new("not parked"));
+    };
+    let Some(second) = look_at(alloc, &parked) else {
         return Err(Fail::new("nothing is shown"));
     };
     assert!(rt; first.first == 64);
@@ -133,28 +173,11 @@ fn records_are_determined(rt: HostRuntime) -> Result<(), Fail> {
     Ok(())
 }
 
-// A cell that was parked twice, each time behind a client's records.
-fn parked_twice<R: Threads + Wait + Clock + Copy + Send + 'static>(
-    rt: R,
-    alloc: Global,
-    cell: Cell,
-) -> Option<Parked> {
-    let mut cell = cell;
-    create(&rt, alloc, &mut cell)?;
-    append_all(&rt, alloc, &mut cell)?;
-    let parked = park(&rt, alloc, cell)?;
-    let Ok((mut cell, _none)) = parked.resume(rt, OpenGate) else {
-        return None;
-    };
-    append_all(&rt, alloc, &mut cell)?;
-    park(&rt, alloc, cell)
-}
-
 #[test]
 fn calls_of_both_journals_are_written(rt: HostRuntime) -> Result<(), Fail> {
     let alloc = rt.alloc();
     let cell = Cell::start(rt, alloc, small(), 3, OpenGate)?;
-    let Some(parked) = parked_twice(rt, alloc, cell) else {
+    let Some((_, parked)) = parked_twice(rt, alloc, cell) else {
         return Err(Fail::new("not parked"));
     };
     let mut out = Vec::new(alloc);
@@ -170,9 +193,12 @@ fn calls_of_both_journals_are_written(rt: HostRuntime) -> Result<(), Fail> {
 // Why the regions of a file that was let go in part are not told.
 fn fault_of(alloc: Global, parked: &Parked) -> Option<LookFault> {
     let looks = Looks::at(alloc, parked).ok()?;
-    let path = Path::parse("/log", alloc).ok()?;
-    let file = looks.file(&path)?;
-    looks.regions(alloc, file, 0).err()
+    let fault = match file_of(alloc, &looks) {
+        Some(file) => looks.regions(alloc, file, 0).err(),
+        None => None,
+    };
+    drop(looks);
+    fault
 }
 
 #[test]
@@ -183,11 +209,8 @@ fn a_part_of_a_history_tells_no_regions(rt: HostRuntime) -> Result<(), Fail> {
     if create(&rt, alloc, &mut cell).is_none() {
         return Err(Fail::new("no file"));
     }
-    if append_all(&rt, alloc, &mut cell).is_none() {
-        return Err(Fail::new("no records"));
-    }
-    let Some(parked) = park(&rt, alloc, cell) else {
-        return Err(Fail::new("not parked"));
+    let Some(parked) = parked_behind_records(&rt, alloc, cell) else {
+        return Err(Fail::new("no records, or not parked"));
     };
     assert!(rt; fault_of(alloc, &parked) == Some(LookFault::Partial));
     Ok(())

@@ -2,20 +2,16 @@
 
 ghost use Rattle.std.specs.Prelude.{◌≡◌};
 
-use crate::cells::{OddClock, small};
+use crate::cells::{OddClock, mkdir, small, waiting_call};
 use cell_run::ParkFault;
 use cell_run::cell::{Cell, ClientSeat};
 use cell_seats::gate::OpenGate;
 use cell_seats::mailboxes::Policy;
-use gfs_types::answer::Answer;
-use gfs_types::call::Call;
-use gfs_types::lists::Text;
-use gfs_types::refusal::Refusal;
 use std::alloc::Global;
 use std::sync::Wait;
 use std::test::*;
 use std::thread;
-use std::thread::{JoinHandle, Threads};
+use std::thread::Threads;
 use std::time::{Clock, Duration};
 
 const NAMES: [&str; 5] = ["/a", "/b", "/c", "/d", "/e"];
@@ -29,24 +25,6 @@ enum Outcome {
     RunsOn(bool),
     /// Clocks were not kept, and there are so many steps in the journal, and so many seats came back.
     Closed(usize, usize),
-}
-
-fn mkdir<R: Wait + Clock>(
-    rt: &R,
-    alloc: Global,
-    seat: &mut ClientSeat,
-    name: &str,
-) -> Result<(), Refusal>
-    ensures { seat.new.cell ≡ seat.old.cell }
-{
-    match Text::from_str(name, alloc) {
-        Ok(path) => match seat.call(rt, Call::Mkdir(path)) {
-            Ok(Answer::Done) => Ok(()),
-            Ok(_) => Err(Refusal::Unknown),
-            Err(refusal) => Err(refusal),
-        },
-        Err(_) => Err(Refusal::NoMemory),
-    }
 }
 
 // Makes each of the directories, and tells how many were made.
@@ -157,19 +135,6 @@ fn a_cell_of_odd_clocks_is_closed(rt: HostRuntime) -> Result<(), Fail> {
     };
     assert!(rt; is_closed);
     Ok(())
-}
-
-// A call that waits on a thread of its own, for its cell is deaf. Tells whether it was refused since the cell closes.
-fn waiting_call<R: Threads + Wait + Clock + Copy + Send + 'static>(
-    rt: R,
-    alloc: Global,
-    cell: &mut Cell,
-) -> Option<JoinHandle<bool>>
-    ensures { cell.new.of ≡ cell.old.of }
-{
-    let mut seat = cell.client().ok()?;
-    let job = move || mkdir(&rt, alloc, &mut seat, "/d") == Err(Refusal::Closed);
-    thread::spawn(&rt, job).ok()
 }
 
 // Parks a cell while a client whose seat is not handed in waits for an answer. Tells whether that was refused.

@@ -1,6 +1,6 @@
 //! What a running cell itself refuses.
 
-use crate::cells::{OddClock, hasty, small};
+use crate::cells::{OddClock, hasty, mkdir, small, waiting_call};
 use bytes::Bytes;
 use cell_run::cell::{Cell, ClientSeat};
 use cell_seats::gate::OpenGate;
@@ -12,20 +12,7 @@ use std::alloc::Global;
 use std::sync::Wait;
 use std::test::*;
 use std::thread;
-use std::thread::{JoinHandle, Threads};
 use std::time::{Clock, Duration};
-
-fn mkdir<R: Wait + Clock>(
-    rt: &R,
-    alloc: Global,
-    seat: &mut ClientSeat,
-    name: &str,
-) -> Result<(), Refusal> {
-    match Text::from_str(name, alloc) {
-        Ok(path) => seat.mkdir(rt, path),
-        Err(_) => Err(Refusal::NoMemory),
-    }
-}
 
 // How many of a hundred calls were refused since the journal is full, if none after the first such was not.
 fn full_calls<R: Wait + Clock>(rt: &R, alloc: Global, cell: &mut Cell) -> Option<u64> {
@@ -111,17 +98,6 @@ fn there_are_64_clients(rt: HostRuntime) -> Result<(), Fail> {
     drop(cell.close(&rt));
     assert!(rt; made == 64);
     Ok(())
-}
-
-// A call that waits on a thread of its own; then its client is dropped. Tells whether it was refused since the cell closes.
-fn waiting_call<R: Threads + Wait + Clock + Copy + Send + 'static>(
-    rt: R,
-    alloc: Global,
-    cell: &mut Cell,
-) -> Option<JoinHandle<bool>> {
-    let mut seat = cell.client().ok()?;
-    let job = move || mkdir(&rt, alloc, &mut seat, "/d") == Err(Refusal::Closed);
-    thread::spawn(&rt, job).ok()
 }
 
 #[test]

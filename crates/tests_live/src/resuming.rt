@@ -3,13 +3,11 @@
 ghost use Rattle.std.specs.Prelude.{◌≡◌, ◌∷◌, [], All, IfSome};
 ghost use Rattle.tests_live.specs.ParkFaults.{KeepsName};
 
-use crate::cells::{OddClock, small};
+use crate::cells::{OddClock, mkdir, small};
 use cell_run::ParkFault;
 use cell_run::cell::{Cell, ClientSeat, StartFault};
 use cell_run::parked::Parked;
 use cell_seats::gate::OpenGate;
-use gfs_types::answer::Answer;
-use gfs_types::call::Call;
 use gfs_types::config::Config;
 use gfs_types::lists::Text;
 use gfs_types::refusal::Refusal;
@@ -30,25 +28,6 @@ struct Seated {
     cell: Cell,
     seat: ClientSeat,
     ghost of: { seat.cell.name ≡ cell.of.name },
-}
-
-fn mkdir<R: Wait + Clock>(
-    rt: &R,
-    alloc: Global,
-    seat: &mut ClientSeat,
-    name: &str,
-) -> Result<(), Refusal>
-    ensures { seat.new.cell ≡ seat.old.cell }
-{
-    match Text::from_str(name, alloc) {
-        Ok(path) => match seat.call(rt, Call::Mkdir(path)) {
-            Ok(Answer::Done) => Ok(()),
-            Ok(Answer::Refused(refusal)) => Err(refusal),
-            Ok(_) => Err(Refusal::Unknown),
-            Err(refusal) => Err(refusal),
-        },
-        Err(_) => Err(Refusal::NoMemory),
-    }
 }
 
 // A new cell's first seat.

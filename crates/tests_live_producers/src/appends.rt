@@ -142,10 +142,9 @@ fn kept_while_clients_leave<R: Threads + Wait + Clock + Copy + Sync + Drop>(
 ) -> Option<usize> {
     let mut reader = cell.client().ok()?;
     let mut all = producers_of(rt, alloc, cell, &mut reader, 2)?;
-    if leave_meanwhile(rt, alloc, cell, all.as_mut_slice()) < LEAST {
-        return None;
-    }
-    count_kept(rt, alloc, &mut reader, all.as_slice())
+    let left = leave_meanwhile(rt, alloc, cell, all.as_mut_slice());
+    let count = count_kept(rt, alloc, &mut reader, all.as_slice());
+    if left < LEAST { None } else { count }
 }
 
 #[test]

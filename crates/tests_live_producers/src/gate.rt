@@ -14,12 +14,18 @@ use std::thread;
 use std::thread::Threads;
 use std::time::Clock;
 
+/// Whether the other reader was answered, and how many reads were held.
+#[derive(Drop)]
+struct Signals {
+    answered: AtomicU64,
+    held: AtomicU64,
+}
+
 /// Holds the reads of server 1 until `answered` is set, at most for so many milliseconds; then it sets it to 2 itself. Counts them.
 #[derive(Drop)]
 struct ReadGate<R: Clock + Copy + Drop> {
     clock: R,
-    answered: Arc<AtomicU64>,
-    held: Arc<AtomicU64>,
+    signals: Arc<Signals>,
 }
 
 const RECORD: [u8; 8] = *b"a record";
@@ -28,8 +34,7 @@ impl<R: Clock + Copy + Drop> Clone for ReadGate<R> {
     fn clone(&self) -> Result<ReadGate<R>, AllocError> {
         Ok(ReadGate {
             clock: self.clock,
-            answered: Arc::try_clone(&self.answered)?,
-            held: Arc::try_clone(&self.held)?,
+            signals: Arc::try_clone(&self.signals)?,
         })
     }
 }
@@ -39,10 +44,10 @@ impl<R: Clock + Copy + Drop> Gate for ReadGate<R> {
         if node != Node::Server(ServerId(1)) || kind != Kind::Message(MessageKind::Read) {
             return;
         }
-        self.held.fetch_add(1, Ordering::SeqCst);
-        wait_for(&self.clock, &self.answered, 1);
-        if self.answered.load(Ordering::SeqCst) == 0 {
-            self.answered.store(2, Ordering::SeqCst);
+        self.signals.held.fetch_add(1, Ordering::SeqCst);
+        wait_for(&self.clock, &self.signals.answered, 1);
+        if self.signals.answered.load(Ordering::SeqCst) == 0 {
+            self.signals.answered.store(2, Ordering::SeqCst);
         }
     }
 }
@@ -74,19 +79,13 @@ struct Reader {
 
 impl Reader {
     // The first one reads where reads are held. Once one is, the second one reads elsewhere, and then lets the first one's pass.
-    fn read<R: Wait + Clock>(
-        &mut self,
-        rt: &R,
-        alloc: Global,
-        place: usize,
-        (held, answered): (&AtomicU64, &AtomicU64),
-    ) {
+    fn read<R: Wait + Clock>(&mut self, rt: &R, alloc: Global, place: usize, signals: &Signals) {
         if place == 0 {
             self.has_read = reads(rt, alloc, &mut self.seat, "/a");
         } else {
-            wait_for(rt, held, 1);
+            wait_for(rt, &signals.held, 1);
             let has_read = reads(rt, alloc, &mut self.seat, "/b");
-            let before = answered.swap(1, Ordering::SeqCst);
+            let before = signals.answered.swap(1, Ordering::SeqCst);
             self.has_read = has_read && before == 0;
         }
     }
@@ -115,8 +114,7 @@ fn both_read<R: Threads + Wait + Clock + Sync>(
     rt: &R,
     alloc: Global,
     cell: &mut Cell,
-    held: &AtomicU64,
-    answered: &AtomicU64,
+    signals: &Signals,
 ) -> bool {
     let Some(mut readers) = new_readers(rt, alloc, cell) else {
         return false;
@@ -125,7 +123,7 @@ fn both_read<R: Threads + Wait + Clock + Sync>(
         rt,
         readers.as_mut_slice(),
         2,
-        &|place, reader| reader.read(rt, alloc, place, (held, answered)),
+        &|place, reader| reader.read(rt, alloc, place, signals),
     );
     readers.iter().all(|reader| reader.has_read)
 }
@@ -133,17 +131,19 @@ fn both_read<R: Threads + Wait + Clock + Sync>(
 #[test]
 fn one_server_is_held_and_another_answers(rt: HostRuntime) -> Result<(), Fail> {
     let alloc = rt.alloc();
-    let answered = Arc::new(alloc, AtomicU64::new(0))?;
-    let held = Arc::new(alloc, AtomicU64::new(0))?;
+    let signals = Signals {
+        answered: AtomicU64::new(0),
+        held: AtomicU64::new(0),
+    };
+    let signals = Arc::new(alloc, signals)?;
     let gate = ReadGate {
         clock: rt,
-        answered: Arc::try_clone(&answered)?,
-        held: Arc::try_clone(&held)?,
+        signals: Arc::try_clone(&signals)?,
     };
     let mut cell = Cell::start(rt, alloc, small(1), 2, gate)?;
-    let have_read = both_read(&rt, alloc, &mut cell, &held, &answered);
+    let have_read = both_read(&rt, alloc, &mut cell, &signals);
     drop(cell.close(&rt));
     assert!(rt; have_read);
-    assert!(rt; held.load(Ordering::SeqCst) == 1);
+    assert!(rt; signals.held.load(Ordering::SeqCst) == 1);
     Ok(())
 }

@@ -18,7 +18,7 @@ const MOST_LOOKS: u64 = 50;
 const PAUSE_MS: u64 = 100;
 
 /// A record and the offset at which it was answered to stand.
-#[derive(Clone, Copy, Debug, PartialEq, Eq)]
+#[derive(Clone, Copy)]
 pub struct Stored {
     pub number: u64,
     pub offset: u64,
@@ -120,8 +120,17 @@ pub fn look<R: Wait + Clock>(
     }
 }
 
-/// So many producers, with a hundred thousand numbers of records for each.
-fn new_producers(alloc: Global, cell: &mut Cell, count: u64) -> Option<Vec<Producer>> {
+/// So many producers, with a hundred thousand numbers of records for each, and with a file that all of them append to, which the reader makes.
+pub fn producers_of<R: Wait + Clock>(
+    rt: &R,
+    alloc: Global,
+    cell: &mut Cell,
+    reader: &mut ClientSeat,
+    count: u64,
+) -> Option<Vec<Producer>> {
+    if !create(rt, alloc, reader, "/log") {
+        return None;
+    }
     let mut all = Vec::new(alloc);
     for number in 0..count {
         let producer = Producer {
@@ -133,21 +142,6 @@ fn new_producers(alloc: Global, cell: &mut Cell, count: u64) -> Option<Vec<Produ
         all.push(producer).ok()?;
     }
     Some(all)
-}
-
-/// So many producers, with a file that all of them append to, which the reader makes.
-pub fn producers_of<R: Wait + Clock>(
-    rt: &R,
-    alloc: Global,
-    cell: &mut Cell,
-    reader: &mut ClientSeat,
-    count: u64,
-) -> Option<Vec<Producer>> {
-    if create(rt, alloc, reader, "/log") {
-        new_producers(alloc, cell, count)
-    } else {
-        None
-    }
 }
 
 /// All producers append at the same time, each on a thread of its own.
@@ -176,25 +170,32 @@ pub fn count_kept<R: Wait + Clock>(
     reader: &mut ClientSeat,
     producers: &[Producer],
 ) -> Option<usize> {
-    let answered = count_answered(producers)?;
-    let offsets = count_offsets(alloc, producers)?;
-    if offsets == answered && are_read_back(rt, alloc, reader, producers) {
+    let answered = count_answered(alloc, producers)?;
+    if are_read_back(rt, alloc, reader, producers) {
         Some(answered)
     } else {
         None
     }
 }
 
-// How many records were answered; none where a call was refused for another reason than that nobody could serve.
-fn count_answered(producers: &[Producer]) -> Option<usize> {
+// How many records were answered; none where two have one offset, a call was refused for another reason than that nobody could serve, or memory is refused.
+fn count_answered(alloc: Global, producers: &[Producer]) -> Option<usize> {
+    let mut offsets = BTreeMap::new(alloc);
     let mut count: usize = 0;
     for producer in producers {
         if producer.is_strange {
             return None;
         }
-        count = count.wrapping_add(producer.stored.len());
+        for stored in producer.stored.as_slice() {
+            offsets.insert(stored.offset, ()).ok()?;
+            count = count.wrapping_add(1);
+        }
     }
-    Some(count)
+    if offsets.len() == count {
+        Some(count)
+    } else {
+        None
+    }
 }
 
 // Whether each record that was answered is read back at its offset.
@@ -227,15 +228,4 @@ fn is_read_back<R: Wait + Clock>(rt: &R, reader: &mut ClientSeat, fd: Fd, stored
         }
     }
     false
-}
-
-// How many different offsets were answered; none where memory is refused.
-fn count_offsets(alloc: Global, producers: &[Producer]) -> Option<usize> {
-    let mut offsets = BTreeMap::new(alloc);
-    for producer in producers {
-        for stored in producer.stored.as_slice() {
-            offsets.insert(stored.offset, ()).ok()?;
-        }
-    }
-    Some(offsets.len())
 }

@@ -140,7 +140,39 @@ struct Totals {
     restarts: u64,
 }
 
-// Fills files in turn. None where a record that was answered isn't read back by two clients where it was answered.
+// Fills files in turn. None where a record that was answered isn't read back by both readers where it was answered.
+fn fill_with<R: Threads + Wait + Clock + Sync>(
+    rt: &R,
+    alloc: Global,
+    cell: &mut Cell,
+    producers: &mut [Producer],
+    one: &mut ClientSeat,
+    other: &mut ClientSeat,
+) -> Option<Totals> {
+    let mut restarts = Restarts {
+        random: 62,
+        count: 0,
+    };
+    let mut answered: usize = 0;
+    for _ in 0..FILES {
+        restarts = produce_meanwhile(rt, alloc, cell, producers, restarts);
+        let count = count_kept(rt, alloc, one, producers)?;
+        if count_kept(rt, alloc, other, producers) != Some(count) {
+            return None;
+        }
+        answered = answered.wrapping_add(count);
+        forget(producers);
+        if !begin_next_file(rt, alloc, one) {
+            return None;
+        }
+    }
+    Some(Totals {
+        answered,
+        restarts: restarts.count,
+    })
+}
+
+// The same by new clients. What owns seats has few ways out: a drop at the end of a scope is proved anew at each place.
 fn fill_in_turn<R: Threads + Wait + Clock + Sync>(
     rt: &R,
     alloc: Global,
@@ -149,27 +181,18 @@ fn fill_in_turn<R: Threads + Wait + Clock + Sync>(
     let mut one = cell.client().ok()?;
     let mut other = cell.client().ok()?;
     let mut producers = producers_of(rt, alloc, cell, &mut one, 4)?;
-    let mut restarts = Restarts {
-        random: 62,
-        count: 0,
-    };
-    let mut answered: usize = 0;
-    for _ in 0..FILES {
-        restarts = produce_meanwhile(rt, alloc, cell, producers.as_mut_slice(), restarts);
-        let count = count_kept(rt, alloc, &mut one, producers.as_slice())?;
-        if count_kept(rt, alloc, &mut other, producers.as_slice()) != Some(count) {
-            return None;
-        }
-        answered = answered.wrapping_add(count);
-        forget(producers.as_mut_slice());
-        if !begin_next_file(rt, alloc, &mut one) {
-            return None;
-        }
-    }
-    Some(Totals {
-        answered,
-        restarts: restarts.count,
-    })
+    let totals = fill_with(
+        rt,
+        alloc,
+        cell,
+        producers.as_mut_slice(),
+        &mut one,
+        &mut other,
+    );
+    drop(producers);
+    drop(one);
+    drop(other);
+    totals
 }
 
 #[test]

@@ -8,19 +8,26 @@ use cell_seats::gate::OpenGate;
 use cell_seats::shared_state::Progress;
 use gfs_types::config::Config;
 use std::alloc::Global;
-use std::sync::Arc;
 use std::sync::atomic::{AtomicU64, Ordering};
+use std::sync::{Arc, Wait};
 use std::test::*;
+use std::time::Clock;
 
 /// How many entries the cell's journal may have.
 const JOURNAL: u32 = 1_000;
 
-/// Notes how often it was told, and how many calls were answered then. It counts what doesn't fit together.
+/// How often a watcher was told, how many calls were answered then, and how often that didn't fit together.
+#[derive(Drop)]
+struct Notes {
+    told: AtomicU64,
+    answered: AtomicU64,
+    wrong: AtomicU64,
+}
+
+/// Notes what it is told.
 #[derive(Drop)]
 struct NotingWatcher {
-    told: Arc<AtomicU64>,
-    answered: Arc<AtomicU64>,
-    wrong: Arc<AtomicU64>,
+    notes: Arc<Notes>,
 }
 
 impl Watcher for NotingWatcher {
@@ -28,41 +35,49 @@ impl Watcher for NotingWatcher {
         if progress.events < progress.answered
             || progress.room != u64::from(JOURNAL).saturating_sub(progress.events)
         {
-            self.wrong.fetch_add(1, Ordering::SeqCst);
+            self.notes.wrong.fetch_add(1, Ordering::SeqCst);
         }
-        self.answered.store(progress.answered, Ordering::SeqCst);
-        self.told.fetch_add(1, Ordering::SeqCst);
+        self.notes
+            .answered
+            .store(progress.answered, Ordering::SeqCst);
+        self.notes.told.fetch_add(1, Ordering::SeqCst);
     }
 }
 
-fn counter(alloc: Global) -> Result<Arc<AtomicU64>, Fail> {
-    Ok(Arc::new(alloc, AtomicU64::new(0))?)
+fn makes_a_file<R: Wait + Clock>(rt: &R, alloc: Global, cell: &mut Cell) -> bool {
+    match cell.client() {
+        Ok(mut seat) => create(rt, alloc, &mut seat, "/a"),
+        Err(_) => false,
+    }
 }
 
 #[test]
 fn a_watcher_is_told_how_far_a_cell_is(rt: HostRuntime) -> Result<(), Fail> {
     let alloc = rt.alloc();
-    let (told, answered, wrong) = (counter(alloc)?, counter(alloc)?, counter(alloc)?);
+    let notes = Notes {
+        told: AtomicU64::new(0),
+        answered: AtomicU64::new(0),
+        wrong: AtomicU64::new(0),
+    };
+    let notes = Arc::new(alloc, notes)?;
     let watcher = NotingWatcher {
-        told: Arc::try_clone(&told)?,
-        answered: Arc::try_clone(&answered)?,
-        wrong: Arc::try_clone(&wrong)?,
+        notes: Arc::try_clone(&notes)?,
     };
     let config = Config {
         journal: JOURNAL,
         ..small(1)
     };
     let mut cell = Cell::start(rt, alloc, config, 1, OpenGate)?;
-    let mut seat = cell.client()?;
-    assert!(rt; create(&rt, alloc, &mut seat, "/a"));
+    let is_made = makes_a_file(&rt, alloc, &mut cell);
     let watch = cell.watch(rt, watcher);
-    wait_for(&rt, &told, 1);
+    wait_for(&rt, &notes.told, 1);
     if let Some(watch) = watch {
         watch.stop(&rt);
     }
     drop(cell.close(&rt));
-    assert!(rt; told.load(Ordering::SeqCst) > 0);
-    assert!(rt; answered.load(Ordering::SeqCst) == 1);
-    assert!(rt; wrong.load(Ordering::SeqCst) == 0);
+    assert!(rt; is_made);
+    assert!(rt; notes.told.load(Ordering::SeqCst) > 0);
+    assert!(rt; notes.answered.load(Ordering::SeqCst) == 1);
+    assert!(rt; notes.wrong.load(Ordering::SeqCst) == 0);
     Ok(())
 }

@@ -36,10 +36,12 @@ fn regions_and_calls_are_told(rt: HostRuntime) -> Result<(), Fail> {
     ) else {
         return Err(Fail::new("it did not run"));
     };
+    let mut lines = Vec::new(alloc);
+    let are_printed = print_history(alloc, &journal, &mut lines).is_ok();
+    drop(journal);
+    assert!(rt; are_printed);
     let text = str::from_utf8(out.as_slice())?;
     assert!(rt; text.ends_with("c1 at 72\nregions 0-64 determined\nregions 0-16 determined\n"));
-    let mut lines = Vec::new(alloc);
-    assert!(rt; print_history(alloc, &journal, &mut lines).is_ok());
     let text = str::from_utf8(lines.as_slice())?;
     assert_eq!(rt; text.lines().count(), 24);
     for part in [

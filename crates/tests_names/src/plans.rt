@@ -28,7 +28,7 @@ use std::alloc::Global;
 use std::test::Fail;
 
 // Why a small cell of names and files isn't there.
-#[derive(Clone, Copy, Debug, PartialEq, Eq)]
+#[derive(Clone, Copy, Debug)]
 enum CellFault {
     Path,
     Table(TableFault),
@@ -66,9 +66,8 @@ fn put(
     }
 }
 
-// A directory with two files of this goal, the first of which has a chunk whose lease ends at 100.
-fn small_cell(alloc: Global, goal: u8) -> Result<(Namespace<Global>, Table), CellFault> {
-    let mut table = Table::new(alloc);
+// Two files of this goal, the first of which has a chunk whose lease ends at 100.
+fn fill_table(alloc: Global, table: &mut Table, goal: u8) -> Result<(FileId, FileId), CellFault> {
     let first = table.add_file(Shape { chunk: 64, goal })?;
     let second = table.add_file(Shape { chunk: 128, goal })?;
     let chunk = table.add_chunk(first)?;
@@ -78,10 +77,26 @@ fn small_cell(alloc: Global, goal: u8) -> Result<(Namespace<Global>, Table), Cel
     members.push(2)?;
     table.grant(chunk, version, ServerId(1), members)?;
     table.set_end(chunk, Moment(100));
+    Ok((first, second))
+}
+
+// A directory with both files.
+fn fill_names(
+    alloc: Global,
+    names: &mut Namespace<Global>,
+    files: (FileId, FileId),
+) -> Result<(), CellFault> {
+    put(alloc, names, "/d", NameNode::dir())?;
+    put(alloc, names, "/d/b", NameNode::file(files.0))?;
+    put(alloc, names, "/d/a", NameNode::file(files.1))
+}
+
+// What owns names and a table has few ways out: a drop at the end of a scope is proved anew at each place.
+fn small_cell(alloc: Global, goal: u8) -> Result<(Namespace<Global>, Table), CellFault> {
+    let mut table = Table::new(alloc);
+    let files = fill_table(alloc, &mut table, goal)?;
     let mut names = Trie::new(alloc)?;
-    put(alloc, &mut names, "/d", NameNode::dir())?;
-    put(alloc, &mut names, "/d/b", NameNode::file(first))?;
-    put(alloc, &mut names, "/d/a", NameNode::file(second))?;
+    fill_names(alloc, &mut names, files)?;
     Ok((names, table))
 }
 
@@ -98,12 +113,14 @@ fn kind_at(
     })
 }
 
+type Outcome = Result<(), SnapshotFault>;
+
 // What a snapshot of `/d` at `/e` came to, at a moment before the lease's end and at that end.
-#[derive(Clone, Copy, Debug, PartialEq, Eq)]
+#[derive(Clone, Copy)]
 struct Taken {
     chunks: usize,
-    before: Result<(), SnapshotFault>,
-    after: Result<(), SnapshotFault>,
+    before: Outcome,
+    after: Outcome,
     directory: Option<NameKind>,
     first: Option<NameKind>,
     second: Option<NameKind>,
@@ -112,25 +129,46 @@ struct Taken {
     copy: Option<CopyPlan>,
 }
 
+// The outcomes at both moments, and how many chunks are shared.
+fn commit_twice(
+    alloc: Global,
+    names: &mut Namespace<Global>,
+    table: &mut Table,
+) -> Result<(Outcome, Outcome, usize), CellFault> {
+    let from = Path::parse("/d", alloc)?;
+    let to = Path::parse("/e", alloc)?;
+    let found = plan(alloc, names, table, &from, &to)?;
+    let before = commit(&found, names, table, Moment(99));
+    let after = commit(&found, names, table, Moment(100));
+    Ok((before, after, found.chunks().len()))
+}
+
+fn take_in(
+    alloc: Global,
+    names: &mut Namespace<Global>,
+    table: &mut Table,
+) -> Result<Taken, CellFault> {
+    let (before, after, chunks) = commit_twice(alloc, names, table)?;
+    Ok(Taken {
+        chunks,
+        before,
+        after,
+        directory: kind_at(alloc, names, "/e")?,
+        first: kind_at(alloc, names, "/e/a")?,
+        second: kind_at(alloc, names, "/e/b")?,
+        first_shape: table.shape(FileId(3)),
+        second_shape: table.shape(FileId(4)),
+        copy: copy_plan(table, FileId(4), 0),
+    })
+}
+
 fn take_snapshot(alloc: Global) -> Result<Taken, CellFault> {
     let cell = small_cell(alloc, 3)?;
     let (mut names, mut table) = cell;
-    let from = Path::parse("/d", alloc)?;
-    let to = Path::parse("/e", alloc)?;
-    let found = plan(alloc, &names, &table, &from, &to)?;
-    let before = commit(&found, &mut names, &mut table, Moment(99));
-    let after = commit(&found, &mut names, &mut table, Moment(100));
-    Ok(Taken {
-        chunks: found.chunks().len(),
-        before,
-        after,
-        directory: kind_at(alloc, &names, "/e")?,
-        first: kind_at(alloc, &names, "/e/a")?,
-        second: kind_at(alloc, &names, "/e/b")?,
-        first_shape: table.shape(FileId(3)),
-        second_shape: table.shape(FileId(4)),
-        copy: copy_plan(&table, FileId(4), 0),
-    })
+    let taken = take_in(alloc, &mut names, &mut table);
+    drop(names);
+    drop(table);
+    taken
 }
 
 /// The new files take the next ids in the order of their paths, each with the shape of its source, and the shared chunk gets a copy
@@ -261,21 +299,26 @@ fn useless_replicas_are_dropped(rt: HostRuntime) -> Result<(), Fail> {
     Ok(())
 }
 
-fn expire(alloc: Global, now: u64) -> Result<usize, CellFault> {
-    let mut names = Trie::new(alloc)?;
-    put(alloc, &mut names, "/.gone", NameNode::dir())?;
+// The directory of hidden files, and two of them, of the moments 7 and 12.
+fn hide_two(alloc: Global, names: &mut Namespace<Global>) -> Result<(), CellFault> {
+    put(alloc, names, "/.gone", NameNode::dir())?;
     put(
         alloc,
-        &mut names,
+        names,
         "/.gone/00000000000000000007-0000000000000001",
         NameNode::file(FileId(1)),
     )?;
     put(
         alloc,
-        &mut names,
+        names,
         "/.gone/00000000000000000012-0000000000000002",
         NameNode::file(FileId(2)),
-    )?;
+    )
+}
+
+fn expire(alloc: Global, now: u64) -> Result<usize, CellFault> {
+    let mut names = Trie::new(alloc)?;
+    hide_two(alloc, &mut names)?;
     let files = expired(alloc, &names, Moment(now), 10)?;
     Ok(files.len())
 }

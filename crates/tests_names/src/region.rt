@@ -302,7 +302,7 @@ fn names_below(alloc: Global, front: &str, tails: &[(u64, &str)]) -> Result<Vec<
 }
 
 /// What came of a copy in a region: there was no room for the names, it was refused, or it was made; or something else changed.
-#[derive(Clone, Copy, PartialEq, Eq)]
+#[derive(Clone, Copy)]
 enum Met {
     NoRoom,
     Refused,

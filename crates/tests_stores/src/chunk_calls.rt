@@ -19,7 +19,7 @@ pub(crate) const SIZE: usize = 960;
 pub(crate) const STEPS: usize = 8;
 
 /// How many steps were done, and whether the one after them, or the opening before all, answered Device.
-#[derive(Clone, Copy, PartialEq, Eq)]
+#[derive(Clone, Copy)]
 pub(crate) struct Ran {
     pub(crate) done: usize,
     pub(crate) is_device: bool,

@@ -23,7 +23,7 @@ pub(crate) const WAYS: [Torn; 5] = [
 ];
 
 /// What a call came to: how many items and records the log had when it was opened, and the fault.
-#[derive(Clone, Copy, PartialEq, Eq)]
+#[derive(Clone, Copy)]
 pub(crate) struct Ran {
     pub(crate) found: usize,
     pub(crate) fault: Option<LogFault>,

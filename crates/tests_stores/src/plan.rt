@@ -27,7 +27,7 @@ pub(crate) struct StopPlan {
 }
 
 /// How many changes were made, and how the one after them, or the opening before all, failed.
-#[derive(Clone, Copy, PartialEq, Eq)]
+#[derive(Clone, Copy)]
 pub(crate) struct Made {
     pub(crate) count: usize,
     pub(crate) fault: Option<LogFault>,
