@@ -14,6 +14,11 @@ DEFINITIONS = {'laws_base': state.PROTOCOL, 'protocol_allowed': 'protocol_invari
 WORDS = ('file', 'old', 'new', 'seed', 'row', 'facts', 'rebases', 'branch', 'becomes', 'only')
 
 
+def read(path):
+    with open(path, encoding='utf8') as file:
+        return file.read()
+
+
 class StaleEdit(Exception):
     """An edit that cannot be read, or whose old text does not stand once in its file."""
 
@@ -47,6 +52,17 @@ class Edit:
     def functions(self):
         """The functions that alone are proved where it is tried in the gate."""
         return [text.strip() for word, text in self.lines() if word == 'only']
+
+    def unknown_functions(self):
+        """Those of its functions that are not where their names say: in a module, or as a method of a type that the module declares, or gives a trait."""
+        for name in self.functions():
+            *modules, function = name.split('::')
+            owner = modules.pop() if modules and modules[-1][0].isupper() else None
+            place = os.path.join(CRATES_FOLDER, self.crate, 'src', *(modules or ['lib'])) + '.rt'
+            text = read(place) if os.path.isfile(place) else ''
+            owners = [*re.findall(r'\b(?:struct|enum) (\w+)', text), *(of + trait for trait, of in re.findall(r'^impl\b.*?(\w+)(?:<.*>)? for (\w+)', text, re.M))]
+            if owner not in owners if owner else not re.search(rf'\bfn {function}\b', text):
+                yield name
 
     def branches(self):
         """Pairs of a text in the proofs and the one that becomes of it."""
@@ -117,13 +133,15 @@ def proofs():
 
 
 def stale_edits(kinds=KINDS, names=()):
-    """How many edits there are, and what is wrong with them: each can be made, and each condition of a line `branch:` stands in some proof."""
+    """How many edits there are, and what is wrong with them: each can be made, each function of a line `only:` is there, and each condition of a line `branch:`
+    stands in some proof."""
     edits, faults = [edit for kind in kinds for edit in edits_by(kind, names)], []
     branches = {}
     for edit in edits:
         try:
             edit.changed_texts()
             branches.update({old: edit for old, _ in edit.branches()})
+            faults += [f'{edit.path}: there is no function {name}' for name in edit.unknown_functions()]
         except StaleEdit as fault:
             faults.append(str(fault))
     for text in proofs() if branches else ():
