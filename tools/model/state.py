@@ -10,7 +10,7 @@ from words import Grown
 # the crate that has World, Lookups, Logged and MasterStep
 PROTOCOL = 'protocol'
 # the crate that has Rebased
-REBASE = 'laws_rebase'
+REBASE = 'protocol_journal'
 
 Entry = namedtuple('Entry', 'client call attempt round serial kind offset content is_settled')
 Row = namedtuple('Row', 'granted issued references primary members lease_end shape')

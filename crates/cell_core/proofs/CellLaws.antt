@@ -12,7 +12,7 @@ use Rattle.laws_base.specs.Laws.{HaveSameNames, HoldsLastingLease, chunk_but_end
 use Rattle.laws_base.proofs.GrantsOnce.{versions_are_granted_once}
 use Rattle.laws_base.proofs.LastingLeases.{one_lease_lasts}
 use Rattle.laws_base.proofs.NamesLogged.{master_names_are_a_tree, log_has_the_names, log_has_the_files, log_has_the_chunks}
-use Rattle.laws_rebase.specs.Rebased.{all_raised}
+use Rattle.protocol_journal.specs.Rebased.{all_raised}
 use Rattle.cell_world.specs.Held.{HeldCell}
 use Rattle.cell_core.specs.Standing.{StandsFor, HasReachedWorld}
 use Rattle.cell_core.specs.CellLaws.{GrantsVersionsOnce, HoldsLeaseAfter, HasOneLasting, HasTreeOfNames, LogHasAll}

@@ -9,8 +9,8 @@ use Rattle.messages.specs.declared.message.Message.{Message}
 use Rattle.protocol.specs.Choice.{Choice}
 use Rattle.protocol.specs.Conforms.{WorldRuns}
 use Rattle.protocol.specs.World.{WorldState, happens}
-use Rattle.laws_rebase.specs.Rebased.{raised_event, restart_events, without_messages}
-use Rattle.laws_rebase.proofs.CutWorlds.{cut_worlds_go_alike, cut_runs_are_runs, rebases_are_runs}
+use Rattle.protocol_journal.specs.Rebased.{raised_event, restart_events, without_messages}
+use Rattle.protocol_journal.proofs.CutWorlds.{cut_worlds_go_alike, cut_runs_are_runs, rebases_are_runs}
 use Rattle.cell_world.specs.Held.{HeldCell, IsHeldAs, HasEffect}
 use Rattle.cell_world.specs.Looks.{server_count}
 use Rattle.cell_world.specs.Rebasing.{Rebases}

@@ -11,7 +11,7 @@ use Rattle.protocol.specs.World.{WorldState, happens, new_world, after_events, I
 use Rattle.headline.proofs.SettingsInRange.{settings_in_range_are_so}
 use Rattle.headline.proofs.Induction.{answers_are_a_run}
 use Rattle.promises.proofs.KeptPromises.{explained_worlds_are_promised}
-use Rattle.laws_rebase.specs.Rebased.{raised_event, restart_events}
+use Rattle.protocol_journal.specs.Rebased.{raised_event, restart_events}
 use Rattle.cell_world.specs.Held.{HeldCell, HasEffect}
 use Rattle.cell_world.specs.Looks.{server_count}
 use Rattle.cell_world.specs.Rebasing.{Rebases}

@@ -11,7 +11,7 @@ use Rattle.protocol.specs.Conforms.{WorldRuns}
 use Rattle.protocol.specs.World.{WorldState, happens, IsReached, is_kept}
 use Rattle.promises.specs.ExplainedWorlds.{KeepsPromises}
 use Rattle.protocol.specs.Explained.{Explains}
-use Rattle.laws_rebase.specs.Rebased.{raised_event, restart_events}
+use Rattle.protocol_journal.specs.Rebased.{raised_event, restart_events}
 use Rattle.cell_world.specs.Held.{HeldCell}
 use Rattle.cell_world.specs.Looks.{server_count}
 use Rattle.cell_core.specs.Standing.{StandsFor}

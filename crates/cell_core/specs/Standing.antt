@@ -3,7 +3,7 @@ use Rattle.std.specs.Prelude.{◌≡◌, ℕ, List}
 use Rattle.gfs_types.specs.declared.config.Config.{Config}
 use Rattle.messages.specs.declared.message.Message.{Message}
 use Rattle.protocol.specs.World.{WorldState, IsReached}
-use Rattle.laws_rebase.specs.Rebased.{IsCut}
+use Rattle.protocol_journal.specs.Rebased.{IsCut}
 use Rattle.cell_world.specs.Held.{HeldCell, IsHeldAs}
 
 -- A cell stands for a world whose earlier messages it dropped: it holds the same world without them, in which the others are counted from 1. Where it dropped none, this is the world itself.

@@ -4,7 +4,7 @@ use Rattle.std.specs.Prelude.{map}
 use Rattle.std.proofs.lemmas.List.{append-nil, length-append, length-map}
 use Rattle.messages.specs.declared.message.Message.{Message}
 use Rattle.protocol_journal.specs.Journal.{Entry, sent_after}
-use Rattle.laws_rebase.specs.Whole.{raised_entry, whole}
+use Rattle.protocol_journal.specs.Whole.{raised_entry, whole}
 use Rattle.cell_journal.specs.Identity.{Identity}
 use Rattle.cell_journal.specs.WholeHistories.{history_of}
 use Rattle.cell_journal.specs.declared.counted_entry.CountedEntry.{CountedEntry}

@@ -9,8 +9,8 @@ use Rattle.protocol.specs.Tables.{element_at}
 use Rattle.protocol.specs.World.{new_world, numbered_from_1, stamped}
 use Rattle.protocol_journal.specs.Journal.{StepCause, Calls, Takes, Restarts, Entry, NodeState, node_in, is_node, own, LeadsTo, with_messages, sent_after, IsForNode, IsLawful, with_end}
 use Rattle.protocol_journal.proofs.Nodes.{node_is, node_itself}
-use Rattle.laws_rebase.specs.Whole.{whole}
-use Rattle.laws_rebase.proofs.CutJournals.{own_whole, whole_journals_grow}
+use Rattle.protocol_journal.specs.Whole.{whole}
+use Rattle.protocol_journal.proofs.CutJournals.{own_whole, whole_journals_grow}
 use Rattle.cell_journal.specs.Identity.{Identity}
 use Rattle.cell_journal.specs.declared.view.View.{View}
 use Rattle.cell_journal.specs.Rules.{IsJournalOf, IsStepOf}

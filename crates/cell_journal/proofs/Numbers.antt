@@ -7,9 +7,9 @@ use Rattle.messages.specs.declared.message.Message.{Message}
 use Rattle.protocol.specs.Tables.{element_at}
 use Rattle.protocol.specs.World.{numbered_from_1, stamped}
 use Rattle.protocol_journal.specs.Journal.{Entry, with_messages, sent_after}
-use Rattle.laws_rebase.specs.Rebased.{raised, all_raised}
-use Rattle.laws_rebase.specs.Whole.{whole}
-use Rattle.laws_rebase.proofs.CutJournals.{sent_whole}
+use Rattle.protocol_journal.specs.Rebased.{raised, all_raised}
+use Rattle.protocol_journal.specs.Whole.{whole}
+use Rattle.protocol_journal.proofs.CutJournals.{sent_whole}
 use Rattle.cell_journal.specs.declared.counted_entry.CountedEntry.{CountedEntry}
 use Rattle.cell_journal.specs.CountedEntries.{entries_in, sent_in, AreCounted, IsIn}
 

@@ -5,7 +5,7 @@ use Rattle.gfs_types.specs.declared.ids.Node.TheVariants as node
 use Rattle.protocol.specs.Tables.{first_numbers}
 use Rattle.protocol.specs.Sending.{the_server}
 use Rattle.protocol_journal.specs.Journal.{Restarts, Entry, NodeState, own, sent_after, IsLawful}
-use Rattle.laws_rebase.specs.Whole.{raised_entry, whole}
+use Rattle.protocol_journal.specs.Whole.{raised_entry, whole}
 use Rattle.cell_journal.specs.Identity.{Identity, Closed}
 use Rattle.cell_journal.specs.declared.view.View.{View}
 

@@ -13,7 +13,7 @@ pub struct RaisedEntry {
 
 impl Model for RaisedEntry {
     ghost use Rattle.protocol_journal.specs.Journal.{Entry};
-    ghost use Rattle.laws_rebase.specs.Whole.{raised_entry};
+    ghost use Rattle.protocol_journal.specs.Whole.{raised_entry};
 
     ghost Value = { Entry };
 

@@ -7,7 +7,7 @@ use Rattle.std.proofs.lemmas.Grind.{flat_map-append}
 use Rattle.std.proofs.lemmas.List.{append-nil, map-append}
 use Rattle.std.proofs.lemmas.List.Elements.{All-nil, All-cons, All-pop}
 use Rattle.protocol_journal.specs.Journal.{Entry}
-use Rattle.laws_rebase.specs.Whole.{raised_entry}
+use Rattle.protocol_journal.specs.Whole.{raised_entry}
 use Rattle.cell_journal.specs.Identity.{Closed}
 use Rattle.cell_journal.specs.WholeHistories.{whole_of}
 use Rattle.cell_seats.specs.Journals.{AreBehind}

@@ -8,7 +8,7 @@ use Rattle.gfs_types.specs.declared.config.Config.{Config}
 use Rattle.gfs_types.specs.declared.ids.Node.{Node}
 use Rattle.gfs_types.specs.declared.ids.Node.TheVariants.{Client}
 use Rattle.protocol_journal.specs.Journal.{Entry, own, sent_after}
-use Rattle.laws_rebase.proofs.CutJournals.{own_whole}
+use Rattle.protocol_journal.proofs.CutJournals.{own_whole}
 use Rattle.cell_journal.specs.Clocks.{are_clocks_kept}
 use Rattle.cell_journal.specs.Identity.{Identity, Filled, Closed}
 use Rattle.cell_journal.specs.Log.{Listed, listed}

@@ -13,8 +13,8 @@ use Rattle.protocol.specs.World.{new_world, numbered_from_1}
 use Rattle.protocol_journal.specs.Journal.{StepCause, Calls, Takes, Restarts, Entry, NodeState, MasterIs, ServerIs, ClientIs, node_in, node_step, may_take, own, RunsTo, LeadsTo, observer_of}
 use Rattle.promises.specs.Answered.{waiting_call, WasAnswered}
 use Rattle.promises.proofs.Lists.{parts_of}
-use Rattle.journal_headline.specs.AnswerKinds.{IsAnswerTo}
-use Rattle.journal_headline.proofs.AnswerKinds.{calls_have_their_answers}
+use Rattle.headline.specs.AnswerKinds.{IsAnswerTo}
+use Rattle.headline.proofs.AnswerKinds.{calls_have_their_answers}
 use Rattle.cell_seats.proofs.Traces.{told_of}
 use Rattle.cell_seats.specs.Seats.{SeatState, said, IsAnswered}
 use Rattle.cell_seats.specs.Seen.{Visible, Asked, Answered, asked_in, answered_in, visible_of, of_client}

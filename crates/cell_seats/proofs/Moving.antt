@@ -12,8 +12,8 @@ use Rattle.protocol.specs.Tables.{moment_limit}
 use Rattle.protocol.specs.World.{new_world}
 use Rattle.protocol.specs.Seen.{Taken}
 use Rattle.protocol_journal.specs.Journal.{StepCause, Entry, NodeState, node_in, node_step, may_take, own, sent_after, RunsTo, LeadsTo, IsForNode}
-use Rattle.laws_rebase.specs.Whole.{raised_cause, raised_entry}
-use Rattle.laws_rebase.proofs.CutJournals.{step_same, may_same, steps_more}
+use Rattle.protocol_journal.specs.Whole.{raised_cause, raised_entry}
+use Rattle.protocol_journal.proofs.CutJournals.{step_same, may_same, steps_more}
 use Rattle.cell_journal.specs.Log.{Listed}
 use Rattle.cell_journal.proofs.Begins.{prefix_self, prefix_trans}
 use Rattle.cell_journal.specs.Clocks.{are_clocks_kept}

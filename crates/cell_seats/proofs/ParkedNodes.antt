@@ -5,7 +5,7 @@ use Rattle.gfs_types.specs.declared.config.Config.{Config}
 use Rattle.gfs_types.specs.declared.ids.Node.{Node}
 use Rattle.protocol.specs.World.{new_world}
 use Rattle.protocol_journal.specs.Journal.{Entry, NodeState, node_in, own, LeadsTo}
-use Rattle.laws_rebase.proofs.CutJournals.{own_whole}
+use Rattle.protocol_journal.proofs.CutJournals.{own_whole}
 use Rattle.cell_journal.specs.Log.{Listed}
 use Rattle.cell_journal.specs.Identity.{Identity}
 use Rattle.cell_journal.specs.declared.history_look.HistoryLook.{HistoryLook}

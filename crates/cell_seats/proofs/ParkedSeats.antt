@@ -8,7 +8,7 @@ use Rattle.std.proofs.lemmas.List.Elements.{All-nil, All-push, All-weaker}
 use Rattle.gfs_types.specs.declared.ids.Node.{Node}
 use Rattle.gfs_types.specs.declared.refusal.Refusal.{Refusal}
 use Rattle.protocol_journal.specs.Journal.{Entry, own, sent_after}
-use Rattle.laws_rebase.specs.Whole.{raised_entry}
+use Rattle.protocol_journal.specs.Whole.{raised_entry}
 use Rattle.cell_journal.specs.Log.{Listed}
 use Rattle.cell_journal.specs.Clocks.{are_clocks_kept}
 use Rattle.cell_journal.specs.Identity.{Identity}
@@ -19,7 +19,7 @@ use Rattle.cell_journal.specs.Writers.{IsLater, HasLooked}
 use Rattle.cell_journal.proofs.Begins.{prefix_trans}
 use Rattle.cell_journal.proofs.Beginnings.{history_begins, kept_before, none_before}
 use Rattle.cell_journal.proofs.Observed.{still_broken}
-use Rattle.laws_rebase.proofs.CutJournals.{own_whole, whole_prefix}
+use Rattle.protocol_journal.proofs.CutJournals.{own_whole, whole_prefix}
 use Rattle.cell_seats.specs.Seen.{Visible, visible_of, answered_only, IsFurther}
 use Rattle.cell_seats.specs.Seats.{SeatState, seat_state, shown, is_some, IsLeft, IsUnanswered, IsGone, IsSeat}
 use Rattle.cell_seats.specs.ParkedNodes.{ParkedNodeState, parked_node, IsClientOf, IsBehind, GoesOnBehind, SitsOn}

@@ -9,7 +9,7 @@ use Rattle.gfs_types.specs.declared.refusal.Refusal.{Refusal}
 use Rattle.gfs_types.specs.declared.refusal.Refusal.TheVariants.{ClockBroken}
 use Rattle.messages.specs.declared.message.Message.{Message}
 use Rattle.protocol_journal.specs.Journal.{StepCause, Calls, Takes, Restarts, Entry, own, sent_after}
-use Rattle.laws_rebase.specs.Whole.{raised_cause, raised_entry}
+use Rattle.protocol_journal.specs.Whole.{raised_cause, raised_entry}
 use Rattle.cell_journal.specs.Log.{Listed}
 use Rattle.cell_journal.proofs.Begins.{prefix_self, prefix_trans}
 use Rattle.cell_journal.specs.Clocks.{are_clocks_kept}

@@ -13,15 +13,15 @@ use Rattle.gfs_types.specs.Settings.{first_out_of_range}
 use Rattle.gfs_types.specs.declared.ids.Node.{Node}
 use Rattle.gfs_types.specs.declared.refusal.Refusal.{Refusal}
 use Rattle.protocol_journal.specs.Journal.{Entry, own}
-use Rattle.journal_headline.specs.Journals.{AreExplained}
-use Rattle.journal_headline.specs.AnswerKinds.{is_value_of, IsAnswerTo}
-use Rattle.journal_headline.proofs.Explained.{journals_are_explained}
+use Rattle.headline.specs.Journals.{AreExplained}
+use Rattle.headline.specs.AnswerKinds.{is_value_of, IsAnswerTo}
+use Rattle.headline.proofs.Explained.{journals_are_explained}
 use Rattle.cell_journal.specs.Log.{Listed}
 use Rattle.cell_journal.proofs.Begins.{prefix_self, prefix_trans}
 use Rattle.cell_journal.specs.Clocks.{are_clocks_kept}
 use Rattle.cell_journal.specs.Identity.{Identity}
 use Rattle.cell_journal.specs.declared.view.View.{View}
-use Rattle.laws_rebase.proofs.CutJournals.{own_whole, whole_prefix}
+use Rattle.protocol_journal.proofs.CutJournals.{own_whole, whole_prefix}
 use Rattle.cell_journal.specs.WholeHistories.{history_of, all_seen, steps_of, all_steps, is_retired, IsHistoryOf}
 use Rattle.cell_seats.proofs.AnswerKinds.{answer_kind}
 use Rattle.cell_seats.proofs.Shown.{visible_steps, answered_more}

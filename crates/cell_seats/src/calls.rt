@@ -3,7 +3,7 @@
 ghost use Rattle.std.specs.Prelude.{◌≡◌, Ok, IfOk, IfErr};
 ghost use Rattle.gfs_types.specs.declared.answer.Answer.TheVariants as answer;
 ghost use Rattle.gfs_types.specs.declared.call.Call.TheVariants as call;
-ghost use Rattle.journal_headline.specs.AnswerKinds.{is_done, is_descriptor, is_names, is_length, is_offset, is_bytes};
+ghost use Rattle.headline.specs.AnswerKinds.{is_done, is_descriptor, is_names, is_length, is_offset, is_bytes};
 ghost use Rattle.cell_seats.specs.Seats.{IsAnswered, Fails, IsRefusal, refusal_in};
 
 use crate::seat::Seat;

@@ -5,7 +5,7 @@ ghost use Rattle.std.specs.Option.{option_copied};
 ghost use mathlib.Core.List.{IsPrefix};
 ghost use Rattle.cell_journal.specs.ListEnds.{Agrees};
 ghost use Rattle.gfs_types.specs.Settings.{first_out_of_range};
-ghost use Rattle.journal_headline.specs.Journals.{AreExplained};
+ghost use Rattle.headline.specs.Journals.{AreExplained};
 ghost use Rattle.cell_journal.specs.Clocks.{are_clocks_kept};
 ghost use Rattle.cell_journal.specs.Rules.{IsJournalOf};
 ghost use Rattle.protocol_journal.specs.Journal.{Restarts};

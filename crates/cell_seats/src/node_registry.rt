@@ -5,7 +5,7 @@ ghost use Rattle.std.specs.Arc.{arc_value};
 ghost use Rattle.gfs_types.specs.Settings.{first_out_of_range};
 ghost use Rattle.gfs_types.specs.declared.ids.Node.{Node};
 ghost use Rattle.protocol_journal.specs.Journal.{own, sent_after};
-ghost use Rattle.journal_headline.specs.Journals.{AreExplained};
+ghost use Rattle.headline.specs.Journals.{AreExplained};
 ghost use Rattle.cell_journal.specs.Clocks.{are_clocks_kept};
 ghost use Rattle.cell_journal.specs.Roles.{node_at, number_of};
 ghost use Rattle.cell_journal.specs.Rules.{IsJournalOf};

@@ -3,7 +3,7 @@
 ghost use Rattle.std.specs.Prelude.{◌≡◌, ℕ, IfOk, IfErr, IfSome, [], None, false, length, IsTrue};
 ghost use Rattle.gfs_types.specs.declared.ids.Node.TheVariants.{Client};
 ghost use Rattle.protocol_journal.specs.Journal.{observer_of, own};
-ghost use Rattle.journal_headline.specs.Journals.{AreExplained};
+ghost use Rattle.headline.specs.Journals.{AreExplained};
 ghost use Rattle.cell_journal.specs.Log.{listed};
 ghost use Rattle.cell_journal.specs.Clocks.{are_clocks_kept};
 ghost use Rattle.cell_journal.specs.WholeHistories.{IsHistoryOf};

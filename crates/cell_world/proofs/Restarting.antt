@@ -8,7 +8,7 @@ use Rattle.messages.specs.declared.event.Event.TheVariants as event
 use Rattle.protocol.specs.Sending.{moment_of, the_server}
 use Rattle.protocol.specs.Tables.{first_numbers}
 use Rattle.protocol.specs.World.{happens}
-use Rattle.laws_rebase.specs.Rebased.{restart_events, without_messages}
+use Rattle.protocol_journal.specs.Rebased.{restart_events, without_messages}
 use Rattle.cell_world.specs.Held.{HeldCell, IsHeldAs, HasEffect}
 use Rattle.cell_world.specs.Looks.{server_count}
 use Rattle.cell_world.specs.Rebasing.{Rebases}

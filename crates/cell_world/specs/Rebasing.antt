@@ -2,7 +2,7 @@
 use Rattle.std.specs.Prelude.{ℕ, ◌+◌, ◌<◌, List, [], codes}
 use Rattle.protocol.specs.World.{WorldState}
 use Rattle.protocol.specs.Conforms.{WorldRuns}
-use Rattle.laws_rebase.specs.Rebased.{restart_events, without_messages}
+use Rattle.protocol_journal.specs.Rebased.{restart_events, without_messages}
 use Rattle.cell_world.specs.Held.{HeldCell, IsHeldAs}
 use Rattle.cell_world.specs.Looks.{server_count}
 use Rattle.cell_world.specs.declared.rebase_fault.RebaseFault.{RebaseFault}

@@ -1,7 +1,7 @@
 //! A cell begins again without its messages.
 
 ghost use Rattle.std.specs.Prelude.{◌≡◌, ◌≤◌, ◌+◌, [], IfErr, OnOk, OnErr};
-ghost use Rattle.laws_rebase.specs.Rebased.{restart_events};
+ghost use Rattle.protocol_journal.specs.Rebased.{restart_events};
 ghost use Rattle.cell_world.specs.Looks.{server_count};
 ghost use Rattle.cell_world.specs.Rebasing.{IsBehind, Rebases};
 ghost use Rattle.cell_world.specs.Runs.{Runs};

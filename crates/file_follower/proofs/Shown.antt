@@ -13,7 +13,7 @@ use Rattle.promises.specs.Promises.{Promises}
 use Rattle.promises.specs.Readers.{IsReadAfterOpen}
 use Rattle.promises.proofs.KeptPromises.{runs_keep_promises}
 use Rattle.promises.proofs.RecordReads.{readers_miss_no_append}
-use Rattle.journal_headline.specs.Journals.{AreExplained}
+use Rattle.headline.specs.Journals.{AreExplained}
 use Rattle.cell_seats.specs.Seats.{SeatState}
 use Rattle.file_follower.specs.declared.follower.Follower.{Follower}
 use Rattle.file_follower.specs.Reading.{trace_of, taken_at, HasOpened, HasRead, IsLater, MissesNothing, WasAppended}

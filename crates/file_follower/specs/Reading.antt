@@ -10,7 +10,7 @@ use Rattle.relaxed_file.specs.Run.{IsRunTo, Visible}
 use Rattle.protocol_journal.specs.Journal.{observer_of}
 use Rattle.promises.specs.Answered.{WasAnswered, IsOf}
 use Rattle.promises.specs.Promises.{IsOnlyAppended}
-use Rattle.journal_headline.specs.Journals.{AreExplained}
+use Rattle.headline.specs.Journals.{AreExplained}
 use Rattle.cell_seats.specs.Seats.{SeatState, IsAnswered}
 use Rattle.file_follower.specs.declared.taken.Taken.{Taken}
 use Rattle.file_follower.specs.declared.follower.Follower.{Follower}

@@ -23,7 +23,7 @@ use Rattle.protocol.specs.World as world
 use Rattle.protocol.specs.World.{WorldState, happens}
 use Rattle.protocol_invariant.specs.Actions.{Spot}
 use Rattle.laws_base.specs.Laws.{grants_of}
-use Rattle.laws_steps.specs.Versions.{IsLeaseOver}
+use Rattle.laws_base.specs.Versions.{IsLeaseOver}
 use Rattle.laws_names.specs.Beside.{IsNamesBeside, AreClientsBeside}
 use Rattle.laws_names.proofs.BesideClientsBeside.{passed_trace, all_on, settings_of}
 use Rattle.laws_names.proofs.Masters.{passed_last}

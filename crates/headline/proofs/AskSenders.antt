@@ -15,10 +15,10 @@ use Rattle.protocol.specs.World.{WorldState, stamped}
 use Rattle.laws_base.proofs.Steps.{none_some}
 use Rattle.laws_base.proofs.Entries.{AllOf}
 use Rattle.laws_base.proofs.MembersRecorded.{all_at}
-use Rattle.laws_steps.proofs.Events.{HoldsAfter, world_reached}
-use Rattle.laws_steps.proofs.MasterTalks.{is_masters, master_said, restart_said}
-use Rattle.laws_steps.proofs.RequestsOnce.{later_cases}
-use Rattle.laws_steps.proofs.ServerTalks.{is_quiet, Talks, step_said}
+use Rattle.laws_base.proofs.Events.{HoldsAfter, world_reached}
+use Rattle.laws_base.proofs.MasterTalks.{is_masters, master_said, restart_said}
+use Rattle.laws_base.proofs.RequestsOnce.{later_cases}
+use Rattle.laws_base.proofs.ServerTalks.{is_quiet, Talks, step_said}
 use Rattle.laws_machine.specs.WholeSteps.{IsNoAskIn}
 use Rattle.headline.specs.AskedChunks.{IsClients, AsksComeFromClients}
 use Rattle.headline.proofs.SentNow.{step_left, call_left}

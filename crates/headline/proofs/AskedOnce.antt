@@ -15,11 +15,11 @@ use Rattle.protocol.specs.Choice.{Choice}
 use Rattle.protocol.specs.Client.{ClientState}
 use Rattle.protocol.specs.World.{WorldState, Happened, new_world, stamped, happens, after_events}
 use Rattle.laws_base.proofs.Steps.{none_some, same_some}
-use Rattle.laws_steps.specs.Attempts.{is_from_client, is_mutate, mutates_under}
-use Rattle.laws_steps.specs.FewAttempts.{IsAskedNow, WasAsked, part_of}
-use Rattle.laws_steps.proofs.Events.{HoldsAfter, holds_after}
-use Rattle.laws_steps.proofs.Histories.{IsGrown, steps_grown}
-use Rattle.laws_steps.proofs.RequestsOnce.{AreNumbered, numbered_reached, from_itself}
+use Rattle.laws_base.specs.Attempts.{is_from_client, is_mutate, mutates_under}
+use Rattle.laws_base.specs.FewAttempts.{IsAskedNow, WasAsked, part_of}
+use Rattle.laws_base.proofs.Events.{HoldsAfter, holds_after}
+use Rattle.laws_base.proofs.Histories.{IsGrown, steps_grown}
+use Rattle.laws_base.proofs.RequestsOnce.{AreNumbered, numbered_reached, from_itself}
 
 -- whether this is the client's Mutate of the number
 abbrev is_own : ℕ → ℕ → Message → Bool

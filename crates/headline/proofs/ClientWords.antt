@@ -27,11 +27,11 @@ use Rattle.protocol.specs.World.{WorldState, new_world, stamped, IsReached}
 use Rattle.laws_base.proofs.Steps.{none_some}
 use Rattle.laws_base.proofs.Entries.{AllOf}
 use Rattle.laws_base.proofs.MembersRecorded.{kept_place, all_at}
-use Rattle.laws_steps.specs.Attempts.{IsRequestOf}
-use Rattle.laws_steps.proofs.Events.{HoldsAfter, world_reached}
-use Rattle.laws_steps.proofs.ClientNumbers.{IsSaid, IsStepOf, of_step, of_call}
-use Rattle.laws_steps.proofs.RequestsOnce.{AreNumbered, each_event, numbered_reached, later_cases, requests_carry_used_numbers}
-use Rattle.laws_steps.proofs.ServerTalks.{is_quiet, Talks, step_said}
+use Rattle.laws_base.specs.Attempts.{IsRequestOf}
+use Rattle.laws_base.proofs.Events.{HoldsAfter, world_reached}
+use Rattle.laws_base.proofs.ClientNumbers.{IsSaid, IsStepOf, of_step, of_call}
+use Rattle.laws_base.proofs.RequestsOnce.{AreNumbered, each_event, numbered_reached, later_cases, requests_carry_used_numbers}
+use Rattle.laws_base.proofs.ServerTalks.{is_quiet, Talks, step_said}
 use Rattle.laws_versions.proofs.ServerCauses.{step_words}
 use Rattle.laws_entries.specs.Entries.{IsAmong}
 use Rattle.laws_entries.specs.AnsweredAttempts.{IsFinal}

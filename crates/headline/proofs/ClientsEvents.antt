@@ -30,9 +30,9 @@ use Rattle.protocol.specs.ClientStep.{has_room_to_count, may_call, client_step, 
 use Rattle.protocol.specs.World.{WorldState, Happened, nothing_happens, numbered_from_1, after_client, call_moves, client_moves, moves, delivered, at_moment, happens, IsReached, is_kept}
 use Rattle.laws_base.proofs.Steps.{on_cond, none_some}
 use Rattle.laws_base.proofs.RisingOrders.{element_numbered}
-use Rattle.laws_steps.specs.FileCalls.{IsOfFile}
-use Rattle.laws_steps.proofs.Events.{with_call}
-use Rattle.laws_steps.proofs.RequestsOnce.{numbered_reached}
+use Rattle.laws_base.specs.FileCalls.{IsOfFile}
+use Rattle.laws_base.proofs.Events.{with_call}
+use Rattle.laws_base.proofs.RequestsOnce.{numbered_reached}
 use Rattle.laws_names.specs.Beside.{answered_trace, ComesTo}
 use Rattle.laws_names.specs.BesideClients.{IsAskedFor}
 use Rattle.laws_names.proofs.KeptAnswersReached.{kept_answers_were_asked_for}

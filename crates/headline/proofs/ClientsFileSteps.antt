@@ -21,7 +21,7 @@ use Rattle.laws_base.proofs.Steps.{none_some}
 use Rattle.laws_base.proofs.Entries.{AllOf}
 use Rattle.laws_base.proofs.MembersRecorded.{all_at}
 use Rattle.laws_base.proofs.MessagesSent.{numbered_sent}
-use Rattle.laws_steps.proofs.RequestsOnce.{numbered_reached}
+use Rattle.laws_base.proofs.RequestsOnce.{numbered_reached}
 use Rattle.laws_machine.specs.FileClients.{IsSaidAt}
 use Rattle.laws_machine.specs.WholeWorlds.{AreWordsSo}
 use Rattle.laws_machine.specs.WholeClients.{GivesClient}

@@ -45,9 +45,9 @@ use Rattle.protocol.specs.World as world
 use Rattle.protocol.specs.World.{WorldState, happens, stamped, is_kept}
 use Rattle.laws_base.proofs.Steps.{on_cond, none_some, same_some, same_or_not}
 use Rattle.laws_base.proofs.Entries.{AllOf}
-use Rattle.laws_steps.specs.FileCalls.{IsFileStep, IsNameStep}
-use Rattle.laws_steps.proofs.NameSteps.{name_calls_ask_again}
-use Rattle.laws_steps.proofs.FileSteps.{file_calls_begin}
+use Rattle.laws_base.specs.FileCalls.{IsFileStep, IsNameStep}
+use Rattle.laws_base.proofs.NameSteps.{name_calls_ask_again}
+use Rattle.laws_base.proofs.FileSteps.{file_calls_begin}
 use Rattle.laws_names.specs.Alike.{Requests, AreAlike}
 use Rattle.laws_names.specs.BesideClients.{IsAskedFor}
 use Rattle.laws_names.specs.Followed.{IsTold}

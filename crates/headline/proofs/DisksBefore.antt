@@ -10,7 +10,7 @@ use Rattle.protocol.specs.Choice.{Choice}
 use Rattle.protocol.specs.Observer.{Observer, observed_answer}
 use Rattle.protocol.specs.StoredBytes.{stored_chunk, with_intact}
 use Rattle.protocol.specs.World.{WorldState, happens}
-use Rattle.laws_steps.proofs.Events.{HoldsExactly, holds_exactly}
+use Rattle.laws_base.proofs.Events.{HoldsExactly, holds_exactly}
 
 before_answer : (o : Observer) (client : ℕ) (a : Option Answer) → IsTrue (observed_answer o client a).are_disks_kept → IsTrue o.are_disks_kept
 before_answer o client None h = h

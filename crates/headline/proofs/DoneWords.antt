@@ -16,9 +16,9 @@ use Rattle.protocol.specs.ServerStep.{server_at}
 use Rattle.protocol.specs.World.{WorldState, new_world, happens, after_events, IsReached}
 use Rattle.laws_base.proofs.Steps.{none_some, same_some, tally, count-cons}
 use Rattle.laws_base.proofs.MembersRecorded.{kept_place}
-use Rattle.laws_steps.specs.Attempts.{mutates_under, waited_data}
-use Rattle.laws_steps.proofs.RequestsOnce.{numbered_reached}
-use Rattle.laws_steps.proofs.Histories.{IsGrown, steps_grown, after_both}
+use Rattle.laws_base.specs.Attempts.{mutates_under, waited_data}
+use Rattle.laws_base.proofs.RequestsOnce.{numbered_reached}
+use Rattle.laws_base.proofs.Histories.{IsGrown, steps_grown, after_both}
 use Rattle.laws_entries.specs.Entries.{IsAmong, IsAskedFor}
 use Rattle.laws_entries.proofs.Stemming.{numbered_mutations_were_asked_for}
 use Rattle.laws_entries.proofs.Deadlines.{asks_for, asking}

@@ -17,8 +17,8 @@ use Rattle.protocol.specs.Tables.{element_at}
 use Rattle.protocol.specs.Client.{ClientState, ClientDoing, client_begins}
 use Rattle.protocol.specs.ClientStep.{client_at, client_goes}
 use Rattle.protocol.specs.World.{WorldState, IsReached}
-use Rattle.laws_steps.specs.Attempts.{waited_data}
-use Rattle.laws_steps.proofs.RequestsOnce.{numbered_reached}
+use Rattle.laws_base.specs.Attempts.{waited_data}
+use Rattle.laws_base.proofs.RequestsOnce.{numbered_reached}
 use Rattle.laws_machine.specs.FileClients.{IsFileClient, IsRefusedAt, IsSaidAt, IsFollowed}
 use Rattle.laws_machine.specs.FileClientsStay.{IsFirm}
 use Rattle.laws_machine.specs.WholeClients.{AreOwnWordsSo}

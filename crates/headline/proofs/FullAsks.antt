@@ -13,13 +13,13 @@ use Rattle.relaxed_file.specs.Machine.{chunk_at, chunk_size}
 use Rattle.protocol.specs.Tables.{Table, element_at}
 use Rattle.protocol.specs.Observer.{Placed, placed_in, order_of}
 use Rattle.laws_base.proofs.Steps.{on_cond, none_some, same_some}
-use Rattle.laws_steps.proofs.Lengths.{settings_stay}
+use Rattle.laws_base.proofs.Lengths.{settings_stay}
 use Rattle.laws_base.specs.Laws.{IsSizeGranted}
-use Rattle.laws_steps.specs.Reads.{IsTold}
+use Rattle.laws_base.specs.Reads.{IsTold}
 use Rattle.laws_versions.specs.ReplacedChunks.{IsToldAt}
 use Rattle.laws_versions.proofs.OneSizes.{told_shapes_have_the_granted_size}
 use Rattle.laws_versions.proofs.RowSizes.{size_counts}
-use Rattle.laws_replicas.specs.FullOrders.{HasFullEnd}
+use Rattle.laws_versions.specs.FullOrders.{HasFullEnd}
 use Rattle.laws_calls.specs.FullBefore.{IsFullBefore}
 use Rattle.laws_calls.proofs.FullBefore.{asks_past_a_chunk_find_it_full}
 use Rattle.laws_calls.proofs.GrantedRounds.{granted_from_one}

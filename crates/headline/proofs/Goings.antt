@@ -39,10 +39,10 @@ use Rattle.laws_base.proofs.CountsLogged.{IsFoundCounts, IsCountedLog}
 use Rattle.laws_base.proofs.CountsKept.{counts_kept}
 use Rattle.laws_base.proofs.NamesReached.{IsNaming, naming_keeps, IsUpToLog, logged_here}
 use Rattle.laws_base.proofs.SentReached.{sent_reached}
-use Rattle.laws_steps.proofs.LeasesStayOver.{reached_later}
-use Rattle.laws_steps.proofs.WaitsKept.{IsOfWaits, waits_kept}
+use Rattle.laws_base.proofs.LeasesStayOver.{reached_later}
+use Rattle.laws_base.proofs.WaitsKept.{IsOfWaits, waits_kept}
 use Rattle.laws_entries.proofs.CopiesBegun.{ShowsCopy, ShowsLittle, step_shows}
-use Rattle.laws_replicas.proofs.CopiedOrders.{copies_under_way_are_not_granted}
+use Rattle.laws_versions.proofs.CopiedOrders.{copies_under_way_are_not_granted}
 use Rattle.laws_names.specs.Alike.{Requests, AreAlike}
 use Rattle.laws_names.specs.Followed.{IsTold}
 use Rattle.laws_names.specs.Beside as names

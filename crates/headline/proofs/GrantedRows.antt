@@ -27,10 +27,10 @@ use Rattle.laws_base.proofs.RowsFit.{granted_logged}
 use Rattle.laws_base.proofs.RowsLogged.{IsFoundRows, IsRowedLog}
 use Rattle.laws_base.proofs.RowsKept.{rows_kept}
 use Rattle.laws_base.proofs.NamesReached.{IsUpToLog, logged_here}
-use Rattle.laws_steps.proofs.Awaited.{Attempts, AreWaiting}
-use Rattle.laws_steps.proofs.MasterActs.{IsRowing, rowing_keeps, Waits, Acts}
-use Rattle.laws_steps.proofs.WaitsKept.{any_input, waits_here}
-use Rattle.laws_steps.proofs.ActsOfSteps.{goes_acts}
+use Rattle.laws_base.proofs.Awaited.{Attempts, AreWaiting}
+use Rattle.laws_base.proofs.MasterActs.{IsRowing, rowing_keeps, Waits, Acts}
+use Rattle.laws_base.proofs.WaitsKept.{any_input, waits_here}
+use Rattle.laws_base.proofs.ActsOfSteps.{goes_acts}
 use Rattle.laws_versions.proofs.CopiedSources.{copied_chunks_have_no_lease}
 use Rattle.laws_versions.proofs.PlacesKept.{IsSourceOf, all_front, all_last}
 use Rattle.laws_machine.specs.GrantedRecords.{IsAttempted, IsGrantOf, HasGrantRecord}

@@ -15,8 +15,8 @@ use Rattle.protocol_invariant.specs.Actions.{Spot}
 use Rattle.laws_base.specs.Laws.{IsSizeGranted, grants_of}
 use Rattle.laws_base.proofs.ShapesKept.{chunks_have_their_files_shapes}
 use Rattle.laws_base.proofs.Steps.{none_some}
-use Rattle.laws_steps.specs.Versions.{IsLeaseOver}
-use Rattle.laws_steps.proofs.LeasesStayOver.{reached_later}
+use Rattle.laws_base.specs.Versions.{IsLeaseOver}
+use Rattle.laws_base.proofs.LeasesStayOver.{reached_later}
 use Rattle.laws_versions.proofs.ClosedVersions.{clocks_before}
 use Rattle.laws_versions.proofs.RowSizes.{size_counts, grants_tell_their_rows_size}
 use Rattle.laws_machine.specs.ChunksAlike.{ChunkSides, StandsAt, StoodAt, IsRoundOpen, HasRounds}

@@ -24,9 +24,9 @@ use Rattle.laws_base.proofs.MasterMoves.{IsNoGrantRecord, Keeps, Nothing, NoneEn
 use Rattle.laws_base.proofs.MasterSteps.{goes_keeps}
 use Rattle.laws_base.proofs.ClientMoves.{HasNoOrder, quiet_orders, client_quiet, call_quiet}
 use Rattle.laws_base.proofs.SentReached.{count-sent, server_quiet, server_restarts_quiet}
-use Rattle.laws_steps.proofs.Events.{HoldsAfter, holds_after}
+use Rattle.laws_base.proofs.Events.{HoldsAfter, holds_after}
 use Rattle.laws_names.specs.NameTrails.{log_read}
-use Rattle.laws_steps.proofs.MasterPremises.{IsOfCalls}
+use Rattle.laws_base.proofs.MasterPremises.{IsOfCalls}
 use Rattle.laws_versions.proofs.UnaskedSteps.{IsNoAsk, KeepsThese, KeepsNames, KeepsReports, taken_kept, ticked_kept}
 use Rattle.laws_versions.proofs.AskedSteps.{IsNoGrant, names_grant_nothing}
 use Rattle.laws_versions.proofs.CopiedSources.{asked_or_not, asked_step, free_reached}

@@ -17,10 +17,10 @@ use Rattle.laws_base.proofs.OrderNumbers.{state_of}
 use Rattle.laws_base.proofs.RowsLogged.{IsFoundRows, IsRowedLog}
 use Rattle.laws_base.proofs.RowsKept.{rows_kept}
 use Rattle.laws_base.proofs.NamesReached.{IsUpToLog, logged_here}
-use Rattle.laws_steps.specs.Reads.{IsTold}
-use Rattle.laws_steps.specs.Words.{HoldAtLeast}
-use Rattle.laws_steps.proofs.LeasesStayOver.{reached_later}
-use Rattle.laws_steps.proofs.Locations.{locations_name_current_holders}
+use Rattle.laws_base.specs.Reads.{IsTold}
+use Rattle.laws_base.specs.Words.{HoldAtLeast}
+use Rattle.laws_base.proofs.LeasesStayOver.{reached_later}
+use Rattle.laws_base.proofs.Locations.{locations_name_current_holders}
 use Rattle.laws_versions.proofs.ClosedVersions.{clocks_before}
 use Rattle.protocol_invariant.specs.Actions.{Spot}
 use Rattle.laws_machine.specs.ChunksAlike.{ChunkSides, StandsAt, AreChunksAlike}

@@ -10,9 +10,9 @@ use Rattle.messages.specs.declared.event.NodeInput.TheVariants as input
 use Rattle.messages.specs.declared.message.Message.{Message}
 use Rattle.protocol.specs.Choice.{Choice}
 use Rattle.protocol.specs.World.{WorldState, new_world, numbered_from_1, happens, after_events, IsReached, is_kept}
-use Rattle.laws_steps.proofs.Histories.{after_both}
+use Rattle.laws_base.proofs.Histories.{after_both}
 use Rattle.laws_versions.proofs.ClosedVersions.{clocks_before}
-use Rattle.laws_replicas.proofs.AppliedReached.{kept_both}
+use Rattle.laws_versions.proofs.AppliedReached.{kept_both}
 use Rattle.laws_entries.specs.Entries.{IsAmong}
 use Rattle.laws_base.proofs.Steps.{none_some}
 use Rattle.protocol.specs.Explained.{AreSettings}

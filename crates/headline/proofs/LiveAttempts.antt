@@ -22,11 +22,11 @@ use Rattle.protocol.specs.World.{WorldState, new_world, happens, after_events, I
 use Rattle.laws_base.proofs.Steps.{none_some, same_some}
 use Rattle.laws_base.proofs.RisingOrders.{set_cases}
 use Rattle.laws_base.proofs.ServerMoves.{IsCameIn}
-use Rattle.laws_steps.specs.Locations.{chunk_used}
-use Rattle.laws_steps.proofs.ClientReads.{Came, stepped, called}
-use Rattle.laws_steps.proofs.Events.{HoldsAfter, holds_after}
-use Rattle.laws_steps.proofs.Histories.{IsGrown, step_grown}
-use Rattle.laws_steps.proofs.LeasesStayOver.{reached_later}
+use Rattle.laws_base.specs.Locations.{chunk_used}
+use Rattle.laws_base.proofs.ClientReads.{Came, stepped, called}
+use Rattle.laws_base.proofs.Events.{HoldsAfter, holds_after}
+use Rattle.laws_base.proofs.Histories.{IsGrown, step_grown}
+use Rattle.laws_base.proofs.LeasesStayOver.{reached_later}
 use Rattle.laws_calls.specs.AnsweredWrites.{IsToldChunk}
 use Rattle.laws_calls.specs.ToldIndexes.{has_index}
 use Rattle.laws_calls.proofs.CallWalk.{IsFirst, AnyKept, AnyUsed, all_any, KeepsCall, StandsAt, StandsNow, IsCalm, Leaves, does_leave, begun_calm, call_calm}

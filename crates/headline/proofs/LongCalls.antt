@@ -46,13 +46,13 @@ use Rattle.laws_base.proofs.Steps.{same_some}
 use Rattle.laws_base.proofs.Entries.{same_number}
 use Rattle.laws_base.proofs.MembersRecorded.{kept_place}
 use Rattle.laws_base.proofs.MessagesSent.{IsSent, sent_after}
-use Rattle.laws_steps.specs.Attempts.{is_request}
-use Rattle.laws_steps.specs.FewAttempts.{WasAsked, part_of}
-use Rattle.laws_steps.specs.FileCalls.{IsOfFile}
-use Rattle.laws_steps.proofs.Events.{holds_after}
-use Rattle.laws_steps.proofs.Histories.{steps_grown}
-use Rattle.laws_steps.proofs.ReadAnswers.{one_request}
-use Rattle.laws_steps.proofs.RequestsOnce.{requests_are_numbered_once}
+use Rattle.laws_base.specs.Attempts.{is_request}
+use Rattle.laws_base.specs.FewAttempts.{WasAsked, part_of}
+use Rattle.laws_base.specs.FileCalls.{IsOfFile}
+use Rattle.laws_base.proofs.Events.{holds_after}
+use Rattle.laws_base.proofs.Histories.{steps_grown}
+use Rattle.laws_base.proofs.ReadAnswers.{one_request}
+use Rattle.laws_base.proofs.RequestsOnce.{requests_are_numbered_once}
 use Rattle.laws_calls.specs.AnsweredWrites.{IsToldChunk}
 use Rattle.laws_calls.specs.ToldIndexes.{IsAskFor}
 use Rattle.laws_calls.proofs.AskedIndexes.{asks_are_for_the_part_in_hand}

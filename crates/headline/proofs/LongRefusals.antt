@@ -35,12 +35,12 @@ use Rattle.protocol.specs.Observer.{order_of, observed_moment, calls_made}
 use Rattle.protocol.specs.World.{WorldState, new_world, happens, after_events, IsReached, is_kept}
 use Rattle.laws_base.proofs.Steps.{same_some}
 use Rattle.laws_base.proofs.Entries.{same_number}
-use Rattle.laws_steps.specs.Attempts.{is_request}
-use Rattle.laws_steps.specs.FewAttempts.{EachOf, WasAsked}
-use Rattle.laws_steps.specs.FileCalls.{IsOfFile}
-use Rattle.laws_steps.proofs.Histories.{after_both}
-use Rattle.laws_steps.proofs.ReadAnswers.{one_request}
-use Rattle.laws_steps.proofs.RequestsOnce.{requests_are_numbered_once}
+use Rattle.laws_base.specs.Attempts.{is_request}
+use Rattle.laws_base.specs.FewAttempts.{EachOf, WasAsked}
+use Rattle.laws_base.specs.FileCalls.{IsOfFile}
+use Rattle.laws_base.proofs.Histories.{after_both}
+use Rattle.laws_base.proofs.ReadAnswers.{one_request}
+use Rattle.laws_base.proofs.RequestsOnce.{requests_are_numbered_once}
 use Rattle.laws_entries.specs.Entries.{IsAmong, IsPushed}
 use Rattle.laws_entries.proofs.AnsweredAttempts.{answers_known}
 use Rattle.laws_entries.proofs.UsedAnswers.{IsReading}

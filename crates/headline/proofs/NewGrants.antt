@@ -16,13 +16,13 @@ use Rattle.protocol.specs.World.{WorldState, new_world, happens, after_events, I
 use Rattle.laws_base.specs.Laws.{grants_of}
 use Rattle.laws_base.proofs.Steps.{none_some, same_some}
 use Rattle.laws_base.proofs.OrderNumbers.{state_of}
-use Rattle.laws_steps.specs.Versions.{IsLeaseOver}
-use Rattle.laws_steps.specs.Reads.{IsTold}
-use Rattle.laws_steps.proofs.EndedLeases.{attempted_chunks_have_no_lease}
-use Rattle.laws_steps.proofs.Events.{holds_after}
-use Rattle.laws_steps.proofs.Histories.{SentIn, sent_in, after_both}
-use Rattle.laws_steps.proofs.IssuedNumbers.{IsPassed}
-use Rattle.laws_steps.proofs.LeasesStayOver.{reached_later}
+use Rattle.laws_base.specs.Versions.{IsLeaseOver}
+use Rattle.laws_base.specs.Reads.{IsTold}
+use Rattle.laws_base.proofs.EndedLeases.{attempted_chunks_have_no_lease}
+use Rattle.laws_base.proofs.Events.{holds_after}
+use Rattle.laws_base.proofs.Histories.{SentIn, sent_in, after_both}
+use Rattle.laws_base.proofs.IssuedNumbers.{IsPassed}
+use Rattle.laws_base.proofs.LeasesStayOver.{reached_later}
 use Rattle.laws_entries.proofs.GrantsFollow.{HasPassed}
 use Rattle.laws_versions.specs.ReplacedChunks.{IsToldAt}
 use Rattle.laws_versions.proofs.AskedSteps.{StandsAt, IsToldOf}

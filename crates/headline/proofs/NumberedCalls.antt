@@ -34,11 +34,11 @@ use Rattle.protocol.specs.Observer.{observed_moment, calls_made}
 use Rattle.protocol.specs.Server.{ServerState}
 use Rattle.protocol.specs.ServerStep.{server_at}
 use Rattle.protocol.specs.World.{WorldState, new_world, after_events, IsReached, is_kept}
-use Rattle.laws_steps.specs.FewAttempts.{WasAsked, part_of, EachOf, AreApart}
+use Rattle.laws_base.specs.FewAttempts.{WasAsked, part_of, EachOf, AreApart}
 use Rattle.laws_entries.specs.Entries.{IsPlacedFor, IsAskedFor}
 use Rattle.laws_entries.specs.Deadlines.{Numbers}
 use Rattle.laws_entries.specs.FullChunks.{IsPad}
-use Rattle.laws_replicas.proofs.PushedData.{data_are_pushed_once}
+use Rattle.laws_versions.proofs.PushedData.{data_are_pushed_once}
 use Rattle.laws_calls.specs.BoundedCalls.{IsEntryFor}
 use Rattle.laws_calls.specs.OpenAttempts.{IsOfOpenCall}
 use Rattle.laws_calls.proofs.BoundedCalls.{placings_are_of_few_entries}

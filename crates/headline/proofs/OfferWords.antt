@@ -39,10 +39,10 @@ use Rattle.protocol.specs.Master.{PendingSnapshot}
 use Rattle.protocol.specs.World.{WorldState, happens, IsReached}
 use Rattle.laws_base.proofs.Steps.{none_some, same_some, same_or_not}
 use Rattle.laws_base.proofs.Entries.{same_number}
-use Rattle.laws_steps.specs.Attempts.{is_request}
-use Rattle.laws_steps.proofs.Events.{IsGiven}
-use Rattle.laws_steps.proofs.ReadAnswers.{one_request}
-use Rattle.laws_steps.proofs.RequestsOnce.{requests_are_numbered_once}
+use Rattle.laws_base.specs.Attempts.{is_request}
+use Rattle.laws_base.proofs.Events.{IsGiven}
+use Rattle.laws_base.proofs.ReadAnswers.{one_request}
+use Rattle.laws_base.proofs.RequestsOnce.{requests_are_numbered_once}
 use Rattle.laws_versions.proofs.ExtendLaws.{came_in}
 use Rattle.machine_names.specs.NameProjections.{AreNamesOf}
 use Rattle.laws_names.specs.Alike.{is_there}
@@ -50,7 +50,7 @@ use Rattle.protocol_invariant.specs.ClientParts.{index_asked}
 use Rattle.laws_machine.specs.ChunksAlike.{ChunkSides}
 use Rattle.laws_calls.specs.ToldIndexes.{IsAskFor}
 use Rattle.laws_calls.proofs.AskedIndexes.{asks_are_for_the_part_in_hand}
-use Rattle.laws_steps.proofs.MasterPremises.{IsTakenAsk}
+use Rattle.laws_base.proofs.MasterPremises.{IsTakenAsk}
 use Rattle.laws_machine.specs.ChunksBeside.{AreChunksBeside}
 use Rattle.laws_machine.specs.FileAnswers.{IsLastRound}
 use Rattle.laws_machine.specs.FileClients.{IsFileCall, IsCallAlike, IsSaidAt}

@@ -35,11 +35,11 @@ use Rattle.laws_base.proofs.RowsLogged.{IsFoundRows, IsRowedLog}
 use Rattle.laws_base.proofs.RowsKept.{rows_kept}
 use Rattle.laws_base.proofs.RowsSame.{IsOwned}
 use Rattle.laws_base.proofs.SentReached.{sent_reached}
-use Rattle.laws_steps.proofs.Events.{HoldsAfter, holds_after}
-use Rattle.laws_steps.proofs.Histories.{IsGrown, steps_grown}
-use Rattle.laws_steps.proofs.IssuedNumbers.{IsPassed, IsLogPassed, passed_same}
-use Rattle.laws_steps.proofs.LeasesStayOver.{reached_later}
-use Rattle.laws_steps.proofs.WaitsKept.{IsOfWaits, waits_kept}
+use Rattle.laws_base.proofs.Events.{HoldsAfter, holds_after}
+use Rattle.laws_base.proofs.Histories.{IsGrown, steps_grown}
+use Rattle.laws_base.proofs.IssuedNumbers.{IsPassed, IsLogPassed, passed_same}
+use Rattle.laws_base.proofs.LeasesStayOver.{reached_later}
+use Rattle.laws_base.proofs.WaitsKept.{IsOfWaits, waits_kept}
 use Rattle.laws_entries.proofs.GrantsFollow.{HasPassed}
 use Rattle.laws_versions.specs.ToldVersions.{WasOrdered}
 use Rattle.laws_versions.proofs.AskedSteps.{StandsAt, IsNoGrant}
@@ -51,8 +51,8 @@ use Rattle.laws_versions.proofs.PlacesKept.{IsPlaceKept}
 use Rattle.laws_versions.proofs.PlacesTaken.{IsTaken, IsLogTaken, AreCopiesOf, ArePlacesTaken, taken_same, step_taken, restart_taken, places_on}
 use Rattle.laws_versions.proofs.ReplacedChunks.{each_passed, stood_file}
 use Rattle.laws_versions.proofs.SharedChunks.{shared_chunks_have_no_lease}
-use Rattle.laws_replicas.specs.CopiedOrders.{IsUngrantedCopy}
-use Rattle.laws_replicas.proofs.CopiedOrders.{source_row, copies_under_way_are_not_granted}
+use Rattle.laws_versions.specs.CopiedOrders.{IsUngrantedCopy}
+use Rattle.laws_versions.proofs.CopiedOrders.{source_row, copies_under_way_are_not_granted}
 use Rattle.laws_calls.proofs.ToldHolders.{ordered_later}
 use Rattle.protocol_invariant.specs.Actions.{Spot}
 use Rattle.laws_machine.specs.ChunksAlike.{ChunkSides}

@@ -12,8 +12,8 @@ use Rattle.protocol.specs.Master.{MasterDoing, master_begins, logs, writes_check
 use Rattle.protocol.specs.MasterClones.{CloneOrder, orders_clone, best_clone}
 use Rattle.protocol.specs.MasterStep.{gives_up_attempts, gives_up_lost_copies, expires_all, expires_old, expired_files, master_does, master_at, master_goes}
 use Rattle.laws_base.proofs.MasterMoves.{logs_alone}
-use Rattle.laws_steps.proofs.MasterPremises.{IsOfCalls, IsOfStep, AnyDoing, any_kept, StepEffects, NameKeeps, MasterKeeps}
-use Rattle.laws_steps.proofs.MasterWalk.{ready_here, goes_here}
+use Rattle.laws_base.proofs.MasterPremises.{IsOfCalls, IsOfStep, AnyDoing, any_kept, StepEffects, NameKeeps, MasterKeeps}
+use Rattle.laws_base.proofs.MasterWalk.{ready_here, goes_here}
 use Rattle.headline.specs.GoneHandles.{IsLasting, IsLastingChange, IsExpiry, AreLasting, ExpireFirst, ExpiriesComeFirst}
 
 abbrev AreFirst : StepEffects → Type 0

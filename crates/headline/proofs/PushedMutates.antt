@@ -30,14 +30,14 @@ use Rattle.protocol.specs.World.{WorldState, new_world, stamped, after_events, I
 use Rattle.laws_base.proofs.Steps.{none_some, same_some}
 use Rattle.laws_base.proofs.Entries.{AllOf}
 use Rattle.laws_base.proofs.MembersRecorded.{all_at}
-use Rattle.laws_steps.proofs.MasterTalks.{is_masters}
-use Rattle.laws_steps.specs.Attempts.{waited_data, data_number}
-use Rattle.laws_steps.proofs.ClientNumbers.{IsSaid, IsStepOf, of_step, of_call}
-use Rattle.laws_steps.proofs.Events.{HoldsAfter, holds_after}
-use Rattle.laws_steps.proofs.Histories.{IsGrown, steps_grown, SentIn, sent_in, after_both}
-use Rattle.laws_steps.proofs.MasterTalks.{MasterTalks, master_said, restart_said}
-use Rattle.laws_steps.proofs.RequestsOnce.{AreNumbered, numbered_reached}
-use Rattle.laws_steps.proofs.ServerTalks.{is_quiet, Talks, step_said}
+use Rattle.laws_base.proofs.MasterTalks.{is_masters}
+use Rattle.laws_base.specs.Attempts.{waited_data, data_number}
+use Rattle.laws_base.proofs.ClientNumbers.{IsSaid, IsStepOf, of_step, of_call}
+use Rattle.laws_base.proofs.Events.{HoldsAfter, holds_after}
+use Rattle.laws_base.proofs.Histories.{IsGrown, steps_grown, SentIn, sent_in, after_both}
+use Rattle.laws_base.proofs.MasterTalks.{MasterTalks, master_said, restart_said}
+use Rattle.laws_base.proofs.RequestsOnce.{AreNumbered, numbered_reached}
+use Rattle.laws_base.proofs.ServerTalks.{is_quiet, Talks, step_said}
 use Rattle.laws_entries.specs.Entries.{IsPushed}
 use Rattle.laws_versions.proofs.ExtendLaws.{new_one, none_before}
 use Rattle.laws_calls.proofs.CallWalk.{StandsAt, AnyUsed}

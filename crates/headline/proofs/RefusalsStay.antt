@@ -25,11 +25,11 @@ use Rattle.protocol.specs.Observer.{calls_made}
 use Rattle.protocol.specs.World.{WorldState, Happened, new_world, happens, after_events}
 use Rattle.laws_base.proofs.Steps.{same_some}
 use Rattle.laws_base.proofs.MessagesSent.{IsSent, IsSameMessage}
-use Rattle.laws_steps.specs.Attempts.{IsRequestOf}
-use Rattle.laws_steps.specs.FewAttempts.{IsAskedNow, WasAsked}
-use Rattle.laws_steps.proofs.Events.{holds_after}
-use Rattle.laws_steps.proofs.Histories.{after_both}
-use Rattle.laws_steps.proofs.RequestsOnce.{later_cases, requests_carry_used_numbers}
+use Rattle.laws_base.specs.Attempts.{IsRequestOf}
+use Rattle.laws_base.specs.FewAttempts.{IsAskedNow, WasAsked}
+use Rattle.laws_base.proofs.Events.{holds_after}
+use Rattle.laws_base.proofs.Histories.{after_both}
+use Rattle.laws_base.proofs.RequestsOnce.{later_cases, requests_carry_used_numbers}
 use Rattle.laws_entries.specs.Entries.{IsAmong}
 use Rattle.laws_calls.specs.RefusedAsks.{HasAsk}
 use Rattle.laws_calls.proofs.Answerers.{refusals_of_the_master_answer_an_ask}

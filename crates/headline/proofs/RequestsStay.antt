@@ -46,17 +46,17 @@ use Rattle.protocol.specs.Observer.{calls_made, observed_moment}
 use Rattle.protocol.specs.World.{WorldState, Happened, new_world, stamped, happens, after_events}
 use Rattle.laws_base.proofs.Steps.{none_some}
 use Rattle.laws_base.proofs.MembersRecorded.{all_at}
-use Rattle.laws_steps.specs.Attempts.{is_from_client}
-use Rattle.laws_steps.specs.FewAttempts.{IsAskedNow, WasAsked, part_of}
-use Rattle.laws_steps.specs.FileCalls.{IsOfFile}
-use Rattle.laws_steps.specs.Locations.{chunk_used}
-use Rattle.laws_steps.proofs.ClientReads.{told_later}
-use Rattle.laws_steps.proofs.Events.{HoldsAfter, holds_after}
-use Rattle.laws_steps.proofs.Histories.{after_both}
-use Rattle.laws_steps.proofs.RequestsOnce.{from_itself, later_cases}
-use Rattle.laws_steps.proofs.Senders.{AreNotClients, server_sends, server_restart_sends, master_sends, master_restart_sends, one_client}
+use Rattle.laws_base.specs.Attempts.{is_from_client}
+use Rattle.laws_base.specs.FewAttempts.{IsAskedNow, WasAsked, part_of}
+use Rattle.laws_base.specs.FileCalls.{IsOfFile}
+use Rattle.laws_base.specs.Locations.{chunk_used}
+use Rattle.laws_base.proofs.ClientReads.{told_later}
+use Rattle.laws_base.proofs.Events.{HoldsAfter, holds_after}
+use Rattle.laws_base.proofs.Histories.{after_both}
+use Rattle.laws_base.proofs.RequestsOnce.{from_itself, later_cases}
+use Rattle.laws_base.proofs.Senders.{AreNotClients, server_sends, server_restart_sends, master_sends, master_restart_sends, one_client}
 use Rattle.laws_entries.specs.Entries.{IsPushed}
-use Rattle.laws_replicas.proofs.Acknowledged.{set_there}
+use Rattle.laws_versions.proofs.Acknowledged.{set_there}
 use Rattle.laws_calls.specs.AnsweredWrites.{IsToldChunk}
 use Rattle.laws_calls.specs.ToldIndexes.{has_index}
 use Rattle.laws_calls.proofs.LaterCalls.{pushed_later, calls_answered, calls_passed}

@@ -11,7 +11,7 @@ use Rattle.protocol.specs.Logged.{Logged, LogDisk, log_changed_by_all, replayed,
 use Rattle.protocol.specs.Master.{MasterState, MasterDoing, PendingSnapshot, master_begins}
 use Rattle.protocol.specs.MasterStep.{found_log, started_master}
 use Rattle.protocol.specs.World.{WorldState, IsReached, happens, after_master}
-use Rattle.laws_steps.proofs.LeasesStayOver.{reached_later}
+use Rattle.laws_base.proofs.LeasesStayOver.{reached_later}
 use Rattle.laws_names.specs.Beside.{lasts, IsNamesBeside}
 use Rattle.laws_names.specs.NameTrails.{log_read, IsBesideLog, NameTrail}
 use Rattle.laws_names.proofs.BesideClientsBeside.{passed_trace, moved, relogged}
@@ -37,7 +37,7 @@ use Rattle.laws_base.proofs.MasterMoves.{logs_alone}
 use Rattle.laws_base.proofs.CountsLogged.{IsFoundCounts, IsCountedLog}
 use Rattle.laws_base.proofs.CountsKept.{counts_kept}
 use Rattle.laws_base.proofs.NamesReached.{logged_here, opening_naming}
-use Rattle.laws_replicas.proofs.CopiedOrders.{copies_under_way_are_not_granted}
+use Rattle.laws_versions.proofs.CopiedOrders.{copies_under_way_are_not_granted}
 use Rattle.laws_names.proofs.LocksAndFiles.{locks_go_back}
 use Rattle.laws_names.proofs.Moves.{stays}
 use Rattle.laws_names.proofs.Openings.{restarts_are_followed, restarts_go_by_records}

@@ -8,8 +8,8 @@ use Rattle.protocol.specs.Choice.{Choice}
 use Rattle.protocol.specs.World.{WorldState, happens, IsReached}
 use Rattle.laws_base.specs.Laws.{grants_of}
 use Rattle.laws_base.proofs.Steps.{none_some}
-use Rattle.laws_steps.specs.Versions.{IsLeaseOver}
-use Rattle.laws_steps.proofs.LeasesStayOver.{reached_later, over_later}
+use Rattle.laws_base.specs.Versions.{IsLeaseOver}
+use Rattle.laws_base.proofs.LeasesStayOver.{reached_later, over_later}
 use Rattle.protocol_invariant.specs.Actions.{Spot}
 use Rattle.laws_machine.specs.ChunksAlike.{ChunkSides, StandsAt, StoodAt, IsRoundOpen, AreChunksAlike, KeepsRounds, HasRounds, chunk_in, entries_in}
 use Rattle.laws_machine.proofs.Sides.{listed, alike_at, one_handle, gone_or_there}

@@ -46,15 +46,15 @@ use Rattle.laws_base.proofs.Steps.{on_cond, none_some, same_some, same_or_not}
 use Rattle.laws_base.proofs.Entries.{same_number}
 use Rattle.laws_base.proofs.MembersRecorded.{kept_place}
 use Rattle.laws_base.proofs.MessagesSent.{IsSent}
-use Rattle.laws_steps.specs.Attempts.{is_request}
-use Rattle.laws_steps.specs.Locations.{chunk_used}
-use Rattle.laws_steps.specs.Reads.{IsTold, IsReading, IsTrueOf, is_answer, request_to}
-use Rattle.laws_steps.proofs.ClientReads.{told_later}
-use Rattle.laws_steps.proofs.Histories.{IsGrown, step_grown, stood_before}
-use Rattle.laws_steps.proofs.LeasesStayOver.{reached_later}
-use Rattle.laws_steps.proofs.Lengths.{replicas_lie_within_the_chunk}
-use Rattle.laws_steps.proofs.ReadAnswers.{IsReadBy, one_request, reads_are_of_the_told_version}
-use Rattle.laws_steps.proofs.RequestsOnce.{numbered_reached, requests_are_numbered_once}
+use Rattle.laws_base.specs.Attempts.{is_request}
+use Rattle.laws_base.specs.Locations.{chunk_used}
+use Rattle.laws_base.specs.Reads.{IsTold, IsReading, IsTrueOf, is_answer, request_to}
+use Rattle.laws_base.proofs.ClientReads.{told_later}
+use Rattle.laws_base.proofs.Histories.{IsGrown, step_grown, stood_before}
+use Rattle.laws_base.proofs.LeasesStayOver.{reached_later}
+use Rattle.laws_base.proofs.Lengths.{replicas_lie_within_the_chunk}
+use Rattle.laws_base.proofs.ReadAnswers.{IsReadBy, one_request, reads_are_of_the_told_version}
+use Rattle.laws_base.proofs.RequestsOnce.{numbered_reached, requests_are_numbered_once}
 use Rattle.laws_entries.specs.AnsweredAttempts.{IsFinal}
 use Rattle.laws_entries.specs.PlacedEntries.{LiesWithin}
 use Rattle.laws_entries.specs.SettledEntries.{HasSettledEntry}
@@ -77,7 +77,7 @@ use Rattle.laws_machine.specs.HoldersApart.{StandsUpTo}
 use Rattle.laws_machine.specs.ToldHolders.{IsShownAs}
 use Rattle.laws_machine.specs.WaitedSuccesses.{WaitsForDone, HasTheCall}
 use Rattle.laws_machine.specs.WholeWorlds.{AreFileClients, IsServersEvent, is_of_looks}
-use Rattle.laws_steps.specs.FileCalls.{IsOfFile}
+use Rattle.laws_base.specs.FileCalls.{IsOfFile}
 use Rattle.laws_machine.proofs.ClientFiles.{clients_files_are_open}
 use Rattle.laws_machine.proofs.CountedCalls.{calls_are_counted}
 use Rattle.laws_machine.proofs.FileWalk.{open_size}

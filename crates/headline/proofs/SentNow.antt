@@ -37,12 +37,12 @@ use Rattle.laws_base.proofs.Steps.{on_cond, none_some, same_some}
 use Rattle.laws_base.proofs.MessagesSent.{IsSent, IsSameMessage, sent_after}
 use Rattle.laws_base.proofs.RisingOrders.{set_cases}
 use Rattle.laws_base.proofs.ServerMoves.{IsCameIn}
-use Rattle.laws_steps.specs.Attempts.{data_number}
-use Rattle.laws_steps.specs.FileCalls.{IsOfFile}
-use Rattle.laws_steps.proofs.ClientReads.{stepped, called}
-use Rattle.laws_steps.proofs.ClientWalk.{IsIdle, KeepsClient, HoldsAt, step_kept, call_kept}
-use Rattle.laws_steps.proofs.Events.{HoldsAfter, holds_after}
-use Rattle.laws_steps.proofs.RequestsOnce.{AreNumbered, each_event, numbered_reached}
+use Rattle.laws_base.specs.Attempts.{data_number}
+use Rattle.laws_base.specs.FileCalls.{IsOfFile}
+use Rattle.laws_base.proofs.ClientReads.{stepped, called}
+use Rattle.laws_base.proofs.ClientWalk.{IsIdle, KeepsClient, HoldsAt, step_kept, call_kept}
+use Rattle.laws_base.proofs.Events.{HoldsAfter, holds_after}
+use Rattle.laws_base.proofs.RequestsOnce.{AreNumbered, each_event, numbered_reached}
 use Rattle.laws_entries.specs.Entries.{IsPushed}
 use Rattle.laws_calls.proofs.LaterCalls.{pushed_later, one_message}
 

@@ -30,9 +30,9 @@ use Rattle.laws_base.proofs.MembersRecorded.{all_at}
 use Rattle.laws_base.proofs.MessagesSent.{IsSent}
 use Rattle.laws_base.proofs.RisingOrders.{element_numbered}
 use Rattle.laws_entries.proofs.Placing.{same_calls}
-use Rattle.laws_steps.specs.Reads.{is_answer}
-use Rattle.laws_steps.proofs.ReadAnswers.{IsReadBy}
-use Rattle.laws_steps.proofs.ServerTalks.{is_quiet, Talks, step_said}
+use Rattle.laws_base.specs.Reads.{is_answer}
+use Rattle.laws_base.proofs.ReadAnswers.{IsReadBy}
+use Rattle.laws_base.proofs.ServerTalks.{is_quiet, Talks, step_said}
 use Rattle.laws_versions.proofs.ExtendLaws.{new_one, none_before}
 use Rattle.laws_versions.proofs.ServerCauses.{step_words}
 use Rattle.laws_machine.specs.WholeWorlds.{IsServer, IsServersEvent}

@@ -19,8 +19,8 @@ use Rattle.protocol.specs.Conforms.{IsSelected}
 use Rattle.protocol.specs.World.{WorldState, new_world, IsReached, is_kept}
 use Rattle.laws_base.proofs.Steps.{none_some, same_some}
 use Rattle.laws_calls.proofs.OpenEntries.{config_stays}
-use Rattle.laws_replicas.proofs.KeptDisks.{stored_as_long}
-use Rattle.laws_replicas.proofs.Selections.{replicas_are_selections}
+use Rattle.laws_versions.proofs.KeptDisks.{stored_as_long}
+use Rattle.laws_versions.proofs.Selections.{replicas_are_selections}
 use Rattle.protocol.specs.Each.{EachEntry, EachPlace}
 use Rattle.protocol.specs.Explained.{IsShown, Explains}
 use Rattle.laws_machine.specs.ChunksAlike.{ChunkSides, IsFileAlike, entries_in}

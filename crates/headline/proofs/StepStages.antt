@@ -9,8 +9,8 @@ use Rattle.client_state.specs.declared.call.Stage.TheVariants.{AskedNames, Asked
 use Rattle.protocol.specs.Client.{ClientState, ClientDoing, client_begins}
 use Rattle.protocol.specs.ClientStep.{client_at, client_goes, client_call_goes}
 use Rattle.laws_base.proofs.ServerMoves.{IsCameIn}
-use Rattle.laws_steps.specs.Attempts.{waited_data, data_number}
-use Rattle.laws_steps.proofs.ClientWalk.{IsIdle, HoldsAt, KeepsClient, KeepsCalls, step_kept, call_kept}
+use Rattle.laws_base.specs.Attempts.{waited_data, data_number}
+use Rattle.laws_base.proofs.ClientWalk.{IsIdle, HoldsAt, KeepsClient, KeepsCalls, step_kept, call_kept}
 
 -- it waits for nothing, or under a number that is new, or for the data that were pushed
 abbrev pub IsNewStage : ClientState → Stage → Type 0

@@ -30,11 +30,11 @@ use Rattle.laws_base.proofs.NamesReached.{IsUpToLog}
 use Rattle.laws_base.proofs.RowsKept.{rows_kept}
 use Rattle.laws_base.proofs.RowsLogged.{IsFoundRows, IsRowedLog}
 use Rattle.laws_base.proofs.SentReached.{sent_reached}
-use Rattle.laws_steps.proofs.WaitsKept.{IsOfWaits, waits_kept}
+use Rattle.laws_base.proofs.WaitsKept.{IsOfWaits, waits_kept}
 use Rattle.laws_versions.proofs.CopiedSources.{asked_or_not}
 use Rattle.laws_versions.proofs.ExtendLaws.{new_one, none_before}
 use Rattle.laws_versions.proofs.UnaskedSteps.{IsUnasked, IsNoAsk}
-use Rattle.laws_steps.proofs.MasterPremises.{IsTakenAsk, IsAsk}
+use Rattle.laws_base.proofs.MasterPremises.{IsTakenAsk, IsAsk}
 use Rattle.laws_calls.proofs.MasterRefusals.{is_no_answer, master_refuses_asks}
 use Rattle.laws_machine.specs.Rounds.{IsMastersInput}
 use Rattle.headline.proofs.AskedWords.{IsToldIn, IsRefusedIn, IsAnsweredBy, Fine, asked, ready}

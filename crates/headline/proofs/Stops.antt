@@ -16,8 +16,8 @@ use Rattle.protocol.specs.Master.{MasterState, MasterDoing, PendingSnapshot, sto
 use Rattle.protocol.specs.MasterStep.{master_goes, master_ends}
 use Rattle.protocol.specs.World.{WorldState, IsReached, happens, after_master}
 use Rattle.laws_base.proofs.Steps.{none_some}
-use Rattle.laws_steps.specs.Versions.{AreLeasesOver}
-use Rattle.laws_steps.proofs.LeasesStayOver.{reached_later}
+use Rattle.laws_base.specs.Versions.{AreLeasesOver}
+use Rattle.laws_base.proofs.LeasesStayOver.{reached_later}
 use Rattle.laws_names.specs.Alike.{Requests, AreAlike}
 use Rattle.laws_names.specs.Followed.{AreKeptOn}
 use Rattle.laws_names.specs.Beside.{lasts, lasting, IsKnown, IsNamesBeside}

@@ -15,11 +15,11 @@ use Rattle.protocol.specs.MasterStep.{master_step, master_restart}
 use Rattle.protocol.specs.ServerStep.{server_step, server_restart}
 use Rattle.protocol.specs.World.{WorldState, new_world, after_master, after_events, IsReached}
 use Rattle.laws_base.proofs.Entries.{AllOf}
-use Rattle.laws_steps.proofs.ClientNumbers.{of_step, of_call}
-use Rattle.laws_steps.proofs.Events.{HoldsAfter, holds_after}
-use Rattle.laws_steps.proofs.Histories.{SentIn, sent_in}
-use Rattle.laws_steps.proofs.LeasesStayOver.{reached_later}
-use Rattle.laws_steps.proofs.RequestsOnce.{AreNumbered, numbered_reached}
+use Rattle.laws_base.proofs.ClientNumbers.{of_step, of_call}
+use Rattle.laws_base.proofs.Events.{HoldsAfter, holds_after}
+use Rattle.laws_base.proofs.Histories.{SentIn, sent_in}
+use Rattle.laws_base.proofs.LeasesStayOver.{reached_later}
+use Rattle.laws_base.proofs.RequestsOnce.{AreNumbered, numbered_reached}
 use Rattle.laws_versions.proofs.ExtendLaws.{restart_silent, none_before}
 use Rattle.laws_versions.proofs.ToldAnswers.{server_tells, restart_tells, client_tells, none_new}
 use Rattle.laws_versions.proofs.UnaskedSteps.{is_location}

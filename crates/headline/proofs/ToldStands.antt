@@ -31,16 +31,16 @@ use Rattle.laws_base.proofs.MessagesSent.{IsSent, sent_before}
 use Rattle.laws_base.proofs.RowsLogged.{IsFoundRows, IsRowedLog}
 use Rattle.laws_base.proofs.RowsKept.{rows_kept}
 use Rattle.laws_base.proofs.NamesReached.{IsUpToLog, logged_here}
-use Rattle.laws_steps.specs.Attempts.{is_from_client, is_request}
-use Rattle.laws_steps.specs.Reads.{IsTold}
-use Rattle.laws_steps.proofs.ClientNumbers.{of_step, of_call}
-use Rattle.laws_steps.proofs.Events.{IsGiven, HoldsAfter, holds_after}
-use Rattle.laws_steps.proofs.Histories.{IsGrown, steps_grown}
-use Rattle.laws_steps.proofs.LeasesStayOver.{reached_later}
-use Rattle.laws_steps.proofs.RequestsOnce.{AreNumbered, numbered_reached, requests_are_numbered_once}
+use Rattle.laws_base.specs.Attempts.{is_from_client, is_request}
+use Rattle.laws_base.specs.Reads.{IsTold}
+use Rattle.laws_base.proofs.ClientNumbers.{of_step, of_call}
+use Rattle.laws_base.proofs.Events.{IsGiven, HoldsAfter, holds_after}
+use Rattle.laws_base.proofs.Histories.{IsGrown, steps_grown}
+use Rattle.laws_base.proofs.LeasesStayOver.{reached_later}
+use Rattle.laws_base.proofs.RequestsOnce.{AreNumbered, numbered_reached, requests_are_numbered_once}
 use Rattle.laws_entries.proofs.Deadlines.{same_counted}
 use Rattle.laws_versions.proofs.AskedSteps.{StandsAt}
-use Rattle.laws_steps.proofs.MasterPremises.{IsAsk}
+use Rattle.laws_base.proofs.MasterPremises.{IsAsk}
 use Rattle.laws_versions.proofs.CopiedSources.{IsSilent, asked_or_not, unasked_step, free_reached}
 use Rattle.laws_versions.proofs.ExtendLaws.{restart_silent, new_one, none_before, came_in}
 use Rattle.laws_versions.proofs.ToldAnswers.{TellsNone, server_tells, restart_tells, client_tells, none_new}

@@ -26,11 +26,11 @@ use Rattle.laws_base.proofs.RowsFit.{granted_logged}
 use Rattle.laws_base.proofs.RowsLogged.{IsFoundRows, IsRowedLog}
 use Rattle.laws_base.proofs.RowsKept.{rows_kept}
 use Rattle.laws_base.proofs.NamesReached.{IsUpToLog, logged_here}
-use Rattle.laws_steps.proofs.Awaited.{Attempts, AreWaiting}
-use Rattle.laws_steps.proofs.MasterActs.{IsRowing, rowing_keeps, Waits, Acts}
-use Rattle.laws_steps.proofs.WaitsKept.{any_input, waits_here}
-use Rattle.laws_steps.proofs.ActsOfSteps.{goes_acts}
-use Rattle.laws_steps.proofs.IssuedNumbers.{IsPassed, passed_after, passed_grant, passed_ended, passed_less}
+use Rattle.laws_base.proofs.Awaited.{Attempts, AreWaiting}
+use Rattle.laws_base.proofs.MasterActs.{IsRowing, rowing_keeps, Waits, Acts}
+use Rattle.laws_base.proofs.WaitsKept.{any_input, waits_here}
+use Rattle.laws_base.proofs.ActsOfSteps.{goes_acts}
+use Rattle.laws_base.proofs.IssuedNumbers.{IsPassed, passed_after, passed_grant, passed_ended, passed_less}
 use Rattle.laws_versions.proofs.AskedSteps.{StandsAt}
 use Rattle.laws_versions.proofs.PlacesKept.{copies_left}
 use Rattle.laws_machine.proofs.Sides.{last_cases}

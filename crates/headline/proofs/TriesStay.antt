@@ -16,16 +16,16 @@ use Rattle.protocol.specs.Choice.{Choice}
 use Rattle.protocol.specs.Observer.{Placed, order_of, observed_moment, calls_made, new_entry}
 use Rattle.protocol.specs.ServerStep.{server_step, server_at}
 use Rattle.protocol.specs.World.{WorldState, new_world, happens, after_events}
-use Rattle.laws_steps.specs.FewAttempts.{EachOf, AreApart}
-use Rattle.laws_steps.proofs.Events.{holds_after}
-use Rattle.laws_steps.proofs.Histories.{IsGrown, step_grown}
+use Rattle.laws_base.specs.FewAttempts.{EachOf, AreApart}
+use Rattle.laws_base.proofs.Events.{holds_after}
+use Rattle.laws_base.proofs.Histories.{IsGrown, step_grown}
 use Rattle.laws_entries.specs.ChunkOrders.{unsettled}
 use Rattle.laws_entries.specs.Entries.{IsAskedFor}
 use Rattle.laws_entries.specs.FullChunks.{IsPad}
 use Rattle.laws_entries.proofs.RoundsPassed.{server_shown}
 use Rattle.laws_entries.proofs.UsedNumbers.{IsUsed, entries_are_used, used_not_new}
-use Rattle.laws_replicas.proofs.Images.{numbered_there}
-use Rattle.laws_replicas.proofs.OrdersGrow.{HaveGrown, orders_grow}
+use Rattle.laws_versions.proofs.Images.{numbered_there}
+use Rattle.laws_versions.proofs.OrdersGrow.{HaveGrown, orders_grow}
 use Rattle.laws_calls.specs.AnsweredWrites.{IsToldChunk}
 use Rattle.laws_calls.proofs.LaterCalls.{calls_passed, among_later}
 use Rattle.protocol_invariant.specs.Actions.{Spot}

@@ -15,7 +15,7 @@ use Rattle.gfs_types.specs.Counters.{counter_limit}
 use Rattle.protocol.specs.Tables.{element_at}
 use Rattle.protocol.specs.Choice.{Choice}
 use Rattle.protocol.specs.World.{WorldState, happens, IsReached, is_kept}
-use Rattle.laws_steps.specs.Reads.{IsTold}
+use Rattle.laws_base.specs.Reads.{IsTold}
 use Rattle.laws_entries.specs.Entries.{IsPushed}
 use Rattle.laws_machine.specs.ChunksAlike.{ChunkSides}
 use Rattle.laws_machine.specs.ChunksBeside.{AreChunksBeside}

@@ -19,7 +19,7 @@ use Rattle.protocol.specs.Client.{ClientState}
 use Rattle.protocol.specs.Observer.{observed_moment}
 use Rattle.protocol.specs.Master.{PendingSnapshot}
 use Rattle.protocol.specs.World.{WorldState, numbered_from_1, happens, IsReached, is_kept}
-use Rattle.laws_steps.specs.FileCalls.{IsOfFile}
+use Rattle.laws_base.specs.FileCalls.{IsOfFile}
 use Rattle.laws_machine.specs.ChunksAlike.{ChunkSides}
 use Rattle.laws_machine.specs.ServerSteps.{AreForOpenCalls}
 use Rattle.laws_machine.specs.ChunksBeside.{AreChunksBeside, IsMastersEvent}

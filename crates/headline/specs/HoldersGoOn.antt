@@ -6,7 +6,7 @@ use Rattle.messages.specs.declared.message.Location.{Location}
 use Rattle.relaxed_file.specs.Machine.{chunk_at, chunk_count}
 use Rattle.protocol.specs.Choice.{Choice}
 use Rattle.protocol.specs.World.{WorldState, happens, IsReached}
-use Rattle.laws_steps.specs.Reads.{IsTold}
+use Rattle.laws_base.specs.Reads.{IsTold}
 use Rattle.laws_machine.specs.ChunksAlike.{ChunkSides, StandsAt, AreChunksAlike, KeepsRounds}
 use Rattle.laws_machine.specs.Rounds.{IsLogOf, IsEnded}
 use Rattle.laws_machine.specs.ServerSteps.{AreGoneOrdersAlike}

@@ -5,7 +5,7 @@ use Rattle.messages.specs.declared.event.Event.{Event}
 use Rattle.protocol.specs.Choice.{Choice}
 use Rattle.protocol.specs.World.{WorldState, happens, IsReached}
 use Rattle.laws_base.specs.Laws.{grants_of}
-use Rattle.laws_steps.specs.Versions.{IsLeaseOver}
+use Rattle.laws_base.specs.Versions.{IsLeaseOver}
 use Rattle.protocol_invariant.specs.Actions.{Spot}
 use Rattle.laws_machine.specs.ChunksAlike.{ChunkSides, StandsAt, AreChunksAlike, KeepsRounds, HasRounds}
 use Rattle.laws_machine.specs.Rounds.{IsLogOf, IsEnded}

@@ -7,7 +7,7 @@ use Rattle.gfs_types.specs.declared.answer.Answer.{Answer}
 use Rattle.gfs_types.specs.declared.ids.Node.{Node}
 use Rattle.gfs_types.specs.declared.ids.Node.TheVariants as node
 use Rattle.protocol_journal.specs.Journal.{StepCause, Calls, Takes, Restarts, Entry}
-use Rattle.laws_rebase.specs.Whole.{raised_cause, raised_entry}
+use Rattle.protocol_journal.specs.Whole.{raised_cause, raised_entry}
 use Rattle.cell_journal.specs.Identity.{Closed}
 use Rattle.cell_journal.specs.Retained.{gone_of}
 use Rattle.cell_journal.specs.WholeHistories.{whole_of}

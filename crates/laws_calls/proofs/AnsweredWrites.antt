@@ -47,11 +47,11 @@ use Rattle.laws_base.proofs.Steps.{on_cond, none_some, same_some}
 use Rattle.laws_base.proofs.Entries.{same_number}
 use Rattle.laws_base.proofs.ServerMoves.{IsCameIn}
 use Rattle.laws_base.proofs.RisingOrders.{set_cases}
-use Rattle.laws_steps.specs.Attempts.{is_from_client, is_request, IsRequestOf}
-use Rattle.laws_steps.proofs.Events.{HoldsAfter, holds_after}
-use Rattle.laws_steps.proofs.LeasesStayOver.{reached_later}
-use Rattle.laws_steps.proofs.ClientNumbers.{IsStepOf, goes_numbered, call_numbered}
-use Rattle.laws_steps.proofs.RequestsOnce.{IsNumbered, AreNumbered, from_itself, first_and, each_event, numbered_reached, requests_are_numbered_once}
+use Rattle.laws_base.specs.Attempts.{is_from_client, is_request, IsRequestOf}
+use Rattle.laws_base.proofs.Events.{HoldsAfter, holds_after}
+use Rattle.laws_base.proofs.LeasesStayOver.{reached_later}
+use Rattle.laws_base.proofs.ClientNumbers.{IsStepOf, goes_numbered, call_numbered}
+use Rattle.laws_base.proofs.RequestsOnce.{IsNumbered, AreNumbered, from_itself, first_and, each_event, numbered_reached, requests_are_numbered_once}
 use Rattle.laws_entries.specs.Entries.{IsAmong, IsPlacedFor}
 use Rattle.laws_entries.proofs.Deadlines.{asks_for, asking, same_counted}
 use Rattle.laws_entries.specs.ChunkOrders.{HasMutate}

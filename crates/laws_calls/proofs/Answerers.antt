@@ -27,17 +27,17 @@ use Rattle.laws_base.proofs.Steps.{none_some, same_some}
 use Rattle.laws_base.proofs.Entries.{AllOf, same_number}
 use Rattle.laws_base.proofs.MembersRecorded.{kept_place, all_at}
 use Rattle.laws_base.proofs.RisingOrders.{element_numbered}
-use Rattle.laws_steps.specs.Attempts.{is_from_client, is_request}
-use Rattle.laws_steps.proofs.Events.{IsGiven, HoldsAfter, world_reached}
-use Rattle.laws_steps.proofs.ClientNumbers.{IsSaid, IsStepOf, of_step, of_call}
-use Rattle.laws_steps.proofs.RequestsOnce.{AreNumbered, from_itself, each_event, numbered_reached, later_cases, requests_are_numbered_once}
+use Rattle.laws_base.specs.Attempts.{is_from_client, is_request}
+use Rattle.laws_base.proofs.Events.{IsGiven, HoldsAfter, world_reached}
+use Rattle.laws_base.proofs.ClientNumbers.{IsSaid, IsStepOf, of_step, of_call}
+use Rattle.laws_base.proofs.RequestsOnce.{AreNumbered, from_itself, each_event, numbered_reached, later_cases, requests_are_numbered_once}
 use Rattle.laws_versions.proofs.ServerCauses.{step_words}
 use Rattle.laws_entries.proofs.Deadlines.{same_counted}
 use Rattle.laws_entries.specs.Entries.{IsAmong, IsPushed}
 use Rattle.laws_entries.proofs.RisingRounds.{restart_silent}
 use Rattle.laws_calls.specs.CallSteps.{IsAnswerUnder, AttemptsAreAnsweredByServers}
 use Rattle.messages.specs.declared.message.Location.{Location}
-use Rattle.laws_steps.proofs.Locations.{locations_name_current_holders}
+use Rattle.laws_base.proofs.Locations.{locations_name_current_holders}
 use Rattle.laws_calls.proofs.MasterRefusals.{is_no_answer, master_refuses_asks}
 use Rattle.laws_calls.specs.ToldIndexes.{IsIndexOf, LocationsAnswerTheirAsk}
 use Rattle.laws_calls.specs.RefusedAsks.{HasAsk, RefusalsOfTheMasterAnswerAnAsk}

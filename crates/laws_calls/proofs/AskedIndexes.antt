@@ -32,10 +32,10 @@ use Rattle.laws_base.proofs.Steps.{none_some, same_some}
 use Rattle.laws_base.proofs.Entries.{AllOf, same_number}
 use Rattle.laws_base.proofs.RisingOrders.{set_cases}
 use Rattle.laws_base.proofs.ServerMoves.{IsCameIn}
-use Rattle.laws_steps.specs.Attempts.{is_from_client, is_request}
-use Rattle.laws_steps.proofs.Events.{HoldsAfter, world_reached}
-use Rattle.laws_steps.proofs.RequestsOnce.{AreNumbered, from_itself, first_and, each_event, numbered_reached, requests_are_numbered_once}
-use Rattle.laws_steps.proofs.ClientReads.{stepped, called}
+use Rattle.laws_base.specs.Attempts.{is_from_client, is_request}
+use Rattle.laws_base.proofs.Events.{HoldsAfter, world_reached}
+use Rattle.laws_base.proofs.RequestsOnce.{AreNumbered, from_itself, first_and, each_event, numbered_reached, requests_are_numbered_once}
+use Rattle.laws_base.proofs.ClientReads.{stepped, called}
 use Rattle.laws_entries.proofs.Deadlines.{same_counted}
 use Rattle.laws_calls.proofs.CallWalk.{IsOfPart}
 use Rattle.laws_calls.specs.ToldIndexes.{IsAskFor, IsIndexOf, AsksAreForThePartInHand}

@@ -39,15 +39,15 @@ use Rattle.laws_base.proofs.Steps.{none_some, same_some}
 use Rattle.laws_base.proofs.Entries.{AllOf}
 use Rattle.laws_base.proofs.MembersRecorded.{kept_place, all_at}
 use Rattle.laws_base.proofs.MessagesSent.{IsSent, sent_after}
-use Rattle.laws_steps.specs.Attempts.{is_from_client}
-use Rattle.laws_steps.specs.FewAttempts.{part_of, IsAskedNow, WasAsked, EachOf, AreApart}
-use Rattle.laws_steps.proofs.Budget.{IsNoMutate}
-use Rattle.laws_steps.proofs.Events.{HoldsAfter, holds_after, with_call}
-use Rattle.laws_steps.proofs.ClientNumbers.{IsStepOf, of_step, of_call}
-use Rattle.laws_steps.proofs.Histories.{IsGrown, steps_grown, after_both}
-use Rattle.laws_steps.proofs.LeasesStayOver.{reached_later}
-use Rattle.laws_steps.proofs.RequestsOnce.{from_itself, numbered_reached, requests_are_numbered_once}
-use Rattle.laws_steps.proofs.Senders.{server_sends, server_restart_sends, master_sends, master_restart_sends, one_client}
+use Rattle.laws_base.specs.Attempts.{is_from_client}
+use Rattle.laws_base.specs.FewAttempts.{part_of, IsAskedNow, WasAsked, EachOf, AreApart}
+use Rattle.laws_base.proofs.Budget.{IsNoMutate}
+use Rattle.laws_base.proofs.Events.{HoldsAfter, holds_after, with_call}
+use Rattle.laws_base.proofs.ClientNumbers.{IsStepOf, of_step, of_call}
+use Rattle.laws_base.proofs.Histories.{IsGrown, steps_grown, after_both}
+use Rattle.laws_base.proofs.LeasesStayOver.{reached_later}
+use Rattle.laws_base.proofs.RequestsOnce.{from_itself, numbered_reached, requests_are_numbered_once}
+use Rattle.laws_base.proofs.Senders.{server_sends, server_restart_sends, master_sends, master_restart_sends, one_client}
 use Rattle.laws_entries.specs.Deadlines.{Numbers}
 use Rattle.laws_entries.specs.Entries.{IsAmong, IsPlacedFor, IsAskedFor}
 use Rattle.laws_entries.specs.ChunkOrders.{HasMutate}

@@ -17,8 +17,8 @@ use Rattle.protocol.specs.Observer.{Placed, observed_moment, order_of, calls_mad
 use Rattle.protocol.specs.Server.{ServerState}
 use Rattle.protocol.specs.ServerStep.{server_at}
 use Rattle.protocol.specs.World.{WorldState, new_world, after_events, IsReached}
-use Rattle.laws_steps.specs.FewAttempts.{WasAsked, Counts, EachOf, AreApart}
-use Rattle.laws_steps.proofs.FewAttempts.{parts_have_few_attempts}
+use Rattle.laws_base.specs.FewAttempts.{WasAsked, Counts, EachOf, AreApart}
+use Rattle.laws_base.proofs.FewAttempts.{parts_have_few_attempts}
 use Rattle.laws_entries.specs.Deadlines.{Numbers}
 use Rattle.laws_entries.specs.Entries.{IsAskedFor}
 use Rattle.laws_entries.specs.FullChunks.{IsPad}

@@ -44,9 +44,9 @@ use Rattle.protocol.specs.ClientStep.{new_call, calls_names, calls_file, calls_o
 use Rattle.laws_base.proofs.Steps.{on_cond, none_some, same_some}
 use Rattle.laws_base.proofs.Entries.{AllOf}
 use Rattle.laws_base.proofs.ServerMoves.{IsCameIn}
-use Rattle.laws_steps.proofs.Caches.{after_look, after_drop}
-use Rattle.laws_steps.proofs.ClientWalk.{attempt_end, place_at, looked, heard_at, is_told_of, noted, closed, once_more, told_at}
-use Rattle.laws_steps.proofs.Budget.{IsNoMutate}
+use Rattle.laws_base.proofs.Caches.{after_look, after_drop}
+use Rattle.laws_base.proofs.ClientWalk.{attempt_end, place_at, looked, heard_at, is_told_of, noted, closed, once_more, told_at}
+use Rattle.laws_base.proofs.Budget.{IsNoMutate}
 use Rattle.laws_entries.proofs.Sendings.{noted_size}
 
 -- the same part of a call, with the same attempts that count as live

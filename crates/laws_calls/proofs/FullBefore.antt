@@ -34,18 +34,18 @@ use Rattle.laws_base.proofs.Entries.{AllOf}
 use Rattle.laws_base.proofs.RisingOrders.{set_cases}
 use Rattle.laws_base.proofs.MembersRecorded.{all_at}
 use Rattle.laws_base.proofs.ServerMoves.{IsCameIn}
-use Rattle.laws_steps.specs.Attempts.{is_from_client}
-use Rattle.laws_steps.specs.Reads.{IsTold}
-use Rattle.laws_steps.specs.Locations.{chunk_used}
-use Rattle.laws_steps.proofs.ClientReads.{Came, told_later, stepped, called}
-use Rattle.laws_steps.proofs.ClientNumbers.{IsStepOf, of_step, of_call}
-use Rattle.laws_steps.proofs.Events.{HoldsAfter, holds_after}
-use Rattle.laws_steps.proofs.LeasesStayOver.{reached_later}
-use Rattle.laws_steps.proofs.RequestsOnce.{AreNumbered, from_itself, each_event, numbered_reached, later_cases}
-use Rattle.laws_steps.proofs.Senders.{AreNotClients, server_sends, server_restart_sends, master_sends, master_restart_sends, one_client}
+use Rattle.laws_base.specs.Attempts.{is_from_client}
+use Rattle.laws_base.specs.Reads.{IsTold}
+use Rattle.laws_base.specs.Locations.{chunk_used}
+use Rattle.laws_base.proofs.ClientReads.{Came, told_later, stepped, called}
+use Rattle.laws_base.proofs.ClientNumbers.{IsStepOf, of_step, of_call}
+use Rattle.laws_base.proofs.Events.{HoldsAfter, holds_after}
+use Rattle.laws_base.proofs.LeasesStayOver.{reached_later}
+use Rattle.laws_base.proofs.RequestsOnce.{AreNumbered, from_itself, each_event, numbered_reached, later_cases}
+use Rattle.laws_base.proofs.Senders.{AreNotClients, server_sends, server_restart_sends, master_sends, master_restart_sends, one_client}
 use Rattle.laws_entries.proofs.UsedNumbers.{one_target}
-use Rattle.laws_replicas.specs.FullOrders.{HasFullEnd, IsOfFullOrder}
-use Rattle.laws_replicas.proofs.FullOrders.{full_chunks_have_a_full_order}
+use Rattle.laws_versions.specs.FullOrders.{HasFullEnd, IsOfFullOrder}
+use Rattle.laws_versions.proofs.FullOrders.{full_chunks_have_a_full_order}
 use Rattle.laws_calls.specs.AnsweredWrites.{IsToldChunk}
 use Rattle.laws_calls.specs.FullBefore.{AsksPastAChunkFindItFull}
 use Rattle.laws_calls.proofs.CallWalk.{AnyUsed, StandsNow, IsAsking}

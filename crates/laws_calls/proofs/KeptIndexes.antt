@@ -34,8 +34,8 @@ use Rattle.laws_base.proofs.Steps.{none_some, same_some}
 use Rattle.laws_base.proofs.Entries.{AllOf}
 use Rattle.laws_base.proofs.MessagesSent.{IsSent, sent_before, sent_after}
 use Rattle.laws_base.proofs.ServerMoves.{IsCameIn}
-use Rattle.laws_steps.proofs.Caches.{found, after_look, after_drop, after_put}
-use Rattle.laws_steps.proofs.ClientWalk.{IsIdle, attempt_end, place_at, looked, heard_at, is_told_of, noted, KeepsClient, KeepsCalls, HoldsAt, closed, once_more, step_kept, call_kept}
+use Rattle.laws_base.proofs.Caches.{found, after_look, after_drop, after_put}
+use Rattle.laws_base.proofs.ClientWalk.{IsIdle, attempt_end, place_at, looked, heard_at, is_told_of, noted, KeepsClient, KeepsCalls, HoldsAt, closed, once_more, step_kept, call_kept}
 use Rattle.laws_calls.specs.ToldIndexes.{IsAskFor}
 
 abbrev pub IsKeyed : Place × Cached → Type 0

@@ -27,10 +27,10 @@ use Rattle.protocol.specs.World.{stamped}
 use Rattle.laws_base.proofs.Steps.{on_cond, none_some, same_some, count-append, count-cons}
 use Rattle.laws_base.proofs.Entries.{AllOf}
 use Rattle.laws_base.proofs.MembersRecorded.{kept_place, all_at}
-use Rattle.laws_steps.specs.Attempts.{is_from_client}
-use Rattle.laws_steps.proofs.RequestsOnce.{from_itself, later_cases}
+use Rattle.laws_base.specs.Attempts.{is_from_client}
+use Rattle.laws_base.proofs.RequestsOnce.{from_itself, later_cases}
 use Rattle.laws_entries.specs.Entries.{IsAmong, IsPushed}
-use Rattle.laws_steps.proofs.Budget.{IsNoMutate}
+use Rattle.laws_base.proofs.Budget.{IsNoMutate}
 use Rattle.laws_entries.specs.AnsweredAttempts.{IsFinal}
 use Rattle.laws_calls.proofs.CallWalk.{AnyUsed, IsDenial, StandsAt, StandsNow}
 use Rattle.laws_calls.specs.OpenAttempts.{AsksBy, WasAnswered, IsOver}

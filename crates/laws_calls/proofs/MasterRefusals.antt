@@ -22,8 +22,8 @@ use Rattle.protocol.specs.Master.{MasterState, MasterDoing, version_held}
 use Rattle.protocol.specs.MasterStep.{master_step}
 use Rattle.laws_base.proofs.Entries.{AllOf}
 use Rattle.laws_base.proofs.MembersRecorded.{all_at}
-use Rattle.laws_steps.proofs.MasterPremises.{IsTakenAsk, IsIndexFor, IsLocated, IsRefusedFor, IsAnswer, IsOrder, AskKeeps, MasterSays}
-use Rattle.laws_steps.proofs.MasterWalk.{step_says}
+use Rattle.laws_base.proofs.MasterPremises.{IsTakenAsk, IsIndexFor, IsLocated, IsRefusedFor, IsAnswer, IsOrder, AskKeeps, MasterSays}
+use Rattle.laws_base.proofs.MasterWalk.{step_says}
 use Rattle.laws_calls.specs.ToldIndexes.{IsIndexOf}
 
 -- a word that answers no attempt and no ask

@@ -42,14 +42,14 @@ use Rattle.laws_base.proofs.Steps.{on_cond, none_some, same_some, same_or_not}
 use Rattle.laws_base.proofs.Entries.{AllOf, same_number}
 use Rattle.laws_base.proofs.ServerMoves.{IsCameIn}
 use Rattle.laws_base.proofs.RisingOrders.{set_cases}
-use Rattle.laws_steps.specs.Attempts.{is_from_client, mutates_under, IsRequestOf}
-use Rattle.laws_steps.proofs.Events.{IsGiven, HoldsAfter, holds_after, with_call}
-use Rattle.laws_steps.proofs.ClientNumbers.{IsStepOf, of_step, of_call}
-use Rattle.laws_steps.proofs.RequestsOnce.{AreNumbered, not_other, own_sender, at_numbered, first_and, numbered_reached, later_cases}
-use Rattle.laws_steps.proofs.Senders.{server_sends, server_restart_sends, master_sends, master_restart_sends, one_client}
+use Rattle.laws_base.specs.Attempts.{is_from_client, mutates_under, IsRequestOf}
+use Rattle.laws_base.proofs.Events.{IsGiven, HoldsAfter, holds_after, with_call}
+use Rattle.laws_base.proofs.ClientNumbers.{IsStepOf, of_step, of_call}
+use Rattle.laws_base.proofs.RequestsOnce.{AreNumbered, not_other, own_sender, at_numbered, first_and, numbered_reached, later_cases}
+use Rattle.laws_base.proofs.Senders.{server_sends, server_restart_sends, master_sends, master_restart_sends, one_client}
 use Rattle.laws_entries.specs.Entries.{IsAmong, IsPushed}
-use Rattle.laws_steps.specs.FewAttempts.{part_of, IsAskedNow, WasAsked}
-use Rattle.laws_steps.proofs.LeasesStayOver.{reached_later}
+use Rattle.laws_base.specs.FewAttempts.{part_of, IsAskedNow, WasAsked}
+use Rattle.laws_base.proofs.LeasesStayOver.{reached_later}
 use Rattle.laws_calls.proofs.CallWalk.{AnyUsed, IsCalm, IsAsking}
 use Rattle.laws_calls.proofs.Answerers.{came_to, attempts_are_answered_by_servers}
 use Rattle.laws_calls.specs.OpenAttempts.{AsksBy, WasAnswered, IsOver, IsSentFor, WasSentFor, AttemptsAreOverOrOpen}

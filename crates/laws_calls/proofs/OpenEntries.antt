@@ -25,15 +25,15 @@ use Rattle.protocol.specs.World.{WorldState, Happened, new_world, happens, after
 use Rattle.laws_base.specs.Laws.{is_grant, grants_of}
 use Rattle.laws_base.proofs.Steps.{none_some, same_or_not}
 use Rattle.laws_base.proofs.LeasesTold.{granting}
-use Rattle.laws_steps.proofs.Events.{holds_on}
-use Rattle.laws_steps.proofs.RequestsOnce.{requests_are_numbered_once}
-use Rattle.laws_steps.proofs.Histories.{after_both}
-use Rattle.laws_steps.specs.Versions.{IsLeaseOver}
-use Rattle.laws_steps.proofs.EndedLeases.{over_leases_number_nothing}
+use Rattle.laws_base.proofs.Events.{holds_on}
+use Rattle.laws_base.proofs.RequestsOnce.{requests_are_numbered_once}
+use Rattle.laws_base.proofs.Histories.{after_both}
+use Rattle.laws_base.specs.Versions.{IsLeaseOver}
+use Rattle.laws_base.proofs.EndedLeases.{over_leases_number_nothing}
 use Rattle.laws_versions.proofs.ClosedVersions.{clocks_before}
 use Rattle.laws_entries.proofs.RisingRounds.{lower_leases_are_over, leased_granted}
 use Rattle.laws_entries.proofs.SentGrants.{counted_one}
-use Rattle.laws_steps.specs.FewAttempts.{WasAsked}
+use Rattle.laws_base.specs.FewAttempts.{WasAsked}
 use Rattle.laws_entries.specs.Entries.{IsPushed}
 use Rattle.laws_entries.specs.Deadlines.{Numbers, IsInTime}
 use Rattle.laws_entries.proofs.Deadlines.{asks_for, asking, same_counted, attempts_are_placed_before_their_deadline, over_attempts_are_placed_no_more}

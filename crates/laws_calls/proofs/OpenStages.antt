@@ -30,8 +30,8 @@ use Rattle.protocol.specs.ClientStep.{new_call, calls, client_does}
 use Rattle.laws_base.proofs.Steps.{on_cond, same_or_not}
 use Rattle.laws_base.proofs.Entries.{AllOf, all_joined}
 use Rattle.laws_base.proofs.ServerMoves.{IsCameIn}
-use Rattle.laws_steps.specs.Attempts.{mutates_under}
-use Rattle.laws_steps.proofs.ClientWalk.{attempt_end, heard_at}
+use Rattle.laws_base.specs.Attempts.{mutates_under}
+use Rattle.laws_base.proofs.ClientWalk.{attempt_end, heard_at}
 use Rattle.laws_entries.proofs.Deadlines.{asks_for, asking, same_counted}
 use Rattle.laws_entries.specs.Entries.{IsPushed}
 use Rattle.laws_entries.proofs.AnsweredAttempts.{same_mutate}

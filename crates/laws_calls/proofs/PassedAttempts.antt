@@ -25,16 +25,16 @@ use Rattle.protocol.specs.World.{WorldState, Happened, new_world, happens, after
 use Rattle.laws_base.proofs.Steps.{none_some, same_some, same_or_not}
 use Rattle.laws_base.proofs.RisingOrders.{element_numbered}
 use Rattle.laws_base.proofs.MembersRecorded.{kept_place, place_below}
-use Rattle.laws_steps.proofs.RequestsOnce.{requests_are_numbered_once}
-use Rattle.laws_steps.proofs.Histories.{IsGrown, steps_grown, stood_before, after_both}
-use Rattle.laws_steps.specs.Versions.{IsLeaseOver}
-use Rattle.laws_steps.proofs.EndedLeases.{over_leases_number_nothing}
+use Rattle.laws_base.proofs.RequestsOnce.{requests_are_numbered_once}
+use Rattle.laws_base.proofs.Histories.{IsGrown, steps_grown, stood_before, after_both}
+use Rattle.laws_base.specs.Versions.{IsLeaseOver}
+use Rattle.laws_base.proofs.EndedLeases.{over_leases_number_nothing}
 use Rattle.laws_versions.proofs.ClosedVersions.{clocks_before}
-use Rattle.laws_steps.specs.Reads.{HasAsked}
-use Rattle.laws_steps.proofs.ClientReads.{WasRequestSent}
-use Rattle.laws_steps.proofs.Known.{known_reached}
-use Rattle.laws_steps.specs.Locations.{chunk_used, BeganInTime, WasTold, IsToldNow}
-use Rattle.laws_steps.proofs.LocationsUsed.{attempts_go_by_told_locations}
+use Rattle.laws_base.specs.Reads.{HasAsked}
+use Rattle.laws_base.proofs.ClientReads.{WasRequestSent}
+use Rattle.laws_base.proofs.Known.{known_reached}
+use Rattle.laws_base.specs.Locations.{chunk_used, BeganInTime, WasTold, IsToldNow}
+use Rattle.laws_base.proofs.LocationsUsed.{attempts_go_by_told_locations}
 use Rattle.laws_entries.proofs.Deadlines.{asks_for, asking, same_counted}
 use Rattle.laws_entries.proofs.OwnMutates.{IsOwn, mutates_are_own}
 use Rattle.laws_entries.proofs.UsedNumbers.{Asks}

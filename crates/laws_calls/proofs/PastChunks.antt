@@ -23,8 +23,8 @@ use Rattle.protocol.specs.ClientAttempts.{is_mutation, is_append, wanted_by}
 use Rattle.protocol.specs.ClientStep.{new_call, calls, client_does}
 use Rattle.laws_base.proofs.ServerMoves.{IsCameIn}
 use Rattle.laws_entries.specs.Entries.{IsAmong}
-use Rattle.laws_steps.proofs.ClientReads.{Came, told_later}
-use Rattle.laws_steps.proofs.ClientWalk.{heard_at}
+use Rattle.laws_base.proofs.ClientReads.{Came, told_later}
+use Rattle.laws_base.proofs.ClientWalk.{heard_at}
 use Rattle.laws_calls.specs.AnsweredWrites.{IsToldChunk}
 use Rattle.laws_calls.proofs.CallWalk.{IsOwnAsk, IsFirst, AnyKept, AnyUsed, all_any, KeepsCall, StandsAt, StandsNow, IsCalm, Leaves, does_leave, begun_calm, call_calm}
 use Rattle.laws_calls.proofs.LaterCalls.{among_later}

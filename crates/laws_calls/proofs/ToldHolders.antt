@@ -14,10 +14,10 @@ use Rattle.protocol.specs.ServerStep.{server_step, server_restart}
 use Rattle.protocol.specs.World.{WorldState, new_world, after_events, IsReached}
 use Rattle.laws_base.proofs.Entries.{AllOf}
 use Rattle.laws_base.proofs.MembersRecorded.{kept_place, all_at}
-use Rattle.laws_steps.proofs.ClientNumbers.{of_step, of_call}
-use Rattle.laws_steps.proofs.Events.{HoldsAfter, holds_after}
-use Rattle.laws_steps.proofs.Histories.{IsGrown, steps_grown, SentIn, sent_in, after_both}
-use Rattle.laws_steps.proofs.RequestsOnce.{AreNumbered, numbered_reached}
+use Rattle.laws_base.proofs.ClientNumbers.{of_step, of_call}
+use Rattle.laws_base.proofs.Events.{HoldsAfter, holds_after}
+use Rattle.laws_base.proofs.Histories.{IsGrown, steps_grown, SentIn, sent_in, after_both}
+use Rattle.laws_base.proofs.RequestsOnce.{AreNumbered, numbered_reached}
 use Rattle.laws_versions.specs.ToldVersions.{WasOrdered}
 use Rattle.laws_versions.proofs.ToldVersions.{holders_were_ordered}
 use Rattle.laws_versions.proofs.ExtendLaws.{restart_silent, new_one, none_before}

@@ -9,7 +9,7 @@ use Rattle.protocol.specs.Tables.{element_at}
 use Rattle.protocol.specs.Choice.{Choice}
 use Rattle.protocol.specs.World.{WorldState, new_world, happens, after_events, IsReached}
 use Rattle.laws_base.proofs.MembersRecorded.{place_below}
-use Rattle.laws_steps.proofs.Histories.{IsGrown, steps_grown, stood_before, SentIn, sent_in, after_both}
+use Rattle.laws_base.proofs.Histories.{IsGrown, steps_grown, stood_before, SentIn, sent_in, after_both}
 use Rattle.laws_versions.specs.HandleIndexes.{StandsAtIndex}
 use Rattle.laws_versions.specs.ReplacedChunks.{IsToldAt}
 use Rattle.laws_versions.proofs.AskedSteps.{StandsAt, IsToldOf}

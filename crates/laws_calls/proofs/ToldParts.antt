@@ -35,8 +35,8 @@ use Rattle.protocol.specs.ClientStep.{new_call, fd_of, calls, client_does}
 use Rattle.laws_base.proofs.Steps.{on_cond}
 use Rattle.laws_entries.specs.Entries.{IsAmong, IsPushed}
 use Rattle.laws_base.proofs.ServerMoves.{IsCameIn}
-use Rattle.laws_steps.proofs.ClientReads.{told_later as chunk_told_later}
-use Rattle.laws_steps.proofs.ClientWalk.{heard_at}
+use Rattle.laws_base.proofs.ClientReads.{told_later as chunk_told_later}
+use Rattle.laws_base.proofs.ClientWalk.{heard_at}
 use Rattle.laws_calls.proofs.Parts.{none_below, none_beyond}
 use Rattle.laws_calls.specs.AnsweredWrites.{IsToldChunk}
 use Rattle.laws_calls.proofs.CallWalk.{IsFirst, AnyKept, AnyUsed, all_any, IsReady, KeepsCall, StandsAt, StandsNow, IsCalm, Leaves, does_leave, begun_calm, call_calm}

@@ -28,12 +28,12 @@ use Rattle.laws_base.proofs.OrderNumbers.{state_of, AllFound, found_same}
 use Rattle.laws_base.proofs.NamesReached.{IsUpToLog}
 use Rattle.laws_base.proofs.RowsLogged.{IsFoundRows, IsRowedLog}
 use Rattle.laws_base.proofs.RowsKept.{rows_kept}
-use Rattle.laws_steps.specs.Versions.{IsLeaseOver}
-use Rattle.laws_steps.proofs.Events.{HoldsAfter, holds_after}
-use Rattle.laws_steps.proofs.LeasesStayOver.{reached_later, over_later}
-use Rattle.laws_steps.proofs.WaitsKept.{IsOfWaits, waits_kept}
-use Rattle.laws_steps.proofs.IssuedNumbers.{IsPassed, IsLogPassed, passed_same}
-use Rattle.laws_steps.proofs.Histories.{IsGrown, steps_grown, SentIn, sent_in, after_both}
+use Rattle.laws_base.specs.Versions.{IsLeaseOver}
+use Rattle.laws_base.proofs.Events.{HoldsAfter, holds_after}
+use Rattle.laws_base.proofs.LeasesStayOver.{reached_later, over_later}
+use Rattle.laws_base.proofs.WaitsKept.{IsOfWaits, waits_kept}
+use Rattle.laws_base.proofs.IssuedNumbers.{IsPassed, IsLogPassed, passed_same}
+use Rattle.laws_base.proofs.Histories.{IsGrown, steps_grown, SentIn, sent_in, after_both}
 use Rattle.laws_entries.proofs.GrantsFollow.{HasPassed}
 use Rattle.laws_versions.specs.HeldVersions.{version_cloned}
 use Rattle.laws_versions.specs.ClonedVersions.{version_copied}
@@ -48,10 +48,10 @@ use Rattle.laws_versions.proofs.PlacesKept.{IsPlaceKept}
 use Rattle.laws_versions.proofs.PlacesTaken.{IsTaken, IsLogTaken, AreCopiesOf, ArePlacesTaken, taken_same, step_taken, restart_taken, places_on}
 use Rattle.laws_versions.proofs.ReplacedChunks.{each_passed, stood_file, kept_before}
 use Rattle.laws_versions.proofs.ToldAnswers.{told_now}
-use Rattle.laws_replicas.specs.SkippedRounds.{up_to}
-use Rattle.laws_replicas.specs.CopiedOrders.{IsUngrantedCopy}
-use Rattle.laws_replicas.proofs.StillOrders.{IsStill, each_still}
-use Rattle.laws_replicas.proofs.CopiedOrders.{source_row, copy_over, copies_under_way_have_their_sources_order, copies_under_way_are_not_granted}
+use Rattle.laws_versions.specs.SkippedRounds.{up_to}
+use Rattle.laws_versions.specs.CopiedOrders.{IsUngrantedCopy}
+use Rattle.laws_versions.proofs.StillOrders.{IsStill, each_still}
+use Rattle.laws_versions.proofs.CopiedOrders.{source_row, copy_over, copies_under_way_have_their_sources_order, copies_under_way_are_not_granted}
 use Rattle.laws_calls.specs.ToldHolders.{StandsThere, ToldHoldersStandForTheChunk}
 use Rattle.laws_calls.proofs.ToldHolders.{AreHeld, each_held, ordered_later}
 

@@ -36,17 +36,17 @@ use Rattle.laws_base.proofs.Steps.{none_some, same_some}
 use Rattle.laws_base.proofs.Entries.{AllOf}
 use Rattle.laws_base.proofs.RisingOrders.{set_cases, element_numbered}
 use Rattle.laws_base.proofs.ServerMoves.{IsCameIn}
-use Rattle.laws_steps.specs.Reads.{HasAsked, IsTold}
-use Rattle.laws_steps.specs.Locations.{chunk_used, BeganInTime, WasTold, IsToldNow}
-use Rattle.laws_steps.proofs.ClientReads.{WasRequestSent, Came, told_later, stepped, called}
-use Rattle.laws_steps.proofs.Budget.{IsNoMutate}
-use Rattle.laws_steps.proofs.ClientWalk.{place_at}
-use Rattle.laws_steps.proofs.Events.{IsGiven, HoldsAfter, holds_after}
-use Rattle.laws_steps.proofs.Histories.{IsGrown, steps_grown, after_both}
-use Rattle.laws_steps.proofs.Known.{known_reached}
-use Rattle.laws_steps.proofs.RequestsOnce.{first_and}
-use Rattle.laws_steps.proofs.LeasesStayOver.{reached_later}
-use Rattle.laws_steps.proofs.LocationsUsed.{attempts_go_by_told_locations}
+use Rattle.laws_base.specs.Reads.{HasAsked, IsTold}
+use Rattle.laws_base.specs.Locations.{chunk_used, BeganInTime, WasTold, IsToldNow}
+use Rattle.laws_base.proofs.ClientReads.{WasRequestSent, Came, told_later, stepped, called}
+use Rattle.laws_base.proofs.Budget.{IsNoMutate}
+use Rattle.laws_base.proofs.ClientWalk.{place_at}
+use Rattle.laws_base.proofs.Events.{IsGiven, HoldsAfter, holds_after}
+use Rattle.laws_base.proofs.Histories.{IsGrown, steps_grown, after_both}
+use Rattle.laws_base.proofs.Known.{known_reached}
+use Rattle.laws_base.proofs.RequestsOnce.{first_and}
+use Rattle.laws_base.proofs.LeasesStayOver.{reached_later}
+use Rattle.laws_base.proofs.LocationsUsed.{attempts_go_by_told_locations}
 use Rattle.laws_calls.specs.AnsweredWrites.{IsToldChunk}
 use Rattle.laws_calls.specs.ToldIndexes.{has_index, PartsGoToTheirChunk}
 use Rattle.laws_calls.proofs.CallWalk.{IsOfPart, KeepsCall, StandsAt, StandsNow, IsCalm, IsAsking, Leaves, does_leave, begun_calm, call_calm, at_once_calm}

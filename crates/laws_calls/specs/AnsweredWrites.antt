@@ -17,7 +17,7 @@ use Rattle.protocol.specs.Choice.{Choice}
 use Rattle.protocol.specs.Client.{ClientState, file_chunk}
 use Rattle.protocol.specs.ClientStep.{client_step}
 use Rattle.protocol.specs.World.{WorldState, IsReached}
-use Rattle.laws_steps.specs.Reads.{IsTold}
+use Rattle.laws_base.specs.Reads.{IsTold}
 use Rattle.laws_entries.specs.SettledEntries.{HasSettledEntry}
 
 -- In a step, on a message that was sent or a tick, a client answers Done to its open call.

@@ -13,7 +13,7 @@ use Rattle.protocol.specs.Choice.{Choice}
 use Rattle.protocol.specs.Observer.{Placed, order_of, observed_moment, calls_made}
 use Rattle.protocol.specs.Server.{ServerState}
 use Rattle.protocol.specs.World.{WorldState, new_world, after_events, IsReached}
-use Rattle.laws_steps.specs.FewAttempts.{WasAsked, EachOf, AreApart}
+use Rattle.laws_base.specs.FewAttempts.{WasAsked, EachOf, AreApart}
 use Rattle.laws_entries.specs.Deadlines.{Numbers}
 use Rattle.laws_entries.specs.FullChunks.{IsPad}
 

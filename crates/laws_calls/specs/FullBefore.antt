@@ -12,7 +12,7 @@ use Rattle.protocol.specs.Observer.{order_of}
 use Rattle.protocol.specs.World.{WorldState, IsReached}
 use Rattle.laws_base.specs.Laws.{IsSizeGranted}
 use Rattle.protocol_invariant.specs.AttemptParts.{is_full}
-use Rattle.laws_replicas.specs.FullOrders.{HasFullEnd}
+use Rattle.laws_versions.specs.FullOrders.{HasFullEnd}
 use Rattle.laws_calls.specs.AnsweredWrites.{IsToldChunk}
 
 -- The client was told a chunk of this index of the file, and that chunk's order has an entry that ends at the chunk's end, of a round up to the told one, by the size that a Grant of the told round told, within a slot.

@@ -21,7 +21,7 @@ use Rattle.protocol.specs.Choice.{Choice}
 use Rattle.protocol.specs.Observer.{calls_made}
 use Rattle.protocol.specs.World.{WorldState, Happened, new_world, happens, after_events}
 use Rattle.laws_entries.specs.Deadlines.{IsAmong}
-use Rattle.laws_steps.specs.FewAttempts.{WasAsked}
+use Rattle.laws_base.specs.FewAttempts.{WasAsked}
 use Rattle.laws_entries.specs.AnsweredAttempts.{IsAnswerTo}
 use Rattle.laws_entries.specs.Entries.{IsPushed}
 

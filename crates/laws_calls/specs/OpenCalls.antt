@@ -12,7 +12,7 @@ use Rattle.protocol.specs.Observer.{Placed, order_of, observed_moment}
 use Rattle.protocol.specs.Server.{ServerState}
 use Rattle.protocol.specs.World.{new_world, after_events}
 use Rattle.laws_entries.specs.Deadlines.{Numbers}
-use Rattle.laws_steps.specs.FewAttempts.{WasAsked}
+use Rattle.laws_base.specs.FewAttempts.{WasAsked}
 use Rattle.laws_calls.specs.OpenAttempts.{IsOfOpenCall}
 
 -- Where clocks are kept, a mutation is numbered only for the open call of its client (sections 3.1 and 3.3).

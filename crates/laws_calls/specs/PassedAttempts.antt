@@ -8,7 +8,7 @@ use Rattle.protocol.specs.Tables.{element_at}
 use Rattle.protocol.specs.Sending.{data_id, the_server}
 use Rattle.protocol.specs.Choice.{Choice}
 use Rattle.protocol.specs.World.{new_world, after_events}
-use Rattle.laws_steps.specs.Versions.{IsLeaseOver}
+use Rattle.laws_base.specs.Versions.{IsLeaseOver}
 use Rattle.laws_entries.specs.Entries.{IsPushed}
 use Rattle.laws_entries.specs.AnsweredAttempts.{IsAnswerTo}
 use Rattle.laws_calls.specs.OpenAttempts.{WasSentFor}

@@ -12,7 +12,7 @@ use Rattle.protocol.specs.Observer.{order_of}
 use Rattle.protocol.specs.World.{WorldState, IsReached}
 use Rattle.laws_versions.specs.ReplacedChunks.{IsToldAt}
 use Rattle.laws_versions.specs.ToldVersions.{WasOrdered}
-use Rattle.laws_replicas.specs.SkippedRounds.{up_to}
+use Rattle.laws_versions.specs.SkippedRounds.{up_to}
 
 -- Each holder that a location names was ordered to have that version of the chunk, or to clone it (section 4.5).
 abbrev pub ToldHoldersWereOrdered : Type 0

@@ -20,7 +20,7 @@ use Rattle.protocol.specs.Client.{ClientState}
 use Rattle.protocol.specs.ClientAttempts.{wanted_by}
 use Rattle.protocol.specs.World.{WorldState, IsReached}
 use Rattle.laws_entries.specs.Entries.{IsAmong}
-use Rattle.laws_steps.specs.Locations.{chunk_used}
+use Rattle.laws_base.specs.Locations.{chunk_used}
 use Rattle.laws_versions.specs.ReplacedChunks.{IsToldAt}
 use Rattle.laws_calls.specs.AnsweredWrites.{IsToldChunk}
 

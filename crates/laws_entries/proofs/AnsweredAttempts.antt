@@ -41,13 +41,13 @@ use Rattle.laws_base.proofs.Steps.{on_cond, none_some, same_some}
 use Rattle.laws_base.proofs.Entries.{AllOf, same_number}
 use Rattle.laws_base.proofs.RisingOrders.{set_cases}
 use Rattle.laws_base.proofs.MembersRecorded.{kept_place, all_at}
-use Rattle.laws_steps.specs.Attempts.{is_from_client, is_request}
-use Rattle.laws_steps.proofs.Events.{with_call, with_rot, rot_of, HoldsAfter, holds_after}
-use Rattle.laws_steps.proofs.ClientNumbers.{IsStepOf, of_step, of_call}
-use Rattle.laws_steps.proofs.RequestsOnce.{AreNumbered, from_itself, each_event, numbered_reached, later_cases, requests_are_numbered_once}
-use Rattle.laws_steps.proofs.MasterTalks.{MasterTalks, master_said, restart_said}
-use Rattle.laws_steps.proofs.Histories.{IsGrown, steps_grown}
-use Rattle.laws_steps.proofs.LeasesStayOver.{reached_later}
+use Rattle.laws_base.specs.Attempts.{is_from_client, is_request}
+use Rattle.laws_base.proofs.Events.{with_call, with_rot, rot_of, HoldsAfter, holds_after}
+use Rattle.laws_base.proofs.ClientNumbers.{IsStepOf, of_step, of_call}
+use Rattle.laws_base.proofs.RequestsOnce.{AreNumbered, from_itself, each_event, numbered_reached, later_cases, requests_are_numbered_once}
+use Rattle.laws_base.proofs.MasterTalks.{MasterTalks, master_said, restart_said}
+use Rattle.laws_base.proofs.Histories.{IsGrown, steps_grown}
+use Rattle.laws_base.proofs.LeasesStayOver.{reached_later}
 use Rattle.laws_entries.specs.Entries.{IsAmong, IsPushed, IsAskedFor}
 use Rattle.laws_entries.proofs.Stemming.{came_in, numbered_mutations_were_asked_for}
 use Rattle.laws_entries.specs.Deadlines.{Numbers, IsInTime}

@@ -31,8 +31,8 @@ use Rattle.protocol.specs.World.{WorldState, new_world, stamped, IsReached}
 use Rattle.laws_base.proofs.Steps.{on_cond, none_some, same_some}
 use Rattle.laws_base.proofs.RisingOrders.{set_cases, element_numbered}
 use Rattle.laws_base.proofs.MembersRecorded.{kept_place}
-use Rattle.laws_steps.proofs.Events.{IsGiven, HoldsAfter, holds_on}
-use Rattle.laws_steps.proofs.RequestsOnce.{AreNumbered, each_event, numbered_reached, from_itself, requests_are_numbered_once}
+use Rattle.laws_base.proofs.Events.{IsGiven, HoldsAfter, holds_on}
+use Rattle.laws_base.proofs.RequestsOnce.{AreNumbered, each_event, numbered_reached, from_itself, requests_are_numbered_once}
 use Rattle.laws_entries.specs.Entries.{IsAmong, IsPlacedFor}
 use Rattle.laws_entries.proofs.SettledEntries.{successes_have_entries}
 use Rattle.laws_entries.specs.SettledEntries.{HasSettledEntry}
@@ -50,7 +50,7 @@ use Rattle.std.proofs.lemmas.Bool.{and_from}
 use Rattle.primary_order.specs.PrimaryOrder.{place_of}
 use Rattle.protocol.specs.Observer.{Placed, order_of}
 use Rattle.laws_base.proofs.Entries.{same_number}
-use Rattle.laws_steps.specs.Attempts.{is_from_client, is_request}
+use Rattle.laws_base.specs.Attempts.{is_from_client, is_request}
 use Rattle.laws_entries.proofs.Deadlines.{same_counted}
 use Rattle.laws_entries.specs.ChunkOrders.{HasMutate}
 use Rattle.laws_entries.proofs.Numbering.{entries_stem_from_mutates}

@@ -18,8 +18,8 @@ use Rattle.protocol.specs.ClientStep.{client_step, client_call}
 use Rattle.protocol.specs.World.{WorldState, Happened, stamped}
 use Rattle.laws_base.proofs.Entries.{AllOf}
 use Rattle.laws_base.proofs.MembersRecorded.{kept_place, all_at}
-use Rattle.laws_steps.proofs.Events.{HoldsAfter}
-use Rattle.laws_steps.proofs.MasterTalks.{IsCopying, master_shown, restart_shown}
+use Rattle.laws_base.proofs.Events.{HoldsAfter}
+use Rattle.laws_base.proofs.MasterTalks.{IsCopying, master_shown, restart_shown}
 use Rattle.laws_entries.specs.Entries.{IsAmong}
 use Rattle.laws_entries.proofs.Stemming.{came_in}
 use Rattle.laws_entries.proofs.Placing.{all_placed, AreAll, Keeps, all_keep, same_orders}

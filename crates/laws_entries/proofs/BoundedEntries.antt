@@ -6,8 +6,8 @@ use Rattle.messages.specs.declared.event.Event.{Event}
 use Rattle.protocol.specs.Choice.{Choice}
 use Rattle.protocol.specs.World.{WorldState, new_world, after_events}
 use Rattle.laws_entries.proofs.OneEntry.{numbers_have_one_entry}
-use Rattle.laws_steps.specs.FewAttempts.{WasAsked, Counts, EachOf, AreApart}
-use Rattle.laws_steps.proofs.FewAttempts.{parts_have_few_attempts}
+use Rattle.laws_base.specs.FewAttempts.{WasAsked, Counts, EachOf, AreApart}
+use Rattle.laws_base.proofs.FewAttempts.{parts_have_few_attempts}
 use Rattle.laws_entries.specs.BoundedEntries.{IsTry, AttemptsBoundEntries}
 
 module _ (config : Config) (servers clients : ℕ) (steps : List (Event × Choice)) (handle index made : ℕ) (part : Option ℕ) where

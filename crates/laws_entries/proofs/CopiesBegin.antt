@@ -21,13 +21,13 @@ use Rattle.laws_base.proofs.Steps.{none_some, same_some, same_or_not, put_there,
 use Rattle.laws_base.proofs.Entries.{AllOf}
 use Rattle.laws_base.proofs.SentReached.{server_quiet, server_restarts_quiet, sent_reached}
 use Rattle.laws_base.proofs.ClientMoves.{quiet_orders, client_quiet, call_quiet}
-use Rattle.laws_steps.proofs.Events.{HoldsAfter, holds_after}
-use Rattle.laws_steps.proofs.LeasesStayOver.{reached_later}
-use Rattle.laws_steps.proofs.MasterTalks.{restart_shown}
+use Rattle.laws_base.proofs.Events.{HoldsAfter, holds_after}
+use Rattle.laws_base.proofs.LeasesStayOver.{reached_later}
+use Rattle.laws_base.proofs.MasterTalks.{restart_shown}
 use Rattle.laws_entries.specs.ChunkOrders.{unsettled}
 use Rattle.laws_entries.proofs.Placing.{same_orders}
 use Rattle.laws_entries.proofs.Numbering.{restarted_shown}
-use Rattle.laws_steps.proofs.WaitsKept.{IsOfWaits, waits_kept}
+use Rattle.laws_base.proofs.WaitsKept.{IsOfWaits, waits_kept}
 use Rattle.laws_entries.proofs.GrantsFollow.{GrantsAbove, HasPassed, step_passed, restart_passed}
 use Rattle.laws_entries.proofs.CopiesBegun.{ShowsCopy, step_shows}
 use Rattle.laws_entries.proofs.RoundsPassed.{IsOfServers, server_shown, rounds_passed, unused_is_new}

@@ -31,11 +31,11 @@ use Rattle.laws_base.proofs.OrderNumbers.{state_of, state-appended, AllStops, Al
 use Rattle.laws_base.proofs.NamesReached.{IsLogged}
 use Rattle.laws_base.proofs.RowsLogged.{IsFoundRows, IsRowedLog}
 use Rattle.laws_base.proofs.RowsKept.{rows_kept}
-use Rattle.laws_steps.proofs.Awaited.{Attempts}
-use Rattle.laws_steps.proofs.MasterActs.{IsRowing, rowing_keeps}
-use Rattle.laws_steps.proofs.WaitsKept.{WaitsHere}
-use Rattle.laws_steps.proofs.ActsOfNames.{ready_acts}
-use Rattle.laws_steps.proofs.IssuedNumbers.{IsPassed, IsLogPassed, passed_less, passed_copy}
+use Rattle.laws_base.proofs.Awaited.{Attempts}
+use Rattle.laws_base.proofs.MasterActs.{IsRowing, rowing_keeps}
+use Rattle.laws_base.proofs.WaitsKept.{WaitsHere}
+use Rattle.laws_base.proofs.ActsOfNames.{ready_acts}
+use Rattle.laws_base.proofs.IssuedNumbers.{IsPassed, IsLogPassed, passed_less, passed_copy}
 use Rattle.laws_entries.proofs.GrantsFollow.{GrantsAbove, IsTriedAbove, HasPassed, IsBeyond, sends, Beyond, beyond_acts}
 use Rattle.laws_entries.proofs.ShownAlone.{ready}
 use Rattle.laws_entries.proofs.AskedCopies.{KeepsBeginning, step_begins}

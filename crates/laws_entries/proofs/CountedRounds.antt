@@ -39,14 +39,14 @@ use Rattle.laws_base.proofs.LeasesTold.{AreTold, IsStaleAt, stale_later, new_not
 use Rattle.protocol.specs.Server.{started_server}
 use Rattle.laws_base.proofs.LeaseOrders.{SaysGrant, named_grant, grant_number}
 use Rattle.replica_store.specs.Replicas.{new_server_disk}
-use Rattle.laws_steps.proofs.Events.{IsGiven, HoldsAfter, rot_of}
-use Rattle.laws_steps.proofs.MasterTalks.{restart_shown}
+use Rattle.laws_base.proofs.Events.{IsGiven, HoldsAfter, rot_of}
+use Rattle.laws_base.proofs.MasterTalks.{restart_shown}
 use Rattle.laws_entries.proofs.Placing.{same_orders}
 use Rattle.laws_entries.proofs.Numbering.{restarted_shown}
 use Rattle.laws_entries.proofs.OnceShown.{step_once}
-use Rattle.laws_steps.specs.Replicas.{IsPlacedByReplica}
-use Rattle.laws_steps.proofs.Placings.{mutations_are_placed_by_replicas}
-use Rattle.laws_steps.proofs.WaitsKept.{IsOfWaits, waits_kept}
+use Rattle.laws_base.specs.Replicas.{IsPlacedByReplica}
+use Rattle.laws_base.proofs.Placings.{mutations_are_placed_by_replicas}
+use Rattle.laws_base.proofs.WaitsKept.{IsOfWaits, waits_kept}
 use Rattle.laws_entries.proofs.GrantsFollow.{GrantsAbove, step_passed}
 use Rattle.laws_entries.proofs.CopiesBegun.{ShowsCopy, step_shows}
 use Rattle.laws_entries.proofs.RoundsPassed.{server_shown, rounds_passed, unused_is_new}

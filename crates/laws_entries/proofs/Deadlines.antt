@@ -30,9 +30,9 @@ use Rattle.protocol.specs.World.{WorldState, new_world, after_events, IsReached}
 use Rattle.laws_base.proofs.Steps.{on_cond, none_some, same_some, tally, count-cons}
 use Rattle.laws_base.proofs.Entries.{same_number}
 use Rattle.laws_base.proofs.MembersRecorded.{kept_place}
-use Rattle.laws_steps.specs.Attempts.{is_from_client, is_mutate}
-use Rattle.laws_steps.proofs.RequestsOnce.{requests_are_numbered_once}
-use Rattle.laws_steps.proofs.Histories.{steps_grown, after_both}
+use Rattle.laws_base.specs.Attempts.{is_from_client, is_mutate}
+use Rattle.laws_base.proofs.RequestsOnce.{requests_are_numbered_once}
+use Rattle.laws_base.proofs.Histories.{steps_grown, after_both}
 use Rattle.laws_entries.specs.Entries.{IsAskedFor}
 use Rattle.laws_entries.proofs.Stemming.{numbered_mutations_were_asked_for}
 use Rattle.laws_entries.specs.Deadlines.{IsInTime, AttemptsArePlacedBeforeTheirDeadline, OverAttemptsArePlacedNoMore}

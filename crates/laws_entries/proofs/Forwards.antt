@@ -37,13 +37,13 @@ use Rattle.laws_base.proofs.Entries.{AllOf}
 use Rattle.laws_base.proofs.MembersRecorded.{kept_place, all_at}
 use Rattle.laws_base.proofs.MessagesSent.{IsSent, sent_cases, none_sent, numbered_sent}
 use Rattle.laws_base.proofs.SentReached.{sent_reached}
-use Rattle.laws_steps.proofs.Events.{HoldsAfter}
-use Rattle.laws_steps.proofs.ClientNumbers.{IsSaid, of_step, of_call}
-use Rattle.laws_steps.proofs.RequestsOnce.{numbered_reached}
-use Rattle.laws_steps.proofs.MasterTalks.{is_masters, master_said, restart_shown}
+use Rattle.laws_base.proofs.Events.{HoldsAfter}
+use Rattle.laws_base.proofs.ClientNumbers.{IsSaid, of_step, of_call}
+use Rattle.laws_base.proofs.RequestsOnce.{numbered_reached}
+use Rattle.laws_base.proofs.MasterTalks.{is_masters, master_said, restart_shown}
 use Rattle.laws_entries.proofs.Placing.{same_orders}
 use Rattle.laws_entries.proofs.Numbering.{restarted_shown}
-use Rattle.laws_steps.proofs.WaitsKept.{IsOfWaits, waits_kept}
+use Rattle.laws_base.proofs.WaitsKept.{IsOfWaits, waits_kept}
 use Rattle.laws_entries.proofs.CopiesBegun.{step_shows}
 use Rattle.laws_entries.proofs.RoundsPassed.{IsOfServers, server_shown, unused_is_new}
 use Rattle.laws_entries.proofs.RisingRounds.{restart_silent, held_reached}

@@ -36,11 +36,11 @@ use Rattle.laws_base.proofs.GrantedIssued.{IsIssued}
 use Rattle.laws_base.proofs.NamesReached.{IsGood, IsUpToLog, IsLogged, opening_first, opening_naming}
 use Rattle.laws_base.proofs.RowsLogged.{IsFoundRows, IsRowedLog}
 use Rattle.laws_base.proofs.RowsKept.{rows_kept}
-use Rattle.laws_steps.proofs.Awaited.{Attempts}
-use Rattle.laws_steps.proofs.MasterActs.{IsRowing, rowing_keeps, Waits, Acts}
-use Rattle.laws_steps.proofs.WaitsKept.{WaitsHere, any_input}
-use Rattle.laws_steps.proofs.ActsOfSteps.{goes_acts}
-use Rattle.laws_steps.proofs.IssuedNumbers.{IsPassed, IsLogPassed, passed_after, passed_grant, passed_ended, passed_less, passed_checkpoint, started_passed}
+use Rattle.laws_base.proofs.Awaited.{Attempts}
+use Rattle.laws_base.proofs.MasterActs.{IsRowing, rowing_keeps, Waits, Acts}
+use Rattle.laws_base.proofs.WaitsKept.{WaitsHere, any_input}
+use Rattle.laws_base.proofs.ActsOfSteps.{goes_acts}
+use Rattle.laws_base.proofs.IssuedNumbers.{IsPassed, IsLogPassed, passed_after, passed_grant, passed_ended, passed_less, passed_checkpoint, started_passed}
 
 -- a Grant of this chunk is of a number above that one
 abbrev pub IsVersionAbove : ℕ → ℕ → OrderNo → Handle → Version → Moment → List ℕ → Type 0

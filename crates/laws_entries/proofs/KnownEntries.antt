@@ -22,13 +22,13 @@ use Rattle.protocol.specs.World.{WorldState, Happened, IsReached}
 use Rattle.laws_base.proofs.LeaseOrders.{named_grant, stated_grant}
 use Rattle.laws_base.proofs.Entries.{AllOf}
 use Rattle.laws_base.proofs.MembersRecorded.{all_at}
-use Rattle.laws_steps.proofs.Events.{HoldsAfter}
-use Rattle.laws_steps.proofs.MasterTalks.{IsCopying, master_shown, restart_shown}
+use Rattle.laws_base.proofs.Events.{HoldsAfter}
+use Rattle.laws_base.proofs.MasterTalks.{IsCopying, master_shown, restart_shown}
 use Rattle.laws_entries.specs.Entries.{IsAmong}
 use Rattle.laws_entries.proofs.Stemming.{came_in}
 use Rattle.laws_entries.proofs.Placing.{all_placed, same_orders}
 use Rattle.laws_entries.proofs.Numbering.{restarted_shown}
-use Rattle.laws_steps.proofs.Unleased.{new_copies_have_no_lease}
+use Rattle.laws_base.proofs.Unleased.{new_copies_have_no_lease}
 use Rattle.laws_entries.proofs.SpentVersions.{IsSpent, each_spent}
 use Rattle.laws_entries.proofs.SerialsOnce.{HasGiven, given_keeps, given_no_more}
 use Rattle.laws_entries.proofs.Beside.{three_after, each_among}

@@ -34,7 +34,7 @@ use Rattle.laws_base.proofs.GrantsOnce.{versions_are_granted_once}
 use Rattle.laws_base.proofs.LeasesTold.{IsStaleAt, new_not_stale, same_grant, granting, server_numbers, versions_have_one_primary}
 use Rattle.laws_base.proofs.MembersRecorded.{kept_place}
 use Rattle.laws_base.proofs.RisingOrders.{element_numbered, set_cases}
-use Rattle.laws_steps.proofs.Events.{IsGiven, HoldsAfter, rot_of}
+use Rattle.laws_base.proofs.Events.{IsGiven, HoldsAfter, rot_of}
 use Rattle.laws_entries.specs.Entries.{IsAmong}
 use Rattle.laws_entries.proofs.OrderWalk.{KeepsOrders, AreFit, does_fit}
 use Rattle.laws_entries.proofs.SpentVersions.{IsSpent, none_fit, each_spent, first_spent}

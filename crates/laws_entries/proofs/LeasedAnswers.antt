@@ -22,11 +22,11 @@ use Rattle.laws_base.proofs.Steps.{none_some, same_some}
 use Rattle.laws_base.proofs.Entries.{AllOf}
 use Rattle.laws_base.proofs.RisingOrders.{set_cases}
 use Rattle.laws_base.proofs.MembersRecorded.{kept_place, all_at}
-use Rattle.laws_steps.proofs.Events.{with_call, with_rot, rot_of, HoldsAfter, holds_after}
-use Rattle.laws_steps.proofs.ClientNumbers.{IsStepOf, of_step, of_call}
-use Rattle.laws_steps.proofs.RequestsOnce.{AreNumbered, numbered_reached, later_cases}
-use Rattle.laws_steps.proofs.LeasesStayOver.{reached_later}
-use Rattle.laws_steps.proofs.MasterTalks.{MasterTalks, master_said, restart_said}
+use Rattle.laws_base.proofs.Events.{with_call, with_rot, rot_of, HoldsAfter, holds_after}
+use Rattle.laws_base.proofs.ClientNumbers.{IsStepOf, of_step, of_call}
+use Rattle.laws_base.proofs.RequestsOnce.{AreNumbered, numbered_reached, later_cases}
+use Rattle.laws_base.proofs.LeasesStayOver.{reached_later}
+use Rattle.laws_base.proofs.MasterTalks.{MasterTalks, master_said, restart_said}
 use Rattle.laws_entries.proofs.Stemming.{came_in}
 use Rattle.laws_entries.specs.AnsweredAttempts.{IsAnswerTo}
 use Rattle.laws_entries.proofs.UsedOrders.{IsCaused, Causes, right_on, caused_on}

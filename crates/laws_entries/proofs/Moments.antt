@@ -8,7 +8,7 @@ use Rattle.protocol.specs.Choice.{Choice}
 use Rattle.protocol.specs.Observer.{Observer, observed_answer}
 use Rattle.protocol.specs.ClientStep.{client_step, client_call}
 use Rattle.protocol.specs.World.{WorldState, happens, after_events}
-use Rattle.laws_steps.proofs.Events.{HoldsAfter, holds_after}
+use Rattle.laws_base.proofs.Events.{HoldsAfter, holds_after}
 
 same_greatest : (o : Observer) (n : ℕ) (a : Option Answer) → (observed_answer o n a).greatest ≡ o.greatest
 same_greatest o n None = refl

@@ -13,7 +13,7 @@ use Rattle.protocol.specs.Sending.{data_id, the_client}
 use Rattle.protocol.specs.Choice.{Choice}
 use Rattle.protocol.specs.Observer.{Placed}
 use Rattle.protocol.specs.World.{WorldState, new_world, after_events}
-use Rattle.laws_steps.proofs.RequestsOnce.{requests_are_numbered_once}
+use Rattle.laws_base.proofs.RequestsOnce.{requests_are_numbered_once}
 use Rattle.laws_entries.proofs.Deadlines.{asks_for, asking, same_counted}
 use Rattle.laws_entries.specs.ChunkOrders.{WasCopied, IsSource, HasMutate}
 use Rattle.laws_entries.proofs.Numbering.{entries_stem_from_mutates}

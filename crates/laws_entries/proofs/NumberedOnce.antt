@@ -11,7 +11,7 @@ use Rattle.protocol.specs.declared.seen.Seen.TheVariants.{Numbered}
 use Rattle.protocol.specs.ServerStep.{server_at, server_step}
 use Rattle.protocol.specs.World.{WorldState, Happened, after_server, happens, after_events, IsReached}
 use Rattle.laws_base.proofs.Steps.{put_there}
-use Rattle.laws_steps.proofs.LeasesStayOver.{reached_later}
+use Rattle.laws_base.proofs.LeasesStayOver.{reached_later}
 use Rattle.laws_entries.specs.Entries.{IsAskedFor}
 use Rattle.laws_entries.proofs.Stemming.{numbered_mutations_were_asked_for}
 use Rattle.laws_entries.specs.NumberedOnce.{NumbersArePlacedOnce}

@@ -23,10 +23,10 @@ use Rattle.protocol.specs.ClientStep.{client_step, client_call}
 use Rattle.protocol.specs.World.{WorldState, Happened, new_world, nothing_happens, after_master, after_server, after_client, happens, after_events}
 use Rattle.laws_base.proofs.Entries.{AllOf}
 use Rattle.laws_base.proofs.MembersRecorded.{kept_place, all_at}
-use Rattle.laws_steps.proofs.Events.{with_call, with_rot, rot_of, HoldsAfter, holds_after}
-use Rattle.laws_steps.proofs.Histories.{IsGrown, steps_grown, after_both}
-use Rattle.laws_steps.proofs.MasterTalks.{IsCopying, master_shown, restart_shown}
-use Rattle.laws_steps.proofs.ServerTalks.{step_said}
+use Rattle.laws_base.proofs.Events.{with_call, with_rot, rot_of, HoldsAfter, holds_after}
+use Rattle.laws_base.proofs.Histories.{IsGrown, steps_grown, after_both}
+use Rattle.laws_base.proofs.MasterTalks.{IsCopying, master_shown, restart_shown}
+use Rattle.laws_base.proofs.ServerTalks.{step_said}
 use Rattle.laws_entries.specs.Entries.{IsAmong, IsPushed, IsPlacedFor, IsAskedFor}
 use Rattle.laws_entries.proofs.Stemming.{pushed_later, came_in, numbered_mutations_were_asked_for}
 use Rattle.laws_entries.specs.ChunkOrders.{unsettled, IsNumberedNow, IsCopiedNow, CameAbout, WasNumbered, WasCopied, IsSource, EntriesWereNumbered, HasMutate, EntriesStemFromMutates}

@@ -23,10 +23,10 @@ use Rattle.protocol.specs.ClientStep.{client_step, client_call}
 use Rattle.protocol.specs.World.{WorldState, new_world, happens, after_events}
 use Rattle.laws_base.proofs.Entries.{AllOf}
 use Rattle.laws_base.proofs.MembersRecorded.{kept_place, all_at}
-use Rattle.laws_steps.proofs.Events.{HoldsAfter, holds_after}
-use Rattle.laws_steps.proofs.RequestsOnce.{requests_are_numbered_once}
-use Rattle.laws_steps.proofs.Histories.{IsGrown, steps_grown, after_both}
-use Rattle.laws_steps.proofs.MasterTalks.{IsCopying, master_shown, restart_shown}
+use Rattle.laws_base.proofs.Events.{HoldsAfter, holds_after}
+use Rattle.laws_base.proofs.RequestsOnce.{requests_are_numbered_once}
+use Rattle.laws_base.proofs.Histories.{IsGrown, steps_grown, after_both}
+use Rattle.laws_base.proofs.MasterTalks.{IsCopying, master_shown, restart_shown}
 use Rattle.laws_entries.specs.Entries.{IsAmong, IsAskedFor}
 use Rattle.laws_entries.proofs.Stemming.{came_in, numbered_mutations_were_asked_for}
 use Rattle.laws_entries.specs.Deadlines.{Numbers}

@@ -21,11 +21,11 @@ use Rattle.protocol.specs.World.{WorldState, new_world, stamped, IsReached}
 use Rattle.laws_base.proofs.Steps.{none_some}
 use Rattle.laws_base.proofs.Entries.{AllOf}
 use Rattle.laws_base.proofs.MembersRecorded.{all_at}
-use Rattle.laws_steps.proofs.Events.{HoldsAfter, world_reached}
-use Rattle.laws_steps.proofs.ClientNumbers.{IsSaid, IsStepOf, of_step, of_call}
-use Rattle.laws_steps.proofs.RequestsOnce.{AreNumbered, each_event, numbered_reached, later_cases}
-use Rattle.laws_steps.proofs.MasterTalks.{is_masters, MasterTalks, master_said, restart_said}
-use Rattle.laws_steps.proofs.ServerTalks.{is_quiet, step_said}
+use Rattle.laws_base.proofs.Events.{HoldsAfter, world_reached}
+use Rattle.laws_base.proofs.ClientNumbers.{IsSaid, IsStepOf, of_step, of_call}
+use Rattle.laws_base.proofs.RequestsOnce.{AreNumbered, each_event, numbered_reached, later_cases}
+use Rattle.laws_base.proofs.MasterTalks.{is_masters, MasterTalks, master_said, restart_said}
+use Rattle.laws_base.proofs.ServerTalks.{is_quiet, step_said}
 
 abbrev pub IsOwn : Node → Body → Type 0
 IsOwn sender (body.Mutate id handle version aim deadline) = sender ≡ the_client id.client.0

@@ -4,7 +4,7 @@ use Rattle.gfs_types.specs.declared.config.Config.{Config}
 use Rattle.messages.specs.declared.event.Event.{Event}
 use Rattle.protocol.specs.Choice.{Choice}
 use Rattle.protocol.specs.World.{WorldState, new_world, after_events}
-use Rattle.laws_steps.specs.FewAttempts.{Counts, EachOf}
+use Rattle.laws_base.specs.FewAttempts.{Counts, EachOf}
 use Rattle.laws_entries.specs.BoundedEntries.{IsTry}
 use Rattle.laws_entries.proofs.BoundedEntries.{attempts_bound_entries}
 use Rattle.laws_entries.specs.FullChunks.{IsPlacedTry, AttemptsBoundPlacedEntries}

@@ -40,18 +40,18 @@ use Rattle.laws_base.proofs.LeasesTimely.{IsOfTimes, times_kept}
 use Rattle.laws_base.proofs.ScenesReached.{scene_of, scene_reached}
 use Rattle.laws_base.proofs.SentReached.{server_quiet, server_restarts_quiet, sent_reached}
 use Rattle.laws_base.proofs.ClientMoves.{HasNoOrder, quiet_orders, client_quiet, call_quiet}
-use Rattle.laws_steps.proofs.Events.{with_call, HoldsAfter, holds_after}
-use Rattle.laws_steps.specs.Versions.{IsLeaseOver}
-use Rattle.laws_steps.proofs.EndedLeases.{past_is_over, over_leases_number_nothing}
-use Rattle.laws_steps.proofs.Histories.{after_both}
-use Rattle.laws_steps.proofs.MasterTalks.{IsCopying, master_shown, restart_shown}
+use Rattle.laws_base.proofs.Events.{with_call, HoldsAfter, holds_after}
+use Rattle.laws_base.specs.Versions.{IsLeaseOver}
+use Rattle.laws_base.proofs.EndedLeases.{past_is_over, over_leases_number_nothing}
+use Rattle.laws_base.proofs.Histories.{after_both}
+use Rattle.laws_base.proofs.MasterTalks.{IsCopying, master_shown, restart_shown}
 use Rattle.laws_entries.specs.Entries.{IsAmong}
 use Rattle.laws_entries.proofs.Stemming.{came_in, numbered_mutations_were_asked_for}
 use Rattle.laws_entries.specs.ChunkOrders.{unsettled}
 use Rattle.laws_entries.proofs.Placing.{all_placed, Holds, AreAll, all_keep, same_orders}
 use Rattle.laws_entries.proofs.Numbering.{restarted_shown}
 use Rattle.laws_entries.proofs.OnceShown.{NumbersNone, step_once}
-use Rattle.laws_steps.proofs.WaitsKept.{IsOfWaits, waits_kept}
+use Rattle.laws_base.proofs.WaitsKept.{IsOfWaits, waits_kept}
 use Rattle.laws_entries.proofs.GrantsFollow.{GrantsAbove, step_passed}
 use Rattle.laws_entries.proofs.CopiesBegun.{ShowsCopy, step_shows}
 use Rattle.laws_entries.proofs.RoundsPassed.{IsOfServers, server_shown, rounds_passed, unused_is_new, primary_there}

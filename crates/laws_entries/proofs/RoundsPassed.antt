@@ -34,15 +34,15 @@ use Rattle.laws_base.proofs.MessagesSent.{IsSent}
 use Rattle.laws_base.proofs.LeasesTold.{granting, leases_are_told}
 use Rattle.laws_base.proofs.SentReached.{sent_reached}
 use Rattle.laws_base.proofs.RevokesNumbered.{IsOfRevokes}
-use Rattle.laws_steps.proofs.Events.{HoldsAfter, holds_after}
-use Rattle.laws_steps.proofs.Histories.{after_both}
-use Rattle.laws_steps.proofs.MasterTalks.{restart_shown}
-use Rattle.laws_steps.proofs.ServerTalks.{step_said}
+use Rattle.laws_base.proofs.Events.{HoldsAfter, holds_after}
+use Rattle.laws_base.proofs.Histories.{after_both}
+use Rattle.laws_base.proofs.MasterTalks.{restart_shown}
+use Rattle.laws_base.proofs.ServerTalks.{step_said}
 use Rattle.laws_entries.specs.Entries.{IsAmong}
 use Rattle.laws_entries.proofs.Stemming.{came_in, numbered_mutations_were_asked_for}
 use Rattle.laws_entries.proofs.Placing.{all_placed, Holds, AreAll, all_go_on, Keeps, all_keep, same_orders}
 use Rattle.laws_entries.proofs.Numbering.{restarted_shown}
-use Rattle.laws_steps.proofs.WaitsKept.{IsOfWaits, waits_kept}
+use Rattle.laws_base.proofs.WaitsKept.{IsOfWaits, waits_kept}
 use Rattle.laws_entries.specs.NewHandles.{IsNewHandle, CopiesHaveNewHandles, RoundsOfEntriesWereIssued}
 use Rattle.laws_entries.proofs.GrantsFollow.{HasPassed, step_passed, restart_passed}
 use Rattle.laws_entries.proofs.CopiesBegun.{step_shows}

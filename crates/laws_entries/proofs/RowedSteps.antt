@@ -15,11 +15,11 @@ use Rattle.laws_base.proofs.MasterMoves.{core_of, NoneEnded}
 use Rattle.laws_base.proofs.NamesReached.{IsUpToLog, IsLogged}
 use Rattle.laws_base.proofs.RowsLogged.{IsFoundRows, IsRowedLog}
 use Rattle.laws_base.proofs.RowsKept.{rows_kept}
-use Rattle.laws_steps.proofs.AwaitedRecords.{waiting_filtered, among_filtered}
-use Rattle.laws_steps.proofs.MasterActs.{IsRowing, rowing_keeps, Here}
-use Rattle.laws_steps.proofs.WaitsKept.{WaitsHere, any_input, Anything, any_acts}
-use Rattle.laws_steps.proofs.ActsOfChunks.{ask_acts}
-use Rattle.laws_steps.proofs.ActsOfSteps.{goes_acts}
+use Rattle.laws_base.proofs.AwaitedRecords.{waiting_filtered, among_filtered}
+use Rattle.laws_base.proofs.MasterActs.{IsRowing, rowing_keeps, Here}
+use Rattle.laws_base.proofs.WaitsKept.{WaitsHere, any_input, Anything, any_acts}
+use Rattle.laws_base.proofs.ActsOfChunks.{ask_acts}
+use Rattle.laws_base.proofs.ActsOfSteps.{goes_acts}
 
 abbrev pub IsRowedHere : MasterState → MasterDoing → Type 0
 IsRowedHere m d = Here m.disk NoneEnded (IsRowing m.disk) (rowing_keeps m.disk) (λ c n. n) Anything (any_acts m.disk) d

@@ -30,8 +30,8 @@ use Rattle.protocol.specs.ServerWrites.{change_of}
 use Rattle.protocol.specs.ServerStep.{server_at, server_goes, server_ends, server_step}
 use Rattle.laws_base.proofs.Steps.{on_cond}
 use Rattle.laws_base.proofs.ServerWalk.{IsStoredAs}
-use Rattle.laws_steps.proofs.ServerSays.{IsSaid, IsWord, goes_says}
-use Rattle.laws_steps.proofs.ServerActs.{goes_fine}
+use Rattle.laws_base.proofs.ServerSays.{IsSaid, IsWord, goes_says}
+use Rattle.laws_base.proofs.ServerActs.{goes_fine}
 
 -- what puts this serial into this replica
 abbrev pub IsWritten : Handle → Serial → StoreChange → Type 0

@@ -19,7 +19,7 @@ use Rattle.protocol.specs.declared.seen.Seen.TheVariants.{Numbered, BecameSettle
 use Rattle.protocol.specs.Server.{ServerState, primary_of}
 use Rattle.protocol.specs.ServerStep.{server_at, server_step}
 use Rattle.laws_base.proofs.Entries.{AllOf}
-use Rattle.laws_steps.proofs.ServerSays.{IsShown, step_shows}
+use Rattle.laws_base.proofs.ServerSays.{IsShown, step_shows}
 
 -- a mutation of this serial waits under the server's lease of that version
 pub record IsWaiting (s : ServerState) (handle version serial : ℕ) : Type 0 where

@@ -17,8 +17,8 @@ use Rattle.protocol.specs.MasterVersions.{Asker, VersionTarget, version_order, s
 use Rattle.protocol.specs.MasterStep.{master_ticks, master_takes}
 use Rattle.laws_base.proofs.LeaseOrders.{revoke_order}
 use Rattle.laws_base.proofs.Steps.{on_cond}
-use Rattle.laws_steps.proofs.MasterPremises.{IsAsk, AnyDoing, any_kept, StepEffects, NameKeeps, MasterKeeps}
-use Rattle.laws_steps.proofs.MasterWalk.{logged_here, ready_here, ticks_here, takes_here}
+use Rattle.laws_base.proofs.MasterPremises.{IsAsk, AnyDoing, any_kept, StepEffects, NameKeeps, MasterKeeps}
+use Rattle.laws_base.proofs.MasterWalk.{logged_here, ready_here, ticks_here, takes_here}
 
 -- no ask
 abbrev pub IsNoAsk : Body → Type 0

@@ -52,8 +52,8 @@ use Rattle.laws_base.proofs.RisingOrders.{Later, element_numbered, step_goes_on,
 use Rattle.laws_base.proofs.GrantsOnce.{versions_are_granted_once}
 use Rattle.laws_base.proofs.ScenesReached.{scene_reached}
 use Rattle.laws_base.proofs.LeasesTold.{IsStaleAt, stale_later, new_not_stale, IsToldLease, IsToldServer, AreTold, told_kept, same_grant, granting, server_numbers, versions_have_one_primary}
-use Rattle.laws_steps.proofs.Events.{IsGiven, HoldsAfter, holds_after, rot_of}
-use Rattle.laws_steps.proofs.LeasesStayOver.{reached_later}
+use Rattle.laws_base.proofs.Events.{IsGiven, HoldsAfter, holds_after, rot_of}
+use Rattle.laws_base.proofs.LeasesStayOver.{reached_later}
 use Rattle.laws_entries.specs.Entries.{IsAskedFor}
 use Rattle.laws_entries.proofs.KnownNumbers.{primary_there}
 use Rattle.laws_entries.proofs.OrderWalk.{KeepsOrders, AreFit, put_fit, settles_fine, does_fit}

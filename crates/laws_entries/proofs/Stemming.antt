@@ -41,12 +41,12 @@ use Rattle.laws_base.proofs.Entries.{AllOf}
 use Rattle.laws_base.proofs.RisingOrders.{set_cases, element_numbered}
 use Rattle.laws_base.proofs.MembersRecorded.{all_at}
 use Rattle.laws_base.proofs.MessagesSent.{IsSent, sent_before, sent_after}
-use Rattle.laws_steps.proofs.Events.{IsGiven, HoldsAfter, world_reached, rot_of}
-use Rattle.laws_steps.proofs.ClientNumbers.{IsSaid, IsStepOf, of_step, of_call}
-use Rattle.laws_steps.proofs.RequestsOnce.{AreNumbered, each_event, numbered_reached, later_cases}
-use Rattle.laws_steps.proofs.MasterTalks.{is_masters, MasterTalks, master_said, restart_said}
+use Rattle.laws_base.proofs.Events.{IsGiven, HoldsAfter, world_reached, rot_of}
+use Rattle.laws_base.proofs.ClientNumbers.{IsSaid, IsStepOf, of_step, of_call}
+use Rattle.laws_base.proofs.RequestsOnce.{AreNumbered, each_event, numbered_reached, later_cases}
+use Rattle.laws_base.proofs.MasterTalks.{is_masters, MasterTalks, master_said, restart_said}
 use Rattle.laws_base.proofs.ServerWalk.{IsPlacedOf}
-use Rattle.laws_steps.proofs.ServerTalks.{is_quiet, Talks, step_said}
+use Rattle.laws_base.proofs.ServerTalks.{is_quiet, Talks, step_said}
 use Rattle.laws_entries.specs.Entries.{IsPushed, IsPlacedFor, IsAskedFor, NumberedMutationsWereAskedFor}
 
 -- data and mutations are of their client

@@ -18,8 +18,8 @@ use Rattle.protocol.specs.declared.seen.Seen.TheVariants.{Numbered, BecameSettle
 use Rattle.protocol.specs.ServerStep.{server_at}
 use Rattle.protocol.specs.World.{WorldState, new_world, happens, after_events}
 use Rattle.laws_base.proofs.MembersRecorded.{kept_place}
-use Rattle.laws_steps.proofs.RequestsOnce.{requests_are_numbered_once}
-use Rattle.laws_steps.proofs.Histories.{IsGrown, steps_grown, after_both}
+use Rattle.laws_base.proofs.RequestsOnce.{requests_are_numbered_once}
+use Rattle.laws_base.proofs.Histories.{IsGrown, steps_grown, after_both}
 use Rattle.laws_entries.specs.Entries.{IsAmong, IsAskedFor}
 use Rattle.laws_entries.proofs.Stemming.{numbered_mutations_were_asked_for}
 use Rattle.laws_entries.proofs.Deadlines.{asks_for, asking, same_counted}

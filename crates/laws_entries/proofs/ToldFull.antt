@@ -34,15 +34,15 @@ use Rattle.laws_base.proofs.Steps.{none_some, same_some}
 use Rattle.laws_base.proofs.Entries.{AllOf}
 use Rattle.laws_base.proofs.RisingOrders.{set_cases}
 use Rattle.laws_base.proofs.MembersRecorded.{all_at}
-use Rattle.laws_steps.proofs.Events.{HoldsAfter, holds_after, with_call, with_rot, rot_of}
-use Rattle.laws_steps.proofs.ClientNumbers.{IsSaid, IsStepOf, of_step, of_call}
-use Rattle.laws_steps.proofs.RequestsOnce.{AreNumbered, numbered_reached, later_cases}
-use Rattle.laws_steps.proofs.MasterTalks.{is_masters, MasterTalks, master_said, restart_said}
-use Rattle.laws_steps.proofs.LeasesStayOver.{reached_later}
-use Rattle.laws_steps.proofs.NewCopies.{IsNotFull, step_tells, restart_tells}
+use Rattle.laws_base.proofs.Events.{HoldsAfter, holds_after, with_call, with_rot, rot_of}
+use Rattle.laws_base.proofs.ClientNumbers.{IsSaid, IsStepOf, of_step, of_call}
+use Rattle.laws_base.proofs.RequestsOnce.{AreNumbered, numbered_reached, later_cases}
+use Rattle.laws_base.proofs.MasterTalks.{is_masters, MasterTalks, master_said, restart_said}
+use Rattle.laws_base.proofs.LeasesStayOver.{reached_later}
+use Rattle.laws_base.proofs.NewCopies.{IsNotFull, step_tells, restart_tells}
 use Rattle.laws_entries.specs.Entries.{IsAmong}
 use Rattle.laws_entries.proofs.Stemming.{came_in}
-use Rattle.laws_steps.proofs.Lengths.{servers_within}
+use Rattle.laws_base.proofs.Lengths.{servers_within}
 use Rattle.laws_entries.specs.ChunkOrders.{CameAbout}
 use Rattle.laws_entries.proofs.Numbering.{came_first, came_later}
 use Rattle.laws_entries.proofs.FullOrders.{IsCaused, Causes, right_on, caused_on}

@@ -26,9 +26,9 @@ use Rattle.laws_base.proofs.Steps.{on_cond, none_some, same_some}
 use Rattle.laws_base.proofs.ServerMoves.{IsCameIn}
 use Rattle.laws_base.proofs.RisingOrders.{set_cases}
 use Rattle.laws_base.proofs.MembersRecorded.{kept_place}
-use Rattle.laws_steps.proofs.Events.{HoldsAfter, world_reached}
-use Rattle.laws_steps.proofs.ClientWalk.{IsIdle, KeepsClient, KeepsCalls, HoldsAt, step_kept, call_kept}
-use Rattle.laws_steps.proofs.RequestsOnce.{AreNumbered, each_event, numbered_reached}
+use Rattle.laws_base.proofs.Events.{HoldsAfter, world_reached}
+use Rattle.laws_base.proofs.ClientWalk.{IsIdle, KeepsClient, KeepsCalls, HoldsAt, step_kept, call_kept}
+use Rattle.laws_base.proofs.RequestsOnce.{AreNumbered, each_event, numbered_reached}
 use Rattle.laws_entries.specs.WaitedRounds.{waits_at, waited, IsMutateOf, HasAskedFor, WaitedMutatesWereSent}
 
 -- what a step made of a client: it waits for what it waited for before, or asks for it now

@@ -9,8 +9,8 @@ use Rattle.protocol.specs.Observer.{Placed, order_of}
 use Rattle.protocol.specs.World.{WorldState, new_world, happens, after_events}
 use Rattle.laws_entries.specs.ChunkOrders.{IsNumberedNow, WasNumbered, WasCopied, IsSource}
 use Rattle.laws_entries.proofs.Numbering.{entries_were_numbered}
-use Rattle.laws_steps.specs.Replicas.{IsPlacedBehind, IsPlacedByReplica}
-use Rattle.laws_steps.proofs.Placings.{mutations_are_placed_by_replicas}
+use Rattle.laws_base.specs.Replicas.{IsPlacedBehind, IsPlacedByReplica}
+use Rattle.laws_base.proofs.Placings.{mutations_are_placed_by_replicas}
 use Rattle.laws_entries.specs.PlacedEntries.{LiesWithin, EntriesLieWithinTheChunk}
 use Rattle.gfs_types.specs.declared.config.Config.{Config}
 use Rattle.messages.specs.declared.message.Message.{Message}
@@ -19,8 +19,8 @@ use Rattle.protocol.specs.Sending.{handle_of, version_of}
 use Rattle.laws_base.specs.Laws.{IsSizeGranted}
 use Rattle.laws_base.proofs.LeasesTold.{leases_are_told}
 use Rattle.laws_base.proofs.MembersRecorded.{kept_place}
-use Rattle.laws_steps.proofs.Histories.{steps_grown, after_both}
-use Rattle.laws_steps.proofs.Lengths.{servers_within}
+use Rattle.laws_base.proofs.Histories.{steps_grown, after_both}
+use Rattle.laws_base.proofs.Lengths.{servers_within}
 
 within : (size count : ℕ) (bytes : List ℕ) (m : Mutation) → IsPlacedBehind size count bytes m → LiesWithin size m
 within size count bytes (Write offset written) placed = placed.1

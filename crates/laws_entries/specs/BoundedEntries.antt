@@ -6,7 +6,7 @@ use Rattle.protocol.specs.Tables.{element_at}
 use Rattle.protocol.specs.Choice.{Choice}
 use Rattle.protocol.specs.Observer.{Placed, order_of}
 use Rattle.protocol.specs.World.{WorldState, new_world, after_events}
-use Rattle.laws_steps.specs.FewAttempts.{WasAsked, Counts, EachOf, AreApart}
+use Rattle.laws_base.specs.FewAttempts.{WasAsked, Counts, EachOf, AreApart}
 
 -- At this place of a chunk's order stands an entry that the client asked for, in these steps, for this part of its call, by an attempt that counts.
 pub record IsTry (start : WorldState) (steps : List (Event × Choice)) (handle index made : ℕ) (part : Option ℕ) (place : ℕ) : Type 0 where

@@ -12,7 +12,7 @@ use Rattle.protocol.specs.Sending.{the_client}
 use Rattle.protocol.specs.Choice.{Choice}
 use Rattle.protocol.specs.Observer.{Placed, order_of}
 use Rattle.protocol.specs.World.{WorldState, new_world, after_events, IsReached}
-use Rattle.laws_steps.specs.FewAttempts.{WasAsked, EachOf, AreApart}
+use Rattle.laws_base.specs.FewAttempts.{WasAsked, EachOf, AreApart}
 
 abbrev pub IsPad : Mutation → Type 0
 IsPad (Pad offset end) = Unit {0}

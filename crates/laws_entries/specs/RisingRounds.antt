@@ -11,7 +11,7 @@ use Rattle.protocol.specs.Observer.{Placed, order_of}
 use Rattle.protocol.specs.MasterStep.{master_step}
 use Rattle.protocol.specs.World.{WorldState, after_master, happens, after_events, IsReached}
 use Rattle.laws_base.specs.Laws.{grants_of}
-use Rattle.laws_steps.specs.Versions.{IsLeaseOver}
+use Rattle.laws_base.specs.Versions.{IsLeaseOver}
 use Rattle.laws_entries.specs.ChunkOrders.{unsettled}
 
 -- Where clocks are kept, of two versions of a chunk that were granted the lease of the lower one is over (section 3.1).

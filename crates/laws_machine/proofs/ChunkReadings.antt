@@ -9,8 +9,8 @@ use Rattle.replica_store.specs.declared.row.Row.{Row}
 use Rattle.replica_store.specs.Replicas.{Replica, replica_of, row_of}
 use Rattle.protocol.specs.Observer.{entries_of}
 use Rattle.laws_base.proofs.Steps.{on_cond, none_some, same_some}
-use Rattle.laws_replicas.proofs.Selections.{replicas_are_selections}
-use Rattle.laws_replicas.proofs.KeptDisks.{reads_are_as_stored, stored_as_long}
+use Rattle.laws_versions.proofs.Selections.{replicas_are_selections}
+use Rattle.laws_versions.proofs.KeptDisks.{reads_are_as_stored, stored_as_long}
 use Rattle.laws_machine.specs.ChunkReadings.{SelectionsGoByRounds, IsReadAs, ReadingsAreOfTheChunk}
 
 -- selections

@@ -26,7 +26,7 @@ use Rattle.protocol.specs.ClientStep.{may_call, client_step}
 use Rattle.protocol.specs.World.{WorldState, Happened, new_world, nothing_happens, numbered_from_1, after_server, after_client, server_moves, client_moves, moves, delivered, server_restarts_at, restarts, call_moves, rots_replica, rots_on, at_moment, happens}
 use Rattle.protocol.specs.Tables.{moment_limit}
 use Rattle.laws_base.proofs.Steps.{on_cond, none_some}
-use Rattle.laws_steps.specs.Versions.{IsLeaseOver}
+use Rattle.laws_base.specs.Versions.{IsLeaseOver}
 use Rattle.laws_machine.specs.ChunksAlike.{ChunkSides, IsRoundOpen, AreChunksAlike, KeepsRounds, HasRounds, moved}
 use Rattle.laws_machine.proofs.Plain.{other_changes_keep_chunks}
 use Rattle.laws_machine.specs.Rounds.{IsLogOf, IsMastersStep, IsEnded}

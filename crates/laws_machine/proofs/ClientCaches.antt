@@ -16,8 +16,8 @@ use Rattle.protocol.specs.Client.{ClientState}
 use Rattle.protocol.specs.ClientCache.{is_same_place, cached, cache_after_look, without_location}
 use Rattle.laws_base.proofs.Steps.{on_cond, none_some, same_some, same_or_not}
 use Rattle.laws_base.proofs.Entries.{AllOf}
-use Rattle.laws_steps.proofs.Caches.{after_look, after_drop}
-use Rattle.laws_steps.proofs.OpenFiles.{AreOpenSince}
+use Rattle.laws_base.proofs.Caches.{after_look, after_drop}
+use Rattle.laws_base.proofs.OpenFiles.{AreOpenSince}
 use Rattle.laws_machine.specs.FileClients.{IsKeptNote, AreOfPlaces}
 
 abbrev Entries : Type 0

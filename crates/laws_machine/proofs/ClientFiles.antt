@@ -19,11 +19,11 @@ use Rattle.protocol.specs.World.{WorldState}
 use Rattle.laws_base.proofs.Steps.{none_some, same_some}
 use Rattle.laws_base.proofs.RisingOrders.{set_cases}
 use Rattle.laws_base.proofs.ServerMoves.{IsCameIn}
-use Rattle.laws_steps.specs.FileCalls.{IsOfFile}
-use Rattle.laws_steps.proofs.Events.{HoldsAfter, world_reached}
-use Rattle.laws_steps.proofs.ClientReads.{stepped, called}
-use Rattle.laws_steps.proofs.OpenFiles.{HasRow}
-use Rattle.laws_steps.proofs.KeptLocations.{IsFiledAtStage, Keeps, nothing_kept, keeps_later, keeps_opened, After, steps_here, calls_here, refused_here}
+use Rattle.laws_base.specs.FileCalls.{IsOfFile}
+use Rattle.laws_base.proofs.Events.{HoldsAfter, world_reached}
+use Rattle.laws_base.proofs.ClientReads.{stepped, called}
+use Rattle.laws_base.proofs.OpenFiles.{HasRow}
+use Rattle.laws_base.proofs.KeptLocations.{IsFiledAtStage, Keeps, nothing_kept, keeps_later, keeps_opened, After, steps_here, calls_here, refused_here}
 use Rattle.laws_machine.specs.FileClients.{IsFileOpen}
 use Rattle.laws_machine.specs.ClientFiles.{ClientsFilesAreOpen}
 

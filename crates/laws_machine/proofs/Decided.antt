@@ -31,9 +31,9 @@ use Rattle.laws_base.proofs.Steps.{on_cond}
 use Rattle.laws_base.proofs.Owners.{references_of, has_row, AreCounted}
 use Rattle.laws_base.proofs.CountsKept.{restart_counted}
 use Rattle.laws_base.proofs.SentReached.{sent_reached}
-use Rattle.laws_steps.specs.Versions.{IsLeaseOver}
-use Rattle.laws_steps.proofs.LeasesStayOver.{AreOverAt, over_to, over_of, reached_later}
-use Rattle.laws_steps.proofs.WaitsKept.{IsOfWaits, waits_kept}
+use Rattle.laws_base.specs.Versions.{IsLeaseOver}
+use Rattle.laws_base.proofs.LeasesStayOver.{AreOverAt, over_to, over_of, reached_later}
+use Rattle.laws_base.proofs.WaitsKept.{IsOfWaits, waits_kept}
 use Rattle.laws_machine.specs.Rounds.{log_as}
 
 -- no moment is past the limit

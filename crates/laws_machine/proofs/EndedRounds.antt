@@ -34,18 +34,18 @@ use Rattle.laws_base.proofs.ClientMoves.{HasNoOrder, quiet_orders, client_quiet,
 use Rattle.laws_base.proofs.SentReached.{server_quiet, server_restarts_quiet}
 use Rattle.laws_base.proofs.NamesLogged.{references_are_counted}
 use Rattle.laws_base.proofs.Owners.{placed_stands, times_at_least}
-use Rattle.laws_steps.specs.Versions.{IsLeaseOver, AreLeasesOver}
-use Rattle.laws_steps.specs.NewCopies.{HasNoLease}
-use Rattle.laws_steps.proofs.EndedLeases.{attempted_chunks_have_no_lease}
-use Rattle.laws_steps.proofs.Unleased.{new_copies_have_no_lease}
-use Rattle.laws_steps.proofs.LeasesStayOver.{reached_later, leases_stay_over}
-use Rattle.laws_steps.proofs.Histories.{step_grown, stood_before}
-use Rattle.laws_steps.proofs.Events.{IsGiven, HoldsAfter, holds_after}
+use Rattle.laws_base.specs.Versions.{IsLeaseOver, AreLeasesOver}
+use Rattle.laws_base.specs.NewCopies.{HasNoLease}
+use Rattle.laws_base.proofs.EndedLeases.{attempted_chunks_have_no_lease}
+use Rattle.laws_base.proofs.Unleased.{new_copies_have_no_lease}
+use Rattle.laws_base.proofs.LeasesStayOver.{reached_later, leases_stay_over}
+use Rattle.laws_base.proofs.Histories.{step_grown, stood_before}
+use Rattle.laws_base.proofs.Events.{IsGiven, HoldsAfter, holds_after}
 use Rattle.laws_versions.proofs.ClosedVersions.{clocks_before}
 use Rattle.laws_versions.proofs.CopiedSources.{copied_chunks_have_no_lease}
 use Rattle.laws_versions.proofs.ExtendLaws.{restart_silent}
 use Rattle.laws_versions.proofs.SharedChunks.{quiet_sent, shared_chunks_have_no_lease, shared_chunks_in_the_log_have_no_lease}
-use Rattle.laws_replicas.proofs.CopiedOrders.{copies_under_way_are_not_granted}
+use Rattle.laws_versions.proofs.CopiedOrders.{copies_under_way_are_not_granted}
 use Rattle.protocol_invariant.specs.Actions.{Spot}
 use Rattle.laws_machine.specs.ChunksAlike.{ChunkSides, StandsAt, StoodAt, IsRoundOpen, KeepsRounds, HasRounds, AreChunksAlike}
 use Rattle.laws_machine.specs.EntrySteps.{StandsNowhereElse}

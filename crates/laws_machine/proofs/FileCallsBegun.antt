@@ -25,8 +25,8 @@ use Rattle.protocol.specs.ClientFiles.{files_after_close, last_append}
 use Rattle.protocol.specs.ClientAttempts.{attempts}
 use Rattle.protocol.specs.ClientStep.{new_call, calls_names, calls_file, calls_on, fd_of, client_at, client_call_goes}
 use Rattle.laws_base.proofs.Steps.{on_cond, same_or_not, gone_there, gone_other}
-use Rattle.laws_steps.proofs.ClientWalk.{closed, noted}
-use Rattle.laws_steps.proofs.OpenFiles.{closed_since}
+use Rattle.laws_base.proofs.ClientWalk.{closed, noted}
+use Rattle.laws_base.proofs.OpenFiles.{closed_since}
 use Rattle.laws_machine.specs.FileClients.{id_of, IsKeptNote, IsDoneSoFar, IsCallAlike, IsFileClient, IsFileOpen, IsFollowed}
 use Rattle.laws_machine.specs.FileCallsBegin.{FileCallsAreBegun}
 use Rattle.laws_machine.proofs.ClientCaches.{kept_since}

@@ -38,8 +38,8 @@ use Rattle.protocol.specs.ClientAttempts.{is_mutation, is_length, is_append, is_
 use Rattle.protocol.specs.ClientTakes.{takes_named, takes_wait, gets, told_none, told_location, told, takes_told, is_own_data, takes_pushed, less_live, succeeds, takes_done, takes_bytes, takes_len_is, master_refuses, stays_live, finds_full, primary_refuses, takes_refused, client_takes, pushed_to, reader_refuses}
 use Rattle.protocol.specs.ClientStep.{ticks_unanswered, ends_unanswered, ticks_at, takes_at, client_does, client_at}
 use Rattle.laws_base.proofs.Steps.{on_cond}
-use Rattle.laws_steps.specs.FileCalls.{IsOfFile}
-use Rattle.laws_steps.proofs.ClientWalk.{heard_at, is_told_of, place_at}
+use Rattle.laws_base.specs.FileCalls.{IsOfFile}
+use Rattle.laws_base.proofs.ClientWalk.{heard_at, is_told_of, place_at}
 use Rattle.laws_machine.specs.FileClients.{id_of, IsKeptNote, IsDoneSoFar, IsNotedChunk, IsStageAt, IsFileCall, IsCallAlike, IsFileClient, IsFileOpen, IsOffered, IsToldAt, IsRefusedAt, IsSaidAt, IsSaid, IsElsewhereSame, IsFollowed}
 use Rattle.laws_machine.specs.FileSteps.{FileStepsAreFollowed}
 use Rattle.laws_machine.proofs.ClientCaches.{note_put, note_there, noted_and_kept, places_after_put}

@@ -37,9 +37,9 @@ use Rattle.protocol.specs.ClientCache.{is_same_place, last_opened, last_opened_o
 use Rattle.protocol.specs.ClientAttempts.{is_mutation, is_length, is_append, read_count, has_next_part, is_live_at, completes, last_refusal, gives_up, ended, is_last_attempt, ends_refused, ask_planned, asks, read_planned, reads_next, again_planned, push_planned_to, push_planned, chunk_of, goes_on_at, will_do, begins_with, begins_at, chunk_to_find, attempts, begins_next_part, forgets}
 use Rattle.protocol.specs.ClientTakes.{gets, succeeds}
 use Rattle.laws_base.proofs.Steps.{on_cond, none_some, same_some, same_or_not, put_cases, gone_split}
-use Rattle.laws_steps.proofs.Caches.{found}
-use Rattle.laws_steps.proofs.ClientWalk.{looked, noted, place_at, attempt_end}
-use Rattle.laws_steps.proofs.OpenFiles.{HasRow, noted_since, noted_there}
+use Rattle.laws_base.proofs.Caches.{found}
+use Rattle.laws_base.proofs.ClientWalk.{looked, noted, place_at, attempt_end}
+use Rattle.laws_base.proofs.OpenFiles.{HasRow, noted_since, noted_there}
 use Rattle.laws_names.specs.FollowedClients.{answer_shown}
 use Rattle.laws_machine.specs.FileClients.{id_of, IsKeptNote, AreOfPlaces, IsReadSoFar, IsDoneSoFar, IsNotedChunk, IsLasting, IsStageAt, IsFileClient, IsElsewhereSame, IsFollowed, IsPartSettled, AreOpenAsMade}
 use Rattle.laws_machine.proofs.ClientCaches.{all_of, dropped, looked_into, places_after_drop, places_after_look, kept_since}

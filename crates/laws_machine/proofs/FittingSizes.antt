@@ -4,7 +4,7 @@ use Rattle.gfs_types.specs.declared.config.Config.{Config}
 use Rattle.gfs_types.specs.declared.shape.Shape.{Shape}
 use Rattle.relaxed_file.specs.Machine.{Machine, chunk_size}
 use Rattle.relaxed_file.specs.Run as run
-use Rattle.laws_steps.proofs.Lengths.{settings_stay}
+use Rattle.laws_base.proofs.Lengths.{settings_stay}
 use Rattle.laws_names.proofs.Explained.{names_are_explained}
 use Rattle.laws_versions.proofs.OneSizes.{chunks_have_one_size, granted_by_file}
 use Rattle.laws_machine.specs.RoundSizes.{GrantedSizesFitTheSettings}

@@ -29,10 +29,10 @@ use Rattle.laws_base.proofs.RowsKept.{rows_kept}
 use Rattle.laws_base.proofs.NamesReached.{IsUpToLog, logged_here}
 use Rattle.laws_base.proofs.OrderNumbers.{state_of}
 use Rattle.laws_base.proofs.MasterMoves.{Core, grant_record, IsDue, IsNoGrantRecord, NoneEnded}
-use Rattle.laws_steps.proofs.MasterActs.{IsRowing, rowing_keeps, Waits, Acts}
-use Rattle.laws_steps.proofs.Awaited.{Attempts}
-use Rattle.laws_steps.proofs.WaitsKept.{any_input, waits_here}
-use Rattle.laws_steps.proofs.ActsOfSteps.{goes_acts}
+use Rattle.laws_base.proofs.MasterActs.{IsRowing, rowing_keeps, Waits, Acts}
+use Rattle.laws_base.proofs.Awaited.{Attempts}
+use Rattle.laws_base.proofs.WaitsKept.{any_input, waits_here}
+use Rattle.laws_base.proofs.ActsOfSteps.{goes_acts}
 use Rattle.laws_versions.proofs.AttemptedNumbers.{attempts_are_of_the_last_version}
 use Rattle.laws_versions.proofs.AskedSteps.{IsNoGrant}
 use Rattle.laws_versions.proofs.CopiedSources.{IsNoStart, asked_or_not, unasked_step, asked_step, free_reached, copied_chunks_have_no_lease}

@@ -22,7 +22,7 @@ use Rattle.laws_base.proofs.RevokesNumbered.{IsRowing}
 use Rattle.laws_base.proofs.RowsLogged.{IsFoundRows, IsRowedLog}
 use Rattle.laws_base.proofs.RowsKept.{rows_kept}
 use Rattle.laws_base.proofs.SentReached.{sent_reached}
-use Rattle.laws_steps.proofs.WaitsKept.{IsOfWaits, waits_kept}
+use Rattle.laws_base.proofs.WaitsKept.{IsOfWaits, waits_kept}
 use Rattle.laws_versions.proofs.AskedSteps.{IsNoGrant}
 use Rattle.laws_versions.proofs.CopiedSources.{IsNoStartRecord, IsNoStart, asked_or_not, unasked_step, asked_step, free_reached, copied_chunks_have_no_lease}
 use Rattle.laws_machine.specs.Rounds.{IsSourceOver, AreSourcesOver, SourcesOfGrantedCopiesHaveNoLease}

@@ -42,12 +42,12 @@ use Rattle.laws_base.proofs.RowsKept.{rows_kept}
 use Rattle.laws_base.proofs.NamesReached.{naming_keeps, IsUpToLog, logged_here}
 use Rattle.laws_base.proofs.OrderNumbers.{state_of}
 use Rattle.laws_base.proofs.MasterMoves.{Core, core_appended, core_granted, core_ended, grant_record, IsDue, IsNoGrantRecord, IsLeaseFrom, Nothing, NoneEnded, Keeps}
-use Rattle.laws_steps.proofs.MasterActs.{IsRowing, Waits, Acts}
-use Rattle.laws_steps.proofs.Awaited.{Attempts, EachFile}
-use Rattle.laws_steps.proofs.AwaitedRecords.{IsBeside}
-use Rattle.laws_steps.proofs.WaitsKept.{waits_here}
-use Rattle.laws_steps.proofs.ActsOfSteps.{IsWordSaid, IsInputSaid, goes_acts}
-use Rattle.laws_steps.proofs.EndedLeases.{attempted_chunks_have_no_lease}
+use Rattle.laws_base.proofs.MasterActs.{IsRowing, Waits, Acts}
+use Rattle.laws_base.proofs.Awaited.{Attempts, EachFile}
+use Rattle.laws_base.proofs.AwaitedRecords.{IsBeside}
+use Rattle.laws_base.proofs.WaitsKept.{waits_here}
+use Rattle.laws_base.proofs.ActsOfSteps.{IsWordSaid, IsInputSaid, goes_acts}
+use Rattle.laws_base.proofs.EndedLeases.{attempted_chunks_have_no_lease}
 use Rattle.laws_versions.proofs.AttemptedNumbers.{attempts_are_of_the_last_version}
 use Rattle.laws_versions.proofs.AskedSteps.{IsNoGrant}
 use Rattle.laws_versions.proofs.CopiedSources.{asked_or_not, unasked_step, asked_step, free_reached, copied_chunks_have_no_lease}

@@ -9,8 +9,8 @@ use Rattle.protocol.specs.Tables.{Table}
 use Rattle.protocol.specs.declared.seen.Seen.{Seen}
 use Rattle.protocol.specs.Observer.{Placed, placed_in, orders_after}
 use Rattle.laws_base.proofs.Steps.{same_or_not}
-use Rattle.laws_replicas.specs.SkippedRounds.{up_to}
-use Rattle.laws_replicas.proofs.UpTo.{IsLater, all_same}
+use Rattle.laws_versions.specs.SkippedRounds.{up_to}
+use Rattle.laws_versions.proofs.UpTo.{IsLater, all_same}
 use Rattle.protocol_invariant.specs.Actions.{Spot}
 use Rattle.laws_machine.specs.ChunksAlike.{ChunkSides, IsRoundOpen, chunk_in, entries_in, moved}
 use Rattle.laws_machine.proofs.Sides.{same_spot}

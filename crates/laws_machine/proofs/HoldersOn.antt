@@ -19,14 +19,14 @@ use Rattle.protocol.specs.World.{WorldState, happens, IsReached}
 use Rattle.laws_base.specs.Laws.{grants_of}
 use Rattle.laws_base.proofs.Entries.{AllOf, same_number}
 use Rattle.laws_base.proofs.MessagesSent.{IsSent, sent_before}
-use Rattle.laws_steps.specs.Attempts.{is_from_client, is_request}
-use Rattle.laws_steps.specs.Reads.{HasAsked, IsTold}
-use Rattle.laws_steps.specs.Versions.{IsLeaseOver}
-use Rattle.laws_steps.proofs.ClientNumbers.{of_step, of_call}
-use Rattle.laws_steps.proofs.Events.{HoldsAfter, holds_after}
-use Rattle.laws_steps.proofs.Histories.{IsGrown, step_grown, stood_before}
-use Rattle.laws_steps.proofs.LeasesStayOver.{reached_later, leases_stay_over}
-use Rattle.laws_steps.proofs.RequestsOnce.{AreNumbered, numbered_reached, requests_are_numbered_once}
+use Rattle.laws_base.specs.Attempts.{is_from_client, is_request}
+use Rattle.laws_base.specs.Reads.{HasAsked, IsTold}
+use Rattle.laws_base.specs.Versions.{IsLeaseOver}
+use Rattle.laws_base.proofs.ClientNumbers.{of_step, of_call}
+use Rattle.laws_base.proofs.Events.{HoldsAfter, holds_after}
+use Rattle.laws_base.proofs.Histories.{IsGrown, step_grown, stood_before}
+use Rattle.laws_base.proofs.LeasesStayOver.{reached_later, leases_stay_over}
+use Rattle.laws_base.proofs.RequestsOnce.{AreNumbered, numbered_reached, requests_are_numbered_once}
 use Rattle.laws_entries.proofs.Deadlines.{same_counted}
 use Rattle.laws_versions.proofs.ExtendLaws.{restart_silent, none_before}
 use Rattle.laws_versions.proofs.ToldAnswers.{TellsNone, server_tells, restart_tells, client_tells, none_new}

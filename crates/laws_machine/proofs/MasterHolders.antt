@@ -23,13 +23,13 @@ use Rattle.protocol.specs.Observer.{Placed, placed_in, observed_moment, orders_a
 use Rattle.protocol.specs.ServerStep.{server_restart}
 use Rattle.protocol.specs.World.{WorldState, happens, IsReached}
 use Rattle.laws_base.proofs.Steps.{same_some}
-use Rattle.laws_steps.specs.Reads.{IsTold}
-use Rattle.laws_steps.specs.Versions.{IsLeaseOver}
-use Rattle.laws_steps.proofs.Events.{IsGiven, HoldsAfter, holds_after}
-use Rattle.laws_steps.proofs.MasterTalks.{restart_shown}
+use Rattle.laws_base.specs.Reads.{IsTold}
+use Rattle.laws_base.specs.Versions.{IsLeaseOver}
+use Rattle.laws_base.proofs.Events.{IsGiven, HoldsAfter, holds_after}
+use Rattle.laws_base.proofs.MasterTalks.{restart_shown}
 use Rattle.laws_entries.proofs.Numbering.{restarted_shown}
 use Rattle.laws_entries.proofs.Placing.{same_orders}
-use Rattle.laws_replicas.proofs.StillOrders.{used_still}
+use Rattle.laws_versions.proofs.StillOrders.{used_still}
 use Rattle.laws_machine.specs.ChunksAlike.{ChunkSides, entries_in}
 use Rattle.laws_machine.specs.Rounds.{IsLogOf}
 use Rattle.laws_machine.specs.ChunksBeside.{IsMastersEvent}

@@ -11,9 +11,9 @@ use Rattle.protocol.specs.World.{WorldState, IsReached, happens}
 use Rattle.laws_base.specs.Laws.{HasAllReferences, times_in, grants_of}
 use Rattle.laws_base.proofs.Steps.{none_some, same_or_not, gone_other}
 use Rattle.laws_base.proofs.Owners.{stands, times_gone, times_at_least, placed_stands}
-use Rattle.laws_steps.specs.Versions.{IsLeaseOver, AreLeasesOver}
-use Rattle.laws_steps.proofs.LeasesStayOver.{reached_later, leases_stay_over}
-use Rattle.laws_steps.proofs.EndedLeases.{over_leases_number_nothing}
+use Rattle.laws_base.specs.Versions.{IsLeaseOver, AreLeasesOver}
+use Rattle.laws_base.proofs.LeasesStayOver.{reached_later, leases_stay_over}
+use Rattle.laws_base.proofs.EndedLeases.{over_leases_number_nothing}
 use Rattle.protocol_invariant.specs.Actions.{Spot}
 use Rattle.laws_machine.specs.ChunksAlike.{ChunkSides, StandsAt, StoodAt, IsRoundOpen, KeepsRounds, HasRounds}
 use Rattle.laws_machine.specs.EntrySteps.{StandsNowhereElse}

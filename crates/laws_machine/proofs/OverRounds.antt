@@ -34,16 +34,16 @@ use Rattle.laws_base.proofs.RowsKept.{rows_kept}
 use Rattle.laws_base.proofs.NamesReached.{logged_here}
 use Rattle.laws_base.proofs.OrderNumbers.{state_of, state-appended, changed-push}
 use Rattle.laws_base.proofs.MasterMoves.{removed_other}
-use Rattle.laws_steps.specs.Versions.{IsRefusedBy, IsLeaseOver, AreLeasesOver}
+use Rattle.laws_base.specs.Versions.{IsRefusedBy, IsLeaseOver, AreLeasesOver}
 use Rattle.protocol.specs.Server.{ServerState}
-use Rattle.laws_steps.proofs.EndedLeases.{attempted_chunks_have_no_lease}
+use Rattle.laws_base.proofs.EndedLeases.{attempted_chunks_have_no_lease}
 use Rattle.laws_versions.proofs.SharedChunks.{shared_chunks_in_the_log_have_no_lease}
 use Rattle.laws_versions.proofs.CopiedSources.{copied_chunks_have_no_lease}
 use Rattle.laws_machine.specs.ChunkRecords.{StandsIn}
 use Rattle.laws_machine.specs.MasterSteps.{EndsAt}
 use Rattle.laws_machine.specs.GrantedRecords.{IsAttempted, IsGrantedFrom, AreGrantedFrom, IsGrantOf, HasGrantRecord}
 use Rattle.laws_machine.proofs.SentGrants.{sent_grants_are_logged}
-use Rattle.laws_steps.proofs.LeasesStayOver.{AreOverAt, over_sent, over_to, over_of}
+use Rattle.laws_base.proofs.LeasesStayOver.{AreOverAt, over_sent, over_to, over_of}
 use Rattle.laws_versions.proofs.SharedChunks.{no_more}
 use Rattle.laws_machine.specs.WholeSteps.{EndsAlong, IsOpenOrEnds, AreRoundsOpened}
 use Rattle.laws_base.specs.Laws.{grants_of}

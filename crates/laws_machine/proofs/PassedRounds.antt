@@ -24,11 +24,11 @@ use Rattle.laws_base.proofs.OrderNumbers.{state_of, AllFound, found_same}
 use Rattle.laws_base.proofs.NamesReached.{IsUpToLog}
 use Rattle.laws_base.proofs.RowsLogged.{IsFoundRows, IsRowedLog}
 use Rattle.laws_base.proofs.RowsKept.{rows_kept}
-use Rattle.laws_steps.specs.Versions.{IsLeaseOver}
-use Rattle.laws_steps.proofs.Events.{HoldsAfter, holds_after}
-use Rattle.laws_steps.proofs.LeasesStayOver.{reached_later, over_later}
-use Rattle.laws_steps.proofs.WaitsKept.{IsOfWaits, waits_kept}
-use Rattle.laws_steps.proofs.IssuedNumbers.{IsPassed, IsLogPassed, passed_same}
+use Rattle.laws_base.specs.Versions.{IsLeaseOver}
+use Rattle.laws_base.proofs.Events.{HoldsAfter, holds_after}
+use Rattle.laws_base.proofs.LeasesStayOver.{reached_later, over_later}
+use Rattle.laws_base.proofs.WaitsKept.{IsOfWaits, waits_kept}
+use Rattle.laws_base.proofs.IssuedNumbers.{IsPassed, IsLogPassed, passed_same}
 use Rattle.laws_entries.proofs.GrantsFollow.{GrantsAbove, HasPassed, step_passed, restart_passed}
 use Rattle.laws_entries.proofs.SentGrants.{above_grants}
 use Rattle.laws_versions.proofs.ClosedVersions.{clocks_before}

@@ -30,11 +30,11 @@ use Rattle.laws_base.proofs.NamesReached.{without_end, IsUpToLog, logged_here}
 use Rattle.laws_base.proofs.NamesLogged.{references_are_counted}
 use Rattle.laws_base.proofs.OrderNumbers.{state_of}
 use Rattle.laws_base.proofs.MasterMoves.{Core, grant_record, IsDue, IsNoGrantRecord, NoneEnded, removed_other}
-use Rattle.laws_steps.proofs.MasterActs.{IsRowing, rowing_keeps, core_checkpointed, Waits, Acts}
-use Rattle.laws_steps.proofs.Awaited.{Attempts}
-use Rattle.laws_steps.proofs.AwaitedRecords.{IsBeside}
-use Rattle.laws_steps.proofs.WaitsKept.{any_input, waits_here}
-use Rattle.laws_steps.proofs.ActsOfSteps.{goes_acts}
+use Rattle.laws_base.proofs.MasterActs.{IsRowing, rowing_keeps, core_checkpointed, Waits, Acts}
+use Rattle.laws_base.proofs.Awaited.{Attempts}
+use Rattle.laws_base.proofs.AwaitedRecords.{IsBeside}
+use Rattle.laws_base.proofs.WaitsKept.{any_input, waits_here}
+use Rattle.laws_base.proofs.ActsOfSteps.{goes_acts}
 use Rattle.laws_versions.proofs.SharedChunks.{shared_chunks_have_no_lease}
 use Rattle.laws_machine.specs.ChunksAlike.{ChunkSides, StandsAt}
 use Rattle.laws_machine.proofs.OpenRounds.{chunks_of_one_owner_stand_once}

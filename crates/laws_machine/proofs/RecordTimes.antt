@@ -16,7 +16,7 @@ use Rattle.laws_base.proofs.OneName.{HasOneName}
 use Rattle.laws_base.proofs.Owners.{stands, chunks_at, times_put, times_gone, tally_same, tally_other}
 use Rattle.laws_base.proofs.CountsLogged.{fresh}
 use Rattle.laws_base.proofs.MasterMoves.{IsDue, IsNoGrantRecord}
-use Rattle.laws_steps.proofs.Awaited.{EachFile}
+use Rattle.laws_base.proofs.Awaited.{EachFile}
 
 pub with_at_most : (hs : List ℕ) (index to q : ℕ) → stands q (with_at hs index to) ≤ stands q hs + tally (to == q)
 with_at_most [] index to q = omega arith

@@ -19,10 +19,10 @@ use Rattle.laws_base.specs.Laws.{IsSizeGranted, is_grant, grants_of}
 use Rattle.laws_base.proofs.GrantsOnce.{versions_are_granted_once}
 use Rattle.laws_base.proofs.LeaseOrders.{says_grant}
 use Rattle.laws_base.proofs.LeasesTold.{granting}
-use Rattle.laws_steps.specs.Versions.{IsLeaseOver}
-use Rattle.laws_steps.proofs.Events.{holds_after}
-use Rattle.laws_steps.proofs.Histories.{step_grown}
-use Rattle.laws_steps.proofs.LeasesStayOver.{reached_later, leases_stay_over}
+use Rattle.laws_base.specs.Versions.{IsLeaseOver}
+use Rattle.laws_base.proofs.Events.{holds_after}
+use Rattle.laws_base.proofs.Histories.{step_grown}
+use Rattle.laws_base.proofs.LeasesStayOver.{reached_later, leases_stay_over}
 use Rattle.laws_entries.proofs.Deadlines.{same_counted}
 use Rattle.laws_versions.proofs.AnsweredOrders.{placed_later}
 use Rattle.laws_versions.proofs.RowSizes.{size_counts}

@@ -17,10 +17,10 @@ use Rattle.laws_base.proofs.RowsLogged.{IsFoundRows, IsRowedLog}
 use Rattle.laws_base.proofs.RowsKept.{rows_kept}
 use Rattle.laws_base.proofs.NamesReached.{IsUpToLog, logged_here}
 use Rattle.laws_base.proofs.MasterMoves.{Core, grant_record, NoneEnded}
-use Rattle.laws_steps.proofs.MasterActs.{IsRowing, rowing_keeps, Waits, Acts}
-use Rattle.laws_steps.proofs.Awaited.{Attempts}
-use Rattle.laws_steps.proofs.WaitsKept.{any_input, waits_here}
-use Rattle.laws_steps.proofs.ActsOfSteps.{goes_acts}
+use Rattle.laws_base.proofs.MasterActs.{IsRowing, rowing_keeps, Waits, Acts}
+use Rattle.laws_base.proofs.Awaited.{Attempts}
+use Rattle.laws_base.proofs.WaitsKept.{any_input, waits_here}
+use Rattle.laws_base.proofs.ActsOfSteps.{goes_acts}
 use Rattle.laws_machine.specs.GrantedRecords.{IsGrantOf, HasGrantRecord, SentGrantsAreLogged}
 
 has_stays : (xs ys : List LogChange) (handle version : ℕ) → HasGrantRecord xs handle version → HasGrantRecord (xs ++ ys) handle version

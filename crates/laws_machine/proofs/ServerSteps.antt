@@ -35,11 +35,11 @@ use Rattle.protocol.specs.World.{WorldState, Happened, after_server, IsReached, 
 use Rattle.laws_base.proofs.Steps.{none_some, put_other}
 use Rattle.laws_base.proofs.Entries.{AllOf}
 use Rattle.laws_base.proofs.MembersRecorded.{all_at}
-use Rattle.laws_steps.specs.Versions.{IsLeaseOver}
-use Rattle.laws_steps.proofs.EndedLeases.{over_leases_number_nothing}
-use Rattle.laws_steps.proofs.LeasesStayOver.{reached_later}
-use Rattle.laws_steps.proofs.MasterTalks.{restart_shown}
-use Rattle.laws_steps.proofs.Events.{HoldsAfter, holds_after}
+use Rattle.laws_base.specs.Versions.{IsLeaseOver}
+use Rattle.laws_base.proofs.EndedLeases.{over_leases_number_nothing}
+use Rattle.laws_base.proofs.LeasesStayOver.{reached_later}
+use Rattle.laws_base.proofs.MasterTalks.{restart_shown}
+use Rattle.laws_base.proofs.Events.{HoldsAfter, holds_after}
 use Rattle.machine_names.specs.NameProjections.{AreNamesOf}
 use Rattle.machine_names.proofs.Chunks.{chunk_actions_keep_names}
 use Rattle.laws_entries.specs.Entries.{IsAmong, IsPushed, IsAskedFor}
@@ -52,10 +52,10 @@ use Rattle.laws_entries.proofs.KnownNumbers.{primary_there}
 use Rattle.laws_entries.proofs.RoundsPassed.{IsOfServers, server_shown}
 use Rattle.laws_entries.proofs.OnceShown.{NumbersNone, NumbersOnce, step_once}
 use Rattle.laws_entries.proofs.CountedRounds.{leases_count_their_serials, serials_have_one_entry}
-use Rattle.laws_replicas.specs.LawfulOrders.{IsMadeOf, MayFollow, open_chunk}
-use Rattle.laws_replicas.specs.WaitingMutations.{IsAcknowledgedByAll}
-use Rattle.laws_replicas.proofs.Acknowledging.{settled_mutations_were_acknowledged}
-use Rattle.laws_replicas.proofs.LawfulPlaces.{numbered_mutations_may_follow}
+use Rattle.laws_versions.specs.LawfulOrders.{IsMadeOf, MayFollow, open_chunk}
+use Rattle.laws_versions.specs.WaitingMutations.{IsAcknowledgedByAll}
+use Rattle.laws_versions.proofs.Acknowledging.{settled_mutations_were_acknowledged}
+use Rattle.laws_versions.proofs.LawfulPlaces.{numbered_mutations_may_follow}
 use Rattle.protocol_invariant.specs.Actions.{Spot}
 use Rattle.laws_machine.specs.ChunksAlike.{ChunkSides, entries_in, IsRoundOpen, AreChunksAlike, NoneEnds, HasRounds, moved, Follows, chunk_in}
 use Rattle.laws_machine.specs.EntrySteps.{StandsNowhereElse, IsWanted, IsOnlyPlace}
@@ -72,7 +72,7 @@ use Rattle.laws_machine.proofs.Settlements.{IsSettlingDue, due_later, takes_noth
 use Rattle.laws_machine.proofs.OneChunk.{one_changed}
 use Rattle.laws_machine.specs.RoundSizes.{AreRoundsSized}
 use Rattle.laws_base.specs.Laws.{IsSizeGranted}
-use Rattle.laws_steps.proofs.Lengths.{servers_within}
+use Rattle.laws_base.proofs.Lengths.{servers_within}
 use Rattle.relaxed_file.proofs.ShapesKept.{shapes_fit}
 use Rattle.gfs_types.specs.declared.shape.Shape.{Shape}
 use Rattle.gfs_types.specs.Settings.{is_within}

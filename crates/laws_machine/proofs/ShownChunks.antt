@@ -15,9 +15,9 @@ use Rattle.protocol.specs.Tables.{Table}
 use Rattle.protocol.specs.World.{WorldState, files_seen, happens, IsReached}
 use Rattle.laws_base.specs.Laws.{grants_of}
 use Rattle.laws_base.proofs.Steps.{none_some}
-use Rattle.laws_steps.specs.Versions.{IsLeaseOver}
-use Rattle.laws_steps.proofs.Events.{with_call, HoldsAfter, holds_after, world_reached}
-use Rattle.laws_steps.proofs.LeasesStayOver.{reached_later, leases_stay_over}
+use Rattle.laws_base.specs.Versions.{IsLeaseOver}
+use Rattle.laws_base.proofs.Events.{with_call, HoldsAfter, holds_after, world_reached}
+use Rattle.laws_base.proofs.LeasesStayOver.{reached_later, leases_stay_over}
 use Rattle.laws_versions.proofs.MasterRows.{rows_are_of_used_handles}
 use Rattle.protocol_invariant.specs.Actions.{Spot}
 use Rattle.laws_machine.specs.ChunksAlike.{ChunkSides, StandsAt, StoodAt, IsRoundOpen, AreChunksAlike, KeepsRounds, HasRounds, chunk_in, entries_in}

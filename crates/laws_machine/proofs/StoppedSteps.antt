@@ -24,9 +24,9 @@ use Rattle.laws_base.proofs.LeaseOrders.{SaysGrant, stated_grant}
 use Rattle.laws_base.specs.Laws.{grants_of}
 use Rattle.laws_base.proofs.GrantsOnce.{versions_are_granted_once}
 use Rattle.laws_base.proofs.ScenesReached.{Scene, scene_of}
-use Rattle.laws_steps.specs.Versions.{IsLeaseOver}
-use Rattle.laws_steps.proofs.EndedLeases.{leases_in_the_log_are_over}
-use Rattle.laws_steps.proofs.LeasesStayOver.{AreOverAt, over_to, over_of, reached_later}
+use Rattle.laws_base.specs.Versions.{IsLeaseOver}
+use Rattle.laws_base.proofs.EndedLeases.{leases_in_the_log_are_over}
+use Rattle.laws_base.proofs.LeasesStayOver.{AreOverAt, over_to, over_of, reached_later}
 use Rattle.laws_versions.proofs.MasterRows.{grants_agree_with_rows}
 use Rattle.laws_versions.proofs.SharedChunks.{sent_over, shared_chunks_in_the_log_have_no_lease}
 use Rattle.laws_machine.specs.Rounds.{IsMastersInput, log_within, LogsWithinStepsEndLeases}

@@ -22,13 +22,13 @@ use Rattle.laws_base.specs.Laws.{grants_of}
 use Rattle.laws_base.proofs.Steps.{none_some}
 use Rattle.laws_base.proofs.Entries.{same_number}
 use Rattle.laws_base.proofs.MessagesSent.{IsSent, sent_before}
-use Rattle.laws_steps.specs.Attempts.{is_from_client, is_request}
-use Rattle.laws_steps.specs.Reads.{HasAsked}
-use Rattle.laws_steps.specs.Versions.{IsLeaseOver}
-use Rattle.laws_steps.proofs.Histories.{IsGrown, step_grown, stood_before}
-use Rattle.laws_steps.proofs.EndedLeases.{over_leases_number_nothing}
-use Rattle.laws_steps.proofs.LeasesStayOver.{reached_later}
-use Rattle.laws_steps.proofs.RequestsOnce.{requests_are_numbered_once}
+use Rattle.laws_base.specs.Attempts.{is_from_client, is_request}
+use Rattle.laws_base.specs.Reads.{HasAsked}
+use Rattle.laws_base.specs.Versions.{IsLeaseOver}
+use Rattle.laws_base.proofs.Histories.{IsGrown, step_grown, stood_before}
+use Rattle.laws_base.proofs.EndedLeases.{over_leases_number_nothing}
+use Rattle.laws_base.proofs.LeasesStayOver.{reached_later}
+use Rattle.laws_base.proofs.RequestsOnce.{requests_are_numbered_once}
 use Rattle.laws_entries.proofs.Deadlines.{same_counted}
 use Rattle.laws_entries.proofs.GrantsFollow.{HasPassed}
 use Rattle.laws_versions.specs.ReplacedChunks.{IsToldAt}

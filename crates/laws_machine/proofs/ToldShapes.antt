@@ -34,12 +34,12 @@ use Rattle.laws_base.proofs.Entries.{AllOf}
 use Rattle.laws_base.proofs.MembersRecorded.{all_at}
 use Rattle.laws_base.proofs.NamesLogged.{files_have_one_name}
 use Rattle.laws_base.proofs.Steps.{none_some}
-use Rattle.laws_steps.proofs.ClientNumbers.{IsSaid as IsClientsWord, IsStepOf, of_step, of_call}
-use Rattle.laws_steps.proofs.Events.{HoldsAfter, holds_after}
-use Rattle.laws_steps.proofs.Histories.{IsGrown, step_grown, stood_before}
-use Rattle.laws_steps.proofs.LeasesStayOver.{reached_later}
-use Rattle.laws_steps.proofs.RequestsOnce.{AreNumbered, numbered_reached}
-use Rattle.laws_steps.proofs.ToldShapes.{opened_shapes_are_logged}
+use Rattle.laws_base.proofs.ClientNumbers.{IsSaid as IsClientsWord, IsStepOf, of_step, of_call}
+use Rattle.laws_base.proofs.Events.{HoldsAfter, holds_after}
+use Rattle.laws_base.proofs.Histories.{IsGrown, step_grown, stood_before}
+use Rattle.laws_base.proofs.LeasesStayOver.{reached_later}
+use Rattle.laws_base.proofs.RequestsOnce.{AreNumbered, numbered_reached}
+use Rattle.laws_base.proofs.ToldShapes.{opened_shapes_are_logged}
 use Rattle.laws_names.proofs.ServerSilence.{IsSilent, server_silent, server_restart_silent}
 use Rattle.laws_versions.specs.ReplacedChunks.{IsToldAt}
 use Rattle.laws_versions.specs.ToldSizes.{IsOfFiles}

@@ -5,7 +5,7 @@ use Rattle.relaxed_file.specs.Order.{Entry}
 use Rattle.protocol.specs.Logged.{Logged}
 use Rattle.protocol.specs.World.{WorldState, happens}
 use Rattle.laws_base.proofs.MembersRecorded.{place_below}
-use Rattle.laws_steps.proofs.LeasesStayOver.{reached_later}
+use Rattle.laws_base.proofs.LeasesStayOver.{reached_later}
 use Rattle.laws_versions.proofs.AskedSteps.{IsToldOf}
 use Rattle.laws_versions.proofs.ClosedVersions.{clocks_before}
 use Rattle.laws_versions.proofs.ToldAnswers.{told_now}

@@ -32,12 +32,12 @@ use Rattle.gfs_types.specs.declared.ids.ServerId.{ServerId}
 use Rattle.laws_base.proofs.Steps.{none_some, same_some}
 use Rattle.laws_base.proofs.RisingOrders.{set_cases}
 use Rattle.laws_base.proofs.ServerMoves.{IsCameIn}
-use Rattle.laws_steps.specs.Attempts.{is_from_client, is_mutate, mutates_under}
-use Rattle.laws_steps.specs.FewAttempts.{IsAskedNow, WasAsked}
-use Rattle.laws_steps.proofs.ClientReads.{stepped, called}
-use Rattle.laws_steps.proofs.ClientWalk.{IsIdle, KeepsClient, HoldsAt, step_kept, call_kept}
-use Rattle.laws_steps.proofs.Events.{HoldsAfter, holds_after, with_call, with_rot, rot_of}
-use Rattle.laws_steps.proofs.RequestsOnce.{AreNumbered, each_event, numbered_reached, from_itself}
+use Rattle.laws_base.specs.Attempts.{is_from_client, is_mutate, mutates_under}
+use Rattle.laws_base.specs.FewAttempts.{IsAskedNow, WasAsked}
+use Rattle.laws_base.proofs.ClientReads.{stepped, called}
+use Rattle.laws_base.proofs.ClientWalk.{IsIdle, KeepsClient, HoldsAt, step_kept, call_kept}
+use Rattle.laws_base.proofs.Events.{HoldsAfter, holds_after, with_call, with_rot, rot_of}
+use Rattle.laws_base.proofs.RequestsOnce.{AreNumbered, each_event, numbered_reached, from_itself}
 use Rattle.laws_entries.specs.WaitedRounds.{waits_at, waited}
 use Rattle.laws_calls.proofs.LaterCalls.{calls_joined, calls_passed, calls_answered, put_at}
 use Rattle.laws_machine.specs.WaitedNumbers.{WaitedNumbersAreOfTheOpenCall}

@@ -13,7 +13,7 @@ use Rattle.relaxed_file.specs.Machine.{OpenCall, chunk_at, chunk_size}
 use Rattle.relaxed_file.specs.Run.{IsReached}
 use Rattle.relaxed_file.specs.RunLaws.{IsAskedOf}
 use Rattle.relaxed_file.proofs.Tries.{same_as_itself}
-use Rattle.laws_steps.specs.FewAttempts.{WasAsked}
+use Rattle.laws_base.specs.FewAttempts.{WasAsked}
 use Rattle.relaxed_file.proofs.Successes.{success_asked}
 use Rattle.client_state.specs.declared.call.CurrentCall.{CurrentCall}
 use Rattle.client_state.specs.declared.call.ToldChunk.{ToldChunk}

@@ -37,8 +37,8 @@ use Rattle.protocol.specs.World as world
 use Rattle.protocol.specs.World.{WorldState, Happened, nothing_happens, numbered_from_1, stamped, after_client, client_moves, moves, delivered, at_moment, happens, is_kept}
 use Rattle.laws_base.proofs.Steps.{on_cond, none_some, same_some, same_or_not}
 use Rattle.laws_base.proofs.RisingOrders.{set_cases, element_numbered}
-use Rattle.laws_steps.specs.FileCalls.{IsOfFile}
-use Rattle.laws_steps.proofs.FileSteps.{file_calls_go_on}
+use Rattle.laws_base.specs.FileCalls.{IsOfFile}
+use Rattle.laws_base.proofs.FileSteps.{file_calls_go_on}
 use Rattle.laws_names.specs.Alike.{Requests}
 use Rattle.laws_names.specs.FollowedClients.{IsBesideAt, IsBesideCall, answer_shown}
 use Rattle.laws_names.specs.Beside.{WasSent, IsNamesBeside, IsClientBeside, AreClientsBeside, is_asked_names, answered_trace}

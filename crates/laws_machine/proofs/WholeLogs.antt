@@ -26,7 +26,7 @@ use Rattle.laws_base.proofs.RowsKept.{rows_kept}
 use Rattle.laws_base.proofs.NamesReached.{IsGood, logged_here, opening_first}
 use Rattle.laws_base.proofs.OrderNumbers.{state_of}
 use Rattle.laws_base.proofs.MasterMoves.{core_of, removed_other, logs_alone}
-use Rattle.laws_steps.proofs.MasterActs.{IsRowing, rowing_keeps, core_checkpointed}
+use Rattle.laws_base.proofs.MasterActs.{IsRowing, rowing_keeps, core_checkpointed}
 use Rattle.laws_names.specs.Names.{HasNamesOf}
 use Rattle.laws_names.proofs.Openings.{restarts_go_by_records}
 use Rattle.laws_machine.proofs.Rows.{granted_of}

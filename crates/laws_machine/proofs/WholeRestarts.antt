@@ -12,7 +12,7 @@ use Rattle.protocol.specs.World.{WorldState, stamped, happens}
 use Rattle.laws_base.specs.Laws.{grants_of}
 use Rattle.laws_base.proofs.Steps.{on_cond}
 use Rattle.laws_base.proofs.MasterMoves.{logs_alone}
-use Rattle.laws_steps.specs.Versions.{AreLeasesOver}
+use Rattle.laws_base.specs.Versions.{AreLeasesOver}
 use Rattle.protocol_invariant.specs.Actions.{Spot}
 use Rattle.laws_machine.specs.ChunksAlike.{KeepsRounds}
 use Rattle.laws_machine.specs.OpenRounds.{NewRoundsAreOpen}

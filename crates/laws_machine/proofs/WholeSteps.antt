@@ -37,7 +37,7 @@ use Rattle.laws_machine.specs.WholeSteps.{IsAskedFor, AreAskedFor, MasterStepsAr
 use Rattle.laws_machine.proofs.GrantedRecords.{steps_grant_what_was_attempted}
 use Rattle.laws_base.proofs.GrantedIssued.{granted_is_at_most_issued}
 use Rattle.laws_versions.proofs.AttemptedNumbers.{attempts_are_of_the_last_version}
-use Rattle.laws_replicas.proofs.CopiedOrders.{copies_under_way_have_their_sources_order, copies_under_way_are_not_granted}
+use Rattle.laws_versions.proofs.CopiedOrders.{copies_under_way_have_their_sources_order, copies_under_way_are_not_granted}
 use Rattle.chunk_table.specs.ChunkTable.{ChunkRow, chunk_of}
 use Rattle.protocol.specs.Master.{MasterState}
 use Rattle.laws_machine.proofs.MasterSteps.{changes_are_taken}

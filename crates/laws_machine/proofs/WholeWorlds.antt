@@ -32,7 +32,7 @@ use Rattle.protocol.specs.World as world
 use Rattle.protocol.specs.World.{WorldState, Happened, new_world, nothing_happens, numbered_from_1, stamped, after_server, server_moves, moves, delivered, server_restarts_at, restarts, rots_replica, rots_on, at_moment, happens, is_kept}
 use Rattle.laws_base.proofs.Steps.{on_cond, none_some}
 use Rattle.laws_base.proofs.MessagesSent.{IsSent, sent_cases, none_sent}
-use Rattle.laws_steps.specs.FileCalls.{IsNoWordOfNames}
+use Rattle.laws_base.specs.FileCalls.{IsNoWordOfNames}
 use Rattle.laws_names.specs.Beside.{IsNamesBeside, AreClientsBeside}
 use Rattle.laws_names.proofs.BesideClientsBeside.{passed_trace, says_else, all_on}
 use Rattle.laws_names.proofs.Masters.{passed_last}

@@ -10,7 +10,7 @@ use Rattle.relaxed_file.specs.Run.{Action, IsLawful, after_all}
 use Rattle.relaxed_file.specs.Run as run
 use Rattle.protocol.specs.Choice.{Choice}
 use Rattle.protocol.specs.World.{WorldState, new_world, happens, IsReached, is_kept}
-use Rattle.laws_steps.specs.Versions.{IsLeaseOver}
+use Rattle.laws_base.specs.Versions.{IsLeaseOver}
 use Rattle.laws_machine.specs.ChunksAlike.{ChunkSides, AreChunksAlike, KeepsRounds, HasRounds, moved}
 use Rattle.laws_machine.specs.Rounds.{IsLogOf, IsMastersStep, IsEnded, SentGrantsAreOpen}
 use Rattle.laws_machine.specs.ServerSteps.{is_of_entries, AreForOpenCalls, AreGoneOrdersAlike}

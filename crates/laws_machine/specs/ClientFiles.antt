@@ -6,7 +6,7 @@ use Rattle.client_state.specs.declared.call.CurrentCall.{CurrentCall}
 use Rattle.protocol.specs.Tables.{element_at}
 use Rattle.protocol.specs.Client.{ClientState}
 use Rattle.protocol.specs.World.{WorldState, IsReached}
-use Rattle.laws_steps.specs.FileCalls.{IsOfFile}
+use Rattle.laws_base.specs.FileCalls.{IsOfFile}
 use Rattle.laws_machine.specs.FileClients.{IsFileOpen}
 
 -- those of its descriptors, and that of a call on a file

@@ -5,7 +5,7 @@ use Rattle.relaxed_file.specs.Machine.{Machine}
 use Rattle.client_state.specs.declared.call.CurrentCall.{CurrentCall}
 use Rattle.protocol.specs.Client.{ClientState}
 use Rattle.protocol.specs.ClientStep.{client_goes}
-use Rattle.laws_steps.specs.FileCalls.{IsOfFile}
+use Rattle.laws_base.specs.FileCalls.{IsOfFile}
 use Rattle.laws_machine.specs.FileClients.{IsFileClient, IsFileOpen, IsSaid, IsFollowed}
 
 -- On a tick, or on a message of which the machine has what it says: the client notes a round that it is told, asks, is told to wait, reads, pushes, has a part placed or refused, gives up an attempt or the call, or is answered.

@@ -7,7 +7,7 @@ use Rattle.relaxed_file.specs.Run.{Action, Tell, IsLawful, after_all}
 use Rattle.protocol.specs.Choice.{decided_changes}
 use Rattle.protocol.specs.Logged.{log_changed_by_all}
 use Rattle.protocol.specs.World.{WorldState}
-use Rattle.laws_steps.specs.Versions.{AreLeasesOver}
+use Rattle.laws_base.specs.Versions.{AreLeasesOver}
 use Rattle.laws_names.specs.NameTrails.{log_read}
 use Rattle.protocol_invariant.specs.Actions.{Spot}
 use Rattle.laws_machine.specs.ChunksAlike.{ChunkSides, StandsAt}

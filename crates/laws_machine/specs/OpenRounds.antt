@@ -11,7 +11,7 @@ use Rattle.protocol.specs.ServerStep.{server_at}
 use Rattle.protocol.specs.Observer.{observed_moment}
 use Rattle.protocol.specs.World.{WorldState, IsReached, happens}
 use Rattle.laws_base.specs.Laws.{HasAllReferences, grants_of}
-use Rattle.laws_steps.specs.Versions.{IsLeaseOver, AreLeasesOver}
+use Rattle.laws_base.specs.Versions.{IsLeaseOver, AreLeasesOver}
 use Rattle.protocol_invariant.specs.Actions.{Spot}
 use Rattle.laws_machine.specs.ChunksAlike.{ChunkSides, StandsAt, IsRoundOpen, AreChunksAlike, KeepsRounds, HasRounds}
 use Rattle.laws_machine.specs.EntrySteps.{StandsNowhereElse}

@@ -17,7 +17,7 @@ use Rattle.protocol.specs.Master.{MasterState}
 use Rattle.protocol.specs.MasterStep.{master_step, master_goes, found_log, master_restart}
 use Rattle.protocol.specs.Observer.{observed_moment}
 use Rattle.protocol.specs.World.{WorldState, IsReached, numbered_from_1, happens, after_master}
-use Rattle.laws_steps.specs.Versions.{IsLeaseOver, AreLeasesOver}
+use Rattle.laws_base.specs.Versions.{IsLeaseOver, AreLeasesOver}
 use Rattle.laws_names.specs.Alike.{Requests}
 use Rattle.laws_names.specs.FollowedSteps.{log_left, opened}
 use Rattle.laws_names.specs.NameTrails.{log_read, IsBesideLog}

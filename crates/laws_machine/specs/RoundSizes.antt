@@ -9,7 +9,7 @@ use Rattle.protocol.specs.Choice.{Choice}
 use Rattle.protocol.specs.World.{WorldState, happens, IsReached}
 use Rattle.protocol_invariant.specs.Actions.{Spot}
 use Rattle.laws_base.specs.Laws.{IsSizeGranted, grants_of}
-use Rattle.laws_steps.specs.Versions.{IsLeaseOver}
+use Rattle.laws_base.specs.Versions.{IsLeaseOver}
 use Rattle.laws_machine.specs.ChunksAlike.{ChunkSides, IsRoundOpen, AreChunksAlike}
 
 -- the round is open at a place of a file whose chunks have this size

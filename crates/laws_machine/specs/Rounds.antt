@@ -24,7 +24,7 @@ use Rattle.protocol.specs.Master.{MasterState, VersionAttempt}
 use Rattle.protocol.specs.MasterStep.{master_goes, master_step}
 use Rattle.protocol.specs.World.{WorldState, numbered_from_1, happens, IsReached}
 use Rattle.laws_base.specs.Laws.{IsGrantBody, grants_of}
-use Rattle.laws_steps.specs.Versions.{IsLeaseOver, AreLeasesOver}
+use Rattle.laws_base.specs.Versions.{IsLeaseOver, AreLeasesOver}
 use Rattle.protocol_invariant.specs.Actions.{Spot}
 use Rattle.laws_machine.specs.ChunksAlike.{ChunkSides, IsRoundOpen, AreChunksAlike, KeepsRounds, HasRounds}
 use Rattle.laws_machine.specs.EntrySteps.{StandsNowhereElse}

@@ -30,7 +30,7 @@ use Rattle.protocol.specs.Choice.{Choice}
 use Rattle.protocol.specs.Client.{ClientState}
 use Rattle.protocol.specs.Observer.{Placed, order_of, calls_made}
 use Rattle.protocol.specs.World.{WorldState, new_world, after_events}
-use Rattle.laws_steps.specs.FewAttempts.{WasAsked, part_of, EachOf, AreApart}
+use Rattle.laws_base.specs.FewAttempts.{WasAsked, part_of, EachOf, AreApart}
 use Rattle.laws_entries.specs.Entries.{IsAmong, IsPushed}
 use Rattle.laws_entries.specs.FullChunks.{IsPad}
 use Rattle.laws_calls.specs.AnsweredWrites.{IsToldChunk}

@@ -13,8 +13,8 @@ use Rattle.messages.specs.declared.message.Body.{Body}
 use Rattle.messages.specs.declared.message.Body.TheVariants as body
 use Rattle.client_state.specs.declared.call.CurrentCall.{CurrentCall}
 use Rattle.client_state.specs.declared.call.ToldChunk.{ToldChunk}
-use Rattle.laws_steps.specs.Reads.{IsTold, IsTrueOf}
-use Rattle.laws_steps.specs.Versions.{IsLeaseOver}
+use Rattle.laws_base.specs.Reads.{IsTold, IsTrueOf}
+use Rattle.laws_base.specs.Versions.{IsLeaseOver}
 use Rattle.relaxed_file.specs.Machine.{chunk_at, chunk_count}
 use Rattle.replica_store.specs.declared.row.Row.{Row}
 use Rattle.replica_store.specs.Replicas.{row_at}

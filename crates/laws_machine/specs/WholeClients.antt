@@ -17,7 +17,7 @@ use Rattle.protocol.specs.Master.{PendingSnapshot}
 use Rattle.protocol.specs.Client.{ClientState}
 use Rattle.protocol.specs.ClientStep.{client_goes}
 use Rattle.protocol.specs.World.{WorldState, numbered_from_1, happens, IsReached, is_kept}
-use Rattle.laws_steps.specs.FileCalls.{IsOfFile}
+use Rattle.laws_base.specs.FileCalls.{IsOfFile}
 use Rattle.laws_names.specs.Beside.{WasSent}
 use Rattle.laws_machine.specs.ChunksAlike.{ChunkSides}
 use Rattle.laws_machine.specs.ServerSteps.{AreForOpenCalls}

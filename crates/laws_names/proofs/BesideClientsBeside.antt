@@ -32,14 +32,14 @@ use Rattle.protocol.specs.World.{stamped}
 use Rattle.laws_base.proofs.Steps.{none_some, same_some, same_or_not}
 use Rattle.laws_base.proofs.RisingOrders.{set_cases}
 use Rattle.laws_base.proofs.MessagesSent.{IsSent, IsSameMessage}
-use Rattle.laws_steps.proofs.RequestsOnce.{later_cases}
+use Rattle.laws_base.proofs.RequestsOnce.{later_cases}
 use Rattle.laws_names.specs.Alike.{Requests, AreAlike, AreUntaken, IsKept, IsWaiting, HoldsLocks}
 use Rattle.laws_names.specs.Followed.{RunsTo, IsToldTo, IsTold, AreKeptOn}
 use Rattle.laws_names.proofs.Ends.{moments_pass}
 use Rattle.laws_names.specs.FollowedClients.{IsBesideAt, IsBesideCall, IsBesideClient}
 use Rattle.laws_names.specs.OpenRequests.{IsOldOrOpen, AreNotLater}
 use Rattle.laws_names.proofs.OpenRequestsLemmas.{names_stay_old_or_open}
-use Rattle.laws_steps.specs.FileCalls.{IsNoWordOfNames}
+use Rattle.laws_base.specs.FileCalls.{IsNoWordOfNames}
 use Rattle.laws_names.specs.Beside.{lasts, lasting, IsKnown, IsNamesBeside, IsClientBeside, AreClientsBeside}
 use Rattle.chunk_table.specs.ChunkTable.{shape_of}
 

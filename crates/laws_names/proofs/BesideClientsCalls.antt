@@ -41,12 +41,12 @@ use Rattle.protocol.specs.Client.{ClientState, ClientDoing, stopped_client, clie
 use Rattle.protocol.specs.ClientStep.{client_at, client_goes, client_call_goes, client_does, client_ends, client_call, client_step, may_step}
 use Rattle.laws_base.proofs.Steps.{on_cond, none_some, same_some, same_or_not}
 use Rattle.laws_base.proofs.MessagesSent.{none_sent}
-use Rattle.laws_steps.specs.Attempts.{IsRequestOf}
-use Rattle.laws_steps.proofs.ClientNumbers.{call_numbered}
+use Rattle.laws_base.specs.Attempts.{IsRequestOf}
+use Rattle.laws_base.proofs.ClientNumbers.{call_numbered}
 use Rattle.laws_names.specs.NameWords.{IsAnswerToAsked}
-use Rattle.laws_steps.specs.FileCalls.{IsOfFile, IsFileStep, IsNameStep}
-use Rattle.laws_steps.proofs.FileSteps.{file_calls_begin, file_calls_go_on}
-use Rattle.laws_steps.proofs.NameSteps.{name_calls_ask_first}
+use Rattle.laws_base.specs.FileCalls.{IsOfFile, IsFileStep, IsNameStep}
+use Rattle.laws_base.proofs.FileSteps.{file_calls_begin, file_calls_go_on}
+use Rattle.laws_base.proofs.NameSteps.{name_calls_ask_first}
 use Rattle.laws_names.proofs.Steps.{name_calls_begin}
 use Rattle.laws_names.specs.Alike.{Requests, AreAlike, HoldsLocks}
 use Rattle.laws_names.specs.Followed.{IsTold}

@@ -42,15 +42,15 @@ use Rattle.protocol.specs.ClientStep.{client_goes}
 use Rattle.protocol.specs.World.{stamped}
 use Rattle.laws_base.proofs.Steps.{none_some, same_some, same_or_not}
 use Rattle.laws_base.proofs.MessagesSent.{IsSent, none_sent, sent_last}
-use Rattle.laws_steps.specs.Attempts.{IsRequestOf}
-use Rattle.laws_steps.proofs.ClientNumbers.{goes_numbered}
-use Rattle.laws_steps.proofs.RequestsOnce.{IsNumbered}
-use Rattle.laws_steps.specs.NameCalls.{AsksForTheCall}
+use Rattle.laws_base.specs.Attempts.{IsRequestOf}
+use Rattle.laws_base.proofs.ClientNumbers.{goes_numbered}
+use Rattle.laws_base.proofs.RequestsOnce.{IsNumbered}
+use Rattle.laws_base.specs.NameCalls.{AsksForTheCall}
 use Rattle.laws_names.specs.KeptAnswers.{IsNameOf, WereAskedFor}
 use Rattle.laws_names.specs.NamedReplies.{IsRequestUnder}
 use Rattle.laws_names.specs.NameWords.{HasAsked, IsAnswerToAsked, IsNameBy, HasItsRequest}
-use Rattle.laws_steps.specs.FileCalls.{IsOfFile, IsFileCall, IsFileStep, IsForTheCall, IsNameStep}
-use Rattle.laws_steps.proofs.NameSteps.{name_calls_ask_again}
+use Rattle.laws_base.specs.FileCalls.{IsOfFile, IsFileCall, IsFileStep, IsForTheCall, IsNameStep}
+use Rattle.laws_base.proofs.NameSteps.{name_calls_ask_again}
 use Rattle.laws_names.specs.NameAnswers as waits
 use Rattle.laws_names.specs.NameAnswers.{Tells, IsCaused, IsOver}
 use Rattle.laws_names.proofs.Steps.{name_calls_are_answered_as_told}

@@ -7,8 +7,8 @@ use Rattle.protocol.specs.Logged.{Logged}
 use Rattle.protocol.specs.Master.{PendingSnapshot}
 use Rattle.protocol.specs.Client.{ClientState}
 use Rattle.protocol.specs.World.{WorldState, IsReached}
-use Rattle.laws_steps.proofs.RequestsOnce.{numbered_reached}
-use Rattle.laws_steps.proofs.Reached.{name_requests_ask_for_their_call}
+use Rattle.laws_base.proofs.RequestsOnce.{numbered_reached}
+use Rattle.laws_base.proofs.Reached.{name_requests_ask_for_their_call}
 use Rattle.laws_names.proofs.NameWords.{name_answers_were_asked_for}
 use Rattle.laws_names.specs.BesideClients.{IsAskedFor, ClientStepsAreFollowed, ClientCallsAreFollowed}
 use Rattle.laws_names.proofs.Clients.{IsKnownClient}

@@ -39,7 +39,7 @@ use Rattle.laws_base.proofs.CountsLogged.{IsFoundCounts, IsCountedLog}
 use Rattle.laws_base.proofs.CountsKept.{counts_kept}
 use Rattle.laws_base.proofs.NamesReached.{opening_naming, logged_here}
 use Rattle.laws_base.proofs.NamesLogged.{log_has_the_names, log_has_the_files}
-use Rattle.laws_steps.proofs.Events.{IsGiven}
+use Rattle.laws_base.proofs.Events.{IsGiven}
 use Rattle.laws_names.specs.Alike.{Requests, AreAlike, HoldsLocks}
 use Rattle.laws_names.proofs.LocksAndFiles.{locks_go_back}
 use Rattle.laws_names.specs.Followed.{IsTold, IsTimely}
@@ -49,7 +49,7 @@ use Rattle.laws_names.proofs.FollowedStepsReached.{steps_are_followed, stopped_s
 use Rattle.laws_names.proofs.Openings.{restarts_are_followed}
 use Rattle.laws_names.proofs.OpenRequestsLemmas.{old_or_open_names_are_requests}
 use Rattle.laws_names.proofs.NameWords.{IsUnasked, master_asks_nothing, given_sent}
-use Rattle.laws_steps.specs.FileCalls.{IsNoWordOfNames}
+use Rattle.laws_base.specs.FileCalls.{IsNoWordOfNames}
 use Rattle.laws_names.specs.Beside.{lasts, lasting, IsKnown, IsNamesBeside, Beside}
 use Rattle.laws_names.proofs.BesideClientsBeside.{all_fewer, relocked, settings_of, passed_trace, all_on, passes, moved, says_more, says_else, relogged}
 use Rattle.laws_base.proofs.ShapesTold.{log_has_the_shapes}

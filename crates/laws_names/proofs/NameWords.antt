@@ -29,10 +29,10 @@ use Rattle.laws_base.proofs.Entries.{AllOf}
 use Rattle.laws_base.proofs.RisingOrders.{element_numbered}
 use Rattle.laws_base.proofs.MembersRecorded.{kept_place, all_at}
 use Rattle.laws_base.proofs.MessagesSent.{IsSent, IsSameMessage, none_sent, sent_last}
-use Rattle.laws_steps.proofs.Events.{IsGiven}
-use Rattle.laws_steps.proofs.ClientNumbers.{IsSaid, IsStepOf, of_step, of_call}
-use Rattle.laws_steps.proofs.RequestsOnce.{AreNumbered, later_cases, numbered_reached}
-use Rattle.laws_steps.proofs.MasterTalks.{is_masters, MasterTalks, master_said}
+use Rattle.laws_base.proofs.Events.{IsGiven}
+use Rattle.laws_base.proofs.ClientNumbers.{IsSaid, IsStepOf, of_step, of_call}
+use Rattle.laws_base.proofs.RequestsOnce.{AreNumbered, later_cases, numbered_reached}
+use Rattle.laws_base.proofs.MasterTalks.{is_masters, MasterTalks, master_said}
 use Rattle.laws_names.specs.KeptAnswers as kept_answers
 use Rattle.laws_names.proofs.KeptAnswersReached.{waiting_snapshots_were_asked_for}
 use Rattle.laws_names.specs.NamedReplies.{IsRequestUnder, Asks, WasAsked}

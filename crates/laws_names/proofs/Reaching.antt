@@ -4,7 +4,7 @@ use Rattle.gfs_types.specs.declared.config.Config.{Config}
 use Rattle.messages.specs.declared.event.Event.{Event}
 use Rattle.protocol.specs.Choice.{Choice}
 use Rattle.protocol.specs.World.{WorldState, new_world, happens, after_events, IsReached}
-use Rattle.laws_steps.proofs.Events.{HoldsAfter, holds_after}
+use Rattle.laws_base.proofs.Events.{HoldsAfter, holds_after}
 
 events_append : (w : WorldState) (xs ys : List (Event × Choice)) → after_events w (xs ++ ys) ≡ after_events (after_events w xs) ys
 events_append w [] ys = refl

@@ -9,7 +9,7 @@ use Rattle.protocol.specs.Choice.{Choice, Ending, Goes, Lost, Stops}
 use Rattle.protocol.specs.Server.{ServerState, ServerDoing}
 use Rattle.protocol.specs.ServerStep.{server_at, server_goes, server_step, server_restarts, server_restart}
 use Rattle.laws_base.proofs.Entries.{AllOf}
-use Rattle.laws_steps.proofs.ServerSays.{IsSaid, step_says}
+use Rattle.laws_base.proofs.ServerSays.{IsSaid, step_says}
 
 -- no word of names
 abbrev pub IsSilent : Body → Type 0

@@ -31,13 +31,13 @@ use Rattle.laws_base.proofs.Steps.{none_some, same_some}
 use Rattle.laws_base.proofs.MembersRecorded.{all_at}
 use Rattle.laws_base.proofs.MessagesSent.{IsSent, none_sent}
 use Rattle.laws_base.proofs.MasterClock.{master_in_time}
-use Rattle.laws_steps.proofs.Events.{IsGiven, HoldsAfter, with_call}
+use Rattle.laws_base.proofs.Events.{IsGiven, HoldsAfter, with_call}
 use Rattle.laws_names.proofs.KeptAnswersReached.{kept_answers_were_asked_for}
 use Rattle.laws_names.proofs.Reaching.{reached_with}
 use Rattle.laws_names.proofs.ServerSilence.{IsSilent, AreSilent, server_silent, server_restart_silent}
 use Rattle.laws_names.proofs.WaitingRequests.{snapshots_wait_for_their_request}
 use Rattle.laws_names.proofs.NameWords.{given_sent}
-use Rattle.laws_steps.specs.FileCalls.{IsNoWordOfNames}
+use Rattle.laws_base.specs.FileCalls.{IsNoWordOfNames}
 use Rattle.laws_names.specs.Alike.{is_there}
 use Rattle.laws_names.specs.Beside.{IsNamesBeside, IsClientBeside, AreClientsBeside, answered_trace, ComesTo}
 use Rattle.laws_names.specs.BesideClients.{IsAskedFor}

@@ -38,7 +38,7 @@ use Rattle.laws_base.proofs.ServerMoves.{IsOfReplica}
 use Rattle.laws_base.proofs.RisingOrders.{Later, then_later, order_numbers_never_fall}
 use Rattle.laws_base.proofs.LeasesTold.{IsStaleAt, stale_later, new_not_stale, replica_later, AreTold, told_kept, granting, leases_are_told}
 use Rattle.laws_base.proofs.ScenesReached.{scene_reached}
-use Rattle.laws_steps.proofs.Histories.{IsGrown}
+use Rattle.laws_base.proofs.Histories.{IsGrown}
 use Rattle.laws_versions.specs.AnsweredOrders.{IsRefusedBy, RecordedOrdersAreRefused, IsLeaseReported, ReportedLeasesWereGranted}
 use Rattle.laws_versions.proofs.ServerCauses.{is_plain, IsOrderOf, Said, reported, step_words}
 use Rattle.laws_versions.proofs.SaidByServers.{is_other, IsSaidNow, WasSaid, was_said}

@@ -43,9 +43,9 @@ use Rattle.laws_base.proofs.CopiesUnderWay.{found_for}
 use Rattle.laws_base.proofs.LeasesEnded.{HasEnded}
 use Rattle.laws_base.proofs.MembersRecorded.{all_in_order}
 use Rattle.laws_base.proofs.Entries.{AllOf, all_joined}
-use Rattle.laws_steps.specs.Given.{version_given}
-use Rattle.laws_steps.proofs.MasterPremises.{IsAsk, IsOfCalls, StepEffects, NameKeeps}
-use Rattle.laws_steps.proofs.MasterWalk.{ready_here}
+use Rattle.laws_base.specs.Given.{version_given}
+use Rattle.laws_base.proofs.MasterPremises.{IsAsk, IsOfCalls, StepEffects, NameKeeps}
+use Rattle.laws_base.proofs.MasterWalk.{ready_here}
 
 -- what each message of a step so far is, and what the step shows
 

@@ -40,7 +40,7 @@ use Rattle.laws_base.proofs.CopiesUnderWay.{IsFoundCopy, found_for}
 use Rattle.laws_base.proofs.FilesNamed.{Files}
 use Rattle.laws_base.proofs.Owners.{chunks_at}
 use Rattle.laws_base.proofs.MasterMoves.{IsNoGrantRecord}
-use Rattle.laws_steps.proofs.Awaited.{Attempts}
+use Rattle.laws_base.proofs.Awaited.{Attempts}
 use Rattle.laws_versions.proofs.UnaskedSteps.{is_location, IsOfNames}
 use Rattle.laws_versions.proofs.FreeSources.{IsUntried, AreFree}
 

@@ -42,11 +42,11 @@ use Rattle.laws_base.proofs.NamesReached.{IsUpToLog, logged_here}
 use Rattle.laws_base.proofs.OrderNumbers.{state_of}
 use Rattle.laws_base.proofs.RowsKept.{rows_kept}
 use Rattle.laws_base.proofs.RowsLogged.{IsFoundRows, IsRowedLog}
-use Rattle.laws_steps.proofs.Awaited.{Attempts}
-use Rattle.laws_steps.proofs.Events.{HoldsAfter}
+use Rattle.laws_base.proofs.Awaited.{Attempts}
+use Rattle.laws_base.proofs.Events.{HoldsAfter}
 use Rattle.laws_entries.proofs.RisingRounds.{held_reached}
 use Rattle.laws_versions.proofs.UnaskedSteps.{IsOfNames, KeepsNames, KeepsReports, ready, does_kept}
-use Rattle.laws_steps.proofs.MasterPremises.{IsAsk}
+use Rattle.laws_base.proofs.MasterPremises.{IsAsk}
 use Rattle.laws_versions.proofs.CopiedSources.{asked_or_not}
 use Rattle.laws_versions.specs.MasterRows.{AttemptsAreOfTheLastVersion}
 

@@ -24,12 +24,12 @@ use Rattle.laws_base.proofs.NamesReached.{IsUpToLog, IsLogged}
 use Rattle.laws_base.proofs.RowsLogged.{IsFoundRows, IsRowedLog}
 use Rattle.laws_base.proofs.RowsKept.{rows_kept}
 use Rattle.laws_base.proofs.GrantsOnce.{row_below}
-use Rattle.laws_steps.proofs.Awaited.{Attempts}
-use Rattle.laws_steps.specs.Given.{version_given}
-use Rattle.laws_steps.proofs.MasterActs.{IsRowing, rowing_keeps, core_checkpointed, Waits, Acts}
-use Rattle.laws_steps.proofs.WaitsKept.{WaitsHere, any_input}
-use Rattle.laws_steps.proofs.ActsOfSteps.{goes_acts}
-use Rattle.laws_steps.proofs.IssuedNumbers.{IsPassed, passed_after, passed_grant, passed_ended, passed_issue, passed_copy, passed_less}
+use Rattle.laws_base.proofs.Awaited.{Attempts}
+use Rattle.laws_base.specs.Given.{version_given}
+use Rattle.laws_base.proofs.MasterActs.{IsRowing, rowing_keeps, core_checkpointed, Waits, Acts}
+use Rattle.laws_base.proofs.WaitsKept.{WaitsHere, any_input}
+use Rattle.laws_base.proofs.ActsOfSteps.{goes_acts}
+use Rattle.laws_base.proofs.IssuedNumbers.{IsPassed, passed_after, passed_grant, passed_ended, passed_issue, passed_copy, passed_less}
 
 quiet_given : (b : Body) → is_of_lease b ≡ false → version_given b ≡ None
 quiet_given (body.Create order handle version) quiet = true_false quiet

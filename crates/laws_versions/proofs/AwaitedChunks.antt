@@ -10,9 +10,9 @@ use Rattle.protocol.specs.MasterSnapshots.{snapshot_handles, snapshot_files}
 use Rattle.protocol_invariant.specs.Leases.{IsWaitedFor}
 use Rattle.laws_base.proofs.Namespace.{IsAmong, all_among}
 use Rattle.laws_base.proofs.Entries.{AllOf, same_number}
-use Rattle.laws_steps.proofs.Awaited.{handle_of, file_of_it}
+use Rattle.laws_base.proofs.Awaited.{handle_of, file_of_it}
 use Rattle.laws_versions.specs.AwaitedChunks.{WaitingSnapshotsAreAlone, AwaitedChunksAreNotTried}
-use Rattle.laws_steps.proofs.WaitsKept.{WaitsHere, waits_here}
+use Rattle.laws_base.proofs.WaitsKept.{WaitsHere, waits_here}
 
 -- as the laws say it
 

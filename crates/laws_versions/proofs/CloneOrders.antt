@@ -30,9 +30,9 @@ use Rattle.protocol.specs.MasterStep.{is_in_time, gives_up_attempts, lost_copies
 use Rattle.laws_base.proofs.Steps.{on_cond, none_some, same_some, removed_cases}
 use Rattle.laws_base.proofs.Entries.{AllOf, all_joined, all_filtered, kept_where_cases, same_number}
 use Rattle.laws_base.proofs.ChunkRows.{Rows, rows_of, OwnedFrom, removed_owned, all_copied_owned, expired_owned}
-use Rattle.laws_steps.proofs.MasterActs.{AreAttemptedFrom}
-use Rattle.laws_steps.proofs.MasterPremises.{IsAnswer, IsOrder, AnyDoing, any_kept, StepEffects, effects_of, NameKeeps, MasterSays, keeps_said}
-use Rattle.laws_steps.proofs.MasterWalk.{IsHolder, all_hold, ready_here, expires_here, goes_here}
+use Rattle.laws_base.proofs.MasterActs.{AreAttemptedFrom}
+use Rattle.laws_base.proofs.MasterPremises.{IsAnswer, IsOrder, AnyDoing, any_kept, StepEffects, effects_of, NameKeeps, MasterSays, keeps_said}
+use Rattle.laws_base.proofs.MasterWalk.{IsHolder, all_hold, ready_here, expires_here, goes_here}
 use Rattle.laws_versions.proofs.TrueWords.{all_entries}
 
 -- what the master says

@@ -34,16 +34,16 @@ use Rattle.laws_base.proofs.OrderNumbers.{AllFound}
 use Rattle.laws_base.proofs.LeaseEnds.{IsEndTold, IsPast, HasEnd}
 use Rattle.laws_base.proofs.LeasesTimely.{IsOfTimes, times_kept}
 use Rattle.laws_base.proofs.ScenesReached.{scene_of, scene_reached, goes_on}
-use Rattle.laws_steps.specs.Versions.{IsLeaseOver}
-use Rattle.laws_steps.proofs.EndedLeases.{past_is_over}
-use Rattle.laws_steps.proofs.LeasesStayOver.{reached_later, over_later}
-use Rattle.laws_steps.proofs.IssuedNumbers.{IsPassed, IsLogPassed}
-use Rattle.laws_steps.proofs.WaitsKept.{IsOfWaits, waits_kept}
+use Rattle.laws_base.specs.Versions.{IsLeaseOver}
+use Rattle.laws_base.proofs.EndedLeases.{past_is_over}
+use Rattle.laws_base.proofs.LeasesStayOver.{reached_later, over_later}
+use Rattle.laws_base.proofs.IssuedNumbers.{IsPassed, IsLogPassed}
+use Rattle.laws_base.proofs.WaitsKept.{IsOfWaits, waits_kept}
 use Rattle.laws_versions.proofs.ClosedVersions.{StaysShut, stays_shut, clocks_before}
 use Rattle.laws_versions.proofs.GivenVersions.{given_reached}
 use Rattle.laws_versions.specs.HeldVersions.{version_cloned, WasCloned}
 use Rattle.laws_versions.proofs.HeldVersions.{replicas_were_ordered, members_alone_hold_a_version, attempts_alone_hold_their_version}
-use Rattle.laws_steps.proofs.Events.{HoldsAfter, holds_after}
+use Rattle.laws_base.proofs.Events.{HoldsAfter, holds_after}
 use Rattle.laws_versions.specs.ToldVersions.{WasOrdered}
 use Rattle.laws_versions.proofs.TrueWords.{IsCloned, IsTrueFrom, copy_ask_true, image_true}
 use Rattle.laws_versions.proofs.ToldVersions.{AreHeld, told_reached, said_versions_were_ordered}

@@ -12,7 +12,7 @@ use Rattle.protocol.specs.Choice.{Choice}
 use Rattle.protocol.specs.Server.{ServerState, ServerDoing}
 use Rattle.protocol.specs.ServerStep.{server_at, server_goes, server_step}
 use Rattle.laws_base.proofs.Entries.{AllOf}
-use Rattle.laws_steps.proofs.ServerSays.{IsSaid, step_says}
+use Rattle.laws_base.proofs.ServerSays.{IsSaid, step_says}
 
 -- words of a server that need no cause here
 abbrev pub is_plain : Body → Bool

@@ -38,15 +38,15 @@ use Rattle.laws_base.proofs.RowsKept.{rows_kept}
 use Rattle.laws_base.proofs.GrantsOnce.{row_below, no_order_grants, plain_grants}
 use Rattle.laws_base.proofs.LeasesTimely.{IsOfTimes, times_kept}
 use Rattle.laws_base.proofs.ScenesReached.{Scene, scene_of, IsKeptByScenes, lifted, scene_reached, IsKeptOn, goes_on}
-use Rattle.laws_steps.specs.Versions.{IsLeaseOver}
+use Rattle.laws_base.specs.Versions.{IsLeaseOver}
 use Rattle.laws_versions.specs.ClosedVersions.{ClosedVersionsStayClosed}
-use Rattle.laws_steps.proofs.EndedLeases.{over_by_row}
-use Rattle.laws_steps.proofs.LeasesStayOver.{over_later}
-use Rattle.laws_steps.proofs.Awaited.{Attempts}
-use Rattle.laws_steps.proofs.MasterActs.{IsRowing, rowing_keeps, Waits, Acts}
-use Rattle.laws_steps.proofs.WaitsKept.{WaitsHere, any_input, IsOfWaits, waits_kept}
-use Rattle.laws_steps.proofs.ActsOfSteps.{goes_acts}
-use Rattle.laws_steps.proofs.IssuedNumbers.{IsPassed, IsLogPassed, passed_after, passed_grant, passed_ended, passed_same, passed_less, passed_checkpoint, started_passed}
+use Rattle.laws_base.proofs.EndedLeases.{over_by_row}
+use Rattle.laws_base.proofs.LeasesStayOver.{over_later}
+use Rattle.laws_base.proofs.Awaited.{Attempts}
+use Rattle.laws_base.proofs.MasterActs.{IsRowing, rowing_keeps, Waits, Acts}
+use Rattle.laws_base.proofs.WaitsKept.{WaitsHere, any_input, IsOfWaits, waits_kept}
+use Rattle.laws_base.proofs.ActsOfSteps.{goes_acts}
+use Rattle.laws_base.proofs.IssuedNumbers.{IsPassed, IsLogPassed, passed_after, passed_grant, passed_ended, passed_same, passed_less, passed_checkpoint, started_passed}
 
 module _ (handle version : ℕ) where
   -- a step so far: the version is not attempted, and none of its messages grants it

@@ -39,12 +39,12 @@ use Rattle.laws_base.proofs.Owners.{chunks_at, placed_stands, times_at_least, ch
 use Rattle.laws_base.proofs.RowsKept.{rows_kept}
 use Rattle.laws_base.proofs.RowsLogged.{IsFoundRows, IsRowedLog}
 use Rattle.laws_base.proofs.ScenesReached.{scene_of, scene_reached}
-use Rattle.laws_steps.proofs.Awaited.{Attempts}
-use Rattle.laws_steps.proofs.Events.{HoldsAfter, holds_after}
-use Rattle.laws_steps.proofs.EndedLeases.{ended_leases_are_over}
-use Rattle.laws_steps.proofs.LeasesStayOver.{reached_later}
+use Rattle.laws_base.proofs.Awaited.{Attempts}
+use Rattle.laws_base.proofs.Events.{HoldsAfter, holds_after}
+use Rattle.laws_base.proofs.EndedLeases.{ended_leases_are_over}
+use Rattle.laws_base.proofs.LeasesStayOver.{reached_later}
 use Rattle.laws_versions.proofs.ClosedVersions.{clocks_before}
-use Rattle.laws_steps.proofs.MasterPremises.{IsAsk}
+use Rattle.laws_base.proofs.MasterPremises.{IsAsk}
 use Rattle.laws_versions.proofs.SharedChunks.{shared_chunks_have_no_lease}
 use Rattle.laws_versions.specs.CopiedSources.{CopiedChunksHaveNoLease}
 use Rattle.laws_versions.proofs.UnaskedSteps.{is_location, IsOfNames, IsNoAsk, IsUnasked, ready, does_kept}

@@ -24,14 +24,14 @@ use Rattle.protocol.specs.MasterVersions.{Asker, VersionTarget, new_attempt, cop
 use Rattle.protocol.specs.MasterAsks.{takes_ask}
 use Rattle.protocol.specs.MasterStep.{master_at, master_goes, may_end, master_bounded, master_ends, master_step}
 use Rattle.protocol.specs.World.{WorldState, Happened, happens, after_events, IsReached}
-use Rattle.laws_steps.proofs.LeasesStayOver.{reached_later}
+use Rattle.laws_base.proofs.LeasesStayOver.{reached_later}
 use Rattle.laws_base.proofs.Steps.{on_cond, none_some, same_some, same_or_not, put_split, put_there, put_other, removed_cases}
 use Rattle.laws_base.proofs.Owners.{chunks_at}
 use Rattle.laws_base.proofs.NamesReached.{IsUpToLog}
 use Rattle.laws_base.proofs.RowsLogged.{IsFoundRows, IsRowedLog}
 use Rattle.laws_base.proofs.RowsKept.{rows_kept}
 use Rattle.laws_base.proofs.SentReached.{sent_reached}
-use Rattle.laws_steps.proofs.WaitsKept.{IsOfWaits, waits_kept}
+use Rattle.laws_base.proofs.WaitsKept.{IsOfWaits, waits_kept}
 use Rattle.laws_entries.proofs.CopiesBegun.{step_shows}
 use Rattle.laws_entries.proofs.AskedCopies.{KeepsBeginning, step_begins}
 use Rattle.laws_versions.proofs.UnaskedSteps as unasked

@@ -29,15 +29,15 @@ use Rattle.laws_base.proofs.MessagesSent.{IsSent, sent_cases, none_sent, numbere
 use Rattle.laws_base.proofs.ClientMoves.{HasNoOrder, quiet_orders, client_quiet, call_quiet}
 use Rattle.laws_base.proofs.SentReached.{without_order, server_quiet, server_restarts_quiet}
 use Rattle.laws_base.proofs.OrderNumbers.{AllFound}
-use Rattle.laws_steps.proofs.LeasesStayOver.{reached_later}
-use Rattle.laws_steps.proofs.IssuedNumbers.{IsPassed, IsLogPassed}
+use Rattle.laws_base.proofs.LeasesStayOver.{reached_later}
+use Rattle.laws_base.proofs.IssuedNumbers.{IsPassed, IsLogPassed}
 use Rattle.laws_versions.proofs.ClosedVersions.{clocks_before}
 use Rattle.laws_versions.proofs.GivenVersions.{given_reached}
-use Rattle.laws_steps.proofs.Events.{HoldsAfter, holds_after}
+use Rattle.laws_base.proofs.Events.{HoldsAfter, holds_after}
 use Rattle.laws_versions.proofs.SharedChunks.{shared_chunks_have_no_lease}
 use Rattle.laws_versions.specs.ToldVersions.{WasOrdered}
-use Rattle.laws_steps.proofs.MasterPremises.{IsCopySource, IsAnswer, IsOrder, AskKeeps, MasterSays, keeps_said}
-use Rattle.laws_steps.proofs.MasterWalk.{goes_here}
+use Rattle.laws_base.proofs.MasterPremises.{IsCopySource, IsAnswer, IsOrder, AskKeeps, MasterSays, keeps_said}
+use Rattle.laws_base.proofs.MasterWalk.{goes_here}
 use Rattle.laws_versions.proofs.ToldVersions.{holders_were_ordered}
 use Rattle.laws_versions.specs.ClonedVersions.{version_sourced, CopiesAreOfClosedVersions}
 use Rattle.laws_versions.proofs.CloneOrders.{IsMastersMessage}

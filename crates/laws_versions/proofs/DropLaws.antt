@@ -18,8 +18,8 @@ use Rattle.laws_base.proofs.Steps.{none_some, same_some}
 use Rattle.laws_base.proofs.MembersRecorded.{all_at}
 use Rattle.laws_base.proofs.RevokedLeases.{IsOfRevoked, revoked_kept}
 use Rattle.laws_base.proofs.ScenesReached.{scene_of, scene_reached, goes_on}
-use Rattle.laws_steps.proofs.MasterPremises.{IsReplicaTaken, IsAnswer, IsOrder, AnyDoing, any_kept, MasterSays}
-use Rattle.laws_steps.proofs.MasterWalk.{step_says}
+use Rattle.laws_base.proofs.MasterPremises.{IsReplicaTaken, IsAnswer, IsOrder, AnyDoing, any_kept, MasterSays}
+use Rattle.laws_base.proofs.MasterWalk.{step_says}
 use Rattle.laws_versions.specs.OutdatedVersions.{version_dropped, IsUselessReplica, DropsAreOfUselessReplicas, IsNeverCurrent, OutdatedVersionsStayOutdated}
 use Rattle.laws_versions.proofs.OutdatedVersions.{IsOutdated, AreGoing, StaysOutdated, stays_outdated, outdated_now}
 

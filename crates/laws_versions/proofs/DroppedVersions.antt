@@ -30,10 +30,10 @@ use Rattle.laws_base.proofs.SentReached.{without_order, server_quiet, server_res
 use Rattle.laws_base.proofs.RisingOrders.{element_numbered}
 use Rattle.laws_base.proofs.RevokedLeases.{IsOfRevoked, revoked_kept}
 use Rattle.laws_base.proofs.ScenesReached.{scene_of, scene_reached, goes_on}
-use Rattle.laws_steps.proofs.LeasesStayOver.{reached_later}
-use Rattle.laws_steps.proofs.IssuedNumbers.{IsPassed}
+use Rattle.laws_base.proofs.LeasesStayOver.{reached_later}
+use Rattle.laws_base.proofs.IssuedNumbers.{IsPassed}
 use Rattle.laws_versions.proofs.GivenVersions.{given_reached}
-use Rattle.laws_steps.proofs.Events.{IsGiven, HoldsAfter, holds_after}
+use Rattle.laws_base.proofs.Events.{IsGiven, HoldsAfter, holds_after}
 use Rattle.laws_versions.specs.ToldVersions.{IsReported, WasOrdered}
 use Rattle.laws_versions.proofs.TrueWords.{AreLinesOrdered, IsTrueFrom, IsTrueMessage, report_true}
 use Rattle.laws_versions.proofs.ToldVersions.{AreWordsTrue, told_reached}

@@ -20,17 +20,17 @@ use Rattle.laws_base.proofs.MessagesSent.{IsSent, sent_cases, numbered_sent}
 use Rattle.laws_base.proofs.SentReached.{without_order, sent_reached}
 use Rattle.laws_base.proofs.ClientMoves.{HasNoOrder}
 use Rattle.laws_entries.proofs.Placing.{all_placed}
-use Rattle.laws_steps.proofs.WaitsKept.{IsOfWaits, waits_kept}
+use Rattle.laws_base.proofs.WaitsKept.{IsOfWaits, waits_kept}
 use Rattle.laws_entries.proofs.CopiesBegun.{ShowsCopy}
 use Rattle.laws_entries.proofs.RoundsPassed.{rounds_of_entries_were_issued}
 use Rattle.messages.specs.declared.message.Body.{Body}
 use Rattle.messages.specs.declared.message.Body.TheVariants as body
 use Rattle.chunk_table.specs.ChunkTable.{chunk_of}
 use Rattle.protocol.specs.Sending.{handle_of, order_number}
-use Rattle.laws_steps.specs.Given.{version_given}
+use Rattle.laws_base.specs.Given.{version_given}
 use Rattle.laws_base.proofs.GrantedIssued.{granted_is_at_most_issued}
 use Rattle.laws_versions.proofs.GivenVersions.{given_reached}
-use Rattle.laws_steps.proofs.MasterPremises.{IsAsk}
+use Rattle.laws_base.proofs.MasterPremises.{IsAsk}
 use Rattle.laws_versions.proofs.MasterCauses.{step_caused}
 use Rattle.laws_versions.proofs.GivenOnce.{IsNext, IsGivenNext, next_causes}
 use Rattle.laws_entries.proofs.SentGrants.{counted_one}

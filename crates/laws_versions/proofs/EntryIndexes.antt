@@ -10,8 +10,8 @@ use Rattle.protocol.specs.Sending.{handle_of}
 use Rattle.protocol.specs.Choice.{Choice}
 use Rattle.protocol.specs.World.{WorldState, Happened, new_world, happens, after_events, IsReached}
 use Rattle.laws_base.proofs.Owners.{chunks_at}
-use Rattle.laws_steps.proofs.Histories.{SentIn, sent_in, after_both}
-use Rattle.laws_steps.proofs.LeasesStayOver.{reached_later}
+use Rattle.laws_base.proofs.Histories.{SentIn, sent_in, after_both}
+use Rattle.laws_base.proofs.LeasesStayOver.{reached_later}
 use Rattle.laws_entries.specs.ChunkOrders.{WasCopied, Linked}
 use Rattle.laws_entries.proofs.Numbering.{entries_stem_from_mutates}
 use Rattle.laws_versions.specs.HandleIndexes.{StandsAtIndex, EntriesStandAtTheirToldIndex}

@@ -34,9 +34,9 @@ use Rattle.laws_base.proofs.RisingOrders.{element_numbered}
 use Rattle.laws_base.proofs.ClientMoves.{client_quiet, call_quiet}
 use Rattle.laws_base.proofs.EndsToldByMaster.{TellsNoEnd, TellNoEnds, quiet_ends, server_tells, restarts_tell}
 use Rattle.laws_base.proofs.GrantedIssued.{granted_is_at_most_issued}
-use Rattle.laws_steps.proofs.Events.{IsGiven, HoldsAfter, holds_after}
-use Rattle.laws_steps.proofs.RequestsOnce.{later_cases}
-use Rattle.laws_steps.proofs.Histories.{IsGrown, steps_grown, SentIn, sent_in, after_both}
+use Rattle.laws_base.proofs.Events.{IsGiven, HoldsAfter, holds_after}
+use Rattle.laws_base.proofs.RequestsOnce.{later_cases}
+use Rattle.laws_base.proofs.Histories.{IsGrown, steps_grown, SentIn, sent_in, after_both}
 use Rattle.laws_versions.specs.AnsweredOrders.{IsLeaseReported}
 use Rattle.laws_versions.proofs.SaidByServers.{is_other}
 use Rattle.laws_versions.proofs.AnsweredOrders.{placed_later, sender_is, reported_leases_were_granted}

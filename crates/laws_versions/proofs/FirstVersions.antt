@@ -32,19 +32,19 @@ use Rattle.laws_base.proofs.GrantedIssued.{granted_is_at_most_issued}
 use Rattle.laws_base.proofs.RevokesNumbered.{Agrees}
 use Rattle.laws_base.proofs.RevokedLeases.{IsOfRevoked, revoked_kept}
 use Rattle.laws_base.proofs.ScenesReached.{scene_of, scene_reached, goes_on}
-use Rattle.laws_steps.proofs.LeasesStayOver.{reached_later}
-use Rattle.laws_steps.specs.Given.{version_given}
-use Rattle.laws_steps.proofs.WaitsKept.{IsOfWaits, waits_kept}
-use Rattle.laws_steps.proofs.IssuedNumbers.{IsPassed, IsLogPassed}
+use Rattle.laws_base.proofs.LeasesStayOver.{reached_later}
+use Rattle.laws_base.specs.Given.{version_given}
+use Rattle.laws_base.proofs.WaitsKept.{IsOfWaits, waits_kept}
+use Rattle.laws_base.proofs.IssuedNumbers.{IsPassed, IsLogPassed}
 use Rattle.laws_base.proofs.OrderNumbers.{state_of, AllFound}
 use Rattle.laws_versions.proofs.GivenVersions.{given_reached}
 use Rattle.laws_versions.proofs.ClosedVersions.{StaysShut, stays_shut}
-use Rattle.laws_steps.proofs.Events.{HoldsAfter, holds_after}
-use Rattle.laws_steps.proofs.RequestsOnce.{later_cases}
-use Rattle.laws_steps.proofs.Histories.{SentIn, sent_in, after_both}
+use Rattle.laws_base.proofs.Events.{HoldsAfter, holds_after}
+use Rattle.laws_base.proofs.RequestsOnce.{later_cases}
+use Rattle.laws_base.proofs.Histories.{SentIn, sent_in, after_both}
 use Rattle.laws_versions.specs.EmptyGrants.{IsGrantUsed}
 use Rattle.laws_versions.proofs.UsedGrants.{numbered_versions_have_used_grants}
-use Rattle.laws_steps.proofs.MasterPremises.{is_told, IsAsk, IsTold}
+use Rattle.laws_base.proofs.MasterPremises.{is_told, IsAsk, IsTold}
 use Rattle.laws_versions.proofs.MasterCauses.{is_caused, uncaused_nothing, Attempts, IsRaised, Causes, step_caused}
 use Rattle.laws_versions.proofs.ExtendLaws.{restart_silent, new_one, none_before}
 use Rattle.laws_versions.proofs.RaisedVersions.{counted_grant, skipped}

@@ -23,7 +23,7 @@ use Rattle.laws_base.proofs.Entries.{AllOf, all_joined, kept_where_cases}
 use Rattle.laws_base.proofs.ChunkRows.{Rows, rows_of, OwnedFrom, removed_owned, all_copied_owned, swapped_owned, expired_owned}
 use Rattle.laws_base.proofs.VersionsAhead.{changed_cases}
 use Rattle.laws_base.proofs.LeasesEnded.{HasEnded, ended_owned, granted_table, after_grant}
-use Rattle.laws_steps.proofs.Awaited.{Attempts}
+use Rattle.laws_base.proofs.Awaited.{Attempts}
 use Rattle.laws_versions.proofs.UnaskedSteps.{is_location, IsOfNames, KeepsNames, KeepsReports}
 
 -- no version of the chunk is attempted

@@ -26,7 +26,7 @@ use Rattle.laws_versions.proofs.ToldVersions.{told_reached, holders_were_ordered
 use Rattle.laws_versions.specs.ClonedVersions.{version_copied}
 use Rattle.laws_versions.proofs.CloneOrders.{IsMastersMessage, IsChosen, IsTickWord, tick_says, IsNoClone, delivery_says}
 use Rattle.laws_versions.proofs.ClonedVersions.{IsCloneSent, sent_of_cloned}
-use Rattle.laws_steps.proofs.Histories.{IsGrown}
+use Rattle.laws_base.proofs.Histories.{IsGrown}
 use Rattle.laws_versions.proofs.OrderSteps.{IsOrderedNow, WasOrderedIn, was_ordered_in}
 use Rattle.laws_versions.specs.GivenClones.{IsGivenBySome, CopiedVersionsWereGiven, OrderedVersionsWereGiven}
 

@@ -36,9 +36,9 @@ use Rattle.laws_base.proofs.LeaseOrders.{revoke_order}
 use Rattle.laws_base.proofs.Words.{true_false}
 use Rattle.laws_base.proofs.Steps.{on_cond, none_some, same_some, tally, count-cons, count-append, count-in_order}
 use Rattle.laws_base.proofs.Entries.{AllOf}
-use Rattle.laws_steps.specs.Given.{version_given}
-use Rattle.laws_steps.proofs.MasterPremises.{IsAsk, IsOfCalls, StepEffects, NameKeeps}
-use Rattle.laws_steps.proofs.MasterWalk.{ready_here}
+use Rattle.laws_base.specs.Given.{version_given}
+use Rattle.laws_base.proofs.MasterPremises.{IsAsk, IsOfCalls, StepEffects, NameKeeps}
+use Rattle.laws_base.proofs.MasterWalk.{ready_here}
 use Rattle.laws_versions.proofs.MasterCauses.{is_caused, Attempts, Causes, step_caused}
 use Rattle.laws_versions.proofs.Targets.{AreOnce, held_once, own_once, copy_once}
 

@@ -24,14 +24,14 @@ use Rattle.laws_base.proofs.Words.{true_false}
 use Rattle.laws_base.proofs.MembersRecorded.{all_at, all_in_order, place_below}
 use Rattle.laws_base.proofs.MessagesSent.{IsSent}
 use Rattle.laws_base.proofs.GrantedIssued.{granted_is_at_most_issued}
-use Rattle.laws_steps.specs.Given.{version_given}
-use Rattle.laws_steps.proofs.IssuedNumbers.{IsPassed}
+use Rattle.laws_base.specs.Given.{version_given}
+use Rattle.laws_base.proofs.IssuedNumbers.{IsPassed}
 use Rattle.laws_versions.proofs.GivenVersions.{given_reached}
 use Rattle.laws_versions.specs.HeldVersions.{version_cloned}
-use Rattle.laws_steps.proofs.Histories.{stood_before}
+use Rattle.laws_base.proofs.Histories.{stood_before}
 use Rattle.laws_versions.proofs.CloneOrders.{IsMastersMessage, IsNoClone, delivery_says}
 use Rattle.laws_versions.proofs.ClonedVersions.{IsShutIn, clones_shut}
-use Rattle.laws_steps.proofs.MasterPremises.{IsAsk}
+use Rattle.laws_base.proofs.MasterPremises.{IsAsk}
 use Rattle.laws_versions.proofs.MasterCauses.{is_caused, Attempts, IsRaised, Causes, step_caused}
 use Rattle.laws_versions.proofs.ExtendLaws.{new_one}
 use Rattle.laws_versions.specs.GivenOnce.{VersionsAreGivenOnce, ClonesFollowTheirVersions}

@@ -45,12 +45,12 @@ use Rattle.laws_base.proofs.RowsKept.{rows_kept}
 use Rattle.laws_base.proofs.GrantsOnce.{row_below}
 use Rattle.laws_base.proofs.RevokesNumbered.{one_more}
 use Rattle.laws_base.proofs.GrantedIssued.{IsIssued}
-use Rattle.laws_steps.specs.Given.{version_given}
-use Rattle.laws_steps.proofs.Awaited.{Attempts}
-use Rattle.laws_steps.proofs.MasterActs.{IsRowing, rowing_keeps, Waits, Acts}
-use Rattle.laws_steps.proofs.WaitsKept.{WaitsHere, any_input, IsOfWaits, waits_kept}
-use Rattle.laws_steps.proofs.ActsOfSteps.{goes_acts}
-use Rattle.laws_steps.proofs.IssuedNumbers.{IsPassed, IsLogPassed, passed_after, passed_grant, passed_ended, passed_less, passed_checkpoint, passed_issue, passed_copy, started_passed}
+use Rattle.laws_base.specs.Given.{version_given}
+use Rattle.laws_base.proofs.Awaited.{Attempts}
+use Rattle.laws_base.proofs.MasterActs.{IsRowing, rowing_keeps, Waits, Acts}
+use Rattle.laws_base.proofs.WaitsKept.{WaitsHere, any_input, IsOfWaits, waits_kept}
+use Rattle.laws_base.proofs.ActsOfSteps.{goes_acts}
+use Rattle.laws_base.proofs.IssuedNumbers.{IsPassed, IsLogPassed, passed_after, passed_grant, passed_ended, passed_less, passed_checkpoint, passed_issue, passed_copy, started_passed}
 use Rattle.laws_versions.specs.GivenVersions.{IsToOneOf, MembersAloneAreGivenAVersion, AttemptsAreGivenToTheirServers}
 
 -- numbers in rising order are those of the list

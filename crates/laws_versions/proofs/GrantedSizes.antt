@@ -40,8 +40,8 @@ use Rattle.laws_base.proofs.RowsLogged.{IsFoundRows, IsRowedLog}
 use Rattle.laws_base.proofs.RowsKept.{rows_kept}
 use Rattle.laws_base.proofs.ShapesKept.{KeepsShapes, joined_keeps, changed_keeps, owned_keeps, removed_keeps, chunks_have_their_files_shapes}
 use Rattle.laws_versions.specs.ToldSizes.{IsOfFiles, GrantsTellTheirFilesSizes, ToldShapesAreTheirFiles}
-use Rattle.laws_steps.specs.ToldShapes.{IsShapeIn}
-use Rattle.laws_steps.proofs.ToldShapes.{told_shapes_are_of_their_chunks}
+use Rattle.laws_base.specs.ToldShapes.{IsShapeIn}
+use Rattle.laws_base.proofs.ToldShapes.{told_shapes_are_of_their_chunks}
 
 -- a grant keeps the shapes of rows, and its own row
 

@@ -34,17 +34,17 @@ use Rattle.laws_base.proofs.ShapesKept.{KeepsShapes, same_keeps, changed_keeps, 
 use Rattle.laws_base.proofs.ShapesTold.{IsFoundTold, IsToldLog, told_kept}
 use Rattle.laws_base.proofs.ChunkRows.{Rows, rows_of}
 use Rattle.laws_base.proofs.Entries.{mapped_cases}
-use Rattle.laws_steps.proofs.Awaited.{Attempts}
-use Rattle.laws_steps.proofs.MasterActs.{IsRowing, rowing_keeps, core_checkpointed, Waits, Acts}
-use Rattle.laws_steps.proofs.WaitsKept.{WaitsHere, any_input}
-use Rattle.laws_steps.proofs.ActsOfSteps.{goes_acts}
+use Rattle.laws_base.proofs.Awaited.{Attempts}
+use Rattle.laws_base.proofs.MasterActs.{IsRowing, rowing_keeps, core_checkpointed, Waits, Acts}
+use Rattle.laws_base.proofs.WaitsKept.{WaitsHere, any_input}
+use Rattle.laws_base.proofs.ActsOfSteps.{goes_acts}
 use Rattle.messages.specs.declared.event.Event.{Event}
 use Rattle.protocol.specs.World.{WorldState, new_world, happens, after_events, IsReached}
 use Rattle.laws_base.proofs.RisingOrders.{set_cases}
 use Rattle.laws_base.proofs.SentReached.{sent_reached}
-use Rattle.laws_steps.proofs.Events.{HoldsAfter, holds_after}
-use Rattle.laws_steps.proofs.LeasesStayOver.{reached_later}
-use Rattle.laws_steps.proofs.WaitsKept.{IsOfWaits, waits_kept}
+use Rattle.laws_base.proofs.Events.{HoldsAfter, holds_after}
+use Rattle.laws_base.proofs.LeasesStayOver.{reached_later}
+use Rattle.laws_base.proofs.WaitsKept.{IsOfWaits, waits_kept}
 use Rattle.laws_versions.specs.HandleIndexes.{StandsAtIndex, HandlesStandAtOneIndex, HandlesKeepTheirIndex}
 
 -- lists

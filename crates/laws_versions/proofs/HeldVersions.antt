@@ -11,7 +11,7 @@ use Rattle.protocol.specs.Sending.{the_server}
 use Rattle.replica_store.specs.Replicas.{Replica, ServerDisk, replica_of}
 use Rattle.protocol.specs.Server.{ServerState}
 use Rattle.protocol.specs.World.{WorldState, IsReached}
-use Rattle.laws_steps.specs.Given.{version_given}
+use Rattle.laws_base.specs.Given.{version_given}
 use Rattle.laws_versions.proofs.GivenVersions.{members_alone_are_given_a_version, attempts_are_given_to_their_servers}
 use Rattle.laws_versions.specs.HeldVersions.{version_cloned, WasGiven, WasCloned, ReplicasWereOrdered, MembersAloneHoldAVersion, AttemptsAloneHoldTheirVersion}
 use Rattle.laws_versions.specs.TakenOrders.{IsTaken}

@@ -24,8 +24,8 @@ use Rattle.protocol.specs.MasterStep.{master_at, master_goes, master_ends, maste
 use Rattle.protocol.specs.MasterStep.{master_restart}
 use Rattle.laws_base.proofs.Steps.{on_cond, none_some, same_or_not, put_cases, put_there, put_other}
 use Rattle.laws_base.proofs.Entries.{AllOf, found_passes}
-use Rattle.laws_steps.proofs.MasterPremises.{AnyDoing, any_kept, StepEffects, SaysOne, NameKeeps, MasterKeeps}
-use Rattle.laws_steps.proofs.MasterWalk.{logged_here, goes_here}
+use Rattle.laws_base.proofs.MasterPremises.{AnyDoing, any_kept, StepEffects, SaysOne, NameKeeps, MasterKeeps}
+use Rattle.laws_base.proofs.MasterWalk.{logged_here, goes_here}
 use Rattle.laws_versions.specs.ToldVersions.{SaysVersion}
 
 -- T of a server, a chunk and a version

@@ -27,9 +27,9 @@ use Rattle.laws_base.proofs.OrderNumbers.{state_of, state-appended, AllStops, st
 use Rattle.laws_base.proofs.MasterMoves.{Core, core_changed, core_appended, core_ended, core_granted, core_extended, grant_record, IsDue, IsNoGrantRecord}
 use Rattle.laws_base.proofs.LeaseEnds.{IsEndTold, WasSaidOver, IsPast, plain_tells, quiet_tells}
 use Rattle.laws_base.proofs.Words.{no_order}
-use Rattle.laws_steps.proofs.MasterActs.{IsRowing, core_checkpointed, Waits, Acts}
-use Rattle.laws_steps.proofs.Awaited.{Attempts}
-use Rattle.laws_steps.proofs.AwaitedRecords.{IsBeside}
+use Rattle.laws_base.proofs.MasterActs.{IsRowing, core_checkpointed, Waits, Acts}
+use Rattle.laws_base.proofs.Awaited.{Attempts}
+use Rattle.laws_base.proofs.AwaitedRecords.{IsBeside}
 use Rattle.laws_versions.proofs.SharedSteps.{given_tells, other_first, Stepping, IsDone, done_sends, over_of_done}
 
 -- a row that was there, with the same numbers and end

@@ -34,13 +34,13 @@ use Rattle.laws_base.proofs.LeasesTimed.{telling_keeps, AreTimely}
 use Rattle.laws_base.proofs.LeasesTimely.{IsOfTimes, times_kept}
 use Rattle.laws_base.proofs.ServerSettings.{AreSet, settings_kept}
 use Rattle.laws_base.proofs.ScenesReached.{Scene, scene_of, passed, IsNow, more_sent, IsSentTo, after_master_step, IsKeptByScenes, lifted, scene_reached}
-use Rattle.laws_steps.specs.Versions.{IsLeaseOver}
-use Rattle.laws_steps.proofs.EndedLeases.{ended_leases_are_over, leases_in_the_log_are_over}
-use Rattle.laws_steps.proofs.LeasesStayOver.{stays_over}
-use Rattle.laws_steps.proofs.MasterActs.{IsRowing, rowing_keeps}
-use Rattle.laws_steps.proofs.WaitsKept.{IsOfWaits, waits_kept}
-use Rattle.laws_steps.proofs.ActsOfSteps.{goes_acts}
-use Rattle.laws_steps.proofs.Awaited.{Attempts}
+use Rattle.laws_base.specs.Versions.{IsLeaseOver}
+use Rattle.laws_base.proofs.EndedLeases.{ended_leases_are_over, leases_in_the_log_are_over}
+use Rattle.laws_base.proofs.LeasesStayOver.{stays_over}
+use Rattle.laws_base.proofs.MasterActs.{IsRowing, rowing_keeps}
+use Rattle.laws_base.proofs.WaitsKept.{IsOfWaits, waits_kept}
+use Rattle.laws_base.proofs.ActsOfSteps.{goes_acts}
+use Rattle.laws_base.proofs.Awaited.{Attempts}
 use Rattle.laws_versions.specs.MasterKnowledge.{IsRowOf}
 use Rattle.laws_versions.specs.IssuedVersions.{IssuedChunksHaveNoLease, LastingLeasesAreOfTheLastNumber}
 use Rattle.laws_versions.proofs.SharedSteps.{Stepping}

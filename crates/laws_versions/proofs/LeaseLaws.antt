@@ -12,7 +12,7 @@ use Rattle.laws_base.proofs.LeasesTimed.{AreTimely}
 use Rattle.laws_base.proofs.LeasesTimely.{IsOfTimes, times_kept}
 use Rattle.laws_base.proofs.RevokesNumbered.{paired}
 use Rattle.laws_base.proofs.ScenesReached.{scene_of, scene_reached}
-use Rattle.laws_steps.proofs.EndedLeases.{past_is_over}
+use Rattle.laws_base.proofs.EndedLeases.{past_is_over}
 use Rattle.laws_versions.specs.LeaseWords.{IsPastEnd, ToldEndsAreTheMasters, RevokesFollowTheirGrants, RevokedLeasesAreOver}
 
 past_end : (w : WorldState) (handle version until : ℕ) → IsPast w.observer.greatest w.sent handle version until → IsPastEnd w handle version until

@@ -32,17 +32,17 @@ use Rattle.laws_base.proofs.LeaseEnds.{IsEndTold, IsPast, HasEnd}
 use Rattle.laws_base.proofs.LeasesTimely.{IsOfTimes, times_kept}
 use Rattle.laws_base.proofs.ScenesReached.{scene_of, scene_reached, goes_on}
 use Rattle.laws_base.proofs.SentReached.{sent_reached}
-use Rattle.laws_steps.specs.Versions.{IsLeaseOver}
-use Rattle.laws_steps.proofs.EndedLeases.{past_is_over}
-use Rattle.laws_steps.proofs.LeasesStayOver.{leases_stay_over}
-use Rattle.laws_steps.specs.Given.{version_given}
-use Rattle.laws_steps.proofs.IssuedNumbers.{IsPassed, IsLogPassed}
-use Rattle.laws_steps.proofs.WaitsKept.{IsOfWaits, waits_kept}
+use Rattle.laws_base.specs.Versions.{IsLeaseOver}
+use Rattle.laws_base.proofs.EndedLeases.{past_is_over}
+use Rattle.laws_base.proofs.LeasesStayOver.{leases_stay_over}
+use Rattle.laws_base.specs.Given.{version_given}
+use Rattle.laws_base.proofs.IssuedNumbers.{IsPassed, IsLogPassed}
+use Rattle.laws_base.proofs.WaitsKept.{IsOfWaits, waits_kept}
 use Rattle.laws_versions.proofs.GivenVersions.{given_reached}
 use Rattle.laws_versions.proofs.ClosedVersions.{StaysShut, stays_shut, clocks_before}
 use Rattle.laws_entries.proofs.SentGrants.{counted_one}
 use Rattle.laws_entries.proofs.RisingRounds.{leased_granted}
-use Rattle.laws_steps.proofs.MasterPremises.{is_told, IsAsk}
+use Rattle.laws_base.proofs.MasterPremises.{is_told, IsAsk}
 use Rattle.laws_versions.proofs.MasterCauses.{is_caused, uncaused_nothing, Attempts, Causes, step_caused}
 use Rattle.laws_versions.proofs.AttemptsAbove.{step_above}
 use Rattle.laws_versions.proofs.OrderSteps.{IsOrderedNow, WasOrderedIn, was_ordered_in}

@@ -25,8 +25,8 @@ use Rattle.laws_base.proofs.LeaseOrders.{grant_order, grant_body, GrantsNothing}
 use Rattle.laws_base.proofs.MasterMoves.{removed_other}
 use Rattle.laws_base.proofs.Steps.{none_some, put_cases, removed_cases, now_gone}
 use Rattle.laws_base.proofs.Entries.{AllOf}
-use Rattle.laws_steps.proofs.MasterPremises.{IsAsk, IsTold, IsLineTaken, IsAnswer, IsOver, IsIssued, IsUnused, IsCopySource, IsOrder, AskKeeps, MasterSays}
-use Rattle.laws_steps.proofs.MasterWalk.{step_says}
+use Rattle.laws_base.proofs.MasterPremises.{IsAsk, IsTold, IsLineTaken, IsAnswer, IsOver, IsIssued, IsUnused, IsCopySource, IsOrder, AskKeeps, MasterSays}
+use Rattle.laws_base.proofs.MasterWalk.{step_says}
 
 -- words that have a cause here
 abbrev pub is_caused : Body → Bool

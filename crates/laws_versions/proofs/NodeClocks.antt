@@ -19,9 +19,9 @@ use Rattle.laws_base.proofs.Rots.{rot_now}
 use Rattle.laws_base.proofs.LeasesTold.{numbered_from}
 use Rattle.laws_base.proofs.MasterClock.{master_in_time}
 use Rattle.laws_base.proofs.ScenesReached.{Scene, IsKeptByScenes, scene_reached}
-use Rattle.laws_steps.proofs.Events.{HoldsAfter, world_reached}
-use Rattle.laws_steps.proofs.ClientNumbers.{of_step, of_call}
-use Rattle.laws_steps.proofs.RequestsOnce.{AreNumbered, each_event, numbered_reached}
+use Rattle.laws_base.proofs.Events.{HoldsAfter, world_reached}
+use Rattle.laws_base.proofs.ClientNumbers.{of_step, of_call}
+use Rattle.laws_base.proofs.RequestsOnce.{AreNumbered, each_event, numbered_reached}
 use Rattle.laws_versions.proofs.ServerCauses.{step_now}
 use Rattle.laws_versions.specs.NodeClocks.{NoNodeIsAhead}
 

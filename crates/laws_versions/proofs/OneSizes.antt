@@ -47,15 +47,15 @@ use Rattle.laws_base.proofs.RowsLogged.{IsFoundRows, IsRowedLog}
 use Rattle.laws_base.proofs.SentReached.{sent_reached, server_quiet, server_restarts_quiet, without_order}
 use Rattle.laws_base.proofs.ShapesTold.{IsFoundTold, IsToldLog, told_kept}
 use Rattle.laws_base.proofs.Steps.{on_cond, none_some, same_some}
-use Rattle.laws_steps.proofs.Events.{HoldsAfter, holds_after}
-use Rattle.laws_steps.proofs.Histories.{SentIn, sent_in, after_both}
-use Rattle.laws_steps.proofs.LeasesStayOver.{reached_later}
-use Rattle.laws_steps.proofs.MasterPremises.{IsOfCalls, is_told, IsTold}
-use Rattle.laws_steps.proofs.RequestsOnce.{later_cases}
+use Rattle.laws_base.proofs.Events.{HoldsAfter, holds_after}
+use Rattle.laws_base.proofs.Histories.{SentIn, sent_in, after_both}
+use Rattle.laws_base.proofs.LeasesStayOver.{reached_later}
+use Rattle.laws_base.proofs.MasterPremises.{IsOfCalls, is_told, IsTold}
+use Rattle.laws_base.proofs.RequestsOnce.{later_cases}
 use Rattle.laws_entries.specs.ChunkOrders.{WasCopied, Linked, IsSource}
 use Rattle.laws_entries.specs.PlacedEntries.{LiesWithin}
 use Rattle.laws_entries.proofs.Within.{entry_sized}
-use Rattle.laws_steps.specs.ToldShapes.{IsShapeIn}
+use Rattle.laws_base.specs.ToldShapes.{IsShapeIn}
 use Rattle.laws_versions.specs.ReplacedChunks.{IsToldAt}
 use Rattle.laws_versions.specs.ToldSizes.{ChunksHaveOneSize, CopiesHaveTheirSourcesSize, EntriesAreOfTheirChunksSize, ToldShapesHaveTheGrantedSize}
 use Rattle.laws_versions.proofs.AskedSteps.{IsToldOf}

@@ -26,9 +26,9 @@ use Rattle.laws_base.proofs.OrderNumbers.{Numbers, numbers_keep}
 use Rattle.laws_base.proofs.OrdersOnce.{AreNumbered, still_numbered, no_change, begun, step_numbered, restart_numbered, new_numbered}
 use Rattle.laws_base.proofs.ClientMoves.{HasNoOrder, quiet_orders, client_quiet, call_quiet}
 use Rattle.laws_base.proofs.SentReached.{without_order, server_quiet, server_restarts_quiet, sent_reached}
-use Rattle.laws_steps.proofs.LeasesStayOver.{reached_later}
-use Rattle.laws_steps.proofs.Events.{HoldsAfter, holds_after}
-use Rattle.laws_steps.proofs.Histories.{IsGrown, steps_grown, SentIn, sent_in, after_both}
+use Rattle.laws_base.proofs.LeasesStayOver.{reached_later}
+use Rattle.laws_base.proofs.Events.{HoldsAfter, holds_after}
+use Rattle.laws_base.proofs.Histories.{IsGrown, steps_grown, SentIn, sent_in, after_both}
 use Rattle.laws_versions.proofs.ExtendLaws.{restart_silent, new_one, none_before}
 use Rattle.laws_versions.specs.GivenOnce.{IsEarlier}
 

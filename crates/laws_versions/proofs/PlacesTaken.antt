@@ -24,10 +24,10 @@ use Rattle.laws_base.proofs.OrderNumbers.{state_of, state-appended, AllStops, st
 use Rattle.laws_base.proofs.NamesReached.{IsGood, IsUpToLog, IsLogged, opening_first, opening_naming}
 use Rattle.laws_base.proofs.RowsLogged.{IsFoundRows, IsRowedLog}
 use Rattle.laws_base.proofs.RowsKept.{rows_kept}
-use Rattle.laws_steps.proofs.Awaited.{Attempts}
-use Rattle.laws_steps.proofs.MasterActs.{IsRowing, rowing_keeps, core_checkpointed, Waits, Acts}
-use Rattle.laws_steps.proofs.WaitsKept.{WaitsHere, any_input}
-use Rattle.laws_steps.proofs.ActsOfSteps.{goes_acts}
+use Rattle.laws_base.proofs.Awaited.{Attempts}
+use Rattle.laws_base.proofs.MasterActs.{IsRowing, rowing_keeps, core_checkpointed, Waits, Acts}
+use Rattle.laws_base.proofs.WaitsKept.{WaitsHere, any_input}
+use Rattle.laws_base.proofs.ActsOfSteps.{goes_acts}
 use Rattle.laws_versions.proofs.AskedSteps.{IsNoGrant}
 use Rattle.laws_versions.proofs.CopiedSources.{IsNoStart}
 use Rattle.laws_versions.proofs.PlacesKept.{IsPlaceKept, place_same, place_put, place_after, other_place, all_front, all_last, copies_before, copies_left}

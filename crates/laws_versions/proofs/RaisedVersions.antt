@@ -38,11 +38,11 @@ use Rattle.laws_base.proofs.GrantsOnce.{row_below}
 use Rattle.laws_base.proofs.RevokesNumbered.{Agrees}
 use Rattle.laws_base.proofs.RevokedLeases.{IsOfRevoked, revoked_kept}
 use Rattle.laws_base.proofs.ScenesReached.{scene_of, scene_reached, goes_on}
-use Rattle.laws_steps.proofs.WaitsKept.{IsOfWaits, waits_kept}
-use Rattle.laws_steps.proofs.IssuedNumbers.{IsPassed, IsLogPassed, passed_same}
+use Rattle.laws_base.proofs.WaitsKept.{IsOfWaits, waits_kept}
+use Rattle.laws_base.proofs.IssuedNumbers.{IsPassed, IsLogPassed, passed_same}
 use Rattle.laws_versions.proofs.ClosedVersions.{StaysShut, stays_shut}
-use Rattle.laws_steps.proofs.Events.{HoldsAfter, holds_after}
-use Rattle.laws_steps.proofs.Histories.{SentIn, sent_in, after_both}
+use Rattle.laws_base.proofs.Events.{HoldsAfter, holds_after}
+use Rattle.laws_base.proofs.Histories.{SentIn, sent_in, after_both}
 use Rattle.laws_versions.specs.EmptyGrants.{IsGrantUsed}
 use Rattle.laws_versions.proofs.UsedGrants.{numbered_versions_have_used_grants}
 use Rattle.laws_versions.proofs.MasterCauses.{is_caused, Attempts, IsRaised, Causes, step_caused}

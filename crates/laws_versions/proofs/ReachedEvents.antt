@@ -4,8 +4,8 @@ use Rattle.gfs_types.specs.declared.config.Config.{Config}
 use Rattle.messages.specs.declared.event.Event.{Event}
 use Rattle.protocol.specs.Choice.{Choice}
 use Rattle.protocol.specs.World.{WorldState, new_world, happens, after_events, IsReached}
-use Rattle.laws_steps.proofs.Events.{HoldsAfter, holds_after}
-use Rattle.laws_steps.proofs.LeasesStayOver.{reached_later}
+use Rattle.laws_base.proofs.Events.{HoldsAfter, holds_after}
+use Rattle.laws_base.proofs.LeasesStayOver.{reached_later}
 
 module _ (config : Config) (servers clients : ℕ) (Q : WorldState → Type 0) (k : (w : WorldState) → IsReached config servers clients w → Q w → HoldsAfter w (λ e h. Q h.world)) where
   goes_on_reached : (w : WorldState) (steps : List (Event × Choice)) → IsReached config servers clients w → Q w → Q (after_events w steps)

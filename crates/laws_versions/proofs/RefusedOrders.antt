@@ -10,7 +10,7 @@ use Rattle.protocol.specs.World.{WorldState, IsReached}
 use Rattle.laws_base.proofs.Steps.{same_some}
 use Rattle.laws_base.proofs.MembersRecorded.{members_recorded_what_is_granted}
 use Rattle.laws_base.proofs.LeasesTold.{IsStaleAt}
-use Rattle.laws_steps.specs.Given.{version_given}
+use Rattle.laws_base.specs.Given.{version_given}
 use Rattle.laws_versions.proofs.GivenVersions.{members_alone_are_given_a_version}
 use Rattle.laws_versions.specs.HeldVersions.{version_cloned}
 use Rattle.laws_versions.proofs.AnsweredOrders.{stale_refuses}

@@ -24,12 +24,12 @@ use Rattle.laws_base.proofs.Words.{true_false}
 use Rattle.laws_base.proofs.MembersRecorded.{place_below, all_at}
 use Rattle.laws_base.proofs.MessagesSent.{IsSent, IsSameMessage}
 use Rattle.laws_base.proofs.RisingOrders.{element_numbered}
-use Rattle.laws_steps.proofs.LeasesStayOver.{reached_later}
-use Rattle.laws_steps.proofs.Events.{IsGiven, HoldsAfter, holds_after}
-use Rattle.laws_steps.proofs.ClientNumbers.{IsSaid, IsStepOf, of_step, of_call}
-use Rattle.laws_steps.proofs.RequestsOnce.{numbered_reached, later_cases}
-use Rattle.laws_steps.proofs.MasterTalks.{is_masters, MasterTalks, master_said, restart_said}
-use Rattle.laws_steps.proofs.Histories.{IsGrown, steps_grown, SentIn, sent_in, after_both}
+use Rattle.laws_base.proofs.LeasesStayOver.{reached_later}
+use Rattle.laws_base.proofs.Events.{IsGiven, HoldsAfter, holds_after}
+use Rattle.laws_base.proofs.ClientNumbers.{IsSaid, IsStepOf, of_step, of_call}
+use Rattle.laws_base.proofs.RequestsOnce.{numbered_reached, later_cases}
+use Rattle.laws_base.proofs.MasterTalks.{is_masters, MasterTalks, master_said, restart_said}
+use Rattle.laws_base.proofs.Histories.{IsGrown, steps_grown, SentIn, sent_in, after_both}
 
 -- words that others than servers say, or that nobody looks for here
 abbrev pub is_other : Body → Bool

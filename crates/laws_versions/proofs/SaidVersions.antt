@@ -30,10 +30,10 @@ use Rattle.laws_base.proofs.MessagesSent.{IsSent, sent_cases, none_sent, numbere
 use Rattle.laws_base.proofs.RisingOrders.{Later, same_later, step_goes_on, restarts_as, set_cases, rot_goes_on}
 use Rattle.laws_base.proofs.LeasesTold.{AreTold, told_kept}
 use Rattle.laws_base.proofs.ScenesReached.{scene_reached}
-use Rattle.laws_steps.proofs.Events.{HoldsAfter, rot_of}
-use Rattle.laws_steps.proofs.ClientNumbers.{IsSaid, IsStepOf, of_step, of_call}
-use Rattle.laws_steps.proofs.RequestsOnce.{numbered_reached}
-use Rattle.laws_steps.proofs.MasterTalks.{is_masters, MasterTalks, master_said, restart_said}
+use Rattle.laws_base.proofs.Events.{HoldsAfter, rot_of}
+use Rattle.laws_base.proofs.ClientNumbers.{IsSaid, IsStepOf, of_step, of_call}
+use Rattle.laws_base.proofs.RequestsOnce.{numbered_reached}
+use Rattle.laws_base.proofs.MasterTalks.{is_masters, MasterTalks, master_said, restart_said}
 use Rattle.laws_versions.specs.ToldVersions.{IsReported, SaysVersion}
 use Rattle.laws_versions.proofs.ReachedEvents.{kept_reached}
 use Rattle.laws_versions.proofs.TakenOrders.{IsOrdered, ordered_later, ordered_more, servers_are_faithful}

@@ -17,10 +17,10 @@ use Rattle.replica_store.specs.Replicas.{is_new_order}
 use Rattle.protocol.specs.Server.{ServerState, ServerDoing}
 use Rattle.protocol.specs.ServerStep.{replica_line, lease_line, counting_leases, server_at, server_goes, server_ends, server_step}
 use Rattle.laws_base.proofs.Steps.{on_cond}
-use Rattle.laws_steps.proofs.ServerSays.{IsSaid, step_says}
+use Rattle.laws_base.proofs.ServerSays.{IsSaid, step_says}
 use Rattle.laws_entries.proofs.UsedAnswers.{goes_clock}
 use Rattle.laws_base.proofs.Entries.{AllOf}
-use Rattle.laws_steps.specs.Given.{version_given}
+use Rattle.laws_base.specs.Given.{version_given}
 
 -- words of a server that need no cause here
 abbrev pub is_plain : Body → Bool

@@ -17,7 +17,7 @@ use Rattle.protocol.specs.ServerStep.{replica_line, server_at, server_goes, serv
 use Rattle.laws_base.proofs.Entries.{AllOf}
 use Rattle.laws_base.proofs.MessagesSent.{IsSent}
 use Rattle.laws_versions.specs.HeldVersions.{version_cloned}
-use Rattle.laws_steps.proofs.ServerSays.{IsSaid, step_says as says_each}
+use Rattle.laws_base.proofs.ServerSays.{IsSaid, step_says as says_each}
 use Rattle.laws_versions.proofs.HeldVersions.{IsFaithful}
 use Rattle.laws_versions.proofs.TakenOrders.{IsSentHere}
 use Rattle.laws_versions.specs.ToldVersions.{WasOrdered}

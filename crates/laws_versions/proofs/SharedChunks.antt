@@ -43,12 +43,12 @@ use Rattle.laws_base.proofs.LeasesTimed.{telling_keeps, AreTimely}
 use Rattle.laws_base.proofs.LeasesTimely.{IsOfTimes, times_kept}
 use Rattle.laws_base.proofs.ServerSettings.{AreSet, settings_kept}
 use Rattle.laws_base.proofs.ScenesReached.{Scene, scene_of, passed, IsNow, more_sent, IsSentTo, after_master_step, IsKeptByScenes, lifted, scene_reached}
-use Rattle.laws_steps.specs.Versions.{IsLeaseOver}
-use Rattle.laws_steps.proofs.EndedLeases.{past_is_over, ended_leases_are_over, leases_in_the_log_are_over}
-use Rattle.laws_steps.proofs.LeasesStayOver.{AreOverAt, StayOver, over_sent, stays_over, over_to, over_of}
-use Rattle.laws_steps.proofs.MasterActs.{IsRowing, rowing_keeps}
-use Rattle.laws_steps.proofs.WaitsKept.{IsOfWaits, waits_kept}
-use Rattle.laws_steps.proofs.ActsOfSteps.{IsWordSaid, IsInputSaid, goes_acts}
+use Rattle.laws_base.specs.Versions.{IsLeaseOver}
+use Rattle.laws_base.proofs.EndedLeases.{past_is_over, ended_leases_are_over, leases_in_the_log_are_over}
+use Rattle.laws_base.proofs.LeasesStayOver.{AreOverAt, StayOver, over_sent, stays_over, over_to, over_of}
+use Rattle.laws_base.proofs.MasterActs.{IsRowing, rowing_keeps}
+use Rattle.laws_base.proofs.WaitsKept.{IsOfWaits, waits_kept}
+use Rattle.laws_base.proofs.ActsOfSteps.{IsWordSaid, IsInputSaid, goes_acts}
 use Rattle.laws_versions.specs.SharedChunks.{SharedChunksHaveNoLease, SharedChunksInTheLogHaveNoLease}
 use Rattle.laws_versions.proofs.SharedSteps.{IsShared, IsStateDone, IsLogDone, log_done, Stepping, IsDone, IsSharing, state_done, checkpoint_done, epoch_done, sharing_acts}
 

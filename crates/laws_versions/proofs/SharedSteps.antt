@@ -34,10 +34,10 @@ use Rattle.laws_base.proofs.MasterMoves.{Core, core_changed, core_appended, core
 use Rattle.laws_base.proofs.RevokesNumbered.{one_more}
 use Rattle.laws_base.proofs.LeaseEnds.{IsKeptRow, IsEndTold, WasSaidOver, IsPast, plain_tells, quiet_tells, IsTelling}
 use Rattle.laws_base.proofs.Words.{no_order}
-use Rattle.laws_steps.specs.Given.{version_given}
-use Rattle.laws_steps.proofs.MasterActs.{IsRowing, core_checkpointed, Waits, Acts}
-use Rattle.laws_steps.proofs.Awaited.{Attempts}
-use Rattle.laws_steps.proofs.AwaitedRecords.{IsBeside}
+use Rattle.laws_base.specs.Given.{version_given}
+use Rattle.laws_base.proofs.MasterActs.{IsRowing, core_checkpointed, Waits, Acts}
+use Rattle.laws_base.proofs.Awaited.{Attempts}
+use Rattle.laws_base.proofs.AwaitedRecords.{IsBeside}
 
 -- the chunk stands in files more than once
 abbrev pub IsShared : Logged → ℕ → Type 0

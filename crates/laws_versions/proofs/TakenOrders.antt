@@ -43,8 +43,8 @@ use Rattle.laws_base.proofs.ServerMoves.{all-push}
 use Rattle.laws_base.proofs.MembersRecorded.{kept_place}
 use Rattle.laws_base.proofs.RisingOrders.{element_numbered, Later, IsRisen, risen_later, set_cases}
 use Rattle.laws_base.proofs.LeasesTold.{stale_later, numbered_from}
-use Rattle.laws_steps.proofs.Events.{IsGiven, HoldsAfter, world_reached, rot_of}
-use Rattle.laws_steps.specs.Given.{version_given}
+use Rattle.laws_base.proofs.Events.{IsGiven, HoldsAfter, world_reached, rot_of}
+use Rattle.laws_base.specs.Given.{version_given}
 use Rattle.laws_versions.specs.HeldVersions.{version_cloned}
 use Rattle.laws_versions.specs.TakenOrders.{IsTaken, ReplicasAreOfTakenOrders, PendingClonesAreOfTakenOrders}
 

@@ -30,19 +30,19 @@ use Rattle.laws_base.proofs.Steps.{on_cond}
 use Rattle.laws_base.proofs.Entries.{AllOf, same_number}
 use Rattle.laws_base.proofs.MembersRecorded.{all_at, all_in_order}
 use Rattle.laws_base.proofs.MessagesSent.{IsSent, sent_before}
-use Rattle.laws_steps.specs.Attempts.{is_from_client, is_request}
-use Rattle.laws_steps.specs.ToldShapes.{IsShapeIn}
-use Rattle.laws_steps.proofs.ToldShapes.{told_shapes_are_of_their_chunks}
-use Rattle.laws_steps.proofs.Events.{IsGiven, HoldsAfter, holds_after}
-use Rattle.laws_steps.proofs.ClientNumbers.{IsSaid as IsClientsWord, IsStepOf, of_step, of_call}
-use Rattle.laws_steps.proofs.RequestsOnce.{AreNumbered, numbered_reached, requests_are_numbered_once}
+use Rattle.laws_base.specs.Attempts.{is_from_client, is_request}
+use Rattle.laws_base.specs.ToldShapes.{IsShapeIn}
+use Rattle.laws_base.proofs.ToldShapes.{told_shapes_are_of_their_chunks}
+use Rattle.laws_base.proofs.Events.{IsGiven, HoldsAfter, holds_after}
+use Rattle.laws_base.proofs.ClientNumbers.{IsSaid as IsClientsWord, IsStepOf, of_step, of_call}
+use Rattle.laws_base.proofs.RequestsOnce.{AreNumbered, numbered_reached, requests_are_numbered_once}
 use Rattle.laws_entries.proofs.Deadlines.{same_counted}
-use Rattle.laws_steps.proofs.ServerTalks.{is_quiet, Talks, step_said}
-use Rattle.laws_steps.proofs.Histories.{IsGrown, steps_grown, SentIn, sent_in, after_both}
+use Rattle.laws_base.proofs.ServerTalks.{is_quiet, Talks, step_said}
+use Rattle.laws_base.proofs.Histories.{IsGrown, steps_grown, SentIn, sent_in, after_both}
 use Rattle.laws_versions.proofs.ExtendLaws.{restart_silent, new_one, none_before, came_in}
 use Rattle.laws_versions.proofs.UnaskedSteps.{is_location, IsUnasked}
 use Rattle.laws_versions.proofs.AskedSteps.{IsToldOf, IsSaid}
-use Rattle.laws_steps.proofs.MasterPremises.{IsAsk}
+use Rattle.laws_base.proofs.MasterPremises.{IsAsk}
 use Rattle.laws_versions.proofs.CopiedSources.{IsSilent, asked_or_not, unasked_step, asked_step, free_reached}
 use Rattle.laws_versions.specs.ReplacedChunks.{IsToldAt}
 

@@ -32,7 +32,7 @@ use Rattle.laws_base.proofs.Words.{true_false}
 use Rattle.laws_base.proofs.MembersRecorded.{all_at}
 use Rattle.laws_base.proofs.RisingOrders.{Later, same_later, order_numbers_never_fall}
 use Rattle.laws_base.proofs.LeasesTold.{IsStaleAt}
-use Rattle.laws_steps.proofs.Histories.{IsGrown}
+use Rattle.laws_base.proofs.Histories.{IsGrown}
 use Rattle.laws_versions.specs.AnsweredOrders.{IsOrderTaken}
 use Rattle.laws_versions.proofs.ServerCauses.{is_plain, Said, reported, step_words}
 use Rattle.laws_versions.proofs.SaidByServers.{is_other, IsSaidNow, WasSaid, was_said}

@@ -20,7 +20,7 @@ use Rattle.protocol.specs.World.{WorldState, IsReached}
 use Rattle.laws_base.proofs.MembersRecorded.{place_below, all_at}
 use Rattle.laws_base.proofs.ServerWalk.{Numbering, primary_there}
 use Rattle.laws_base.proofs.LeasesTold.{leases_are_told}
-use Rattle.laws_steps.proofs.ServerSays.{IsSized, IsWord, IsSaid, step_says}
+use Rattle.laws_base.proofs.ServerSays.{IsSized, IsWord, IsSaid, step_says}
 use Rattle.laws_versions.specs.ToldSizes.{ForwardsTellTheGrantedSize}
 use Rattle.laws_versions.proofs.SaidByServers.{is_other, IsSaidNow, WasSaid, was_said}
 use Rattle.laws_versions.proofs.AnsweredOrders.{server_id_is, placed_later}

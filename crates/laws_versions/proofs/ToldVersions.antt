@@ -26,10 +26,10 @@ use Rattle.laws_base.proofs.MessagesSent.{IsSent, sent_cases, none_sent, numbere
 use Rattle.laws_base.proofs.RisingOrders.{element_numbered}
 use Rattle.laws_base.proofs.LeasesTold.{AreTold as AreToldServers, told_kept}
 use Rattle.laws_base.proofs.ScenesReached.{scene_reached}
-use Rattle.laws_steps.proofs.Events.{IsGiven, HoldsAfter}
-use Rattle.laws_steps.proofs.ClientNumbers.{IsSaid, IsStepOf, of_step, of_call}
-use Rattle.laws_steps.proofs.RequestsOnce.{numbered_reached}
-use Rattle.laws_steps.proofs.MasterTalks.{is_masters, MasterTalks, master_said, restart_said}
+use Rattle.laws_base.proofs.Events.{IsGiven, HoldsAfter}
+use Rattle.laws_base.proofs.ClientNumbers.{IsSaid, IsStepOf, of_step, of_call}
+use Rattle.laws_base.proofs.RequestsOnce.{numbered_reached}
+use Rattle.laws_base.proofs.MasterTalks.{is_masters, MasterTalks, master_said, restart_said}
 use Rattle.laws_versions.proofs.HeldVersions.{servers_are_true}
 use Rattle.laws_versions.proofs.TakenOrders.{given_here}
 use Rattle.laws_versions.specs.ToldVersions.{IsReported, SaysVersion, WasOrdered, SaidVersionsWereOrdered, HoldersWereOrdered}

@@ -36,8 +36,8 @@ use Rattle.laws_base.proofs.LeaseOrders.{revoke_order}
 use Rattle.laws_base.proofs.Steps.{on_cond, put_there}
 use Rattle.laws_base.proofs.MasterMoves.{removed_other}
 use Rattle.laws_base.proofs.VersionAttempts.{both_of}
-use Rattle.laws_steps.proofs.MasterActs.{both_false}
-use Rattle.laws_steps.proofs.MasterPremises.{IsOfCalls}
+use Rattle.laws_base.proofs.MasterActs.{both_false}
+use Rattle.laws_base.proofs.MasterPremises.{IsOfCalls}
 
 -- a message that tells a location
 abbrev pub is_location : Body → Bool

@@ -23,8 +23,8 @@ use Rattle.laws_base.proofs.RisingOrders.{order_numbers_never_fall}
 use Rattle.laws_base.proofs.LeasesTold.{IsStaleAt, stale_later, IsToldLease, IsToldServer, AreTold, told_kept, same_grant, granting}
 use Rattle.laws_base.proofs.GrantsOnce.{versions_are_granted_once}
 use Rattle.laws_base.proofs.ScenesReached.{scene_reached}
-use Rattle.laws_steps.proofs.LeasesStayOver.{reached_later}
-use Rattle.laws_steps.proofs.Histories.{steps_grown, after_both}
+use Rattle.laws_base.proofs.LeasesStayOver.{reached_later}
+use Rattle.laws_base.proofs.Histories.{steps_grown, after_both}
 use Rattle.laws_entries.specs.Entries.{IsAskedFor}
 use Rattle.laws_entries.proofs.Stemming.{numbered_mutations_were_asked_for}
 use Rattle.laws_entries.specs.ChunkOrders.{IsNumberedNow, WasNumbered, WasCopied, IsSource}

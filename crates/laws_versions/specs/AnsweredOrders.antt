@@ -15,7 +15,7 @@ use Rattle.replica_store.specs.Replicas.{is_new_order}
 use Rattle.protocol.specs.Server.{ServerState}
 use Rattle.protocol.specs.World.{WorldState, IsReached}
 use Rattle.laws_base.specs.Laws.{is_grant, IsSameOrLater}
-use Rattle.laws_steps.specs.Given.{version_given}
+use Rattle.laws_base.specs.Given.{version_given}
 
 -- a server refuses an order, and each of the same or a lower number
 abbrev pub IsRefusedBy : ServerState → OrderNo → Type 0

@@ -6,8 +6,8 @@ use Rattle.protocol.specs.Tables.{element_at}
 use Rattle.protocol.specs.Observer.{Placed, order_of}
 use Rattle.protocol.specs.World.{WorldState, IsReached}
 use Rattle.laws_base.specs.Laws.{grants_of}
-use Rattle.laws_steps.specs.Versions.{IsLeaseOver}
-use Rattle.laws_steps.specs.Given.{version_given}
+use Rattle.laws_base.specs.Versions.{IsLeaseOver}
+use Rattle.laws_base.specs.Given.{version_given}
 
 -- Where clocks are kept, each lease of a version below one that an order gives a server is over, from the moment the order is sent (section 3.1).
 abbrev pub LeasesBelowAreOver : Type 0

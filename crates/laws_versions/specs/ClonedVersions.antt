@@ -14,8 +14,8 @@ use Rattle.protocol.specs.Master.{VersionAttempt}
 use Rattle.replica_store.specs.Replicas.{Replica, replica_of}
 use Rattle.protocol.specs.Server.{ServerState}
 use Rattle.protocol.specs.World.{WorldState, IsReached}
-use Rattle.laws_steps.specs.Versions.{IsLeaseOver}
-use Rattle.laws_steps.specs.Given.{version_given}
+use Rattle.laws_base.specs.Versions.{IsLeaseOver}
+use Rattle.laws_base.specs.Given.{version_given}
 use Rattle.laws_versions.specs.HeldVersions.{WasCloned}
 use Rattle.laws_versions.specs.ToldVersions.{SaysVersion}
 use Rattle.laws_base.specs.Laws.{IsGrantBody}

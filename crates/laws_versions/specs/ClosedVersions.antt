@@ -7,7 +7,7 @@ use Rattle.chunk_table.specs.ChunkTable.{ChunkRow, chunk_of}
 use Rattle.protocol.specs.Choice.{Choice}
 use Rattle.protocol.specs.Master.{VersionAttempt}
 use Rattle.protocol.specs.World.{WorldState, after_events, IsReached}
-use Rattle.laws_steps.specs.Versions.{IsLeaseOver}
+use Rattle.laws_base.specs.Versions.{IsLeaseOver}
 
 -- A version of a chunk is closed at the master: it was issued, it is not attempted, and where it is the granted one, its lease has ended.
 pub record IsClosed (w : WorldState) (row : ChunkRow) (handle version : ℕ) : Type 0 where

@@ -4,7 +4,7 @@ use Rattle.std.specs.FinMap as table
 use Rattle.gfs_types.specs.declared.config.Config.{Config}
 use Rattle.protocol.specs.Logged.{Copy}
 use Rattle.protocol.specs.World.{WorldState, IsReached}
-use Rattle.laws_steps.specs.Versions.{AreLeasesOver}
+use Rattle.laws_base.specs.Versions.{AreLeasesOver}
 
 -- Where clocks are kept, a chunk of which a copy is under way at a master that is up has no version attempt, and each of its leases is over (section 3.4).
 abbrev pub CopiedChunksHaveNoLease : Type 0

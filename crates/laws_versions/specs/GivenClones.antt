@@ -4,7 +4,7 @@ use Rattle.gfs_types.specs.declared.config.Config.{Config}
 use Rattle.messages.specs.declared.message.Message.{Message}
 use Rattle.protocol.specs.Tables.{element_at}
 use Rattle.protocol.specs.World.{WorldState, IsReached}
-use Rattle.laws_steps.specs.Given.{version_given}
+use Rattle.laws_base.specs.Given.{version_given}
 use Rattle.laws_versions.specs.ToldVersions.{WasOrdered}
 use Rattle.laws_versions.specs.ClonedVersions.{version_copied}
 

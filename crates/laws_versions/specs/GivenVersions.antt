@@ -9,7 +9,7 @@ use Rattle.protocol.specs.Tables.{element_at, has_number}
 use Rattle.protocol.specs.Sending.{the_server, handle_of, version_of}
 use Rattle.protocol.specs.Master.{VersionAttempt}
 use Rattle.protocol.specs.World.{WorldState, IsReached}
-use Rattle.laws_steps.specs.Given.{version_given}
+use Rattle.laws_base.specs.Given.{version_given}
 use Rattle.laws_base.specs.Laws.{IsGrantBody}
 
 -- the message went to one of these servers

@@ -13,7 +13,7 @@ use Rattle.protocol.specs.Master.{VersionAttempt}
 use Rattle.replica_store.specs.Replicas.{Replica, replica_of}
 use Rattle.protocol.specs.Server.{ServerState}
 use Rattle.protocol.specs.World.{WorldState, IsReached}
-use Rattle.laws_steps.specs.Given.{version_given}
+use Rattle.laws_base.specs.Given.{version_given}
 use Rattle.laws_base.specs.Laws.{IsGrantBody}
 
 -- the chunk and the version of which an order has its server make a replica from another server's

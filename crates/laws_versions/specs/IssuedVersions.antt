@@ -5,7 +5,7 @@ use Rattle.chunk_table.specs.ChunkTable.{ChunkRow}
 use Rattle.primary_order.specs.SerialOrder.{SerialOrder}
 use Rattle.protocol.specs.World.{WorldState, IsReached}
 use Rattle.laws_base.specs.Laws.{HoldsLastingLease}
-use Rattle.laws_steps.specs.Versions.{AreLeasesOver}
+use Rattle.laws_base.specs.Versions.{AreLeasesOver}
 use Rattle.laws_versions.specs.MasterKnowledge.{IsRowOf}
 
 -- Where clocks are kept, each lease of a chunk is over once a number was issued since the last grant, also one that was logged and sent to nobody (section 3.1).

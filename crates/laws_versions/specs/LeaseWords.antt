@@ -14,7 +14,7 @@ use Rattle.protocol.specs.Sending.{handle_of, version_of}
 use Rattle.protocol.specs.Logged.{replayed}
 use Rattle.protocol.specs.World.{WorldState, IsReached}
 use Rattle.laws_base.specs.Laws.{IsGrantBody, IsSameOrLater, tells_end}
-use Rattle.laws_steps.specs.Versions.{IsLeaseOver}
+use Rattle.laws_base.specs.Versions.{IsLeaseOver}
 
 -- the chunk and the version whose lease a message begins or lets last longer
 abbrev pub lease_said : Body → Option (ℕ × ℕ)

@@ -18,7 +18,7 @@ use Rattle.protocol.specs.Master.{MasterState, VersionAttempt}
 use Rattle.protocol.specs.Server.{ServerState}
 use Rattle.protocol.specs.World.{WorldState, after_events, IsReached}
 use Rattle.laws_base.specs.Laws.{IsGrantBody, IsSameOrLater}
-use Rattle.laws_steps.specs.Given.{version_given}
+use Rattle.laws_base.specs.Given.{version_given}
 use Rattle.laws_versions.specs.ClonedVersions.{version_copied}
 use Rattle.laws_versions.specs.MasterKnowledge.{IsRowOf}
 use Rattle.laws_versions.specs.EmptyGrants.{IsGrantUsed}

@@ -9,8 +9,8 @@ use Rattle.protocol.specs.Tables.{element_at}
 use Rattle.protocol.specs.Sending.{the_client}
 use Rattle.protocol.specs.Logged.{replayed}
 use Rattle.protocol.specs.World.{WorldState, IsReached}
-use Rattle.laws_steps.specs.Versions.{IsLeaseOver}
-use Rattle.laws_steps.specs.Reads.{HasAsked}
+use Rattle.laws_base.specs.Versions.{IsLeaseOver}
+use Rattle.laws_base.specs.Reads.{HasAsked}
 
 -- A client was told a location of a chunk that was granted, in answer to its own ask for a chunk of the file; the answer stands at this place among the messages.
 pub record IsToldAt (sent : List Message) (client file : ℕ) (l : Location) (place : ℕ) : Type 0 where

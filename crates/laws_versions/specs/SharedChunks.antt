@@ -5,7 +5,7 @@ use Rattle.gfs_types.specs.declared.config.Config.{Config}
 use Rattle.chunk_table.specs.ChunkTable.{ChunkRow, chunk_of}
 use Rattle.protocol.specs.Logged.{replayed}
 use Rattle.protocol.specs.World.{WorldState, IsReached}
-use Rattle.laws_steps.specs.Versions.{AreLeasesOver}
+use Rattle.laws_base.specs.Versions.{AreLeasesOver}
 
 -- Where clocks are kept, a shared chunk of a master that is up has no version attempt, and each of its leases is over (section 3.4).
 abbrev pub SharedChunksHaveNoLease : Type 0

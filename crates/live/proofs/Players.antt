@@ -22,7 +22,7 @@ use Rattle.script.specs.declared.live_lines.LiveLine.TheVariants as lines
 use Rattle.script.specs.LiveLines.{is_barrier, is_reopen}
 use Rattle.script.specs.declared.options.Options.{Options}
 use Rattle.protocol_journal.specs.Journal.{Entry, own}
-use Rattle.journal_headline.specs.Journals.{AreExplained}
+use Rattle.headline.specs.Journals.{AreExplained}
 use Rattle.cell_journal.proofs.Begins.{prefix_self, prefix_trans, prefix_shorter}
 use Rattle.cell_journal.proofs.Grown.{none_lawful}
 use Rattle.cell_journal.specs.Clocks.{are_clocks_kept}

@@ -13,7 +13,7 @@ use Rattle.protocol.specs.Lookups.{file_named}
 use Rattle.protocol.specs.World.{WorldState, IsReached}
 use Rattle.protocol_journal.specs.Journal.{Entry, NodeState, own}
 use Rattle.protocol_journal.specs.Laws.{Shows}
-use Rattle.journal_headline.specs.Journals.{AreExplained}
+use Rattle.headline.specs.Journals.{AreExplained}
 use Rattle.cell_journal.specs.Clocks.{are_clocks_kept}
 use Rattle.cell_journal.specs.Identity.{Identity, Closed}
 use Rattle.cell_journal.specs.WholeHistories.{IsHistoryOf, whole_of}

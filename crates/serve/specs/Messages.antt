@@ -8,7 +8,7 @@ use Rattle.gfs_types.specs.declared.ids.Node.TheVariants.{Client}
 use Rattle.gfs_types.specs.Settings.{default_settings}
 use Rattle.gfs_types.specs.declared.refusal.Refusal.{Refusal}
 use Rattle.protocol_journal.specs.Journal.{Entry, own}
-use Rattle.journal_headline.specs.Journals.{AreExplained}
+use Rattle.headline.specs.Journals.{AreExplained}
 use Rattle.cell_journal.specs.Clocks.{are_clocks_kept}
 use Rattle.cell_journal.specs.Identity.{Identity, identity}
 use Rattle.cell_journal.specs.Log.{Listed, listed}

@@ -8,7 +8,7 @@ use Rattle.gfs_types.specs.declared.call.Call.{Call}
 use Rattle.gfs_types.specs.Paths.{Path}
 use Rattle.relaxed_file.specs.declared.region.Region.{Region}
 use Rattle.protocol_journal.specs.Journal.{Entry}
-use Rattle.journal_headline.specs.Journals.{AreExplained}
+use Rattle.headline.specs.Journals.{AreExplained}
 use Rattle.cell_journal.specs.Clocks.{are_clocks_kept}
 use Rattle.cell_journal.specs.Identity.{Identity, Closed}
 use Rattle.cell_journal.specs.WholeHistories.{IsHistoryOf, whole_of}

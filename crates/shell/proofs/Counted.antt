@@ -11,8 +11,8 @@ use Rattle.messages.specs.declared.event.Event.TheVariants as event
 use Rattle.protocol.specs.Observer.{new_observer}
 use Rattle.protocol.specs.Client.{ClientState}
 use Rattle.protocol.specs.World.{WorldState, happens, numbered_from_1}
-use Rattle.laws_clients.specs.Answered.{CountsIfUp, is_answer_of, is_open, is_taken, is_up, node_of as node_in}
-use Rattle.laws_clients.proofs.Events.{counted}
+use Rattle.laws_base.specs.Answered.{CountsIfUp, is_answer_of, is_open, is_taken, is_up, node_of as node_in}
+use Rattle.laws_base.proofs.ClientEvents.{counted}
 use Rattle.cell_world.specs.Seeing.{orders_seen}
 use Rattle.cell_world.specs.Held.{HeldCell, IsHeldAs, HasEffect}
 use Rattle.cell_world.specs.Looks.{waits_at}

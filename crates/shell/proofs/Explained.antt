@@ -13,8 +13,8 @@ use Rattle.script.specs.declared.script_fault.ScriptFault.{ScriptFault}
 use Rattle.script.specs.declared.script_fault.ScriptFault.TheVariants as fault
 use Rattle.protocol.specs.Conforms.{WorldRuns}
 use Rattle.protocol.specs.World.{WorldState, happens, numbered_from_1, IsReached}
-use Rattle.laws_clients.specs.Answered.{node_of as node_in}
-use Rattle.laws_rebase.specs.Rebased.{raised_event, restart_events}
+use Rattle.laws_base.specs.Answered.{node_of as node_in}
+use Rattle.protocol_journal.specs.Rebased.{raised_event, restart_events}
 use Rattle.cell_world.specs.Held.{HeldCell}
 use Rattle.cell_world.specs.Looks.{server_count}
 use Rattle.cell_core.specs.Standing.{StandsFor}

@@ -16,7 +16,7 @@ use Rattle.relaxed_file.specs.Run.{Visible}
 use Rattle.protocol.specs.Tables.{moment_limit}
 use Rattle.protocol.specs.Choice.{Choice}
 use Rattle.protocol.specs.World.{WorldState, happens, nothing_happens, numbered_from_1}
-use Rattle.laws_clients.specs.Answered.{node_of as node_in}
+use Rattle.laws_base.specs.Answered.{node_of as node_in}
 use Rattle.cell_core.specs.Traced.{AddsToTrace, IsPassing, IsCalling, answered, client_at, client_of}
 use Rattle.cell_simulator.specs.Steps.{line_at, with_feed}
 use Rattle.shell.specs.Explained.{shown_of}

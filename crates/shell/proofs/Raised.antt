@@ -6,9 +6,9 @@ use Rattle.messages.specs.declared.event.Event.{Event}
 use Rattle.messages.specs.declared.event.Event.TheVariants as event
 use Rattle.messages.specs.declared.message.Message.{Message}
 use Rattle.protocol.specs.World.{WorldState, numbered_from_1}
-use Rattle.laws_clients.specs.Answered.{node_of as node_in}
-use Rattle.laws_rebase.specs.Rebased.{raised, raised_event, raised_number}
-use Rattle.laws_rebase.proofs.CutWorlds.{numbered}
+use Rattle.laws_base.specs.Answered.{node_of as node_in}
+use Rattle.protocol_journal.specs.Rebased.{raised, raised_event, raised_number}
+use Rattle.protocol_journal.proofs.CutWorlds.{numbered}
 use Rattle.cell_world.specs.Held.{HeldCell}
 use Rattle.cell_core.specs.Standing.{StandsFor}
 use Rattle.cell_simulator.specs.Cells.{Meaning}

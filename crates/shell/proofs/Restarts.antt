@@ -11,8 +11,8 @@ use Rattle.protocol.specs.Conforms.{answers_of, WorldRuns}
 use Rattle.protocol.specs.Sending.{moment_of as moment_at, the_server}
 use Rattle.protocol.specs.Tables.{first_numbers}
 use Rattle.protocol.specs.World.{WorldState, Happened, happens, after_events}
-use Rattle.laws_clients.specs.Answered.{node_of as node_in}
-use Rattle.laws_rebase.specs.Rebased.{restart_events}
+use Rattle.laws_base.specs.Answered.{node_of as node_in}
+use Rattle.protocol_journal.specs.Rebased.{restart_events}
 use Rattle.cell_core.specs.Traced.{AddsToTrace}
 use Rattle.cell_core.proofs.Traced.{events_add_to_the_trace}
 use Rattle.cell_simulator.specs.Steps.{moment_of}

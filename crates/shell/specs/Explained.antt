@@ -13,7 +13,7 @@ use Rattle.protocol.specs.World.{WorldState, happens}
 use Rattle.protocol.specs.Explained.{Explains}
 use Rattle.cell_world.specs.Held.{HeldCell}
 use Rattle.cell_world.specs.Looks.{server_count}
-use Rattle.laws_rebase.specs.Rebased.{raised_event, restart_events}
+use Rattle.protocol_journal.specs.Rebased.{raised_event, restart_events}
 use Rattle.cell_core.specs.Standing.{StandsFor}
 use Rattle.cell_core.specs.Traced.{AddsToTrace}
 use Rattle.script.specs.declared.cell_lines.CellLine.{CellLine}

@@ -3,7 +3,7 @@ use Rattle.std.specs.Prelude.{ℕ, Bool}
 use Rattle.gfs_types.specs.declared.ids.ClientId.{ClientId}
 use Rattle.messages.specs.declared.event.Event.{Event}
 use Rattle.protocol.specs.World.{numbered_from_1}
-use Rattle.laws_clients.specs.Answered.{is_taken, is_up}
+use Rattle.laws_base.specs.Answered.{is_taken, is_up}
 use Rattle.cell_world.specs.Held.{HeldCell}
 
 -- the client takes steps

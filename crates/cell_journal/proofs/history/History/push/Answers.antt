@@ -1,8 +1,8 @@
 use Rattle.std.proofs.Common.{◌≡◌, ℕ, ◌+◌, ◌-◌, ◌++◌, ◌∷◌, [], length, List, sym, subst, ap, ◌∙◌, arith}
 use Rattle.std.proofs.lemmas.List.{length-append}
 use Rattle.protocol_journal.specs.Journal.{Entry, sent_after}
-use Rattle.laws_rebase.specs.Whole.{raised_entry}
-use Rattle.laws_rebase.proofs.CutJournals.{whole_more}
+use Rattle.protocol_journal.specs.Whole.{raised_entry}
+use Rattle.protocol_journal.proofs.CutJournals.{whole_more}
 use Rattle.cell_journal.specs.declared.clocks.Clocks.{Clocks}
 use Rattle.cell_journal.specs.declared.counted_entry.CountedEntry.{CountedEntry}
 use Rattle.cell_journal.specs.Clocks.{moved, clocks_after}

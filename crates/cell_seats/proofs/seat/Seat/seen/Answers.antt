@@ -1,5 +1,5 @@
 use Rattle.std.proofs.Common.{subst}
-use Rattle.journal_headline.specs.Journals.{AreExplained}
+use Rattle.headline.specs.Journals.{AreExplained}
 use Rattle.cell_seats.specs.Seats.{SeatState}
 use Rattle.cell_seats.proofs.Sitting.{explains}
 use Rattle.cell_seats.proofs.Traces.{told_of}

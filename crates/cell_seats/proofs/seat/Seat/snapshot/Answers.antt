@@ -1,7 +1,7 @@
 use Rattle.std.proofs.Common.{refl}
 use Rattle.gfs_types.specs.declared.answer.Answer.TheVariants as answer
 use Rattle.gfs_types.specs.declared.call.Call.TheVariants as call
-use Rattle.journal_headline.specs.AnswerKinds.{is_done}
+use Rattle.headline.specs.AnswerKinds.{is_done}
 use Rattle.cell_seats.proofs.Sitting.{answers, fails}
 use Rattle.cell_seats.proofs.seat.Seat.snapshot.Goals as goal
 

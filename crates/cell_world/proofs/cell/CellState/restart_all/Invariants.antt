@@ -1,5 +1,5 @@
 use Rattle.std.proofs.Common.{◌≤◌, []}
-use Rattle.laws_rebase.specs.Rebased.{restart_events}
+use Rattle.protocol_journal.specs.Rebased.{restart_events}
 use Rattle.cell_world.specs.Runs.{Runs}
 use Rattle.cell_world.proofs.cell.CellState.restart_all.Given as goal
 

@@ -1,5 +1,0 @@
-use Rattle.journal_headline.proofs.AnswerKinds.{calls_have_their_answers}
-use Rattle.journal_headline.proofs.journals.calls_have_their_answers.Goals as goal
-
-pub returns : goal.returns
-returns c = calls_have_their_answers

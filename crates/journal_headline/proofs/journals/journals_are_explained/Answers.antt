@@ -1,5 +1,0 @@
-use Rattle.journal_headline.proofs.Explained.{journals_are_explained}
-use Rattle.journal_headline.proofs.journals.journals_are_explained.Goals as goal
-
-pub returns : goal.returns
-returns c = journals_are_explained

@@ -1,4 +1,0 @@
-pub mod NumbersRise
-pub mod Walk
-pub mod Steps
-pub mod Events

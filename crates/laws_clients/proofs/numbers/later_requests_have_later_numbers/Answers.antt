@@ -1,5 +1,0 @@
-use Rattle.laws_clients.proofs.NumbersRise.{later_requests_have_later_numbers}
-use Rattle.laws_clients.proofs.numbers.later_requests_have_later_numbers.Goals as goal
-
-pub returns : goal.returns
-returns c = later_requests_have_later_numbers

@@ -1,3 +1,0 @@
-pub mod SameSteps
-pub mod CutWorlds
-pub mod CutJournals

@@ -1,5 +1,0 @@
-use Rattle.laws_rebase.proofs.CutWorlds.{cut_worlds_go_alike as proved}
-use Rattle.laws_rebase.proofs.cut_worlds.cut_worlds_go_alike.Goals as goal
-
-pub returns : goal.returns
-returns c = proved

@@ -1,5 +1,0 @@
-use Rattle.laws_rebase.proofs.CutJournals.{journals_with_bases_are_lawful as proved}
-use Rattle.laws_rebase.proofs.journals.journals_with_bases_are_lawful.Goals as goal
-
-pub returns : goal.returns
-returns c = proved

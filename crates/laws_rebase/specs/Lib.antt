@@ -1,4 +1,0 @@
-pub mod Rebased
-pub mod CutWorlds
-pub mod Whole
-pub mod Journals

@@ -1,5 +1,0 @@
-use Rattle.laws_replicas.proofs.JointRounds.{acknowledged_entries_are_applied}
-use Rattle.laws_replicas.proofs.acknowledged_entries.acknowledged_entries_are_applied.Goals as goal
-
-pub returns : goal.returns
-returns c = acknowledged_entries_are_applied

@@ -1,5 +1,0 @@
-use Rattle.laws_replicas.proofs.JointRounds.{primaries_have_their_round}
-use Rattle.laws_replicas.proofs.acknowledged_entries.primaries_have_their_round.Goals as goal
-
-pub returns : goal.returns
-returns c = primaries_have_their_round

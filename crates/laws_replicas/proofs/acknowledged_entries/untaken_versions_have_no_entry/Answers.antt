@@ -1,5 +1,0 @@
-use Rattle.laws_replicas.proofs.SkippedRounds.{untaken_versions_have_no_entry}
-use Rattle.laws_replicas.proofs.acknowledged_entries.untaken_versions_have_no_entry.Goals as goal
-
-pub returns : goal.returns
-returns c = untaken_versions_have_no_entry

@@ -1,5 +1,0 @@
-use Rattle.laws_replicas.proofs.CopiedEntries.{copies_go_above_their_source}
-use Rattle.laws_replicas.proofs.copied_entries.copies_go_above_their_source.Goals as goal
-
-pub returns : goal.returns
-returns c = copies_go_above_their_source

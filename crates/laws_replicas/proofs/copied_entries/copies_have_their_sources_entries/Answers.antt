@@ -1,5 +1,0 @@
-use Rattle.laws_replicas.proofs.CopiedEntries.{copies_have_their_sources_entries}
-use Rattle.laws_replicas.proofs.copied_entries.copies_have_their_sources_entries.Goals as goal
-
-pub returns : goal.returns
-returns c = copies_have_their_sources_entries

@@ -1,5 +1,0 @@
-use Rattle.laws_replicas.proofs.CopiedEntries.{raises_go_above_their_base}
-use Rattle.laws_replicas.proofs.copied_entries.raises_go_above_their_base.Goals as goal
-
-pub returns : goal.returns
-returns c = raises_go_above_their_base

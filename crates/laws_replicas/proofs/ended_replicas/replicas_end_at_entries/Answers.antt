@@ -1,5 +1,0 @@
-use Rattle.laws_replicas.proofs.EndedReached.{replicas_end_at_entries}
-use Rattle.laws_replicas.proofs.ended_replicas.replicas_end_at_entries.Goals as goal
-
-pub returns : goal.returns
-returns c = replicas_end_at_entries

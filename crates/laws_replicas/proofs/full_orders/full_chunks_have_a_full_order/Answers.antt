@@ -1,5 +1,0 @@
-use Rattle.laws_replicas.proofs.FullOrders.{full_chunks_have_a_full_order}
-use Rattle.laws_replicas.proofs.full_orders.full_chunks_have_a_full_order.Goals as goal
-
-pub returns : goal.returns
-returns c = full_chunks_have_a_full_order

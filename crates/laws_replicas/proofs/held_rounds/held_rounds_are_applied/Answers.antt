@@ -1,5 +1,0 @@
-use Rattle.laws_replicas.proofs.HeldRounds.{held_rounds_are_applied}
-use Rattle.laws_replicas.proofs.held_rounds.held_rounds_are_applied.Goals as goal
-
-pub returns : goal.returns
-returns c = held_rounds_are_applied

@@ -1,5 +1,0 @@
-use Rattle.laws_replicas.proofs.LastingLeases.{leases_that_are_not_over_are_the_last}
-use Rattle.laws_replicas.proofs.lasting_leases.leases_that_are_not_over_are_the_last.Goals as goal
-
-pub returns : goal.returns
-returns c = leases_that_are_not_over_are_the_last

@@ -1,5 +1,0 @@
-use Rattle.laws_replicas.proofs.PushedData.{data_are_pushed_once}
-use Rattle.laws_replicas.proofs.pushed_data.data_are_pushed_once.Goals as goal
-
-pub returns : goal.returns
-returns c = data_are_pushed_once

@@ -1,5 +1,0 @@
-use Rattle.laws_replicas.proofs.PushedData.{kept_data_make_their_entries}
-use Rattle.laws_replicas.proofs.pushed_data.kept_data_make_their_entries.Goals as goal
-
-pub returns : goal.returns
-returns c = kept_data_make_their_entries

@@ -1,5 +1,0 @@
-use Rattle.laws_replicas.proofs.PushedData.{pushed_data_are_the_clients}
-use Rattle.laws_replicas.proofs.pushed_data.pushed_data_are_the_clients.Goals as goal
-
-pub returns : goal.returns
-returns c = pushed_data_are_the_clients

@@ -1,5 +1,0 @@
-use Rattle.laws_replicas.proofs.ImagesReached.{sent_images_are_images}
-use Rattle.laws_replicas.proofs.replica_images.sent_images_are_images.Goals as goal
-
-pub returns : goal.returns
-returns c = sent_images_are_images

@@ -1,5 +1,0 @@
-use Rattle.laws_replicas.proofs.Acknowledging.{waiting_mutations_count_acknowledgements}
-use Rattle.laws_replicas.proofs.waiting_mutations.waiting_mutations_count_acknowledgements.Goals as goal
-
-pub returns : goal.returns
-returns c = waiting_mutations_count_acknowledgements

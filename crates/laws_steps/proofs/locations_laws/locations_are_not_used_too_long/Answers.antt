@@ -1,5 +1,0 @@
-use Rattle.laws_steps.proofs.LocationsUsed.{locations_are_not_used_too_long}
-use Rattle.laws_steps.proofs.locations_laws.locations_are_not_used_too_long.Goals as goal
-
-pub returns : goal.returns
-returns c = locations_are_not_used_too_long

@@ -1,5 +1,0 @@
-use Rattle.laws_steps.proofs.Unleased.{new_copies_have_no_lease}
-use Rattle.laws_steps.proofs.new_copies.new_copies_have_no_lease.Goals as goal
-
-pub returns : goal.returns
-returns c = new_copies_have_no_lease

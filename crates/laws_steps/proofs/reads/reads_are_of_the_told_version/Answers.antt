@@ -1,5 +1,0 @@
-use Rattle.laws_steps.proofs.ReadAnswers.{reads_are_of_the_told_version}
-use Rattle.laws_steps.proofs.reads.reads_are_of_the_told_version.Goals as goal
-
-pub returns : goal.returns
-returns c = reads_are_of_the_told_version

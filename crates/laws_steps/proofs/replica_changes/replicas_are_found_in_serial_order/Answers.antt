@@ -1,5 +1,0 @@
-use Rattle.laws_steps.proofs.Found.{replicas_are_found_in_serial_order}
-use Rattle.laws_steps.proofs.replica_changes.replicas_are_found_in_serial_order.Goals as goal
-
-pub returns : goal.returns
-returns c = replicas_are_found_in_serial_order

@@ -1,5 +1,0 @@
-use Rattle.laws_steps.proofs.Changes.{replicas_change_in_serial_order}
-use Rattle.laws_steps.proofs.replica_changes.replicas_change_in_serial_order.Goals as goal
-
-pub returns : goal.returns
-returns c = replicas_change_in_serial_order

@@ -1,5 +1,0 @@
-use Rattle.laws_steps.proofs.Placings.{mutations_are_placed_by_replicas}
-use Rattle.laws_steps.proofs.replicas.mutations_are_placed_by_replicas.Goals as goal
-
-pub returns : goal.returns
-returns c = mutations_are_placed_by_replicas

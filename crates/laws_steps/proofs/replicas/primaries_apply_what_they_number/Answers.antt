@@ -1,5 +1,0 @@
-use Rattle.laws_steps.proofs.Applied.{primaries_apply_what_they_number}
-use Rattle.laws_steps.proofs.replicas.primaries_apply_what_they_number.Goals as goal
-
-pub returns : goal.returns
-returns c = primaries_apply_what_they_number

@@ -1,5 +1,0 @@
-use Rattle.laws_steps.proofs.Lengths.{replicas_lie_within_the_chunk}
-use Rattle.laws_steps.proofs.replicas.replicas_lie_within_the_chunk.Goals as goal
-
-pub returns : goal.returns
-returns c = replicas_lie_within_the_chunk

@@ -1,5 +1,0 @@
-use Rattle.laws_steps.proofs.OpenShapes.{calls_keep_open_shapes}
-use Rattle.laws_steps.proofs.told_shapes.calls_keep_open_shapes.Goals as goal
-
-pub returns : goal.returns
-returns c = calls_keep_open_shapes

@@ -1,5 +1,0 @@
-use Rattle.laws_steps.proofs.EndedLeases.{attempted_chunks_have_no_lease}
-use Rattle.laws_steps.proofs.versions.attempted_chunks_have_no_lease.Goals as goal
-
-pub returns : goal.returns
-returns c = attempted_chunks_have_no_lease

@@ -1,5 +1,0 @@
-use Rattle.laws_steps.proofs.EndedLeases.{over_leases_number_nothing}
-use Rattle.laws_steps.proofs.versions.over_leases_number_nothing.Goals as goal
-
-pub returns : goal.returns
-returns c = over_leases_number_nothing

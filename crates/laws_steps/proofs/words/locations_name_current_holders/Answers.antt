@@ -1,5 +1,0 @@
-use Rattle.laws_steps.proofs.Locations.{locations_name_current_holders}
-use Rattle.laws_steps.proofs.words.locations_name_current_holders.Goals as goal
-
-pub returns : goal.returns
-returns c = locations_name_current_holders

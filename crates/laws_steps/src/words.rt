@@ -1,8 +1,0 @@
-//! Laws of every lawful list of events from a new cell: calls, deliveries, losses, repeats, ticks, restarts, stops in a step, refused memory and rot.
-
-ghost use Rattle.laws_steps.specs.Words.{LocationsNameCurrentHolders};
-
-/// The master alone tells locations, and each holder that it names has the granted version or a later one.
-pub fn locations_name_current_holders()
-    ensures { LocationsNameCurrentHolders }
-{}
