@@ -1,4 +1,4 @@
-//! Tests of scripts on a running cell.
+//! Tests of scripts on a running cell, and of one that is served through a pipe.
 #![tactic(auto)]
 
 #[cfg(test)]
@@ -7,5 +7,7 @@ mod options;
 mod parks;
 #[cfg(test)]
 mod scripts;
+#[cfg(test)]
+mod serving;
 #[cfg(test)]
 mod telling;
