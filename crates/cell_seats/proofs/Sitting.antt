@@ -15,7 +15,7 @@ use Rattle.gfs_types.specs.declared.refusal.Refusal.{Refusal}
 use Rattle.protocol_journal.specs.Journal.{Entry, own}
 use Rattle.headline.specs.Journals.{AreExplained}
 use Rattle.headline.specs.AnswerKinds.{is_value_of, IsAnswerTo}
-use Rattle.headline.proofs.Explained.{journals_are_explained}
+use Rattle.headline.proofs.JournalsExplained.{journals_are_explained}
 use Rattle.cell_journal.specs.Log.{Listed}
 use Rattle.cell_journal.proofs.Begins.{prefix_self, prefix_trans}
 use Rattle.cell_journal.specs.Clocks.{are_clocks_kept}

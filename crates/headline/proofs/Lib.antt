@@ -64,5 +64,5 @@ pub mod ToldSteps
 pub mod TriedPlaces
 pub mod TriesStay
 pub mod UngrantedCopies
-pub mod Explained
+pub mod JournalsExplained
 pub mod AnswerKinds

@@ -2,6 +2,6 @@
 //! Laws of cells and journals that drop their messages and count them anew: each goes as one does that keeps all.
 #![tactic(auto)]
 
+pub mod based_journals;
 pub mod cut_worlds;
-pub mod journals;
 pub mod laws;

@@ -1,4 +1,4 @@
-use Rattle.headline.proofs.Explained.{journals_are_explained}
+use Rattle.headline.proofs.JournalsExplained.{journals_are_explained}
 use Rattle.headline.proofs.journals.journals_are_explained.Goals as goal
 
 pub returns : goal.returns
