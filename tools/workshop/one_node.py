@@ -9,7 +9,7 @@ from crate_copy import copy_with
 from unproved import build
 
 CRATES = {'one_node': 'anyhow bytes chunk_table server_cell client_calls client_state client data_push gfs_types leases log_records master_cell master_replay master_plan '
-          'master_state memory_store messages namespace ordered_map operation_log primary_order protocol replica_store step_outcome'}
+          'master_state memory_store messages namespace ordered_map operation_log primary_order protocol replica_store'}
 
 
 def opened(text):

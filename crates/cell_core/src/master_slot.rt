@@ -18,17 +18,17 @@ use crate::start_fault::StartFault;
 use cell_world::master::{CellMaster, RestartedMaster, StoppableMaster};
 use disk::{Disk, FuseDisk, MemDisk, StopPlan};
 use gfs_types::config::Config;
+use gfs_types::ghost_list::GhostList;
 use gfs_types::ids::{FileId, Handle, Moment};
 use gfs_types::path::Path;
 use gfs_types::torn::Torn;
-use ghost_list::GhostList;
 use master_cell::logged_master::LoggedMaster;
 use master_cell::shown::ShownFiles;
 use messages::event::StepOut;
 use messages::message::Message;
+use protocol::step_outcome::{Outcome, down_output, no_output};
 use std::alloc::{Allocator, Global};
 use std::marker::Model;
-use step_outcome::{Outcome, down_output, no_output};
 use stored_log::disk_log::DiskLog;
 
 /// The master's log on its disk.

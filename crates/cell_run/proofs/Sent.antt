@@ -30,8 +30,8 @@ use Rattle.disk.proofs.stop_plan.StopPlan.TheSendSync as stops
 use Rattle.disk.specs.contracts.fuse.FuseDisk as Fuse
 use Rattle.disk.specs.declared.device.Disk as Disk
 use Rattle.disk.specs.Writes.{LeftBy, LeftSince, moment_of}
-use Rattle.ghost_list.proofs.ghost_list.GhostList.TheSendSync as before
-use Rattle.ghost_list.specs.contracts.ghost_list.GhostList as Before
+use Rattle.gfs_types.proofs.ghost_list.GhostList.TheSendSync as before
+use Rattle.gfs_types.specs.contracts.ghost_list.GhostList as Before
 use Rattle.operation_log.specs.declared.log.OperationLog as OperationLog
 use Rattle.stored_log.proofs.disk_log.DiskLog.TheSendSync as disk_log
 use Rattle.stored_log.specs.contracts.disk_log.DiskLog as Log

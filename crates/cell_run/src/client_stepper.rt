@@ -19,8 +19,8 @@ use gfs_types::ids::Moment;
 use gfs_types::no_memory::NoMemory;
 use messages::event::{NodeInput, StepOut};
 use protocol::seen::SeenList;
+use protocol::step_outcome::down_output;
 use std::alloc::Global;
-use step_outcome::down_output;
 
 /// A client that takes steps.
 #[derive(Drop)]

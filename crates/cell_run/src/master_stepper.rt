@@ -15,8 +15,8 @@ use gfs_types::call::Call;
 use gfs_types::ids::Moment;
 use messages::event::StepOut;
 use protocol::seen::SeenList;
+use protocol::step_outcome::{Outcome, no_output};
 use std::alloc::Global;
-use step_outcome::{Outcome, no_output};
 
 /// A master that takes steps.
 #[derive(Drop)]

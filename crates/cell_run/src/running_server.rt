@@ -20,9 +20,9 @@ use gfs_types::ids::{Moment, ServerId};
 use gfs_types::no_memory::NoMemory;
 use messages::event::StepOut;
 use protocol::seen::SeenList;
+use protocol::step_outcome::{Outcome, no_output};
 use server_cell::server_slot::ServerSlot;
 use std::alloc::Global;
-use step_outcome::{Outcome, no_output};
 
 /// A server of a running cell. At a restart its disk stops, and it is opened over what that left.
 pub struct RunningServer {

@@ -21,8 +21,8 @@ use gfs_types::no_memory::NoMemory;
 use messages::event::{NodeInput, StepOut};
 use messages::message::Message;
 use protocol::seen::SeenList;
+use protocol::step_outcome::{down_output, no_output};
 use std::alloc::Global;
-use step_outcome::{down_output, no_output};
 
 /// The place of a client's number.
 pub(crate) fn client_place(clients: &Vec<Client>, id: ClientId) -> Option<usize>

@@ -16,7 +16,7 @@ use gfs_types::path::Path;
 use gfs_types::torn::Torn;
 use messages::event::StepOut;
 use messages::message::Message;
-use step_outcome::Outcome;
+use protocol::step_outcome::Outcome;
 
 /// A master, and the chunks of all files as they stood when it was last up.
 pub trait CellMaster {

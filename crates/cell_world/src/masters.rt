@@ -12,7 +12,7 @@ use crate::record::CellRecord;
 use gfs_types::answer::Answer;
 use gfs_types::ids::Moment;
 use messages::event::StepOut;
-use step_outcome::Outcome;
+use protocol::step_outcome::Outcome;
 
 /// The master takes a step on the message of a number, or on a tick. For want of memory it goes down.
 pub(crate) fn master_steps<M: CellMaster>(

@@ -14,8 +14,8 @@ use gfs_types::answer::Answer;
 use gfs_types::ids::{Handle, Moment, ServerId};
 use gfs_types::torn::Torn;
 use messages::event::StepOut;
+use protocol::step_outcome::Outcome;
 use server_cell::server_slot::ServerSlot;
-use step_outcome::Outcome;
 
 /// The place of a server's number.
 pub(crate) fn server_place(servers: &Vec<ServerSlot>, id: ServerId) -> Option<usize>

@@ -4,7 +4,7 @@ use Rattle.disk.specs.Device.{Only}
 use Rattle.disk_redo.specs.GateMoments.{LeavesOnly}
 use Rattle.replica_store.specs.declared.change.StoreChange.{StoreChange}
 use Rattle.replica_store.specs.Replicas.{ServerDisk, disk_changed_by_all}
-use Rattle.server_store.specs.Stores.{IsFound}
+use Rattle.replica_store.specs.Stores.{IsFound}
 use Rattle.chunk_store.specs.Opening.{HoldsReplicas, IsOpening}
 use Rattle.chunk_store.proofs.Stopped.{opening_holds}
 use Rattle.disk_store.specs.Standing.{LeavesHolding}

@@ -8,15 +8,15 @@ use Rattle.gfs_types.specs.declared.ids.Version.{Version}
 use Rattle.replica_store.specs.declared.change.StoreChange.{StoreChange}
 use Rattle.replica_store.specs.declared.row.Row.{Row}
 use Rattle.replica_store.specs.Replicas.{ServerDisk, row_at}
-use Rattle.server_store.specs.declared.fault.ReplicaStoreFault.{ReplicaStoreFault}
-use Rattle.server_store.specs.declared.fault.ReplicaStoreFault.TheVariants as store
+use Rattle.replica_store.specs.declared.fault.ReplicaStoreFault.{ReplicaStoreFault}
+use Rattle.replica_store.specs.declared.fault.ReplicaStoreFault.TheVariants as store
 use Rattle.store_changes.specs.Faults.{IsRefused, MayFail, is_refusal}
 use Rattle.store_changes.specs.declared.fault.StoreFault.{StoreFault as ChangeFault}
 use Rattle.store_changes.specs.declared.fault.StoreFault.TheVariants as change
 use Rattle.store_disk.proofs.Looked.{no_row, one_row}
 use Rattle.chunk_store.specs.declared.fault.OpenFault.{OpenFault}
 use Rattle.chunk_store.specs.declared.fault.OpenFault.TheVariants as opening
-use Rattle.server_store.specs.Stores.{HasCause as IsOfStore}
+use Rattle.replica_store.specs.Stores.{HasCause as IsOfStore}
 use Rattle.disk_store.specs.Faults.{HasCause, HasCauseOf, IsFitting, of_change, of_disk, of_opening}
 use Rattle.disk_store.specs.Standing.{is_standing_open, writes}
 use Rattle.disk_store.specs.declared.standing.DiskStoreState.{DiskStoreState}

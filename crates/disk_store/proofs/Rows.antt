@@ -8,7 +8,7 @@ use Rattle.std.proofs.lemmas.Bool.{cases_eq}
 use Rattle.std.proofs.lemmas.List.{length-replicate, length-take-le}
 use Rattle.replica_store.specs.declared.row.Row.{Row}
 use Rattle.replica_store.specs.Replicas.{Replica, ServerDisk, own_bytes, raised_replica, replica_becomes, replica_of, rotten_replica, row_at, row_of, stored_replica, with_replica, written_replica}
-use Rattle.server_store.specs.Stores.{replica_lines}
+use Rattle.replica_store.specs.Stores.{replica_lines}
 use Rattle.store_disk.specs.Rows.{known_row, listed_as, rows_of}
 use Rattle.store_disk.proofs.Listed.{same_len, same_listed}
 use Rattle.store_disk.proofs.Lookups.{found_elsewhere, found_here, gone_here, kept_elsewhere}

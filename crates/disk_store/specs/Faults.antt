@@ -2,8 +2,8 @@
 use Rattle.std.specs.Prelude.{◌≡◌, ℕ, ◌<◌, ◌≤◌, true, Result, IfErr, IsErrOf}
 use Rattle.disk.specs.declared.device.DiskFault.{DiskFault}
 use Rattle.disk.specs.declared.device.DiskFault.TheVariants as disk
-use Rattle.server_store.specs.declared.fault.ReplicaStoreFault.{ReplicaStoreFault}
-use Rattle.server_store.specs.declared.fault.ReplicaStoreFault.TheVariants as store
+use Rattle.replica_store.specs.declared.fault.ReplicaStoreFault.{ReplicaStoreFault}
+use Rattle.replica_store.specs.declared.fault.ReplicaStoreFault.TheVariants as store
 use Rattle.store_changes.specs.declared.fault.StoreFault.{StoreFault as ChangeFault}
 use Rattle.store_changes.specs.declared.fault.StoreFault.TheVariants as change
 use Rattle.chunk_store.specs.declared.fault.OpenFault.{OpenFault}

@@ -2,10 +2,10 @@
 
 ghost use Rattle.std.specs.Prelude.{◌≡◌, ◌⊎◌, true, false, [], ◌∷◌, IfErr, OnOk, Some};
 ghost use Rattle.replica_store.specs.Replicas.{ServerDisk, disk_changed, is_disk_full};
-ghost use Rattle.server_store.specs.declared.fault.ReplicaStoreFault.TheVariants as faults;
+ghost use Rattle.replica_store.specs.declared.fault.ReplicaStoreFault.TheVariants as faults;
 ghost use Rattle.store_changes.specs.declared.fault.StoreFault.TheVariants as making_faults;
 ghost use Rattle.disk_store.specs.Faults.{HasCauseOf, of_change};
-ghost use Rattle.server_store.specs.Stores.{IsCopyable};
+ghost use Rattle.replica_store.specs.Stores.{IsCopyable};
 ghost use Rattle.disk_store.specs.Standing.{IsKept, IsUnfit, changes_of, writes};
 ghost use Rattle.disk_store.specs.declared.standing.DiskStoreState.TheVariants.{Open, Unread, Changing};
 
@@ -16,7 +16,7 @@ use crate::standing::{DiskStoreState, refused};
 use chunk_store::Store;
 use disk::Disk;
 use replica_store::change::StoreChange;
-use server_store::fault::ReplicaStoreFault;
+use replica_store::fault::ReplicaStoreFault;
 use std::alloc::Global;
 use store_changes::StoreFault as MakeFault;
 

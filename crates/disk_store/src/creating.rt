@@ -8,7 +8,7 @@ ghost use Rattle.store_disk.specs.Formats.{is_head_open};
 use crate::disk_store::DiskStore;
 use disk::Disk;
 use disk_redo::step::read;
-use server_store::fault::ReplicaStoreFault;
+use replica_store::fault::ReplicaStoreFault;
 use std::alloc::Global;
 use store_disk::Layout;
 

@@ -5,7 +5,7 @@ ghost use Rattle.disk_store.specs.Faults.{of_change, of_disk, of_opening};
 
 use chunk_store::OpenFault;
 use disk::DiskFault;
-use server_store::fault::ReplicaStoreFault;
+use replica_store::fault::ReplicaStoreFault;
 use store_changes::StoreFault as ChangeFault;
 
 pub(crate) fn fault_of_disk(fault: DiskFault) -> ReplicaStoreFault

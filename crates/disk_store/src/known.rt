@@ -4,7 +4,7 @@ ghost use Rattle.std.specs.Prelude.{◌≡◌, ◌+◌, ℕ, true, map as mapped
 ghost use Rattle.store_disk.specs.Rows.{rows_of};
 ghost use Rattle.std.specs.FinMap as map;
 ghost use Rattle.replica_store.specs.Replicas.{ServerDisk, disk_changed, is_disk_full, row_at};
-ghost use Rattle.server_store.specs.Stores.{replica_lines};
+ghost use Rattle.replica_store.specs.Stores.{replica_lines};
 ghost use Rattle.disk_store.specs.Known.{IsKnownOf, HaveTheirBytes, can_be_made, entry_of, longer_row, raised_row, row_line, rows_with};
 
 use crate::telling::{can_take, is_within, longer_row, other_version, raised_row};

@@ -4,7 +4,7 @@ ghost use Rattle.std.specs.Prelude.{◌≡◌, ◌<◌, ◌↔◌, IfOk, IsErrOf
 ghost use Rattle.disk_redo.specs.GateMoments.{OnlyReads};
 ghost use Rattle.replica_store.specs.declared.row.Row.{Row};
 ghost use Rattle.replica_store.specs.Replicas.{ServerDisk, is_copyable_at, is_writable_at, read_at, row_at};
-ghost use Rattle.server_store.specs.declared.fault.ReplicaStoreFault.TheVariants as faults;
+ghost use Rattle.replica_store.specs.declared.fault.ReplicaStoreFault.TheVariants as faults;
 ghost use Rattle.chunk_store.specs.Stores.{IsOpen};
 ghost use Rattle.disk_store.specs.Faults.{HasCause};
 
@@ -13,7 +13,7 @@ use bytes::Bytes;
 use chunk_store::Store;
 use disk::Disk;
 use gfs_types::ids::{Handle, Version};
-use server_store::fault::ReplicaStoreFault;
+use replica_store::fault::ReplicaStoreFault;
 use std::alloc::Global;
 use store_changes::StoreFault as ChangeFault;
 

@@ -6,8 +6,8 @@ ghost use Rattle.replica_store.specs.Replicas.{ServerDisk, disk_changed, is_copy
 ghost use Rattle.replica_store.specs.declared.change.StoreChange.TheVariants.{Copy, Raise, Write, Zero};
 ghost use Rattle.disk_store.specs.Faults.{IsFitting};
 ghost use Rattle.disk_store.specs.Known.{IsKnownOf, can_be_made};
-ghost use Rattle.server_store.specs.Stores.{IsCopyable};
-ghost use Rattle.server_store.specs.declared.fault.ReplicaStoreFault.TheVariants as faults;
+ghost use Rattle.replica_store.specs.Stores.{IsCopyable};
+ghost use Rattle.replica_store.specs.declared.fault.ReplicaStoreFault.TheVariants as faults;
 ghost use Rattle.store_changes.specs.Faults.{MayFail};
 ghost use Rattle.store_changes.specs.declared.fault.StoreFault.TheVariants as making_faults;
 ghost use Rattle.disk_store.specs.Careful.{IsCareful};
@@ -23,7 +23,7 @@ use disk::Disk;
 use gfs_types::ids::{Handle, Serial, Version};
 use gfs_types::mutation::Mutation;
 use replica_store::change::StoreChange;
-use server_store::fault::ReplicaStoreFault;
+use replica_store::fault::ReplicaStoreFault;
 use std::alloc::{AllocError, Global};
 use store_changes::StoreFault as MakeFault;
 

@@ -35,7 +35,7 @@ use Rattle.protocol.specs.World.{WorldState, new_world, IsReached}
 use Rattle.laws_base.proofs.Entries.{AllOf}
 use Rattle.laws_names.specs.NameTrails.{log_read}
 use Rattle.laws_names.specs.Alike.{is_there}
-use Rattle.laws_entries.specs.Entries.{IsAmong}
+use Rattle.laws_base.specs.Entries.{IsAmong}
 use Rattle.laws_machine.specs.ChunksAlike.{ChunkSides}
 use Rattle.laws_machine.specs.MasterSteps.{HaveSameFiles}
 use Rattle.laws_machine.specs.RecordDues.{AreLogDues}

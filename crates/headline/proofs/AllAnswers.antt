@@ -25,7 +25,7 @@ use Rattle.laws_base.proofs.Steps.{none_some, same_some}
 use Rattle.laws_base.proofs.Entries.{AllOf}
 use Rattle.laws_base.proofs.MessagesSent.{IsSent, none_sent}
 use Rattle.laws_base.proofs.Histories.{step_grown}
-use Rattle.laws_entries.proofs.Placing.{all_placed}
+use Rattle.laws_base.proofs.Placing.{all_placed}
 use Rattle.laws_machine.specs.ChunksAlike.{ChunkSides}
 use Rattle.laws_machine.specs.ChunksBeside.{AreChunksBeside}
 use Rattle.laws_machine.specs.FileClients.{IsFileCall, IsCallAlike, IsSaid, IsSaidAt}

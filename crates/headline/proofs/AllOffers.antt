@@ -26,7 +26,7 @@ use Rattle.laws_base.proofs.Steps.{none_some, same_some}
 use Rattle.laws_base.proofs.Entries.{AllOf}
 use Rattle.laws_base.proofs.MessagesSent.{IsSent, none_sent}
 use Rattle.laws_base.proofs.Histories.{step_grown}
-use Rattle.laws_entries.proofs.Placing.{all_placed}
+use Rattle.laws_base.proofs.Placing.{all_placed}
 use Rattle.headline.proofs.SaidAnswers.{later_at, cancelled}
 use Rattle.laws_machine.specs.ChunksAlike.{ChunkSides}
 use Rattle.laws_machine.specs.ChunksBeside.{AreChunksBeside}

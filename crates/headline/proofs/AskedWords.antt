@@ -37,7 +37,7 @@ use Rattle.laws_base.proofs.Steps.{on_cond, same_some, put_other, put_there}
 use Rattle.laws_base.proofs.Entries.{AllOf, all_joined}
 use Rattle.laws_base.proofs.ChunkRows.{rows_of, From, same_from, then_from, removed_from, all_copied_from}
 use Rattle.laws_base.proofs.FilesNamed.{Files}
-use Rattle.laws_calls.proofs.MasterRefusals.{is_no_answer}
+use Rattle.laws_machine.proofs.MasterRefusals.{is_no_answer}
 
 -- what an answer says of the log
 

@@ -33,15 +33,15 @@ use Rattle.laws_base.proofs.ClientNumbers.{IsSaid, IsStepOf, of_step, of_call}
 use Rattle.laws_base.proofs.RequestsOnce.{AreNumbered, each_event, numbered_reached, later_cases, requests_carry_used_numbers}
 use Rattle.laws_base.proofs.ServerTalks.{is_quiet, Talks, step_said}
 use Rattle.laws_versions.proofs.ServerCauses.{step_words}
-use Rattle.laws_entries.specs.Entries.{IsAmong}
-use Rattle.laws_entries.specs.AnsweredAttempts.{IsFinal}
-use Rattle.laws_entries.proofs.RisingRounds.{restart_silent}
-use Rattle.laws_entries.proofs.UsedAnswers.{IsReading}
-use Rattle.laws_entries.proofs.AnsweredAttempts.{IsSpentUp, answers_known}
-use Rattle.laws_calls.specs.RefusedAsks.{HasAsk}
-use Rattle.laws_calls.proofs.Answerers.{came_to}
+use Rattle.laws_base.specs.Entries.{IsAmong}
+use Rattle.laws_base.specs.AnsweredAttempts.{IsFinal}
+use Rattle.laws_base.proofs.RisingRounds.{restart_silent}
+use Rattle.laws_base.proofs.UsedAnswers.{IsReading}
+use Rattle.laws_base.proofs.AnsweredAttempts.{IsSpentUp, answers_known}
+use Rattle.laws_machine.specs.RefusedAsks.{HasAsk}
+use Rattle.laws_machine.proofs.Answerers.{came_to}
 use Rattle.headline.specs.ClientWords.{IsNoTelling, ClientsTellNothing, IsOfUsed, AnswersCarryUsedNumbers}
-use Rattle.laws_calls.proofs.MasterRefusals.{is_no_answer, master_refuses_asks}
+use Rattle.laws_machine.proofs.MasterRefusals.{is_no_answer, master_refuses_asks}
 
 -- what clients say
 

@@ -19,11 +19,11 @@ use Rattle.laws_base.proofs.MembersRecorded.{kept_place}
 use Rattle.laws_base.specs.Attempts.{mutates_under, waited_data}
 use Rattle.laws_base.proofs.RequestsOnce.{numbered_reached}
 use Rattle.laws_base.proofs.Histories.{IsGrown, steps_grown, after_both}
-use Rattle.laws_entries.specs.Entries.{IsAmong, IsAskedFor}
-use Rattle.laws_entries.proofs.Stemming.{numbered_mutations_were_asked_for}
-use Rattle.laws_entries.proofs.Deadlines.{asks_for, asking}
-use Rattle.laws_entries.specs.Successes.{IsShownNow, WasShown, IsSettledAs}
-use Rattle.laws_entries.proofs.Successes.{successes_were_settled}
+use Rattle.laws_base.specs.Entries.{IsAmong, IsAskedFor}
+use Rattle.laws_base.proofs.Stemming.{numbered_mutations_were_asked_for}
+use Rattle.laws_base.proofs.Deadlines.{asks_for, asking}
+use Rattle.laws_base.specs.Successes.{IsShownNow, WasShown, IsSettledAs}
+use Rattle.laws_base.proofs.Successes.{successes_were_settled}
 
 none_counted : (f : Message → Bool) (ms : List Message) → count_by f ms ≡ 0 → (place : ℕ) (m : Message) → element_at ms place ≡ Some m → f m ≡ true → ⊥
 none_counted f [] none place m at is = none_some m at

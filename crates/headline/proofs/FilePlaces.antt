@@ -31,7 +31,7 @@ use Rattle.laws_base.proofs.RowsKept.{rows_kept}
 use Rattle.laws_base.proofs.MasterReached.{IsKeptByMaster, reached_here}
 use Rattle.laws_base.proofs.MasterClock.{master_in_time}
 use Rattle.laws_base.proofs.WaitsKept.{IsOfWaits, waits_kept}
-use Rattle.laws_calls.proofs.OpenEntries.{config_stays}
+use Rattle.laws_machine.proofs.OpenEntries.{config_stays}
 use Rattle.laws_versions.proofs.HandleIndexes.{handles_stand_at_one_index}
 use Rattle.headline.specs.Places.{FilesAreWithinPlaces}
 

@@ -20,9 +20,9 @@ use Rattle.laws_versions.specs.ReplacedChunks.{IsToldAt}
 use Rattle.laws_versions.proofs.OneSizes.{told_shapes_have_the_granted_size}
 use Rattle.laws_versions.proofs.RowSizes.{size_counts}
 use Rattle.laws_versions.specs.FullOrders.{HasFullEnd}
-use Rattle.laws_calls.specs.FullBefore.{IsFullBefore}
-use Rattle.laws_calls.proofs.FullBefore.{asks_past_a_chunk_find_it_full}
-use Rattle.laws_calls.proofs.GrantedRounds.{granted_from_one}
+use Rattle.laws_machine.specs.FullBefore.{IsFullBefore}
+use Rattle.laws_machine.proofs.FullBefore.{asks_past_a_chunk_find_it_full}
+use Rattle.laws_machine.proofs.GrantedRounds.{granted_from_one}
 use Rattle.laws_machine.specs.HoldersApart.{StandsUpTo}
 use Rattle.laws_machine.proofs.ServerSteps.{size_within}
 use Rattle.headline.specs.AskedChunks.{IsFullAt, AsksAreFull}

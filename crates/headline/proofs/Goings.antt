@@ -41,7 +41,7 @@ use Rattle.laws_base.proofs.NamesReached.{IsNaming, naming_keeps, IsUpToLog, log
 use Rattle.laws_base.proofs.SentReached.{sent_reached}
 use Rattle.laws_base.proofs.LeasesStayOver.{reached_later}
 use Rattle.laws_base.proofs.WaitsKept.{IsOfWaits, waits_kept}
-use Rattle.laws_entries.proofs.CopiesBegun.{ShowsCopy, ShowsLittle, step_shows}
+use Rattle.laws_base.proofs.CopiesBegun.{ShowsCopy, ShowsLittle, step_shows}
 use Rattle.laws_versions.proofs.CopiedOrders.{copies_under_way_are_not_granted}
 use Rattle.laws_names.specs.Alike.{Requests, AreAlike}
 use Rattle.laws_names.specs.Followed.{IsTold}
@@ -78,7 +78,7 @@ use Rattle.headline.proofs.Stops.{last_stop}
 use Rattle.headline.proofs.Steps as steps
 use Rattle.headline.proofs.Steps.{still_up, IsTaken}
 use Rattle.laws_machine.proofs.OpenRounds.{ungranted_is_over}
-use Rattle.laws_entries.proofs.SentGrants.{counted_one}
+use Rattle.laws_base.proofs.SentGrants.{counted_one}
 
 told_at : (m : Machine) (requests : Requests) (ms : List Message) (place : ℕ) (x : Message) → AllByRecursion (IsTold m requests) ms → element_at ms place ≡ Some x → IsTold m requests x
 told_at m requests [] place x all at = none_some x at

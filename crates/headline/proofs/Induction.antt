@@ -13,7 +13,7 @@ use Rattle.protocol.specs.World.{WorldState, new_world, numbered_from_1, happens
 use Rattle.laws_base.proofs.Histories.{after_both}
 use Rattle.laws_versions.proofs.ClosedVersions.{clocks_before}
 use Rattle.laws_versions.proofs.AppliedReached.{kept_both}
-use Rattle.laws_entries.specs.Entries.{IsAmong}
+use Rattle.laws_base.specs.Entries.{IsAmong}
 use Rattle.laws_base.proofs.Steps.{none_some}
 use Rattle.protocol.specs.Explained.{AreSettings}
 use Rattle.laws_machine.specs.ChunksBeside.{IsMastersEvent}

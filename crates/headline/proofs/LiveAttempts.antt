@@ -27,10 +27,10 @@ use Rattle.laws_base.proofs.ClientReads.{Came, stepped, called}
 use Rattle.laws_base.proofs.Events.{HoldsAfter, holds_after}
 use Rattle.laws_base.proofs.Histories.{IsGrown, step_grown}
 use Rattle.laws_base.proofs.LeasesStayOver.{reached_later}
-use Rattle.laws_calls.specs.AnsweredWrites.{IsToldChunk}
-use Rattle.laws_calls.specs.ToldIndexes.{has_index}
-use Rattle.laws_calls.proofs.CallWalk.{IsFirst, AnyKept, AnyUsed, all_any, KeepsCall, StandsAt, StandsNow, IsCalm, Leaves, does_leave, begun_calm, call_calm}
-use Rattle.laws_calls.proofs.UsedIndexes.{AnyReply, AnyEnd, came_in, no_call, parts_go_to_their_chunk}
+use Rattle.laws_machine.specs.AnsweredWrites.{IsToldChunk}
+use Rattle.laws_machine.specs.ToldIndexes.{has_index}
+use Rattle.laws_machine.proofs.CallWalk.{IsFirst, AnyKept, AnyUsed, all_any, KeepsCall, StandsAt, StandsNow, IsCalm, Leaves, does_leave, begun_calm, call_calm}
+use Rattle.laws_machine.proofs.UsedIndexes.{AnyReply, AnyEnd, came_in, no_call, parts_go_to_their_chunk}
 use Rattle.headline.proofs.RequestsStay.{told_on}
 
 -- a write was told a chunk that is not before its first one

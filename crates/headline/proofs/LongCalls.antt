@@ -53,9 +53,9 @@ use Rattle.laws_base.proofs.Events.{holds_after}
 use Rattle.laws_base.proofs.Histories.{steps_grown}
 use Rattle.laws_base.proofs.ReadAnswers.{one_request}
 use Rattle.laws_base.proofs.RequestsOnce.{requests_are_numbered_once}
-use Rattle.laws_calls.specs.AnsweredWrites.{IsToldChunk}
-use Rattle.laws_calls.specs.ToldIndexes.{IsAskFor}
-use Rattle.laws_calls.proofs.AskedIndexes.{asks_are_for_the_part_in_hand}
+use Rattle.laws_machine.specs.AnsweredWrites.{IsToldChunk}
+use Rattle.laws_machine.specs.ToldIndexes.{IsAskFor}
+use Rattle.laws_machine.proofs.AskedIndexes.{asks_are_for_the_part_in_hand}
 use Rattle.laws_names.specs.Alike.{is_there}
 use Rattle.laws_machine.specs.ChunksAlike.{ChunkSides}
 use Rattle.laws_machine.specs.FileClients.{id_of, IsDoneSoFar, IsFileCall, IsCallAlike, IsFileOpen}
@@ -65,7 +65,7 @@ use Rattle.laws_machine.proofs.CountedCalls.{calls_are_counted}
 use Rattle.laws_machine.proofs.ClientFiles.{clients_files_are_open}
 use Rattle.laws_machine.proofs.FileWalk.{open_size}
 use Rattle.laws_machine.specs.ToldShapes.{IsMadeWith}
-use Rattle.laws_calls.proofs.Parts.{none_below, none_beyond, first_there, none_of_nothing}
+use Rattle.laws_machine.proofs.Parts.{none_below, none_beyond, first_there, none_of_nothing}
 use Rattle.headline.proofs.AskedOnce.{Sends, each_sends, asked_once}
 use Rattle.headline.proofs.CountsBefore.{HasCount, counts_are_before}
 use Rattle.headline.proofs.LiveAttempts.{LivesWereTold, lives_were_told}

@@ -41,13 +41,13 @@ use Rattle.laws_base.specs.FileCalls.{IsOfFile}
 use Rattle.laws_base.proofs.Histories.{after_both}
 use Rattle.laws_base.proofs.ReadAnswers.{one_request}
 use Rattle.laws_base.proofs.RequestsOnce.{requests_are_numbered_once}
-use Rattle.laws_entries.specs.Entries.{IsAmong, IsPushed}
-use Rattle.laws_entries.proofs.AnsweredAttempts.{answers_known}
-use Rattle.laws_entries.proofs.UsedAnswers.{IsReading}
-use Rattle.laws_calls.specs.ToldIndexes.{IsAskFor}
-use Rattle.laws_calls.proofs.AskedIndexes.{asks_are_for_the_part_in_hand}
-use Rattle.laws_calls.proofs.LaterCalls.{calls_passed}
-use Rattle.laws_calls.proofs.OpenEntries.{entries_were_asked_for_in_their_call}
+use Rattle.laws_base.specs.Entries.{IsAmong, IsPushed}
+use Rattle.laws_base.proofs.AnsweredAttempts.{answers_known}
+use Rattle.laws_base.proofs.UsedAnswers.{IsReading}
+use Rattle.laws_machine.specs.ToldIndexes.{IsAskFor}
+use Rattle.laws_machine.proofs.AskedIndexes.{asks_are_for_the_part_in_hand}
+use Rattle.laws_machine.proofs.LaterCalls.{calls_passed}
+use Rattle.laws_machine.proofs.OpenEntries.{entries_were_asked_for_in_their_call}
 use Rattle.laws_machine.specs.ChunksAlike.{ChunkSides}
 use Rattle.laws_machine.specs.FileClients.{IsFileCall, IsCallAlike, IsRefusedAt, IsSaid, IsSaidAt}
 use Rattle.laws_machine.specs.FileClientsStay.{IsFirm, IsFirmInput}

@@ -23,14 +23,14 @@ use Rattle.laws_base.proofs.Events.{holds_after}
 use Rattle.laws_base.proofs.Histories.{SentIn, sent_in, after_both}
 use Rattle.laws_base.proofs.IssuedNumbers.{IsPassed}
 use Rattle.laws_base.proofs.LeasesStayOver.{reached_later}
-use Rattle.laws_entries.proofs.GrantsFollow.{HasPassed}
+use Rattle.laws_base.proofs.GrantsFollow.{HasPassed}
 use Rattle.laws_versions.specs.ReplacedChunks.{IsToldAt}
 use Rattle.laws_versions.proofs.AskedSteps.{StandsAt, IsToldOf}
 use Rattle.laws_versions.proofs.ClosedVersions.{clocks_before}
 use Rattle.laws_versions.proofs.PlacesTaken.{IsTaken, ArePlacesTaken}
 use Rattle.laws_versions.proofs.ReplacedChunks.{each_passed, kept_before}
 use Rattle.laws_versions.proofs.ToldAnswers.{told_now}
-use Rattle.laws_calls.proofs.ToldHolders.{told_holders_were_ordered}
+use Rattle.laws_machine.proofs.OrderedHolders.{told_holders_were_ordered}
 use Rattle.protocol_invariant.specs.Actions.{Spot}
 use Rattle.laws_machine.specs.ChunksAlike.{ChunkSides, StoodAt, AreChunksAlike}
 use Rattle.laws_machine.specs.ChunksAlike as sides

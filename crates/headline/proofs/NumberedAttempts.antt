@@ -19,18 +19,18 @@ use Rattle.protocol.specs.Server.{ServerState}
 use Rattle.protocol.specs.ServerStep.{server_at}
 use Rattle.protocol.specs.World.{WorldState, new_world, after_events, IsReached}
 use Rattle.laws_base.specs.Laws.{is_grant, grants_of}
-use Rattle.laws_entries.specs.Entries.{IsAskedFor}
-use Rattle.laws_entries.specs.Deadlines.{Numbers}
-use Rattle.laws_entries.proofs.KnownNumbers.{primary_there}
-use Rattle.laws_entries.proofs.RisingRounds.{leased_granted}
-use Rattle.laws_entries.proofs.SentGrants.{counted_one}
-use Rattle.laws_entries.proofs.Stemming.{numbered_mutations_were_asked_for}
-use Rattle.laws_entries.proofs.UsedNumbers.{one_target}
+use Rattle.laws_base.specs.Entries.{IsAskedFor}
+use Rattle.laws_base.specs.Deadlines.{Numbers}
+use Rattle.laws_base.proofs.KnownNumbers.{primary_there}
+use Rattle.laws_base.proofs.RisingRounds.{leased_granted}
+use Rattle.laws_base.proofs.SentGrants.{counted_one}
+use Rattle.laws_base.proofs.Stemming.{numbered_mutations_were_asked_for}
+use Rattle.laws_base.proofs.UsedNumbers.{one_target}
 use Rattle.laws_versions.specs.ReplacedChunks.{IsToldAt}
-use Rattle.laws_calls.specs.AnsweredWrites.{IsToldChunk}
-use Rattle.laws_calls.proofs.GrantedRounds.{granted_from_one}
-use Rattle.laws_calls.proofs.OpenEntries.{config_stays}
-use Rattle.laws_calls.proofs.ToldOnce.{handles_are_told_at_one_index}
+use Rattle.laws_machine.specs.AnsweredWrites.{IsToldChunk}
+use Rattle.laws_machine.proofs.GrantedRounds.{granted_from_one}
+use Rattle.laws_machine.proofs.OpenEntries.{config_stays}
+use Rattle.laws_machine.proofs.ToldOnce.{handles_are_told_at_one_index}
 use Rattle.protocol_invariant.specs.Actions.{Spot}
 use Rattle.laws_machine.specs.ChunksAlike.{ChunkSides, IsRoundOpen}
 use Rattle.laws_machine.specs.ChunksBeside.{AreChunksBeside}

@@ -35,15 +35,15 @@ use Rattle.protocol.specs.Server.{ServerState}
 use Rattle.protocol.specs.ServerStep.{server_at}
 use Rattle.protocol.specs.World.{WorldState, new_world, after_events, IsReached, is_kept}
 use Rattle.laws_base.specs.FewAttempts.{WasAsked, part_of, EachOf, AreApart}
-use Rattle.laws_entries.specs.Entries.{IsPlacedFor, IsAskedFor}
-use Rattle.laws_entries.specs.Deadlines.{Numbers}
-use Rattle.laws_entries.specs.FullChunks.{IsPad}
+use Rattle.laws_base.specs.Entries.{IsPlacedFor, IsAskedFor}
+use Rattle.laws_base.specs.Deadlines.{Numbers}
+use Rattle.laws_base.specs.FullChunks.{IsPad}
 use Rattle.laws_versions.proofs.PushedData.{data_are_pushed_once}
-use Rattle.laws_calls.specs.BoundedCalls.{IsEntryFor}
-use Rattle.laws_calls.specs.OpenAttempts.{IsOfOpenCall}
-use Rattle.laws_calls.proofs.BoundedCalls.{placings_are_of_few_entries}
-use Rattle.laws_calls.proofs.OpenEntries.{config_stays, entries_are_of_open_calls, entries_were_asked_for_in_their_call}
-use Rattle.laws_calls.proofs.ToldOnce.{handles_are_told_at_one_index}
+use Rattle.laws_machine.specs.BoundedCalls.{IsEntryFor}
+use Rattle.laws_machine.specs.OpenAttempts.{IsOfOpenCall}
+use Rattle.laws_machine.proofs.BoundedCalls.{placings_are_of_few_entries}
+use Rattle.laws_machine.proofs.OpenEntries.{config_stays, entries_are_of_open_calls, entries_were_asked_for_in_their_call}
+use Rattle.laws_machine.proofs.ToldOnce.{handles_are_told_at_one_index}
 use Rattle.protocol_invariant.specs.Actions.{Spot}
 use Rattle.protocol.specs.Explained.{AreSettings}
 use Rattle.laws_machine.specs.ChunksAlike.{ChunkSides}

@@ -48,8 +48,8 @@ use Rattle.machine_names.specs.NameProjections.{AreNamesOf}
 use Rattle.laws_names.specs.Alike.{is_there}
 use Rattle.protocol_invariant.specs.ClientParts.{index_asked}
 use Rattle.laws_machine.specs.ChunksAlike.{ChunkSides}
-use Rattle.laws_calls.specs.ToldIndexes.{IsAskFor}
-use Rattle.laws_calls.proofs.AskedIndexes.{asks_are_for_the_part_in_hand}
+use Rattle.laws_machine.specs.ToldIndexes.{IsAskFor}
+use Rattle.laws_machine.proofs.AskedIndexes.{asks_are_for_the_part_in_hand}
 use Rattle.laws_base.proofs.MasterPremises.{IsTakenAsk}
 use Rattle.laws_machine.specs.ChunksBeside.{AreChunksBeside}
 use Rattle.laws_machine.specs.FileAnswers.{IsLastRound}

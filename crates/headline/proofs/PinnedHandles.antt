@@ -40,7 +40,7 @@ use Rattle.laws_base.proofs.Histories.{IsGrown, steps_grown}
 use Rattle.laws_base.proofs.IssuedNumbers.{IsPassed, IsLogPassed, passed_same}
 use Rattle.laws_base.proofs.LeasesStayOver.{reached_later}
 use Rattle.laws_base.proofs.WaitsKept.{IsOfWaits, waits_kept}
-use Rattle.laws_entries.proofs.GrantsFollow.{HasPassed}
+use Rattle.laws_base.proofs.GrantsFollow.{HasPassed}
 use Rattle.laws_versions.specs.ToldVersions.{WasOrdered}
 use Rattle.laws_versions.proofs.AskedSteps.{StandsAt, IsNoGrant}
 use Rattle.laws_versions.proofs.AttemptedNumbers.{attempts_are_of_the_last_version}
@@ -53,7 +53,7 @@ use Rattle.laws_versions.proofs.ReplacedChunks.{each_passed, stood_file}
 use Rattle.laws_versions.proofs.SharedChunks.{shared_chunks_have_no_lease}
 use Rattle.laws_versions.specs.CopiedOrders.{IsUngrantedCopy}
 use Rattle.laws_versions.proofs.CopiedOrders.{source_row, copies_under_way_are_not_granted}
-use Rattle.laws_calls.proofs.ToldHolders.{ordered_later}
+use Rattle.laws_machine.proofs.OrderedHolders.{ordered_later}
 use Rattle.protocol_invariant.specs.Actions.{Spot}
 use Rattle.laws_machine.specs.ChunksAlike.{ChunkSides}
 use Rattle.laws_machine.proofs.OpenRounds.{chunks_of_one_owner_stand_once}

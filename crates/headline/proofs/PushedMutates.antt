@@ -38,12 +38,12 @@ use Rattle.laws_base.proofs.Histories.{IsGrown, steps_grown, SentIn, sent_in, af
 use Rattle.laws_base.proofs.MasterTalks.{MasterTalks, master_said, restart_said}
 use Rattle.laws_base.proofs.RequestsOnce.{AreNumbered, numbered_reached}
 use Rattle.laws_base.proofs.ServerTalks.{is_quiet, Talks, step_said}
-use Rattle.laws_entries.specs.Entries.{IsPushed}
+use Rattle.laws_base.specs.Entries.{IsPushed}
 use Rattle.laws_versions.proofs.ExtendLaws.{new_one, none_before}
-use Rattle.laws_calls.proofs.CallWalk.{StandsAt, AnyUsed}
-use Rattle.laws_calls.proofs.LaterCalls.{CallStands, pushed_later}
-use Rattle.laws_calls.proofs.OpenStages.{HasPushed, IsOpen, HasData, IsUnderWay, AnyReply}
-use Rattle.laws_calls.proofs.OpenCalls.{SinceFor, Never, NeverFor, all_since, new_on}
+use Rattle.laws_machine.proofs.CallWalk.{StandsAt, AnyUsed}
+use Rattle.laws_machine.proofs.LaterCalls.{CallStands, pushed_later}
+use Rattle.laws_machine.proofs.OpenStages.{HasPushed, IsOpen, HasData, IsUnderWay, AnyReply}
+use Rattle.laws_machine.proofs.OpenCalls.{SinceFor, Never, NeverFor, all_since, new_on}
 use Rattle.headline.specs.Answers.{MutatesAreOfPushedData}
 
 -- who sends no Mutate

@@ -38,13 +38,13 @@ use Rattle.laws_base.proofs.RisingOrders.{set_cases}
 use Rattle.laws_base.proofs.ClientReads.{stepped, called}
 use Rattle.laws_base.proofs.Events.{HoldsAfter, with_call}
 use Rattle.laws_versions.proofs.ServerCauses.{step_words}
-use Rattle.laws_entries.specs.Entries.{IsAmong}
-use Rattle.laws_entries.proofs.RisingRounds.{restart_silent}
-use Rattle.laws_calls.proofs.Answerers.{came_to}
-use Rattle.laws_calls.proofs.LaterCalls.{put_at, calls_joined, calls_passed, calls_answered}
-use Rattle.laws_calls.proofs.UsedIndexes.{no_call}
+use Rattle.laws_base.specs.Entries.{IsAmong}
+use Rattle.laws_base.proofs.RisingRounds.{restart_silent}
+use Rattle.laws_machine.proofs.Answerers.{came_to}
+use Rattle.laws_machine.proofs.LaterCalls.{put_at, calls_joined, calls_passed, calls_answered}
+use Rattle.laws_machine.proofs.UsedIndexes.{no_call}
 use Rattle.laws_base.proofs.MasterPremises.{IsTakenAsk, IsRefusedFor}
-use Rattle.laws_calls.proofs.MasterRefusals.{is_no_answer, master_refuses_asks}
+use Rattle.laws_machine.proofs.MasterRefusals.{is_no_answer, master_refuses_asks}
 use Rattle.headline.proofs.SentNow.{step_left, call_left}
 use Rattle.headline.proofs.StepStages.{IsNewStage, IsNewCall, next_step, next_call}
 

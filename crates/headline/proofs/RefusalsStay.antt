@@ -30,9 +30,9 @@ use Rattle.laws_base.specs.FewAttempts.{IsAskedNow, WasAsked}
 use Rattle.laws_base.proofs.Events.{holds_after}
 use Rattle.laws_base.proofs.Histories.{after_both}
 use Rattle.laws_base.proofs.RequestsOnce.{later_cases, requests_carry_used_numbers}
-use Rattle.laws_entries.specs.Entries.{IsAmong}
-use Rattle.laws_calls.specs.RefusedAsks.{HasAsk}
-use Rattle.laws_calls.proofs.Answerers.{refusals_of_the_master_answer_an_ask}
+use Rattle.laws_base.specs.Entries.{IsAmong}
+use Rattle.laws_machine.specs.RefusedAsks.{HasAsk}
+use Rattle.laws_machine.proofs.Answerers.{refusals_of_the_master_answer_an_ask}
 use Rattle.laws_machine.specs.ChunksAlike.{ChunkSides}
 use Rattle.laws_machine.specs.SentRequests.{AreRequestsOf, IsRefusedCall, AreRefusalsFor, AreRequestsOfCalls}
 use Rattle.laws_machine.specs.WholeWorlds.{AreFileClients, IsBeside}

@@ -55,12 +55,12 @@ use Rattle.laws_base.proofs.Events.{HoldsAfter, holds_after}
 use Rattle.laws_base.proofs.Histories.{after_both}
 use Rattle.laws_base.proofs.RequestsOnce.{from_itself, later_cases}
 use Rattle.laws_base.proofs.Senders.{AreNotClients, server_sends, server_restart_sends, master_sends, master_restart_sends, one_client}
-use Rattle.laws_entries.specs.Entries.{IsPushed}
+use Rattle.laws_base.specs.Entries.{IsPushed}
 use Rattle.laws_versions.proofs.Acknowledged.{set_there}
-use Rattle.laws_calls.specs.AnsweredWrites.{IsToldChunk}
-use Rattle.laws_calls.specs.ToldIndexes.{has_index}
-use Rattle.laws_calls.proofs.LaterCalls.{pushed_later, calls_answered, calls_passed}
-use Rattle.laws_calls.proofs.UsedIndexes.{no_call, used_was_told, parts_go_to_their_chunk}
+use Rattle.laws_machine.specs.AnsweredWrites.{IsToldChunk}
+use Rattle.laws_machine.specs.ToldIndexes.{has_index}
+use Rattle.laws_machine.proofs.LaterCalls.{pushed_later, calls_answered, calls_passed}
+use Rattle.laws_machine.proofs.UsedIndexes.{no_call, used_was_told, parts_go_to_their_chunk}
 use Rattle.laws_machine.specs.ServerSteps.{AreDataOf}
 use Rattle.laws_machine.specs.FileClients.{id_of, IsDoneSoFar, IsFileCall, IsCallAlike, IsFileOpen}
 use Rattle.laws_machine.specs.WholeWorlds.{AreFileClients}

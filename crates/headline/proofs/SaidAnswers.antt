@@ -55,18 +55,18 @@ use Rattle.laws_base.proofs.LeasesStayOver.{reached_later}
 use Rattle.laws_base.proofs.Lengths.{replicas_lie_within_the_chunk}
 use Rattle.laws_base.proofs.ReadAnswers.{IsReadBy, one_request, reads_are_of_the_told_version}
 use Rattle.laws_base.proofs.RequestsOnce.{numbered_reached, requests_are_numbered_once}
-use Rattle.laws_entries.specs.AnsweredAttempts.{IsFinal}
-use Rattle.laws_entries.specs.PlacedEntries.{LiesWithin}
-use Rattle.laws_entries.specs.SettledEntries.{HasSettledEntry}
-use Rattle.laws_entries.specs.WaitedRounds.{waits_at, waited}
-use Rattle.laws_entries.proofs.AnsweredAttempts.{answers_known}
-use Rattle.laws_entries.proofs.UsedAnswers.{IsReading as IsReadingUnder}
-use Rattle.laws_entries.proofs.SettledEntries.{noted_successes_have_entries}
-use Rattle.laws_entries.proofs.Within.{entries_lie_within_the_chunk}
-use Rattle.laws_calls.specs.ToldIndexes.{IsAskFor, has_index}
-use Rattle.laws_calls.proofs.AskedIndexes.{asks_are_for_the_part_in_hand}
-use Rattle.laws_calls.proofs.CallWalk.{IsOfPart, StandsAt}
-use Rattle.laws_calls.proofs.UsedIndexes.{Fits, AnyCall, Pushed, Asking, AnyReply, fitting_reached, used_was_told}
+use Rattle.laws_base.specs.AnsweredAttempts.{IsFinal}
+use Rattle.laws_base.specs.PlacedEntries.{LiesWithin}
+use Rattle.laws_base.specs.SettledEntries.{HasSettledEntry}
+use Rattle.laws_base.specs.WaitedRounds.{waits_at, waited}
+use Rattle.laws_base.proofs.AnsweredAttempts.{answers_known}
+use Rattle.laws_base.proofs.UsedAnswers.{IsReading as IsReadingUnder}
+use Rattle.laws_base.proofs.SettledEntries.{noted_successes_have_entries}
+use Rattle.laws_base.proofs.Within.{entries_lie_within_the_chunk}
+use Rattle.laws_machine.specs.ToldIndexes.{IsAskFor, has_index}
+use Rattle.laws_machine.proofs.AskedIndexes.{asks_are_for_the_part_in_hand}
+use Rattle.laws_machine.proofs.CallWalk.{IsOfPart, StandsAt}
+use Rattle.laws_machine.proofs.UsedIndexes.{Fits, AnyCall, Pushed, Asking, AnyReply, fitting_reached, used_was_told}
 use Rattle.laws_machine.specs.ChunksAlike.{ChunkSides}
 use Rattle.laws_machine.specs.ChunkReadings.{IsReadAs}
 use Rattle.laws_machine.specs.ChunksBeside.{AreChunksBeside}

@@ -43,8 +43,8 @@ use Rattle.laws_base.proofs.ClientReads.{stepped, called}
 use Rattle.laws_base.proofs.ClientWalk.{IsIdle, KeepsClient, HoldsAt, step_kept, call_kept}
 use Rattle.laws_base.proofs.Events.{HoldsAfter, holds_after}
 use Rattle.laws_base.proofs.RequestsOnce.{AreNumbered, each_event, numbered_reached}
-use Rattle.laws_entries.specs.Entries.{IsPushed}
-use Rattle.laws_calls.proofs.LaterCalls.{pushed_later, one_message}
+use Rattle.laws_base.specs.Entries.{IsPushed}
+use Rattle.laws_machine.proofs.LaterCalls.{pushed_later, one_message}
 
 -- the client asked now to place the data that it had pushed
 pub record IsMutateNow (s : ClientState) (o : Option CurrentCall) (id : DataId) (handle : Handle) (version : Version) (aim : Target) : Type 0 where

@@ -29,7 +29,7 @@ use Rattle.laws_base.proofs.Entries.{AllOf}
 use Rattle.laws_base.proofs.MembersRecorded.{all_at}
 use Rattle.laws_base.proofs.MessagesSent.{IsSent}
 use Rattle.laws_base.proofs.RisingOrders.{element_numbered}
-use Rattle.laws_entries.proofs.Placing.{same_calls}
+use Rattle.laws_base.proofs.Placing.{same_calls}
 use Rattle.laws_base.specs.Reads.{is_answer}
 use Rattle.laws_base.proofs.ReadAnswers.{IsReadBy}
 use Rattle.laws_base.proofs.ServerTalks.{is_quiet, Talks, step_said}

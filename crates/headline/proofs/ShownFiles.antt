@@ -18,7 +18,7 @@ use Rattle.protocol.specs.Observer.{Placed, entries_of}
 use Rattle.protocol.specs.Conforms.{IsSelected}
 use Rattle.protocol.specs.World.{WorldState, new_world, IsReached, is_kept}
 use Rattle.laws_base.proofs.Steps.{none_some, same_some}
-use Rattle.laws_calls.proofs.OpenEntries.{config_stays}
+use Rattle.laws_machine.proofs.OpenEntries.{config_stays}
 use Rattle.laws_versions.proofs.KeptDisks.{stored_as_long}
 use Rattle.laws_versions.proofs.Selections.{replicas_are_selections}
 use Rattle.protocol.specs.Each.{EachEntry, EachPlace}

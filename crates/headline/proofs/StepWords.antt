@@ -35,7 +35,7 @@ use Rattle.laws_versions.proofs.CopiedSources.{asked_or_not}
 use Rattle.laws_versions.proofs.ExtendLaws.{new_one, none_before}
 use Rattle.laws_versions.proofs.UnaskedSteps.{IsUnasked, IsNoAsk}
 use Rattle.laws_base.proofs.MasterPremises.{IsTakenAsk, IsAsk}
-use Rattle.laws_calls.proofs.MasterRefusals.{is_no_answer, master_refuses_asks}
+use Rattle.laws_machine.proofs.MasterRefusals.{is_no_answer, master_refuses_asks}
 use Rattle.laws_machine.specs.Rounds.{IsMastersInput}
 use Rattle.headline.proofs.AskedWords.{IsToldIn, IsRefusedIn, IsAnsweredBy, Fine, asked, ready}
 

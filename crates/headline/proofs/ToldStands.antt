@@ -38,7 +38,7 @@ use Rattle.laws_base.proofs.Events.{IsGiven, HoldsAfter, holds_after}
 use Rattle.laws_base.proofs.Histories.{IsGrown, steps_grown}
 use Rattle.laws_base.proofs.LeasesStayOver.{reached_later}
 use Rattle.laws_base.proofs.RequestsOnce.{AreNumbered, numbered_reached, requests_are_numbered_once}
-use Rattle.laws_entries.proofs.Deadlines.{same_counted}
+use Rattle.laws_base.proofs.Deadlines.{same_counted}
 use Rattle.laws_versions.proofs.AskedSteps.{StandsAt}
 use Rattle.laws_base.proofs.MasterPremises.{IsAsk}
 use Rattle.laws_versions.proofs.CopiedSources.{IsSilent, asked_or_not, unasked_step, free_reached}

@@ -19,15 +19,15 @@ use Rattle.protocol.specs.World.{WorldState, new_world, happens, after_events}
 use Rattle.laws_base.specs.FewAttempts.{EachOf, AreApart}
 use Rattle.laws_base.proofs.Events.{holds_after}
 use Rattle.laws_base.proofs.Histories.{IsGrown, step_grown}
-use Rattle.laws_entries.specs.ChunkOrders.{unsettled}
-use Rattle.laws_entries.specs.Entries.{IsAskedFor}
-use Rattle.laws_entries.specs.FullChunks.{IsPad}
-use Rattle.laws_entries.proofs.RoundsPassed.{server_shown}
-use Rattle.laws_entries.proofs.UsedNumbers.{IsUsed, entries_are_used, used_not_new}
+use Rattle.laws_base.specs.ChunkOrders.{unsettled}
+use Rattle.laws_base.specs.Entries.{IsAskedFor}
+use Rattle.laws_base.specs.FullChunks.{IsPad}
+use Rattle.laws_base.proofs.RoundsPassed.{server_shown}
+use Rattle.laws_base.proofs.UsedNumbers.{IsUsed, entries_are_used, used_not_new}
 use Rattle.laws_versions.proofs.Images.{numbered_there}
 use Rattle.laws_versions.proofs.OrdersGrow.{HaveGrown, orders_grow}
-use Rattle.laws_calls.specs.AnsweredWrites.{IsToldChunk}
-use Rattle.laws_calls.proofs.LaterCalls.{calls_passed, among_later}
+use Rattle.laws_machine.specs.AnsweredWrites.{IsToldChunk}
+use Rattle.laws_machine.proofs.LaterCalls.{calls_passed, among_later}
 use Rattle.protocol_invariant.specs.Actions.{Spot}
 use Rattle.laws_machine.specs.ChunksAlike.{ChunkSides}
 use Rattle.laws_machine.specs.ChunksBeside.{AreChunksBeside}

@@ -16,7 +16,7 @@ use Rattle.protocol.specs.Tables.{element_at}
 use Rattle.protocol.specs.Choice.{Choice}
 use Rattle.protocol.specs.World.{WorldState, happens, IsReached, is_kept}
 use Rattle.laws_base.specs.Reads.{IsTold}
-use Rattle.laws_entries.specs.Entries.{IsPushed}
+use Rattle.laws_base.specs.Entries.{IsPushed}
 use Rattle.laws_machine.specs.ChunksAlike.{ChunkSides}
 use Rattle.laws_machine.specs.ChunksBeside.{AreChunksBeside}
 use Rattle.laws_machine.specs.WholeWorlds.{AreFileClients, IsServersEvent, AreAnswersSo}

@@ -27,7 +27,7 @@ use Rattle.protocol.specs.Observer.{Placed}
 use Rattle.protocol.specs.Master.{MasterState, PendingSnapshot}
 use Rattle.protocol.specs.MasterStep.{master_goes}
 use Rattle.protocol.specs.World.{WorldState, IsReached}
-use Rattle.laws_entries.specs.Entries.{IsAmong}
+use Rattle.laws_base.specs.Entries.{IsAmong}
 use Rattle.laws_machine.specs.ChunksAlike.{ChunkSides}
 use Rattle.laws_machine.specs.SentRequests.{IsAskOf}
 use Rattle.laws_machine.specs.WholeSteps.{AreAskedFor, IsNoAskIn}

@@ -6,7 +6,7 @@ use Rattle.gfs_types.specs.declared.ids.Node.{Node}
 use Rattle.gfs_types.specs.declared.ids.Node.TheVariants as node
 use Rattle.protocol_journal.specs.Journal.{StepCause, Calls, Entry}
 use Rattle.cell_seats.specs.Journals.{JournalState}
-use Rattle.call_lines.specs.CallLines.{asked_line, answered_line}
+use Rattle.script.specs.CallLines.{asked_line, answered_line}
 use Rattle.cell_looks.specs.Looks.{IsPartial}
 use Rattle.history_lines.specs.declared.history_fault.HistoryFault.{HistoryFault}
 use Rattle.history_lines.specs.declared.history_fault.HistoryFault.TheVariants as fault

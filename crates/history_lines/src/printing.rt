@@ -11,13 +11,13 @@ ghost use Rattle.gfs_types.specs.declared.ids.Node.TheVariants.{Client};
 ghost use Rattle.history_lines.specs.HistoryLines.{asked_by, answered_by, entry_lines, history_lines, IsHistoryFault};
 
 use crate::history_fault::HistoryFault;
-use call_lines::{AnsweredLine, AskedLine};
 use cell_journal::closed_history::ClosedHistory;
 use cell_journal::journal_entry::{JournalEntry, StepCause};
 use cell_looks::journals::journals_of;
 use cell_seats::journal::Journal;
 use gfs_types::answer::Answer;
 use gfs_types::ids::{ClientId, Moment, Node};
+use script::call_lines::{AnsweredLine, AskedLine};
 use std::alloc::Global;
 use std::fmt;
 use std::io::Write;

@@ -54,7 +54,7 @@ use Rattle.laws_machine.proofs.Sides.{gone_or_there}
 use Rattle.laws_machine.proofs.OpenRounds.{chunks_of_one_owner_stand_once, ungranted_is_over}
 use Rattle.laws_machine.specs.Rounds.{IsLogOf, IsMastersStep, IsTried, IsCopied, IsCopy, IsBegun, IsShared, IsEnded, SentGrantsAreOpen, EachEventKeepsRounds, OtherEventsKeepRounds, SharedChunksInEachLogHaveNoLease, LeasedChunksStandOnce, OpenRoundsHaveOneSpot, EndedRoundsAreOver}
 use Rattle.laws_machine.proofs.Decided.{decided_world, over_in, counted_in_each}
-use Rattle.laws_entries.proofs.SentGrants.{counted_one}
+use Rattle.laws_base.proofs.SentGrants.{counted_one}
 
 -- shared chunks, in each log
 

@@ -31,7 +31,7 @@ use Rattle.laws_machine.specs.FileClients.{id_of, IsKeptNote, IsDoneSoFar, IsCal
 use Rattle.laws_machine.specs.FileCallsBegin.{FileCallsAreBegun}
 use Rattle.laws_machine.proofs.ClientCaches.{kept_since}
 use Rattle.laws_machine.proofs.MachineSteps.{in_client}
-use Rattle.laws_calls.proofs.Parts.{none_below, first_there, none_of_nothing}
+use Rattle.laws_machine.proofs.Parts.{none_below, first_there, none_of_nothing}
 use Rattle.laws_machine.proofs.UnusedNumbers.{none_placed}
 use Rattle.laws_machine.proofs.FileWalk.{Hand, ends_call, attempts_done, appended_hand, open_size, closed_made}
 use Rattle.gfs_types.specs.declared.shape.Shape.{Shape}

@@ -44,7 +44,7 @@ use Rattle.laws_names.specs.FollowedClients.{answer_shown}
 use Rattle.laws_machine.specs.FileClients.{id_of, IsKeptNote, AreOfPlaces, IsReadSoFar, IsDoneSoFar, IsNotedChunk, IsLasting, IsStageAt, IsFileClient, IsElsewhereSame, IsFollowed, IsPartSettled, AreOpenAsMade}
 use Rattle.laws_machine.proofs.ClientCaches.{all_of, dropped, looked_into, places_after_drop, places_after_look, kept_since}
 use Rattle.laws_machine.proofs.ReadPieces.{flat_last, filter_last, IsLast, pieces_end, pieces_grow}
-use Rattle.laws_calls.proofs.Parts.{none_below, none_beyond}
+use Rattle.laws_machine.proofs.Parts.{none_below, none_beyond}
 use Rattle.laws_machine.specs.ToldShapes.{IsMadeWith}
 use Rattle.gfs_types.specs.declared.shape.Shape.{Shape}
 use Rattle.client_state.specs.declared.kept.OpenFile.{OpenFile}

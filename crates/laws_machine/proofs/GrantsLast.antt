@@ -51,7 +51,7 @@ use Rattle.laws_base.proofs.EndedLeases.{attempted_chunks_have_no_lease}
 use Rattle.laws_versions.proofs.AttemptedNumbers.{attempts_are_of_the_last_version}
 use Rattle.laws_versions.proofs.AskedSteps.{IsNoGrant}
 use Rattle.laws_versions.proofs.CopiedSources.{asked_or_not, unasked_step, asked_step, free_reached, copied_chunks_have_no_lease}
-use Rattle.laws_calls.proofs.OpenEntries.{config_stays}
+use Rattle.laws_machine.proofs.OpenEntries.{config_stays}
 use Rattle.laws_machine.specs.ChunkRecords.{StandsIn}
 use Rattle.laws_machine.specs.MasterSteps.{EndsAt, EndsAtChange}
 use Rattle.laws_machine.specs.WholeSteps.{EndsAlong}

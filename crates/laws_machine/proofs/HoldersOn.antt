@@ -27,11 +27,11 @@ use Rattle.laws_base.proofs.Events.{HoldsAfter, holds_after}
 use Rattle.laws_base.proofs.Histories.{IsGrown, step_grown, stood_before}
 use Rattle.laws_base.proofs.LeasesStayOver.{reached_later, leases_stay_over}
 use Rattle.laws_base.proofs.RequestsOnce.{AreNumbered, numbered_reached, requests_are_numbered_once}
-use Rattle.laws_entries.proofs.Deadlines.{same_counted}
+use Rattle.laws_base.proofs.Deadlines.{same_counted}
 use Rattle.laws_versions.proofs.ExtendLaws.{restart_silent, none_before}
 use Rattle.laws_versions.proofs.ToldAnswers.{TellsNone, server_tells, restart_tells, client_tells, none_new}
-use Rattle.laws_calls.specs.ToldIndexes.{IsAskOf}
-use Rattle.laws_calls.proofs.Answerers.{locations_answer_their_ask}
+use Rattle.laws_machine.specs.ToldIndexes.{IsAskOf}
+use Rattle.laws_machine.proofs.Answerers.{locations_answer_their_ask}
 use Rattle.laws_machine.specs.ChunksAlike.{ChunkSides}
 use Rattle.laws_machine.specs.Rounds.{IsMastersStep}
 use Rattle.laws_machine.specs.HoldersApart.{KeepsStanding}

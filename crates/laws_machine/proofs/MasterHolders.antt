@@ -27,8 +27,8 @@ use Rattle.laws_base.specs.Reads.{IsTold}
 use Rattle.laws_base.specs.Versions.{IsLeaseOver}
 use Rattle.laws_base.proofs.Events.{IsGiven, HoldsAfter, holds_after}
 use Rattle.laws_base.proofs.MasterTalks.{restart_shown}
-use Rattle.laws_entries.proofs.Numbering.{restarted_shown}
-use Rattle.laws_entries.proofs.Placing.{same_orders}
+use Rattle.laws_base.proofs.Numbering.{restarted_shown}
+use Rattle.laws_base.proofs.Placing.{same_orders}
 use Rattle.laws_versions.proofs.StillOrders.{used_still}
 use Rattle.laws_machine.specs.ChunksAlike.{ChunkSides, entries_in}
 use Rattle.laws_machine.specs.Rounds.{IsLogOf}

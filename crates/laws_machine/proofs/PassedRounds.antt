@@ -29,8 +29,8 @@ use Rattle.laws_base.proofs.Events.{HoldsAfter, holds_after}
 use Rattle.laws_base.proofs.LeasesStayOver.{reached_later, over_later}
 use Rattle.laws_base.proofs.WaitsKept.{IsOfWaits, waits_kept}
 use Rattle.laws_base.proofs.IssuedNumbers.{IsPassed, IsLogPassed, passed_same}
-use Rattle.laws_entries.proofs.GrantsFollow.{GrantsAbove, HasPassed, step_passed, restart_passed}
-use Rattle.laws_entries.proofs.SentGrants.{above_grants}
+use Rattle.laws_base.proofs.GrantsFollow.{GrantsAbove, HasPassed, step_passed, restart_passed}
+use Rattle.laws_base.proofs.SentGrants.{above_grants}
 use Rattle.laws_versions.proofs.ClosedVersions.{clocks_before}
 use Rattle.laws_versions.proofs.ExtendLaws.{restart_silent}
 use Rattle.laws_versions.proofs.SharedChunks.{quiet_sent}

@@ -23,7 +23,7 @@ use Rattle.laws_base.specs.Versions.{IsLeaseOver}
 use Rattle.laws_base.proofs.Events.{holds_after}
 use Rattle.laws_base.proofs.Histories.{step_grown}
 use Rattle.laws_base.proofs.LeasesStayOver.{reached_later, leases_stay_over}
-use Rattle.laws_entries.proofs.Deadlines.{same_counted}
+use Rattle.laws_base.proofs.Deadlines.{same_counted}
 use Rattle.laws_versions.proofs.AnsweredOrders.{placed_later}
 use Rattle.laws_versions.proofs.RowSizes.{size_counts}
 use Rattle.laws_machine.specs.ChunksAlike.{ChunkSides, StandsAt, StoodAt, IsRoundOpen, AreChunksAlike}

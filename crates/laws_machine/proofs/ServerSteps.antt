@@ -42,16 +42,16 @@ use Rattle.laws_base.proofs.MasterTalks.{restart_shown}
 use Rattle.laws_base.proofs.Events.{HoldsAfter, holds_after}
 use Rattle.machine_names.specs.NameProjections.{AreNamesOf}
 use Rattle.machine_names.proofs.Chunks.{chunk_actions_keep_names}
-use Rattle.laws_entries.specs.Entries.{IsAmong, IsPushed, IsAskedFor}
-use Rattle.laws_entries.specs.CountedSerials.{serials_of}
-use Rattle.laws_entries.specs.Deadlines.{Numbers}
-use Rattle.laws_entries.proofs.Placing.{all_placed, same_calls, same_orders}
-use Rattle.laws_entries.proofs.Numbering.{restarted_shown}
-use Rattle.laws_entries.proofs.Stemming.{came_in, numbered_mutations_were_asked_for}
-use Rattle.laws_entries.proofs.KnownNumbers.{primary_there}
-use Rattle.laws_entries.proofs.RoundsPassed.{IsOfServers, server_shown}
-use Rattle.laws_entries.proofs.OnceShown.{NumbersNone, NumbersOnce, step_once}
-use Rattle.laws_entries.proofs.CountedRounds.{leases_count_their_serials, serials_have_one_entry}
+use Rattle.laws_base.specs.Entries.{IsAmong, IsPushed, IsAskedFor}
+use Rattle.laws_base.specs.CountedSerials.{serials_of}
+use Rattle.laws_base.specs.Deadlines.{Numbers}
+use Rattle.laws_base.proofs.Placing.{all_placed, same_calls, same_orders}
+use Rattle.laws_base.proofs.Numbering.{restarted_shown}
+use Rattle.laws_base.proofs.Stemming.{came_in, numbered_mutations_were_asked_for}
+use Rattle.laws_base.proofs.KnownNumbers.{primary_there}
+use Rattle.laws_base.proofs.RoundsPassed.{IsOfServers, server_shown}
+use Rattle.laws_base.proofs.OnceShown.{NumbersNone, NumbersOnce, step_once}
+use Rattle.laws_base.proofs.CountedRounds.{leases_count_their_serials, serials_have_one_entry}
 use Rattle.laws_versions.specs.LawfulOrders.{IsMadeOf, MayFollow, open_chunk}
 use Rattle.laws_versions.specs.WaitingMutations.{IsAcknowledgedByAll}
 use Rattle.laws_versions.proofs.Acknowledging.{settled_mutations_were_acknowledged}

@@ -12,7 +12,7 @@ use Rattle.protocol.specs.Observer.{Placed, placed_in, is_placed_as, settled_as,
 use Rattle.laws_base.proofs.Steps.{on_cond, none_some, same_some, same_or_not, put_there, put_other}
 use Rattle.laws_base.proofs.Entries.{AllOf}
 use Rattle.laws_base.proofs.MembersRecorded.{kept_place}
-use Rattle.laws_entries.specs.CountedSerials.{serials_of}
+use Rattle.laws_base.specs.CountedSerials.{serials_of}
 use Rattle.protocol_invariant.specs.Actions.{Spot}
 use Rattle.laws_machine.specs.ChunksAlike.{ChunkSides, IsRoundOpen, AreChunksAlike, NoneEnds, KeepsRounds, moved, Follows, StoodAt, chunk_in, entries_in}
 use Rattle.laws_machine.specs.EntrySteps.{StandsNowhereElse, IsOnlyPlace}

@@ -29,14 +29,14 @@ use Rattle.laws_base.proofs.Histories.{IsGrown, step_grown, stood_before}
 use Rattle.laws_base.proofs.EndedLeases.{over_leases_number_nothing}
 use Rattle.laws_base.proofs.LeasesStayOver.{reached_later}
 use Rattle.laws_base.proofs.RequestsOnce.{requests_are_numbered_once}
-use Rattle.laws_entries.proofs.Deadlines.{same_counted}
-use Rattle.laws_entries.proofs.GrantsFollow.{HasPassed}
+use Rattle.laws_base.proofs.Deadlines.{same_counted}
+use Rattle.laws_base.proofs.GrantsFollow.{HasPassed}
 use Rattle.laws_versions.specs.ReplacedChunks.{IsToldAt}
 use Rattle.laws_versions.proofs.AskedSteps.{IsToldOf}
 use Rattle.laws_versions.proofs.ClosedVersions.{clocks_before}
 use Rattle.laws_versions.proofs.ToldAnswers.{told_now}
-use Rattle.laws_calls.specs.ToldIndexes.{IsAskOf}
-use Rattle.laws_calls.proofs.Answerers.{locations_answer_their_ask}
+use Rattle.laws_machine.specs.ToldIndexes.{IsAskOf}
+use Rattle.laws_machine.proofs.Answerers.{locations_answer_their_ask}
 use Rattle.protocol_invariant.specs.Actions.{Spot}
 use Rattle.laws_machine.specs.ChunksAlike.{ChunkSides, StandsAt, IsRoundOpen, AreChunksAlike, KeepsRounds, HasRounds}
 use Rattle.laws_machine.proofs.OpenRounds.{rounds_are_open_at_their_place, ungranted_is_over}

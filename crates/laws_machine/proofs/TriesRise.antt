@@ -12,7 +12,7 @@ use Rattle.relaxed_file.specs.Run.{Place, Settle, after}
 use Rattle.relaxed_file.proofs.Successes.{same_id}
 use Rattle.relaxed_file.proofs.Tables.{put_look, at_some}
 use Rattle.relaxed_file.proofs.Tries.{is_try, one_try, tries_cons, tries_push}
-use Rattle.laws_entries.specs.FullChunks.{IsPad}
+use Rattle.laws_base.specs.FullChunks.{IsPad}
 use Rattle.protocol_invariant.specs.Actions.{Spot}
 use Rattle.laws_machine.specs.ChunksAlike.{ChunkSides, chunk_in}
 use Rattle.protocol.specs.World.{WorldState}

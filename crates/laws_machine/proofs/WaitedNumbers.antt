@@ -38,8 +38,8 @@ use Rattle.laws_base.proofs.ClientReads.{stepped, called}
 use Rattle.laws_base.proofs.ClientWalk.{IsIdle, KeepsClient, HoldsAt, step_kept, call_kept}
 use Rattle.laws_base.proofs.Events.{HoldsAfter, holds_after, with_call, with_rot, rot_of}
 use Rattle.laws_base.proofs.RequestsOnce.{AreNumbered, each_event, numbered_reached, from_itself}
-use Rattle.laws_entries.specs.WaitedRounds.{waits_at, waited}
-use Rattle.laws_calls.proofs.LaterCalls.{calls_joined, calls_passed, calls_answered, put_at}
+use Rattle.laws_base.specs.WaitedRounds.{waits_at, waited}
+use Rattle.laws_machine.proofs.LaterCalls.{calls_joined, calls_passed, calls_answered, put_at}
 use Rattle.laws_machine.specs.WaitedNumbers.{WaitedNumbersAreOfTheOpenCall}
 
 -- whether this is the client's Mutate of the number

@@ -24,12 +24,12 @@ use Rattle.protocol.specs.Observer.{Placed, order_of}
 use Rattle.protocol.specs.World.{WorldState, new_world, after_events}
 use Rattle.laws_base.proofs.Steps.{on_cond, none_some, same_some}
 use Rattle.laws_machine.specs.ChunksAlike.{ChunkSides, entries_in}
-use Rattle.laws_calls.specs.ToldIndexes.{has_index}
-use Rattle.laws_entries.specs.WaitedRounds.{waits_at, waited}
-use Rattle.laws_entries.specs.SettledEntries.{HasSettledEntry}
+use Rattle.laws_machine.specs.ToldIndexes.{has_index}
+use Rattle.laws_base.specs.WaitedRounds.{waits_at, waited}
+use Rattle.laws_base.specs.SettledEntries.{HasSettledEntry}
 use Rattle.primary_order.specs.PrimaryOrder.{place_of}
-use Rattle.laws_entries.proofs.SettledEntries.{noted_successes_have_entries}
-use Rattle.laws_calls.proofs.OpenEntries.{entries_were_asked_for_in_their_call}
+use Rattle.laws_base.proofs.SettledEntries.{noted_successes_have_entries}
+use Rattle.laws_machine.proofs.OpenEntries.{entries_were_asked_for_in_their_call}
 use Rattle.laws_machine.specs.FileClients.{id_of, IsWithinPlaces, IsPartSettled}
 use Rattle.laws_machine.specs.FileAnswers.{IsOfPart}
 use Rattle.laws_machine.specs.WaitedSuccesses.{WaitsForDone, HasTheCall, WaitedSuccessesAreSettled}

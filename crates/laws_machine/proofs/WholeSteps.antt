@@ -27,7 +27,7 @@ use Rattle.laws_names.specs.Alike.{Requests}
 use Rattle.laws_names.specs.Names.{HasNamesOf, record_of}
 use Rattle.laws_names.specs.NameTrails.{log_read, IsRefusal, IsActionOf, IsChunkRecord, IsChangeOf, NameTrail}
 use Rattle.laws_names.proofs.FollowedStepsReached.{steps_go_by_records}
-use Rattle.laws_entries.proofs.RoundsPassed.{rounds_of_entries_were_issued}
+use Rattle.laws_base.proofs.RoundsPassed.{rounds_of_entries_were_issued}
 use Rattle.protocol_invariant.specs.Actions.{Spot}
 use Rattle.laws_machine.specs.ChunksAlike.{ChunkSides, entries_in}
 use Rattle.laws_machine.specs.MasterSteps.{IsWhole, IsDueAt, MayBeGranted, HasFilesOf, AreChangesDue}

@@ -32,3 +32,14 @@ pub mod WaitedSuccesses
 pub mod WholeClients
 pub mod WholeSteps
 pub mod WholeWorlds
+pub mod CallSteps
+pub mod OpenAttempts
+pub mod PassedAttempts
+pub mod OpenCalls
+pub mod AnsweredWrites
+pub mod BoundedCalls
+pub mod ToldIndexes
+pub mod RefusedAsks
+pub mod EarlierParts
+pub mod FullBefore
+pub mod OrderedHolders

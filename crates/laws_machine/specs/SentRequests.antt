@@ -31,9 +31,9 @@ use Rattle.protocol.specs.Client.{ClientState}
 use Rattle.protocol.specs.Observer.{Placed, order_of, calls_made}
 use Rattle.protocol.specs.World.{WorldState, new_world, after_events}
 use Rattle.laws_base.specs.FewAttempts.{WasAsked, part_of, EachOf, AreApart}
-use Rattle.laws_entries.specs.Entries.{IsAmong, IsPushed}
-use Rattle.laws_entries.specs.FullChunks.{IsPad}
-use Rattle.laws_calls.specs.AnsweredWrites.{IsToldChunk}
+use Rattle.laws_base.specs.Entries.{IsAmong, IsPushed}
+use Rattle.laws_base.specs.FullChunks.{IsPad}
+use Rattle.laws_machine.specs.AnsweredWrites.{IsToldChunk}
 use Rattle.laws_machine.specs.ServerSteps.{AreDataOf}
 
 -- The client made this call on the file, under this number.

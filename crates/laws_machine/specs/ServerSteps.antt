@@ -22,8 +22,8 @@ use Rattle.protocol.specs.Tables.{Table}
 use Rattle.protocol.specs.Observer.{Placed, observed_moment, calls_made}
 use Rattle.protocol.specs.Server.{ServerState}
 use Rattle.protocol.specs.World.{WorldState, happens, IsReached, is_kept}
-use Rattle.laws_entries.specs.Entries.{IsPushed}
-use Rattle.laws_entries.specs.Deadlines.{Numbers}
+use Rattle.laws_base.specs.Entries.{IsPushed}
+use Rattle.laws_base.specs.Deadlines.{Numbers}
 use Rattle.laws_base.specs.Versions.{IsLeaseOver}
 use Rattle.protocol_invariant.specs.Actions.{Spot}
 use Rattle.laws_machine.specs.ChunksAlike.{ChunkSides, IsRoundOpen, AreChunksAlike, NoneEnds, HasRounds, moved, Follows, StoodAt, chunk_in, entries_in}

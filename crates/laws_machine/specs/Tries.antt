@@ -13,8 +13,8 @@ use Rattle.protocol.specs.Observer.{observed_moment, calls_made}
 use Rattle.protocol.specs.Server.{ServerState}
 use Rattle.protocol.specs.ServerStep.{server_step}
 use Rattle.protocol.specs.World.{WorldState, after_server}
-use Rattle.laws_entries.specs.Deadlines.{Numbers}
-use Rattle.laws_entries.specs.FullChunks.{IsPad}
+use Rattle.laws_base.specs.Deadlines.{Numbers}
+use Rattle.laws_base.specs.FullChunks.{IsPad}
 use Rattle.protocol_invariant.specs.Actions.{Spot}
 use Rattle.laws_machine.specs.ChunksAlike.{ChunkSides, IsRoundOpen, chunk_in}
 

@@ -9,7 +9,7 @@ use Rattle.protocol.specs.Client.{ClientState}
 use Rattle.protocol.specs.Observer.{calls_made}
 use Rattle.protocol.specs.World.{new_world, after_events}
 use Rattle.laws_base.specs.FewAttempts.{WasAsked}
-use Rattle.laws_entries.specs.WaitedRounds.{waited}
+use Rattle.laws_base.specs.WaitedRounds.{waited}
 
 -- A number for whose data it waits was used to ask for a place in the call that is open, and in no call before.
 abbrev pub WaitedNumbersAreOfTheOpenCall : Type 0

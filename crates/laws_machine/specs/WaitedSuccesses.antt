@@ -16,7 +16,7 @@ use Rattle.protocol.specs.Client.{ClientState}
 use Rattle.protocol.specs.Observer.{calls_made}
 use Rattle.protocol.specs.World.{WorldState, new_world, after_events}
 use Rattle.laws_machine.specs.ChunksAlike.{ChunkSides}
-use Rattle.laws_calls.specs.ToldIndexes.{has_index}
+use Rattle.laws_machine.specs.ToldIndexes.{has_index}
 use Rattle.laws_machine.specs.FileClients.{id_of, IsFileCall, IsWithinPlaces, IsPartSettled}
 use Rattle.laws_machine.specs.HoldersApart.{StandsUpTo}
 

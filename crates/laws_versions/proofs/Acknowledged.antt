@@ -34,8 +34,8 @@ use Rattle.laws_base.proofs.RequestsOnce.{numbered_reached}
 use Rattle.laws_base.proofs.LeasesStayOver.{reached_later}
 use Rattle.laws_base.proofs.MasterTalks.{master_said, restart_said}
 use Rattle.laws_base.specs.Given.{version_given}
-use Rattle.laws_entries.proofs.CountedRounds.{set_split}
-use Rattle.laws_entries.proofs.Forwards.{acked_serials_are_applied}
+use Rattle.laws_base.proofs.CountedRounds.{set_split}
+use Rattle.laws_base.proofs.Forwards.{acked_serials_are_applied}
 use Rattle.laws_versions.specs.ClonedVersions.{version_copied}
 use Rattle.laws_versions.specs.TakenOrders.{WasTaken}
 use Rattle.laws_versions.proofs.TakenOrders.{ordered_later, ordered_more, replicas_are_of_taken_orders}

@@ -31,7 +31,7 @@ use Rattle.laws_base.proofs.ClientNumbers.{of_step, of_call}
 use Rattle.laws_base.proofs.RequestsOnce.{numbered_reached}
 use Rattle.laws_base.proofs.MasterTalks.{master_said, restart_said}
 use Rattle.laws_base.proofs.LeasesStayOver.{reached_later}
-use Rattle.laws_entries.proofs.Stemming.{came_in}
+use Rattle.laws_base.proofs.Stemming.{came_in}
 use Rattle.laws_versions.proofs.AnsweredOrders.{server_id_is}
 use Rattle.laws_versions.specs.WaitingMutations.{HasAcked, WaitingMutationsCountAcknowledgements, SettledMutationsWereAcknowledged}
 use Rattle.laws_versions.proofs.AckedWords.{IsNoAcked, no_acked, masters_none, client_none, restarted_none, server_sender}

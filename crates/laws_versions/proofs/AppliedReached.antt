@@ -44,10 +44,10 @@ use Rattle.laws_base.proofs.RequestsOnce.{numbered_reached}
 use Rattle.laws_base.proofs.LeasesStayOver.{reached_later}
 use Rattle.laws_base.proofs.MasterTalks.{is_masters, master_said, restart_said}
 use Rattle.laws_versions.proofs.Rising.{orders_rise}
-use Rattle.laws_entries.proofs.Within.{entries_lie_within_the_chunk}
-use Rattle.laws_entries.proofs.RoundsPassed.{server_shown}
-use Rattle.laws_entries.proofs.CountedRounds.{set_split, comes_in}
-use Rattle.laws_entries.proofs.Forwards.{images_are_of_replicas}
+use Rattle.laws_base.proofs.Within.{entries_lie_within_the_chunk}
+use Rattle.laws_base.proofs.RoundsPassed.{server_shown}
+use Rattle.laws_base.proofs.CountedRounds.{set_split, comes_in}
+use Rattle.laws_base.proofs.Forwards.{images_are_of_replicas}
 use Rattle.laws_versions.proofs.KeptDisks.{none_more, answered_notes, replicas_are_read_as_stored}
 use Rattle.laws_versions.proofs.StoredChunks.{own_stored}
 use Rattle.laws_versions.specs.CopiedEntries.{Follows}

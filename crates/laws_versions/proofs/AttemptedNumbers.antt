@@ -44,7 +44,7 @@ use Rattle.laws_base.proofs.RowsKept.{rows_kept}
 use Rattle.laws_base.proofs.RowsLogged.{IsFoundRows, IsRowedLog}
 use Rattle.laws_base.proofs.Awaited.{Attempts}
 use Rattle.laws_base.proofs.Events.{HoldsAfter}
-use Rattle.laws_entries.proofs.RisingRounds.{held_reached}
+use Rattle.laws_base.proofs.RisingRounds.{held_reached}
 use Rattle.laws_versions.proofs.UnaskedSteps.{IsOfNames, KeepsNames, KeepsReports, ready, does_kept}
 use Rattle.laws_base.proofs.MasterPremises.{IsAsk}
 use Rattle.laws_versions.proofs.CopiedSources.{asked_or_not}

@@ -40,8 +40,8 @@ use Rattle.laws_base.proofs.SentReached.{without_order, server_quiet, server_res
 use Rattle.laws_base.proofs.GrantedIssued.{granted_is_at_most_issued}
 use Rattle.laws_base.proofs.EndedLeases.{over_leases_number_nothing}
 use Rattle.laws_base.proofs.LeasesStayOver.{reached_later}
-use Rattle.laws_entries.specs.Entries.{IsAmong}
-use Rattle.laws_entries.proofs.Stemming.{came_in}
+use Rattle.laws_base.specs.Entries.{IsAmong}
+use Rattle.laws_base.proofs.Stemming.{came_in}
 use Rattle.laws_base.proofs.IssuedNumbers.{IsPassed, IsLogPassed}
 use Rattle.laws_base.proofs.WaitsKept.{IsOfWaits, waits_kept}
 use Rattle.laws_base.proofs.Events.{with_call, HoldsAfter, holds_after}
@@ -52,13 +52,13 @@ use Rattle.laws_versions.specs.ToldVersions.{WasOrdered}
 use Rattle.laws_versions.proofs.ToldVersions.{holders_were_ordered}
 use Rattle.laws_versions.proofs.ClonedVersions.{IsShutIn, sent_of_cloned, shut_later, clones_shut}
 use Rattle.laws_base.proofs.MasterTalks.{restart_shown}
-use Rattle.laws_entries.specs.ChunkOrders.{unsettled}
-use Rattle.laws_entries.proofs.Placing.{all_placed, same_orders}
-use Rattle.laws_entries.proofs.Numbering.{restarted_shown}
-use Rattle.laws_entries.proofs.CopiesBegun.{passed_lower, step_shows}
-use Rattle.laws_entries.proofs.RoundsPassed.{IsOfServers, server_shown}
-use Rattle.laws_entries.proofs.OrderedOrders.{settled_same}
-use Rattle.laws_entries.proofs.RisingRounds.{restart_silent, IsUnderLease, under_lease}
+use Rattle.laws_base.specs.ChunkOrders.{unsettled}
+use Rattle.laws_base.proofs.Placing.{all_placed, same_orders}
+use Rattle.laws_base.proofs.Numbering.{restarted_shown}
+use Rattle.laws_base.proofs.CopiesBegun.{passed_lower, step_shows}
+use Rattle.laws_base.proofs.RoundsPassed.{IsOfServers, server_shown}
+use Rattle.laws_base.proofs.OrderedOrders.{settled_same}
+use Rattle.laws_base.proofs.RisingRounds.{restart_silent, IsUnderLease, under_lease}
 use Rattle.laws_versions.specs.CopiedEntries.{Follows, IsUpTo, RaisesGoAboveTheirBase, CopiesGoAboveTheirSource, CopiesHaveTheirSourcesEntries}
 use Rattle.laws_versions.proofs.OrdersGrow.{IsAny, same_follows, follows_both, any_follows, HaveGrown, orders_grow}
 use Rattle.laws_versions.proofs.OrdersAbove.{AreOwn, IsHigher, step_higher}

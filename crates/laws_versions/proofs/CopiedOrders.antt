@@ -52,12 +52,12 @@ use Rattle.laws_versions.proofs.FreeSources.{AreFree}
 use Rattle.laws_base.proofs.MasterPremises.{IsAsk}
 use Rattle.laws_versions.proofs.CopiedSources.{asked_or_not, free_reached, copied_chunks_have_no_lease}
 use Rattle.laws_versions.proofs.LeaseLaws.{told_ends_are_the_masters}
-use Rattle.laws_entries.specs.Entries.{IsAmong}
-use Rattle.laws_entries.proofs.Stemming.{came_in}
-use Rattle.laws_entries.proofs.Numbering.{restarted_shown}
-use Rattle.laws_entries.proofs.SentGrants.{counted_one, some_counted}
-use Rattle.laws_entries.proofs.RoundsPassed.{rounds_of_entries_were_issued}
-use Rattle.laws_entries.proofs.RisingRounds.{leased_granted, held_reached}
+use Rattle.laws_base.specs.Entries.{IsAmong}
+use Rattle.laws_base.proofs.Stemming.{came_in}
+use Rattle.laws_base.proofs.Numbering.{restarted_shown}
+use Rattle.laws_base.proofs.SentGrants.{counted_one, some_counted}
+use Rattle.laws_base.proofs.RoundsPassed.{rounds_of_entries_were_issued}
+use Rattle.laws_base.proofs.RisingRounds.{leased_granted, held_reached}
 use Rattle.laws_versions.proofs.UpTo.{IsLater}
 use Rattle.laws_versions.proofs.StillOrders.{used_still, server_later}
 use Rattle.laws_base.proofs.LeaseOrders.{grant_parts, grant_ends}

@@ -32,8 +32,8 @@ use Rattle.laws_base.proofs.RowsLogged.{IsFoundRows, IsRowedLog}
 use Rattle.laws_base.proofs.RowsKept.{rows_kept}
 use Rattle.laws_base.proofs.SentReached.{sent_reached}
 use Rattle.laws_base.proofs.WaitsKept.{IsOfWaits, waits_kept}
-use Rattle.laws_entries.proofs.CopiesBegun.{step_shows}
-use Rattle.laws_entries.proofs.AskedCopies.{KeepsBeginning, step_begins}
+use Rattle.laws_base.proofs.CopiesBegun.{step_shows}
+use Rattle.laws_base.proofs.AskedCopies.{KeepsBeginning, step_begins}
 use Rattle.laws_versions.proofs.UnaskedSteps as unasked
 use Rattle.laws_versions.proofs.UnaskedSteps.{IsOfNames, KeepsNames}
 use Rattle.laws_versions.specs.HandleIndexes.{CopiesStandAtTheirSourcesIndex}

@@ -27,9 +27,9 @@ use Rattle.laws_base.proofs.RowsKept.{rows_kept}
 use Rattle.laws_base.proofs.MasterActs.{IsRowing, rowing_keeps}
 use Rattle.laws_base.proofs.WaitsKept.{WaitsHere}
 use Rattle.laws_base.proofs.ActsOfNames.{ready_acts}
-use Rattle.laws_entries.proofs.ShownAlone.{ready}
-use Rattle.laws_entries.proofs.AskedCopies.{KeepsBeginning, step_begins}
-use Rattle.laws_entries.proofs.RowedSteps.{IsRowedHere, rowed_asked, rowed_gone}
+use Rattle.laws_base.proofs.ShownAlone.{ready}
+use Rattle.laws_base.proofs.AskedCopies.{KeepsBeginning, step_begins}
+use Rattle.laws_base.proofs.RowedSteps.{IsRowedHere, rowed_asked, rowed_gone}
 use Rattle.laws_versions.proofs.BegunRows.{IsBegun, IsLogBegun, begun_copy}
 use Rattle.laws_versions.proofs.BegunSteps.{HasBegun, IsKept, Kept, kept_acts}
 

@@ -39,11 +39,11 @@ use Rattle.laws_base.proofs.ClientNumbers.{IsSaid, IsStepOf, of_step, of_call}
 use Rattle.laws_base.proofs.RequestsOnce.{numbered_reached}
 use Rattle.laws_base.proofs.LeasesStayOver.{reached_later}
 use Rattle.laws_base.proofs.MasterTalks.{is_masters, master_said, restart_said}
-use Rattle.laws_entries.proofs.Stemming.{came_in}
-use Rattle.laws_entries.proofs.Placing.{all_placed}
-use Rattle.laws_entries.proofs.Within.{entries_lie_within_the_chunk}
-use Rattle.laws_entries.proofs.RoundsPassed.{IsOfServers, server_shown}
-use Rattle.laws_entries.proofs.Forwards.{images_are_of_replicas}
+use Rattle.laws_base.proofs.Stemming.{came_in}
+use Rattle.laws_base.proofs.Placing.{all_placed}
+use Rattle.laws_base.proofs.Within.{entries_lie_within_the_chunk}
+use Rattle.laws_base.proofs.RoundsPassed.{IsOfServers, server_shown}
+use Rattle.laws_base.proofs.Forwards.{images_are_of_replicas}
 use Rattle.laws_versions.proofs.ClosedVersions.{clocks_before}
 use Rattle.laws_versions.proofs.KeptDisks.{none_more, found_made, take_whole, frame_kept}
 use Rattle.laws_versions.specs.CopiedEntries.{Follows}

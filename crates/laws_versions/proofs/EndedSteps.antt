@@ -38,12 +38,12 @@ use Rattle.protocol.specs.World.{WorldState, IsReached}
 use Rattle.laws_base.proofs.Steps.{none_some, same_some, put_cases, gone_split}
 use Rattle.laws_base.proofs.Entries.{AllOf}
 use Rattle.laws_base.proofs.MessagesSent.{IsSent}
-use Rattle.laws_entries.specs.ChunkOrders.{unsettled}
+use Rattle.laws_base.specs.ChunkOrders.{unsettled}
 use Rattle.laws_base.specs.Replicas.{IsWithinChunk}
 use Rattle.laws_base.proofs.Lengths.{all_taken, length-alike, length-own, servers_within}
 use Rattle.laws_base.proofs.HeldReplicas.{IsNumber, numbers_quiet, changed_last, leases_have_their_replica}
-use Rattle.laws_entries.specs.CausedWords.{IsNamedIn}
-use Rattle.laws_entries.proofs.Forwards.{forwards_name_entries}
+use Rattle.laws_base.specs.CausedWords.{IsNamedIn}
+use Rattle.laws_base.proofs.Forwards.{forwards_name_entries}
 use Rattle.laws_versions.proofs.StoreCauses.{IsMadeOf, change_start, IsForwarded, IsNumbered, IsStoredFor, AreMade, AreMadeOn, step_made}
 use Rattle.laws_versions.proofs.KeptDisks.{taken_cases}
 use Rattle.laws_versions.specs.CopiedEntries.{Follows}

@@ -19,10 +19,10 @@ use Rattle.laws_base.proofs.MembersRecorded.{all_at}
 use Rattle.laws_base.proofs.MessagesSent.{IsSent, sent_cases, numbered_sent}
 use Rattle.laws_base.proofs.SentReached.{without_order, sent_reached}
 use Rattle.laws_base.proofs.ClientMoves.{HasNoOrder}
-use Rattle.laws_entries.proofs.Placing.{all_placed}
+use Rattle.laws_base.proofs.Placing.{all_placed}
 use Rattle.laws_base.proofs.WaitsKept.{IsOfWaits, waits_kept}
-use Rattle.laws_entries.proofs.CopiesBegun.{ShowsCopy}
-use Rattle.laws_entries.proofs.RoundsPassed.{rounds_of_entries_were_issued}
+use Rattle.laws_base.proofs.CopiesBegun.{ShowsCopy}
+use Rattle.laws_base.proofs.RoundsPassed.{rounds_of_entries_were_issued}
 use Rattle.messages.specs.declared.message.Body.{Body}
 use Rattle.messages.specs.declared.message.Body.TheVariants as body
 use Rattle.chunk_table.specs.ChunkTable.{chunk_of}
@@ -33,8 +33,8 @@ use Rattle.laws_versions.proofs.GivenVersions.{given_reached}
 use Rattle.laws_base.proofs.MasterPremises.{IsAsk}
 use Rattle.laws_versions.proofs.MasterCauses.{step_caused}
 use Rattle.laws_versions.proofs.GivenOnce.{IsNext, IsGivenNext, next_causes}
-use Rattle.laws_entries.proofs.SentGrants.{counted_one}
-use Rattle.laws_entries.proofs.RisingRounds.{RoundPremises, round_of}
+use Rattle.laws_base.proofs.SentGrants.{counted_one}
+use Rattle.laws_base.proofs.RisingRounds.{RoundPremises, round_of}
 use Rattle.laws_versions.specs.AskedVersions.{EntriesLieBelowGivenVersions}
 use Rattle.laws_versions.proofs.AskedOrders.{GivesFirst, ready_later, step_asked}
 

@@ -12,8 +12,8 @@ use Rattle.protocol.specs.World.{WorldState, Happened, new_world, happens, after
 use Rattle.laws_base.proofs.Owners.{chunks_at}
 use Rattle.laws_base.proofs.Histories.{SentIn, sent_in, after_both}
 use Rattle.laws_base.proofs.LeasesStayOver.{reached_later}
-use Rattle.laws_entries.specs.ChunkOrders.{WasCopied, Linked}
-use Rattle.laws_entries.proofs.Numbering.{entries_stem_from_mutates}
+use Rattle.laws_base.specs.ChunkOrders.{WasCopied, Linked}
+use Rattle.laws_base.proofs.Numbering.{entries_stem_from_mutates}
 use Rattle.laws_versions.specs.HandleIndexes.{StandsAtIndex, EntriesStandAtTheirToldIndex}
 use Rattle.laws_versions.specs.ReplacedChunks.{IsToldAt}
 use Rattle.laws_versions.proofs.AskedSteps.{IsToldOf}

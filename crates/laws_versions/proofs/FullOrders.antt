@@ -52,17 +52,17 @@ use Rattle.laws_base.proofs.LeasesStayOver.{reached_later}
 use Rattle.laws_base.proofs.NewCopies.{IsNotFull, step_tells, restart_tells}
 use Rattle.laws_base.proofs.Lengths.{servers_within, settings_stay}
 use Rattle.laws_base.proofs.HeldReplicas.{leases_have_their_replica}
-use Rattle.laws_entries.specs.Entries.{IsAmong}
-use Rattle.laws_entries.proofs.Stemming.{came_in}
-use Rattle.laws_entries.proofs.OwnMutates.{IsOwn, mutates_are_own}
-use Rattle.laws_entries.proofs.RoundsPassed.{primary_there, server_shown}
-use Rattle.laws_entries.proofs.FullOrders.{IsCaused, Causes, right_on, caused_on}
-use Rattle.laws_entries.proofs.FullAnswers.{AreRight, Leaves, IsFullEnd, step_leaves, none_right, restart_leaves}
-use Rattle.laws_entries.proofs.FullPlaces.{placed_first, denied_full}
+use Rattle.laws_base.specs.Entries.{IsAmong}
+use Rattle.laws_base.proofs.Stemming.{came_in}
+use Rattle.laws_base.proofs.OwnMutates.{IsOwn, mutates_are_own}
+use Rattle.laws_base.proofs.RoundsPassed.{primary_there, server_shown}
+use Rattle.laws_base.proofs.FullOrders.{IsCaused, Causes, right_on, caused_on}
+use Rattle.laws_base.proofs.FullAnswers.{AreRight, Leaves, IsFullEnd, step_leaves, none_right, restart_leaves}
+use Rattle.laws_base.proofs.FullPlaces.{placed_first, denied_full}
 use Rattle.laws_versions.proofs.ClosedVersions.{clocks_before}
 use Rattle.laws_base.specs.Laws.{IsSizeGranted}
 use Rattle.laws_base.proofs.LeasesTold.{leases_are_told}
-use Rattle.laws_entries.specs.PlacedEntries.{LiesWithin}
+use Rattle.laws_base.specs.PlacedEntries.{LiesWithin}
 use Rattle.laws_versions.proofs.OneSizes.{chunks_have_one_size, entries_are_of_their_chunks_size}
 use Rattle.laws_versions.specs.CopiedEntries.{Follows}
 use Rattle.laws_versions.specs.FullOrders.{HasFullEnd, FullChunksHaveAFullOrder}

@@ -27,9 +27,9 @@ use Rattle.protocol.specs.Sending.{handle_of, version_of}
 use Rattle.protocol.specs.Observer.{Placed, placed_in}
 use Rattle.protocol.specs.World.{WorldState, IsReached}
 use Rattle.laws_base.specs.Laws.{is_grant, grants_of}
-use Rattle.laws_entries.proofs.SentGrants.{counted_one}
-use Rattle.laws_entries.proofs.RoundSerials.{entry_counts}
-use Rattle.laws_entries.proofs.CountedRounds.{IsCounted, taken_stale, all_counted}
+use Rattle.laws_base.proofs.SentGrants.{counted_one}
+use Rattle.laws_base.proofs.RoundSerials.{entry_counts}
+use Rattle.laws_base.proofs.CountedRounds.{IsCounted, taken_stale, all_counted}
 
 module _ (handle version : ℕ) (Came : Body → Type 0) (s : ServerState) where
   abbrev pub HadLease : Type 0

@@ -40,15 +40,15 @@ use Rattle.laws_base.proofs.LeasesTold.{CameTo, came_in, versions_have_one_prima
 use Rattle.laws_base.proofs.Events.{IsGiven}
 use Rattle.laws_base.specs.Given.{version_given}
 use Rattle.laws_base.proofs.WaitsKept.{IsOfWaits, waits_kept}
-use Rattle.laws_entries.proofs.Placing.{all_placed, Holds, AreAll, all_keep}
+use Rattle.laws_base.proofs.Placing.{all_placed, Holds, AreAll, all_keep}
 use Rattle.laws_base.specs.Replicas.{IsPlacedByReplica, applied}
 use Rattle.laws_base.proofs.HeldReplicas.{leases_have_their_replica}
 use Rattle.laws_base.proofs.Placings.{mutations_are_placed_by_replicas}
 use Rattle.laws_base.proofs.Applied.{primaries_apply_what_they_number}
-use Rattle.laws_entries.proofs.CopiesBegun.{step_shows}
-use Rattle.laws_entries.proofs.RoundsPassed.{IsOfServers, server_shown, unused_is_new}
-use Rattle.laws_entries.proofs.RisingRounds.{put_all}
-use Rattle.laws_entries.proofs.CountedRounds.{set_split, comes_in}
+use Rattle.laws_base.proofs.CopiesBegun.{step_shows}
+use Rattle.laws_base.proofs.RoundsPassed.{IsOfServers, server_shown, unused_is_new}
+use Rattle.laws_base.proofs.RisingRounds.{put_all}
+use Rattle.laws_base.proofs.CountedRounds.{set_split, comes_in}
 use Rattle.laws_versions.proofs.HadLeases.{step_known, no_new_grant}
 use Rattle.laws_versions.specs.TakenOrders.{WasTaken}
 use Rattle.laws_versions.proofs.TakenOrders.{replicas_are_of_taken_orders}

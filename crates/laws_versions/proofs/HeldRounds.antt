@@ -38,9 +38,9 @@ use Rattle.laws_base.proofs.ScenesReached.{IsSentTo}
 use Rattle.laws_base.proofs.LeasesTold.{CameTo, came_in, versions_have_one_primary}
 use Rattle.laws_base.proofs.Events.{IsGiven, HoldsAfter, rot_of}
 use Rattle.laws_base.proofs.MasterTalks.{restart_shown}
-use Rattle.laws_entries.specs.ChunkOrders.{unsettled}
-use Rattle.laws_entries.proofs.Placing.{all_placed, Holds, AreAll, all_keep, same_orders}
-use Rattle.laws_entries.proofs.Numbering.{restarted_shown}
+use Rattle.laws_base.specs.ChunkOrders.{unsettled}
+use Rattle.laws_base.proofs.Placing.{all_placed, Holds, AreAll, all_keep, same_orders}
+use Rattle.laws_base.proofs.Numbering.{restarted_shown}
 use Rattle.laws_base.specs.Replicas.{IsPlacedBehind, IsPlacedByReplica, applied, IsApplied}
 use Rattle.laws_base.proofs.Lengths.{length-alike}
 use Rattle.laws_base.proofs.HeldReplicas.{leases_have_their_replica}
@@ -48,10 +48,10 @@ use Rattle.laws_base.proofs.Placings.{mutations_are_placed_by_replicas}
 use Rattle.laws_base.proofs.Applied.{primaries_apply_what_they_number}
 use Rattle.laws_base.proofs.Changes.{replicas_change_in_serial_order}
 use Rattle.laws_base.proofs.WaitsKept.{IsOfWaits, waits_kept}
-use Rattle.laws_entries.proofs.CopiesBegun.{step_shows}
-use Rattle.laws_entries.proofs.RoundsPassed.{IsOfServers, server_shown, unused_is_new}
-use Rattle.laws_entries.proofs.RisingRounds.{put_all, held_reached}
-use Rattle.laws_entries.proofs.CountedRounds.{set_split, comes_in}
+use Rattle.laws_base.proofs.CopiesBegun.{step_shows}
+use Rattle.laws_base.proofs.RoundsPassed.{IsOfServers, server_shown, unused_is_new}
+use Rattle.laws_base.proofs.RisingRounds.{put_all, held_reached}
+use Rattle.laws_base.proofs.CountedRounds.{set_split, comes_in}
 use Rattle.laws_versions.specs.HeldRounds.{ComesBehind, HeldRoundsAreApplied, RecordsComeBehindTheirRound}
 use Rattle.laws_versions.proofs.HadLeases.{step_known, no_new_grant}
 use Rattle.leases.specs.LeaseHeld.{LeaseHeld}

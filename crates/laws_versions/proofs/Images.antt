@@ -38,15 +38,15 @@ use Rattle.laws_base.proofs.Steps.{on_cond, none_some, same_some, put_cases, put
 use Rattle.laws_base.proofs.Entries.{AllOf}
 use Rattle.laws_base.proofs.MessagesSent.{IsSent}
 use Rattle.protocol_invariant.specs.Versions.{AreRising}
-use Rattle.laws_entries.specs.ChunkOrders.{unsettled}
-use Rattle.laws_entries.specs.PlacedEntries.{LiesWithin}
-use Rattle.laws_entries.proofs.RoundsPassed.{IsOfServers}
-use Rattle.laws_entries.specs.CountedSerials.{serials_of}
-use Rattle.laws_entries.proofs.CountedRounds.{leases_count_their_serials}
+use Rattle.laws_base.specs.ChunkOrders.{unsettled}
+use Rattle.laws_base.specs.PlacedEntries.{LiesWithin}
+use Rattle.laws_base.proofs.RoundsPassed.{IsOfServers}
+use Rattle.laws_base.specs.CountedSerials.{serials_of}
+use Rattle.laws_base.proofs.CountedRounds.{leases_count_their_serials}
 use Rattle.laws_base.proofs.Lengths.{all_taken, IsShort, length-own, servers_within, settings_stay}
 use Rattle.laws_base.proofs.HeldReplicas.{IsNumber, changed_last, leases_have_their_replica}
-use Rattle.laws_entries.specs.CausedWords.{IsNamedIn}
-use Rattle.laws_entries.proofs.Forwards.{forwards_name_entries}
+use Rattle.laws_base.specs.CausedWords.{IsNamedIn}
+use Rattle.laws_base.proofs.Forwards.{forwards_name_entries}
 use Rattle.laws_versions.proofs.StoreCauses.{IsMadeOf, change_start, IsForwarded, IsNumbered, IsStoredFor, AreMade, AreMadeOn, step_made}
 use Rattle.laws_versions.proofs.KeptDisks.{taken_cases, IsLike, like_quiet, there_like, made_like, IsFit, writable_there, writable_zeros, room_of_zeros, stored_fit, last_short, sound_reached, short_reached, replicas_are_read_as_stored}
 use Rattle.laws_versions.proofs.StoredChunks.{own_stored, put_stored, written_stored}

@@ -40,14 +40,14 @@ use Rattle.laws_base.proofs.ClientNumbers.{IsSaid, IsStepOf, of_step, of_call}
 use Rattle.laws_base.proofs.RequestsOnce.{numbered_reached}
 use Rattle.laws_base.proofs.LeasesStayOver.{reached_later}
 use Rattle.laws_base.proofs.MasterTalks.{is_masters, master_said, restart_said}
-use Rattle.laws_entries.proofs.Stemming.{came_in}
-use Rattle.laws_entries.proofs.Placing.{all_placed}
+use Rattle.laws_base.proofs.Stemming.{came_in}
+use Rattle.laws_base.proofs.Placing.{all_placed}
 use Rattle.protocol_invariant.specs.Versions.{AreRising}
 use Rattle.laws_versions.proofs.Rising.{orders_rise}
-use Rattle.laws_entries.proofs.CountedRounds.{set_split}
-use Rattle.laws_entries.proofs.Within.{entries_lie_within_the_chunk}
-use Rattle.laws_entries.proofs.RoundsPassed.{IsOfServers, server_shown}
-use Rattle.laws_entries.proofs.Forwards.{images_are_of_replicas}
+use Rattle.laws_base.proofs.CountedRounds.{set_split}
+use Rattle.laws_base.proofs.Within.{entries_lie_within_the_chunk}
+use Rattle.laws_base.proofs.RoundsPassed.{IsOfServers, server_shown}
+use Rattle.laws_base.proofs.Forwards.{images_are_of_replicas}
 use Rattle.laws_base.proofs.Events.{with_call, with_rot, rot_of, known_after, HoldsExactly, holds_exactly}
 use Rattle.laws_base.proofs.Disks.{all_block}
 use Rattle.laws_base.proofs.Lengths.{servers_within, settings_stay}

@@ -25,8 +25,8 @@ use Rattle.laws_base.proofs.MessagesSent.{IsSent}
 use Rattle.laws_base.proofs.ClientNumbers.{of_step, of_call}
 use Rattle.laws_base.proofs.RequestsOnce.{numbered_reached}
 use Rattle.laws_base.proofs.MasterTalks.{master_said, restart_said, restart_shown}
-use Rattle.laws_entries.proofs.Placing.{same_orders}
-use Rattle.laws_entries.proofs.Numbering.{restarted_shown}
+use Rattle.laws_base.proofs.Placing.{same_orders}
+use Rattle.laws_base.proofs.Numbering.{restarted_shown}
 use Rattle.laws_base.proofs.HeldReplicas.{leases_have_their_replica}
 use Rattle.laws_versions.specs.ClonedVersions.{IsVersionOver}
 use Rattle.laws_versions.proofs.ClonedVersions.{clones_are_of_closed_versions}

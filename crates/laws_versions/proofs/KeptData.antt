@@ -40,10 +40,10 @@ use Rattle.laws_base.proofs.ClientNumbers.{IsSaid, IsStepOf, of_step, of_call}
 use Rattle.laws_base.proofs.RequestsOnce.{AreNumbered, each_event, numbered_reached, requests_are_numbered_once}
 use Rattle.laws_base.proofs.MasterTalks.{is_masters, MasterTalks, master_said, restart_said}
 use Rattle.laws_base.proofs.ServerTalks.{is_quiet, Talks, step_said}
-use Rattle.laws_entries.specs.Entries.{IsPushed, IsPlacedFor}
-use Rattle.laws_entries.proofs.Stemming.{pushed_later, came_in}
-use Rattle.laws_entries.specs.ChunkOrders.{HasMutate}
-use Rattle.laws_entries.proofs.Numbering.{entries_stem_from_mutates}
+use Rattle.laws_base.specs.Entries.{IsPushed, IsPlacedFor}
+use Rattle.laws_base.proofs.Stemming.{pushed_later, came_in}
+use Rattle.laws_base.specs.ChunkOrders.{HasMutate}
+use Rattle.laws_base.proofs.Numbering.{entries_stem_from_mutates}
 use Rattle.laws_base.proofs.ReadAnswers.{one_request}
 
 abbrev IsStemmed : List Message → Body → Type 0

@@ -37,7 +37,7 @@ use Rattle.laws_base.proofs.Disks.{one_block, all_block, one_chunk, all_chunk}
 use Rattle.laws_base.proofs.Lengths.{all_taken, IsShort, goes_short, length-own, servers_within}
 use Rattle.laws_base.proofs.HeldReplicas.{IsNumber, numbers_quiet, changed_last}
 use Rattle.laws_base.proofs.LeasesStayOver.{reached_later}
-use Rattle.laws_entries.proofs.CountedRounds.{set_split}
+use Rattle.laws_base.proofs.CountedRounds.{set_split}
 use Rattle.laws_versions.specs.StoredChanges.{ReplicasAreReadAsStored, ReadsAreAsStored, PutsAreStored, WritesAreStored, RotLeavesWhatWasStored}
 use Rattle.laws_base.proofs.Events.{HoldsExactly, holds_exactly, rot_of}
 use Rattle.laws_versions.proofs.StoreCauses.{IsNumbered, IsStoredFor, AreMade, AreMadeOn, step_made}

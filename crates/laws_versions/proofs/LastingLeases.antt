@@ -19,10 +19,10 @@ use Rattle.laws_base.proofs.LeasesTold.{granting}
 use Rattle.laws_base.proofs.Steps.{on_cond, none_some, same_some}
 use Rattle.laws_base.specs.Given.{version_given}
 use Rattle.laws_base.specs.Versions.{IsLeaseOver}
-use Rattle.laws_entries.specs.CountedSerials.{serials_of}
-use Rattle.laws_entries.proofs.CountedRounds.{leases_count_their_serials}
-use Rattle.laws_entries.proofs.RisingRounds.{lower_leases_are_over, entries_are_of_granted_rounds}
-use Rattle.laws_entries.proofs.SentGrants.{counted_one}
+use Rattle.laws_base.specs.CountedSerials.{serials_of}
+use Rattle.laws_base.proofs.CountedRounds.{leases_count_their_serials}
+use Rattle.laws_base.proofs.RisingRounds.{lower_leases_are_over, entries_are_of_granted_rounds}
+use Rattle.laws_base.proofs.SentGrants.{counted_one}
 use Rattle.laws_versions.proofs.ClonedVersions.{clones_are_of_closed_versions}
 use Rattle.laws_versions.proofs.GivenClones.{copied_versions_were_given}
 use Rattle.laws_versions.proofs.GivenVersions.{members_alone_are_given_a_version}

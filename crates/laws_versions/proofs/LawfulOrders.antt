@@ -40,14 +40,14 @@ use Rattle.laws_base.proofs.Lengths.{servers_within}
 use Rattle.laws_base.proofs.Histories.{IsGrown, steps_grown, after_both}
 use Rattle.laws_base.proofs.LeasesStayOver.{reached_later}
 use Rattle.laws_base.proofs.MasterTalks.{IsCopying, master_shown, restart_shown}
-use Rattle.laws_entries.specs.Entries.{IsAmong, IsPushed}
-use Rattle.laws_entries.specs.ChunkOrders.{IsNumberedNow, WasNumbered}
-use Rattle.laws_entries.proofs.Stemming.{came_in, pushed_later}
-use Rattle.laws_entries.proofs.Placing.{all_placed, same_orders}
-use Rattle.laws_entries.proofs.OnceShown.{NumbersNone, NumbersOnce, step_once}
-use Rattle.laws_entries.proofs.Numbering.{restarted_shown, entries_were_numbered}
-use Rattle.laws_entries.proofs.RoundsPassed.{IsOfServers, server_shown, primary_there}
-use Rattle.laws_entries.proofs.RisingRounds.{under_lease}
+use Rattle.laws_base.specs.Entries.{IsAmong, IsPushed}
+use Rattle.laws_base.specs.ChunkOrders.{IsNumberedNow, WasNumbered}
+use Rattle.laws_base.proofs.Stemming.{came_in, pushed_later}
+use Rattle.laws_base.proofs.Placing.{all_placed, same_orders}
+use Rattle.laws_base.proofs.OnceShown.{NumbersNone, NumbersOnce, step_once}
+use Rattle.laws_base.proofs.Numbering.{restarted_shown, entries_were_numbered}
+use Rattle.laws_base.proofs.RoundsPassed.{IsOfServers, server_shown, primary_there}
+use Rattle.laws_base.proofs.RisingRounds.{under_lease}
 use Rattle.laws_versions.specs.LawfulOrders.{IsMadeOf, HasData, IsLawful, GoesOn, OrdersAreLawful}
 use Rattle.laws_versions.specs.SkippedRounds.{up_to}
 use Rattle.laws_versions.proofs.Acknowledging.{settled_mutations_were_acknowledged}

@@ -31,7 +31,7 @@ use Rattle.laws_base.specs.Replicas.{IsPlacedBehind, IsPlacedByReplica}
 use Rattle.laws_base.specs.Laws.{IsSizeGranted}
 use Rattle.laws_base.proofs.LeasesTold.{leases_are_told}
 use Rattle.laws_base.proofs.Placings.{mutations_are_placed_by_replicas}
-use Rattle.laws_entries.specs.Entries.{IsAmong, IsPushed}
+use Rattle.laws_base.specs.Entries.{IsAmong, IsPushed}
 use Rattle.laws_versions.specs.HeldRounds.{ComesBehind}
 use Rattle.laws_versions.specs.LawfulOrders.{MayFollow, IsMadeOf, NumberedMutationsMayFollow}
 use Rattle.laws_versions.proofs.HeldRounds.{records_come_behind_their_round}

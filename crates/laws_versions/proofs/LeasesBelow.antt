@@ -40,8 +40,8 @@ use Rattle.laws_base.proofs.IssuedNumbers.{IsPassed, IsLogPassed}
 use Rattle.laws_base.proofs.WaitsKept.{IsOfWaits, waits_kept}
 use Rattle.laws_versions.proofs.GivenVersions.{given_reached}
 use Rattle.laws_versions.proofs.ClosedVersions.{StaysShut, stays_shut, clocks_before}
-use Rattle.laws_entries.proofs.SentGrants.{counted_one}
-use Rattle.laws_entries.proofs.RisingRounds.{leased_granted}
+use Rattle.laws_base.proofs.SentGrants.{counted_one}
+use Rattle.laws_base.proofs.RisingRounds.{leased_granted}
 use Rattle.laws_base.proofs.MasterPremises.{is_told, IsAsk}
 use Rattle.laws_versions.proofs.MasterCauses.{is_caused, uncaused_nothing, Attempts, Causes, step_caused}
 use Rattle.laws_versions.proofs.AttemptsAbove.{step_above}

@@ -9,7 +9,7 @@ use Rattle.protocol.specs.Tables.{element_at}
 use Rattle.protocol.specs.Observer.{Placed}
 use Rattle.laws_base.proofs.Steps.{none_some, same_some}
 use Rattle.protocol_invariant.specs.Versions.{IsBefore, AreRising}
-use Rattle.laws_entries.specs.ChunkOrders.{unsettled}
+use Rattle.laws_base.specs.ChunkOrders.{unsettled}
 use Rattle.laws_versions.specs.CopiedEntries.{Follows}
 use Rattle.laws_versions.specs.ReplicaImages.{with_bytes, written_by, marked, mutations_in, IsWithin, HasEntry, IsImageOf}
 use Rattle.laws_versions.proofs.Written.{images_are_written_to}

@@ -26,7 +26,7 @@ use Rattle.laws_base.proofs.RowsSame.{IsOwned}
 use Rattle.laws_base.proofs.ScenesReached.{scene_reached}
 use Rattle.laws_base.proofs.SentReached.{sent_reached}
 use Rattle.laws_base.proofs.WaitsKept.{IsOfWaits, waits_kept}
-use Rattle.laws_entries.proofs.SentGrants.{counted_one}
+use Rattle.laws_base.proofs.SentGrants.{counted_one}
 use Rattle.laws_versions.proofs.GivenVersions.{given_reached}
 use Rattle.laws_versions.proofs.ClonedVersions.{clones_shut, copied_sent}
 use Rattle.laws_versions.proofs.CopiedSources.{free_reached}

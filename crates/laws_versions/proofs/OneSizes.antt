@@ -52,9 +52,9 @@ use Rattle.laws_base.proofs.Histories.{SentIn, sent_in, after_both}
 use Rattle.laws_base.proofs.LeasesStayOver.{reached_later}
 use Rattle.laws_base.proofs.MasterPremises.{IsOfCalls, is_told, IsTold}
 use Rattle.laws_base.proofs.RequestsOnce.{later_cases}
-use Rattle.laws_entries.specs.ChunkOrders.{WasCopied, Linked, IsSource}
-use Rattle.laws_entries.specs.PlacedEntries.{LiesWithin}
-use Rattle.laws_entries.proofs.Within.{entry_sized}
+use Rattle.laws_base.specs.ChunkOrders.{WasCopied, Linked, IsSource}
+use Rattle.laws_base.specs.PlacedEntries.{LiesWithin}
+use Rattle.laws_base.proofs.Within.{entry_sized}
 use Rattle.laws_base.specs.ToldShapes.{IsShapeIn}
 use Rattle.laws_versions.specs.ReplacedChunks.{IsToldAt}
 use Rattle.laws_versions.specs.ToldSizes.{ChunksHaveOneSize, CopiesHaveTheirSourcesSize, EntriesAreOfTheirChunksSize, ToldShapesHaveTheGrantedSize}

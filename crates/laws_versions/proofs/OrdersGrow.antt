@@ -21,12 +21,12 @@ use Rattle.laws_base.proofs.MembersRecorded.{kept_place}
 use Rattle.laws_base.proofs.SentReached.{sent_reached}
 use Rattle.laws_base.proofs.Events.{HoldsAfter}
 use Rattle.laws_base.proofs.MasterTalks.{restart_shown}
-use Rattle.laws_entries.proofs.Placing.{same_orders}
-use Rattle.laws_entries.proofs.Numbering.{restarted_shown}
+use Rattle.laws_base.proofs.Placing.{same_orders}
+use Rattle.laws_base.proofs.Numbering.{restarted_shown}
 use Rattle.laws_base.proofs.WaitsKept.{IsOfWaits, waits_kept}
-use Rattle.laws_entries.proofs.CopiesBegun.{step_shows}
-use Rattle.laws_entries.proofs.RoundsPassed.{IsOfServers, server_shown, unused_is_new}
-use Rattle.laws_entries.proofs.OrderedOrders.{settled_same}
+use Rattle.laws_base.proofs.CopiesBegun.{step_shows}
+use Rattle.laws_base.proofs.RoundsPassed.{IsOfServers, server_shown, unused_is_new}
+use Rattle.laws_base.proofs.OrderedOrders.{settled_same}
 use Rattle.laws_versions.specs.CopiedEntries.{Follows}
 
 abbrev pub IsAny : Placed → Type 0

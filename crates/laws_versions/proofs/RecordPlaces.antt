@@ -27,8 +27,8 @@ use Rattle.laws_base.proofs.ServerWalk.{IsPlacedAt, IsRecord}
 use Rattle.laws_base.proofs.ServerSays.{IsShown as IsNoted, step_shows}
 use Rattle.laws_base.proofs.Entries.{AllOf}
 use Rattle.laws_base.proofs.MembersRecorded.{all_at}
-use Rattle.laws_entries.specs.Entries.{IsAmong}
-use Rattle.laws_entries.proofs.RoundsPassed.{primary_there}
+use Rattle.laws_base.specs.Entries.{IsAmong}
+use Rattle.laws_base.proofs.RoundsPassed.{primary_there}
 
 -- what is numbered of these data in a chunk of this size
 abbrev pub IsShort : (size : ℕ) → List ℕ → Mutation → Type 0

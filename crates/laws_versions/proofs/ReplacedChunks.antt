@@ -40,8 +40,8 @@ use Rattle.laws_base.proofs.IssuedNumbers.{IsPassed, IsLogPassed, passed_same}
 use Rattle.laws_versions.proofs.ClosedVersions.{clocks_before}
 use Rattle.laws_base.proofs.Histories.{IsGrown, steps_grown, SentIn, sent_in, stood_before, after_both}
 use Rattle.laws_versions.proofs.ExtendLaws.{restart_silent}
-use Rattle.laws_entries.proofs.GrantsFollow.{GrantsAbove, HasPassed, step_passed, restart_passed}
-use Rattle.laws_entries.proofs.SentGrants.{above_grants}
+use Rattle.laws_base.proofs.GrantsFollow.{GrantsAbove, HasPassed, step_passed, restart_passed}
+use Rattle.laws_base.proofs.SentGrants.{above_grants}
 use Rattle.laws_versions.proofs.AskedSteps.{StandsAt, IsToldOf, IsNoGrant}
 use Rattle.laws_versions.proofs.CopiedSources.{IsNoStart, asked_or_not, unasked_step, asked_step, free_reached, copied_chunks_have_no_lease}
 use Rattle.laws_versions.specs.ReplacedChunks.{IsToldAt, ToldChunksStandOrAreOver, ReplacedChunksHaveNoLease}

@@ -5,9 +5,9 @@ use Rattle.std.proofs.lemmas.Bool.{cases_lt}
 use Rattle.protocol.specs.Tables.{element_at}
 use Rattle.protocol.specs.Observer.{Placed, placed_in}
 use Rattle.protocol_invariant.specs.Versions.{IsBefore, AreRising}
-use Rattle.laws_entries.proofs.RisingRounds.{rounds_of_orders_rise}
-use Rattle.laws_entries.proofs.RoundSerials.{later_place}
-use Rattle.laws_entries.proofs.CountedRounds.{serials_of_rounds_are_counted}
+use Rattle.laws_base.proofs.RisingRounds.{rounds_of_orders_rise}
+use Rattle.laws_base.proofs.RoundSerials.{later_place}
+use Rattle.laws_base.proofs.CountedRounds.{serials_of_rounds_are_counted}
 use Rattle.laws_versions.specs.HeldRounds.{OrdersRise}
 
 all_from : {X : Type 0} (P : X → Type 0) (xs : List X) → ((n : ℕ) (x : X) → element_at xs n ≡ Some x → P x) → AllByRecursion P xs

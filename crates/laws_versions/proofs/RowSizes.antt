@@ -25,7 +25,7 @@ use Rattle.laws_base.proofs.SentReached.{server_quiet, server_restarts_quiet}
 use Rattle.laws_base.proofs.Steps.{on_cond, none_some, same_some}
 use Rattle.laws_base.proofs.Events.{HoldsAfter, holds_after}
 use Rattle.laws_base.proofs.RequestsOnce.{later_cases}
-use Rattle.laws_entries.proofs.SentGrants.{counted_one}
+use Rattle.laws_base.proofs.SentGrants.{counted_one}
 use Rattle.laws_versions.specs.ToldSizes.{GrantsTellTheirRowsSize}
 use Rattle.laws_versions.proofs.ExtendLaws.{restart_silent}
 use Rattle.laws_versions.proofs.GrantedSizes.{IsSizeIn, AreSized, TellsSize, goes_sized, not_new}

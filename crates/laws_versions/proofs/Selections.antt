@@ -30,10 +30,10 @@ use Rattle.laws_base.proofs.EndedLeases.{over_leases_number_nothing}
 use Rattle.laws_base.proofs.Events.{IsGiven}
 use Rattle.laws_versions.proofs.GivenVersions.{given_reached}
 use Rattle.laws_base.proofs.MasterTalks.{restart_shown}
-use Rattle.laws_entries.proofs.Placing.{same_orders}
-use Rattle.laws_entries.proofs.Numbering.{restarted_shown}
-use Rattle.laws_entries.proofs.RoundsPassed.{server_shown}
-use Rattle.laws_entries.proofs.CountedRounds.{comes_in}
+use Rattle.laws_base.proofs.Placing.{same_orders}
+use Rattle.laws_base.proofs.Numbering.{restarted_shown}
+use Rattle.laws_base.proofs.RoundsPassed.{server_shown}
+use Rattle.laws_base.proofs.CountedRounds.{comes_in}
 use Rattle.laws_versions.specs.ClonedVersions.{version_copied}
 use Rattle.laws_versions.proofs.LeasesBelow.{leases_below_are_over}
 use Rattle.laws_versions.specs.GivenClones.{IsGivenBySome}

@@ -18,7 +18,7 @@ use Rattle.protocol.specs.Server.{ServerState, ServerDoing}
 use Rattle.protocol.specs.ServerStep.{replica_line, lease_line, counting_leases, server_at, server_goes, server_ends, server_step}
 use Rattle.laws_base.proofs.Steps.{on_cond}
 use Rattle.laws_base.proofs.ServerSays.{IsSaid, step_says}
-use Rattle.laws_entries.proofs.UsedAnswers.{goes_clock}
+use Rattle.laws_base.proofs.UsedAnswers.{goes_clock}
 use Rattle.laws_base.proofs.Entries.{AllOf}
 use Rattle.laws_base.specs.Given.{version_given}
 

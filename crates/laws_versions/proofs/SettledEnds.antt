@@ -15,12 +15,12 @@ use Rattle.protocol.specs.World.{WorldState, IsReached}
 use Rattle.laws_base.specs.Laws.{is_grant, grants_of}
 use Rattle.laws_base.proofs.Steps.{none_some, same_some}
 use Rattle.laws_base.proofs.EndedLeases.{over_leases_number_nothing}
-use Rattle.laws_entries.specs.ChunkOrders.{unsettled}
+use Rattle.laws_base.specs.ChunkOrders.{unsettled}
 use Rattle.laws_base.specs.Replicas.{IsPlacedBehind, IsPlacedByReplica}
 use Rattle.laws_base.proofs.Placings.{mutations_are_placed_by_replicas}
-use Rattle.laws_entries.proofs.SentGrants.{counted_one}
-use Rattle.laws_entries.proofs.RisingRounds.{IsUnderLease, leased_granted, under_lease, lower_leases_are_over, entries_are_of_granted_rounds}
-use Rattle.laws_entries.proofs.CountedRounds.{serials_have_one_entry}
+use Rattle.laws_base.proofs.SentGrants.{counted_one}
+use Rattle.laws_base.proofs.RisingRounds.{IsUnderLease, leased_granted, under_lease, lower_leases_are_over, entries_are_of_granted_rounds}
+use Rattle.laws_base.proofs.CountedRounds.{serials_have_one_entry}
 use Rattle.laws_versions.specs.HeldRounds.{ComesBehind}
 use Rattle.protocol.specs.StoredBytes.{stored_bytes}
 use Rattle.laws_versions.proofs.KeptDisks.{stored_as_long}

@@ -28,12 +28,12 @@ use Rattle.laws_base.proofs.MembersRecorded.{kept_place}
 use Rattle.laws_base.proofs.MessagesSent.{IsSent}
 use Rattle.laws_base.proofs.LeasesTold.{leases_are_told}
 use Rattle.laws_base.proofs.LeasesStayOver.{reached_later}
-use Rattle.laws_entries.proofs.KnownNumbers.{primary_there}
+use Rattle.laws_base.proofs.KnownNumbers.{primary_there}
 use Rattle.laws_base.specs.Given.{version_given}
 use Rattle.laws_versions.proofs.GivenVersions.{members_alone_are_given_a_version}
 use Rattle.laws_versions.proofs.ClonedVersions.{clones_are_of_closed_versions}
-use Rattle.laws_entries.specs.CountedSerials.{serials_of}
-use Rattle.laws_entries.proofs.CountedRounds.{leases_count_their_serials}
+use Rattle.laws_base.specs.CountedSerials.{serials_of}
+use Rattle.laws_base.proofs.CountedRounds.{leases_count_their_serials}
 use Rattle.laws_versions.specs.WaitingMutations.{HasAcked, IsAcknowledgedByAll}
 use Rattle.laws_versions.proofs.Acknowledging.{settled_mutations_were_acknowledged}
 use Rattle.laws_versions.specs.ReplicaImages.{marked, HasEntry}

@@ -10,7 +10,7 @@ use Rattle.protocol.specs.declared.seen.Seen.TheVariants.{Numbered, BecameSettle
 use Rattle.protocol.specs.Observer.{Placed, placed_in, is_placed_as, settled_as, new_entry, orders_after, orders_after_all}
 use Rattle.laws_base.proofs.Steps.{on_cond, none_some, same_some, same_or_not, put_there, put_other}
 use Rattle.laws_base.proofs.Entries.{AllOf}
-use Rattle.laws_entries.proofs.RoundsPassed.{IsOfServers}
+use Rattle.laws_base.proofs.RoundsPassed.{IsOfServers}
 
 -- one of these entries has the same round and serial, and is settled
 abbrev pub WasSettled : List Placed → Placed → Type 0

@@ -34,8 +34,8 @@ use Rattle.laws_versions.specs.ClonedVersions.{version_sourced}
 use Rattle.laws_versions.proofs.CopySources.{copies_are_of_closed_versions}
 use Rattle.laws_base.proofs.Histories.{step_grown}
 use Rattle.laws_versions.proofs.RaisedVersions.{raises_skip_no_grant}
-use Rattle.laws_entries.proofs.RoundsPassed.{unused_is_new}
-use Rattle.laws_entries.proofs.SentGrants.{some_counted}
+use Rattle.laws_base.proofs.RoundsPassed.{unused_is_new}
+use Rattle.laws_base.proofs.SentGrants.{some_counted}
 use Rattle.laws_versions.proofs.OrderSteps.{IsOrderedNow, WasOrderedIn, was_ordered_in}
 use Rattle.laws_versions.proofs.GivenOnce.{given_number}
 use Rattle.laws_versions.proofs.RefusedOrders.{granted_orders_are_refused}

@@ -26,17 +26,17 @@ use Rattle.laws_base.proofs.SentReached.{sent_reached}
 use Rattle.laws_base.specs.Versions.{IsLeaseOver}
 use Rattle.laws_base.proofs.EndedLeases.{over_leases_number_nothing}
 use Rattle.laws_base.proofs.LeasesStayOver.{reached_later}
-use Rattle.laws_entries.specs.Entries.{IsAmong}
-use Rattle.laws_entries.proofs.Stemming.{came_in}
+use Rattle.laws_base.specs.Entries.{IsAmong}
+use Rattle.laws_base.proofs.Stemming.{came_in}
 use Rattle.laws_base.proofs.WaitsKept.{IsOfWaits, waits_kept}
 use Rattle.laws_base.proofs.Events.{HoldsAfter, holds_after}
 use Rattle.laws_versions.proofs.ClosedVersions.{clocks_before}
 use Rattle.laws_base.proofs.MasterTalks.{restart_shown}
-use Rattle.laws_entries.proofs.Placing.{all_placed, same_orders}
-use Rattle.laws_entries.proofs.Numbering.{restarted_shown}
-use Rattle.laws_entries.proofs.CopiesBegun.{step_shows}
-use Rattle.laws_entries.proofs.RoundsPassed.{IsOfServers, server_shown}
-use Rattle.laws_entries.proofs.RisingRounds.{IsUnderLease, under_lease}
+use Rattle.laws_base.proofs.Placing.{all_placed, same_orders}
+use Rattle.laws_base.proofs.Numbering.{restarted_shown}
+use Rattle.laws_base.proofs.CopiesBegun.{step_shows}
+use Rattle.laws_base.proofs.RoundsPassed.{IsOfServers, server_shown}
+use Rattle.laws_base.proofs.RisingRounds.{IsUnderLease, under_lease}
 use Rattle.laws_versions.proofs.Acknowledging.{settled_mutations_were_acknowledged}
 use Rattle.laws_versions.specs.SkippedRounds.{up_to}
 use Rattle.laws_versions.proofs.UpTo.{IsLater, AreSame, all_same}

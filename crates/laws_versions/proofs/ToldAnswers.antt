@@ -36,7 +36,7 @@ use Rattle.laws_base.proofs.ToldShapes.{told_shapes_are_of_their_chunks}
 use Rattle.laws_base.proofs.Events.{IsGiven, HoldsAfter, holds_after}
 use Rattle.laws_base.proofs.ClientNumbers.{IsSaid as IsClientsWord, IsStepOf, of_step, of_call}
 use Rattle.laws_base.proofs.RequestsOnce.{AreNumbered, numbered_reached, requests_are_numbered_once}
-use Rattle.laws_entries.proofs.Deadlines.{same_counted}
+use Rattle.laws_base.proofs.Deadlines.{same_counted}
 use Rattle.laws_base.proofs.ServerTalks.{is_quiet, Talks, step_said}
 use Rattle.laws_base.proofs.Histories.{IsGrown, steps_grown, SentIn, sent_in, after_both}
 use Rattle.laws_versions.proofs.ExtendLaws.{restart_silent, new_one, none_before, came_in}

@@ -38,13 +38,13 @@ use Rattle.laws_base.specs.Given.{version_given}
 use Rattle.laws_base.proofs.WaitsKept.{IsOfWaits, waits_kept}
 use Rattle.laws_versions.proofs.HeldVersions.{replicas_were_ordered}
 use Rattle.laws_base.proofs.MasterTalks.{restart_shown}
-use Rattle.laws_entries.specs.Entries.{IsAmong}
-use Rattle.laws_entries.proofs.Stemming.{came_in}
-use Rattle.laws_entries.proofs.Placing.{all_placed, Holds, AreAll, all_go_on, Keeps, all_keep, same_orders}
-use Rattle.laws_entries.proofs.Numbering.{restarted_shown}
-use Rattle.laws_entries.proofs.CopiesBegun.{step_shows}
-use Rattle.laws_entries.proofs.RoundsPassed.{IsOfServers, server_shown}
-use Rattle.laws_entries.proofs.RisingRounds.{leased_granted, under_lease, held_reached}
+use Rattle.laws_base.specs.Entries.{IsAmong}
+use Rattle.laws_base.proofs.Stemming.{came_in}
+use Rattle.laws_base.proofs.Placing.{all_placed, Holds, AreAll, all_go_on, Keeps, all_keep, same_orders}
+use Rattle.laws_base.proofs.Numbering.{restarted_shown}
+use Rattle.laws_base.proofs.CopiesBegun.{step_shows}
+use Rattle.laws_base.proofs.RoundsPassed.{IsOfServers, server_shown}
+use Rattle.laws_base.proofs.RisingRounds.{leased_granted, under_lease, held_reached}
 use Rattle.laws_base.proofs.HeldReplicas.{leases_have_their_replica}
 use Rattle.laws_versions.proofs.OrderSteps.{IsOrderedNow, WasOrderedIn, was_ordered_in}
 use Rattle.laws_versions.proofs.GivenOnce.{given_number}

@@ -40,15 +40,15 @@ use Rattle.laws_base.proofs.ScenesReached.{scene_reached}
 use Rattle.laws_base.proofs.LeasesTold.{AreTold, new_not_stale, IsToldServer, told_kept, granting, versions_have_one_primary}
 use Rattle.laws_base.proofs.Events.{IsGiven, HoldsAfter, rot_of}
 use Rattle.laws_base.proofs.MasterTalks.{restart_shown}
-use Rattle.laws_entries.proofs.KnownNumbers.{primary_there}
-use Rattle.laws_entries.proofs.Placing.{same_orders}
-use Rattle.laws_entries.proofs.Numbering.{restarted_shown}
-use Rattle.laws_entries.proofs.OrderWalk.{KeepsOrders, AreFit, does_fit}
-use Rattle.laws_entries.proofs.RoundSerials.{entry_counts}
-use Rattle.laws_entries.proofs.RoundsPassed.{server_shown}
-use Rattle.laws_entries.proofs.RisingRounds.{held_reached}
-use Rattle.laws_entries.proofs.SentGrants.{counted_one}
-use Rattle.laws_entries.proofs.CountedRounds.{set_split, comes_in, IsCounted, taken_stale, all_counted}
+use Rattle.laws_base.proofs.KnownNumbers.{primary_there}
+use Rattle.laws_base.proofs.Placing.{same_orders}
+use Rattle.laws_base.proofs.Numbering.{restarted_shown}
+use Rattle.laws_base.proofs.OrderWalk.{KeepsOrders, AreFit, does_fit}
+use Rattle.laws_base.proofs.RoundSerials.{entry_counts}
+use Rattle.laws_base.proofs.RoundsPassed.{server_shown}
+use Rattle.laws_base.proofs.RisingRounds.{held_reached}
+use Rattle.laws_base.proofs.SentGrants.{counted_one}
+use Rattle.laws_base.proofs.CountedRounds.{set_split, comes_in, IsCounted, taken_stale, all_counted}
 use Rattle.laws_versions.specs.WaitingMutations.{IsAcknowledgedByAll, WaitingMutationsAreNotSettled}
 use Rattle.laws_versions.proofs.Acknowledging.{settled_mutations_were_acknowledged}
 use Rattle.laws_versions.proofs.SettledNow.{IsSettling, settled_cases}

@@ -25,13 +25,13 @@ use Rattle.laws_base.proofs.GrantsOnce.{versions_are_granted_once}
 use Rattle.laws_base.proofs.ScenesReached.{scene_reached}
 use Rattle.laws_base.proofs.LeasesStayOver.{reached_later}
 use Rattle.laws_base.proofs.Histories.{steps_grown, after_both}
-use Rattle.laws_entries.specs.Entries.{IsAskedFor}
-use Rattle.laws_entries.proofs.Stemming.{numbered_mutations_were_asked_for}
-use Rattle.laws_entries.specs.ChunkOrders.{IsNumberedNow, WasNumbered, WasCopied, IsSource}
-use Rattle.laws_entries.proofs.Numbering.{entries_were_numbered}
+use Rattle.laws_base.specs.Entries.{IsAskedFor}
+use Rattle.laws_base.proofs.Stemming.{numbered_mutations_were_asked_for}
+use Rattle.laws_base.specs.ChunkOrders.{IsNumberedNow, WasNumbered, WasCopied, IsSource}
+use Rattle.laws_base.proofs.Numbering.{entries_were_numbered}
 use Rattle.laws_versions.proofs.AnsweredOrders.{placed_later, stale_refuses}
 use Rattle.laws_versions.specs.EmptyGrants.{IsGrantUsed, NumberedVersionsHaveUsedGrants, EntriesAreOfUsedGrants}
-use Rattle.laws_entries.proofs.SentGrants.{counted_one}
+use Rattle.laws_base.proofs.SentGrants.{counted_one}
 
 -- a lease that counts is held, of that version
 primary_there : (s : ServerState) (version : ℕ) (o : Option SerialOrder) (p : SerialOrder) → counting_primary s version o ≡ Some p → (o ≡ Some p) × (p.held.version ≡ version)

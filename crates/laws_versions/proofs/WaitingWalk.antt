@@ -29,7 +29,7 @@ use Rattle.protocol.specs.ServerStep.{server_at, asks_no_more, counting_leases, 
 use Rattle.laws_base.proofs.ServerWalk.{Acking, Attempting, Numbering, Outcomes, number_of, until_later, does_comes}
 use Rattle.laws_base.proofs.Steps.{on_cond, none_some, put_cases, put_there, kept_cases}
 use Rattle.laws_base.proofs.Entries.{AllOf, all_joined, mapped_cases, kept_where_cases}
-use Rattle.laws_entries.proofs.KnownNumbers.{primary_there}
+use Rattle.laws_base.proofs.KnownNumbers.{primary_there}
 use Rattle.laws_versions.proofs.WaitingMembers.{AreAcked, IsCounting, counting_new, counting_refused, counting_extended, counting_numbered, counting_acknowledged, settled_acked, settled_gone}
 
 -- Who acknowledged is A; the server is me.

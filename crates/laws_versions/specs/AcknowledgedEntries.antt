@@ -18,7 +18,7 @@ use Rattle.std.specs.FinMap as table
 use Rattle.primary_order.specs.SerialOrder.{SerialOrder}
 use Rattle.messages.specs.declared.event.Event.{Event}
 use Rattle.protocol.specs.declared.seen.Seen.TheVariants.{BecameSettled}
-use Rattle.laws_entries.specs.Successes.{IsShownNow}
+use Rattle.laws_base.specs.Successes.{IsShownNow}
 
 -- among these entries is each one of which this server acknowledged the serial under this version
 abbrev pub HasAcknowledged : List Message → (server handle version : ℕ) → List Placed → Type 0

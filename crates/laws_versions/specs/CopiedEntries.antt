@@ -9,7 +9,7 @@ use Rattle.messages.specs.declared.message.Body.TheVariants as body
 use Rattle.protocol.specs.Tables.{element_at}
 use Rattle.protocol.specs.Observer.{Placed, order_of}
 use Rattle.protocol.specs.World.{WorldState, IsReached}
-use Rattle.laws_entries.specs.ChunkOrders.{unsettled}
+use Rattle.laws_base.specs.ChunkOrders.{unsettled}
 
 -- each entry of the first order that passes stands at its place in the second one, but for whether it is settled
 abbrev pub Follows : (Placed → Type 0) → List Placed → List Placed → Type 0

@@ -16,8 +16,8 @@ use Rattle.protocol.specs.Observer.{Placed, order_of}
 use Rattle.protocol.specs.Server.{ServerState}
 use Rattle.protocol.specs.World.{WorldState, new_world, after_events, IsReached}
 use Rattle.laws_base.specs.Laws.{IsGrantBody, grants_of}
-use Rattle.laws_entries.specs.Deadlines.{Numbers}
-use Rattle.laws_entries.specs.ChunkOrders.{WasCopied, IsSource}
+use Rattle.laws_base.specs.Deadlines.{Numbers}
+use Rattle.laws_base.specs.ChunkOrders.{WasCopied, IsSource}
 use Rattle.laws_versions.specs.AnsweredOrders.{IsRefusedBy}
 
 -- A Grant of this version was sent, and each one went to this server, which refuses it.

@@ -13,7 +13,7 @@ use Rattle.protocol.specs.Choice.{Choice}
 use Rattle.protocol.specs.Server.{ServerState}
 use Rattle.protocol.specs.World.{WorldState, IsReached}
 use Rattle.laws_base.specs.Laws.{grants_of}
-use Rattle.laws_entries.specs.Deadlines.{Numbers}
+use Rattle.laws_base.specs.Deadlines.{Numbers}
 
 -- the chunk of which an order makes a replica, and its version
 abbrev pub version_made : Body → Option (ℕ × ℕ)

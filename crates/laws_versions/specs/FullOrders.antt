@@ -15,7 +15,7 @@ use Rattle.protocol.specs.Sending.{data_id, the_client}
 use Rattle.protocol.specs.Observer.{Placed, order_of}
 use Rattle.protocol.specs.World.{WorldState, IsReached}
 use Rattle.laws_base.specs.Laws.{IsSizeGranted}
-use Rattle.laws_entries.specs.Entries.{IsAmong}
+use Rattle.laws_base.specs.Entries.{IsAmong}
 use Rattle.protocol_invariant.specs.AttemptParts.{is_full}
 
 -- an entry of the order, of a round up to this version, ends at the end of a chunk of this size

@@ -9,7 +9,7 @@ use Rattle.protocol.specs.Logged.{replayed}
 use Rattle.messages.specs.declared.message.Location.{Location}
 use Rattle.protocol.specs.Observer.{Placed, order_of}
 use Rattle.protocol.specs.World.{WorldState, new_world, happens, after_events, IsReached}
-use Rattle.laws_entries.specs.ChunkOrders.{IsCopiedNow, HasMutate}
+use Rattle.laws_base.specs.ChunkOrders.{IsCopiedNow, HasMutate}
 use Rattle.laws_versions.specs.ReplacedChunks.{IsToldAt}
 
 -- This chunk stands at this index of the file, in the log, or at a master that is up.

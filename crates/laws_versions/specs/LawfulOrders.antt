@@ -27,7 +27,7 @@ use Rattle.protocol.specs.ServerStep.{server_step}
 use Rattle.protocol.specs.World.{WorldState, IsReached, is_kept}
 use Rattle.laws_base.specs.Laws.{IsSizeGranted}
 use Rattle.protocol_invariant.specs.Versions.{AreRising}
-use Rattle.laws_entries.specs.Entries.{IsPushed}
+use Rattle.laws_base.specs.Entries.{IsPushed}
 use Rattle.laws_versions.specs.SkippedRounds.{up_to}
 
 -- a chunk of the machine with these entries, whose open round is this one

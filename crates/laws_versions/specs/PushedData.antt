@@ -10,7 +10,7 @@ use Rattle.protocol.specs.Observer.{Placed, order_of}
 use Rattle.protocol.specs.Server.{ServerState}
 use Rattle.protocol.specs.World.{WorldState, IsReached}
 use Rattle.laws_base.specs.Laws.{IsSizeGranted}
-use Rattle.laws_entries.specs.Entries.{IsPushed}
+use Rattle.laws_base.specs.Entries.{IsPushed}
 use Rattle.laws_versions.specs.LawfulOrders.{IsMadeOf}
 
 -- What a server keeps as pushed, and what any Push carries, the client of the data pushed (section 3.2).

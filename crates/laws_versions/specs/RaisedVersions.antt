@@ -13,7 +13,7 @@ use Rattle.protocol.specs.Choice.{Choice}
 use Rattle.protocol.specs.Server.{ServerState}
 use Rattle.protocol.specs.World.{WorldState, IsReached}
 use Rattle.laws_base.specs.Laws.{grants_of}
-use Rattle.laws_entries.specs.Deadlines.{Numbers}
+use Rattle.laws_base.specs.Deadlines.{Numbers}
 
 -- No Grant is ever sent of a version above the one that a SetVersion replaces and below the one that it gives (sections 3.1 and 4.5).
 abbrev pub RaisesSkipNoGrant : Type 0

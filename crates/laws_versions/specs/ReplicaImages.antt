@@ -19,7 +19,7 @@ use Rattle.protocol.specs.StoredBytes.{stored_bytes}
 use Rattle.protocol.specs.Server.{ServerState}
 use Rattle.protocol.specs.ServerStep.{found_disk}
 use Rattle.protocol.specs.World.{WorldState, IsReached, is_kept}
-use Rattle.laws_entries.specs.ChunkOrders.{unsettled}
+use Rattle.laws_base.specs.ChunkOrders.{unsettled}
 
 -- the bytes that a mutation writes; a pad writes zeros up to its end
 abbrev pub written_by : Mutation → List ℕ

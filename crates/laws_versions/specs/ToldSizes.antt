@@ -24,8 +24,8 @@ use Rattle.protocol.specs.MasterStep.{master_step}
 use Rattle.protocol.specs.Observer.{Placed, order_of}
 use Rattle.protocol.specs.World.{WorldState, new_world, happens, after_events, IsReached}
 use Rattle.laws_base.specs.Laws.{IsSizeGranted, grants_of}
-use Rattle.laws_entries.specs.ChunkOrders.{WasCopied, IsSource}
-use Rattle.laws_entries.specs.PlacedEntries.{LiesWithin}
+use Rattle.laws_base.specs.ChunkOrders.{WasCopied, IsSource}
+use Rattle.laws_base.specs.PlacedEntries.{LiesWithin}
 use Rattle.laws_versions.specs.ReplacedChunks.{IsToldAt}
 
 -- one of the messages before this place is a Grant of the version to this node, with this size of the chunk

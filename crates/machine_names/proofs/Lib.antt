@@ -9,3 +9,9 @@ pub mod Unseen
 pub mod Seen
 pub mod Traces
 pub mod Named
+mod Calm
+mod Changed
+mod Lacking
+mod Looks
+mod OneName
+mod Skipped

@@ -4,3 +4,4 @@ pub mod NameProjections
 pub mod UnseenRuns
 pub mod NameTraces
 pub mod NamedFiles
+pub mod FalseTraces

@@ -5,7 +5,7 @@ ghost use Rattle.gfs_types.specs.Counters.{counter_limit};
 ghost use Rattle.protocol.specs.MasterStep.{is_within_limits};
 ghost use Rattle.master_plan.specs.Changes.{changes_of};
 ghost use Rattle.master_plan.specs.Plans.{known};
-ghost use Rattle.step_outcome.specs.declared.down_cause.DownCause.TheVariants as causes;
+ghost use Rattle.protocol.specs.declared.down_cause.DownCause.TheVariants as causes;
 ghost use Rattle.master_cell.specs.Ends.{AreMade, step_out};
 
 use crate::commit::commit;
@@ -14,9 +14,9 @@ use master_plan::change::PlannedChangeList;
 use master_plan::plan::Plan;
 use messages::event::StepOut;
 use operation_log::log::OperationLog;
+use protocol::down_cause::DownCause;
+use protocol::step_outcome::Outcome;
 use std::alloc::Allocator;
-use step_outcome::Outcome;
-use step_outcome::down_cause::DownCause;
 
 // Makes the changes of a plan on the log. False: a change failed, or a counter is past its limit, and the master is to go down.
 pub(crate) fn makes<L: OperationLog, A: Allocator + Clone>(log: &mut L, plan: &mut Plan<A>) -> bool

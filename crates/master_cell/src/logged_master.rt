@@ -8,8 +8,8 @@ ghost use Rattle.protocol.specs.MasterStep.{new_master};
 ghost use Rattle.protocol.specs.Conforms.{MasterSteps, MasterRestarts};
 ghost use Rattle.protocol.specs.Master.{stopped_master};
 ghost use Rattle.protocol.specs.World.{files_seen};
-ghost use Rattle.step_outcome.specs.Causes.{IsDownFor};
-ghost use Rattle.step_outcome.specs.declared.down_cause.DownCause.TheVariants as causes;
+ghost use Rattle.protocol.specs.Causes.{IsDownFor};
+ghost use Rattle.protocol.specs.declared.down_cause.DownCause.TheVariants as causes;
 ghost use Rattle.master_cell.specs.Shown.{shown_in};
 ghost use Rattle.master_cell.specs.Inputs.{input_of};
 ghost use Rattle.master_cell.specs.Opens.{HasNoRoom, OpensNot, OpensUp, down_over};
@@ -30,10 +30,10 @@ use messages::event::StepOut;
 use messages::message::Message;
 use operation_log::log::OperationLog;
 use operation_log::reopened::ReopenedLog;
+use protocol::down_cause::DownCause;
+use protocol::step_outcome::{Outcome, down_output, no_output};
 use std::alloc::{Allocator, Global};
 use std::marker::Model;
-use step_outcome::down_cause::DownCause;
-use step_outcome::{Outcome, down_output, no_output};
 use stored_log::disk_log::DiskLog;
 
 /// The master over a log. While it is up, nothing is under way on the log's disk. Its names lie in `A`.

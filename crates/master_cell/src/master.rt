@@ -12,8 +12,8 @@ ghost use Rattle.stored_log.specs.Kept.{IsDiskSize, LeavesDecided};
 ghost use Rattle.master_cell.specs.Disks.{FailsOver, LacksRoom, OpensOver};
 ghost use Rattle.master_cell.specs.Inputs.{input_of};
 ghost use Rattle.master_cell.specs.declared.opening_fault.OpeningFault.TheVariants as opening_faults;
-ghost use Rattle.step_outcome.specs.Causes.{IsDownFor};
-ghost use Rattle.step_outcome.specs.declared.down_cause.DownCause.TheVariants as causes;
+ghost use Rattle.protocol.specs.Causes.{IsDownFor};
+ghost use Rattle.protocol.specs.declared.down_cause.DownCause.TheVariants as causes;
 
 use crate::logged_master::LoggedMaster;
 use crate::opening_fault::OpeningFault;
@@ -23,9 +23,9 @@ use gfs_types::config::Config;
 use gfs_types::ids::Moment;
 use messages::event::{NodeInput, StepOut};
 use messages::message::Message;
+use protocol::step_outcome::Outcome;
 use std::alloc::{Allocator, Global};
 use std::marker::Model;
-use step_outcome::Outcome;
 use stored_log::disk_log::DiskLog;
 
 /// What the master takes a step on.

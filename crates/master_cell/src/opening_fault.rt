@@ -4,9 +4,9 @@ ghost use Rattle.std.specs.Prelude.{◌≡◌, Some};
 ghost use Rattle.master_cell.specs.Faults.{opening_fault_text};
 
 use operation_log::fault::OperationLogFault;
+use protocol::down_cause::DownCause;
 use std::error::Error;
 use std::fmt;
-use step_outcome::down_cause::DownCause;
 
 /// Why a master can't be opened over a disk.
 #[derive(Clone, Copy, Debug, PartialEq, Eq)]

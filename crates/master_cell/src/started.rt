@@ -6,7 +6,7 @@ ghost use Rattle.protocol.specs.Logged.{first_logged};
 ghost use Rattle.protocol.specs.Seen.{no_output, down_output};
 ghost use Rattle.protocol.specs.MasterStep.{started_master, opening, has_opened};
 ghost use Rattle.master_plan.specs.Plans.{started, doing};
-ghost use Rattle.step_outcome.specs.declared.down_cause.DownCause.TheVariants as causes;
+ghost use Rattle.protocol.specs.declared.down_cause.DownCause.TheVariants as causes;
 ghost use Rattle.master_cell.specs.Opens.{HasNoRoom, Opens, down_over};
 ghost use Rattle.master_cell.specs.Shown.{shown_in};
 ghost use Rattle.master_cell.specs.Standing.{standing, IsResting};
@@ -23,8 +23,8 @@ use master_plan::plan::Plan;
 use master_replay::restart::replayed;
 use master_state::state::State;
 use operation_log::log::OperationLog;
+use protocol::down_cause::DownCause;
 use std::alloc::{Allocator, Global};
-use step_outcome::down_cause::DownCause;
 
 // What the master of a new cell knows.
 pub(crate) fn first_plan<A: Allocator + Clone>(

@@ -2,15 +2,15 @@
 
 ghost use Rattle.std.specs.Prelude.{◌≡◌, ◌≤◌, ◌+◌, Some, length, replicate, IfOk, IsErrOf, OnOk, OnErr};
 ghost use Rattle.replica_store.specs.Replicas.{block_matches, blocks_match, is_readable, is_writable, own_bytes, read_bytes, read_end, rotten_replica, row_of, stored_replica, written_replica, raised_replica};
-ghost use Rattle.server_store.specs.declared.fault.ReplicaStoreFault.TheVariants as faults;
+ghost use Rattle.replica_store.specs.declared.fault.ReplicaStoreFault.TheVariants as faults;
 
 use crate::blocks::{all_digests, has_digest, renew, touched};
 use crate::parts::{filled, part_of, put, zeros};
 use bytes::Bytes;
 use gfs_types::ids::{Serial, Version};
 use gfs_types::no_memory::NoMemory;
+use replica_store::fault::ReplicaStoreFault;
 use replica_store::row::Row;
-use server_store::fault::ReplicaStoreFault;
 use std::alloc::Global;
 use std::marker::Model;
 use store_disk::HashedBlock;

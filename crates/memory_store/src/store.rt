@@ -4,8 +4,8 @@ ghost use Rattle.std.specs.Prelude.{◌≡◌, ◌≤◌, [], true, map, IfOk, I
 ghost use Rattle.std.specs.Option.{option_copied};
 ghost use Rattle.std.specs.FinMap.{entries};
 ghost use Rattle.replica_store.specs.Replicas.{new_server_disk, disk_changed, replica_of};
-ghost use Rattle.server_store.specs.Stores.{line_of};
-ghost use Rattle.server_store.specs.declared.fault.ReplicaStoreFault.TheVariants as faults;
+ghost use Rattle.replica_store.specs.Stores.{line_of};
+ghost use Rattle.replica_store.specs.declared.fault.ReplicaStoreFault.TheVariants as faults;
 
 use crate::replica::MemoryReplica;
 use crate::table::{ReplicaTable, copy, raise, rot, write, zero};
@@ -16,10 +16,10 @@ use messages::message::ReplicaLine;
 use messages::message_lists::ReplicaList;
 use ordered_map::OrderedMap;
 use replica_store::change::StoreChange;
+use replica_store::fault::ReplicaStoreFault;
+use replica_store::reopened_store::ReopenedStore;
 use replica_store::row::Row;
-use server_store::fault::ReplicaStoreFault;
-use server_store::reopened_store::ReopenedStore;
-use server_store::store::ReplicaStore;
+use replica_store::store::ReplicaStore;
 use std::alloc::Global;
 use std::marker::Model;
 use store_disk::HashedBlock;

@@ -4,13 +4,13 @@ ghost use Rattle.std.specs.Prelude.{◌≡◌, ◌≤◌, replicate, IsErrOf, On
 ghost use Rattle.std.specs.FinMap as map;
 ghost use Rattle.replica_store.specs.Replicas.{written_replica, raised_replica, rotten_replica};
 ghost use Rattle.memory_store.specs.Becoming.{becomes, copied};
-ghost use Rattle.server_store.specs.declared.fault.ReplicaStoreFault.TheVariants as faults;
+ghost use Rattle.replica_store.specs.declared.fault.ReplicaStoreFault.TheVariants as faults;
 
 use crate::replica::MemoryReplica;
 use gfs_types::ids::{Serial, Version};
 use gfs_types::no_memory::NoMemory;
 use ordered_map::OrderedMap;
-use server_store::fault::ReplicaStoreFault;
+use replica_store::fault::ReplicaStoreFault;
 use std::alloc::Global;
 use store_disk::HashedBlock;
 

@@ -4,7 +4,7 @@ ghost use Rattle.std.specs.Prelude.{◌≡◌, ◌==◌, ◌<◌, ◌^◌, ◌||
 ghost use Rattle.std.specs.List.{list_any};
 ghost use Rattle.log_codec.specs.Payloads.{has_shape};
 
-use ghost_list::GhostList;
+use gfs_types::ghost_list::GhostList;
 use log_codec::has_shape;
 use log_records::record::Record;
 use std::marker::Model;

@@ -12,3 +12,4 @@ pub mod LiveLines
 pub mod Reading
 pub mod Scripts
 pub mod Chunks
+pub mod CallLines

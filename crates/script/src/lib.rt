@@ -3,6 +3,7 @@
 #![tactic(auto)]
 
 pub mod answers;
+pub mod call_lines;
 pub mod cell_lines;
 pub mod cell_nodes;
 pub mod chunk_lines;

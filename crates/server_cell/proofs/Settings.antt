@@ -4,7 +4,7 @@ use Rattle.gfs_types.specs.declared.config.Config.{Config}
 use Rattle.replica_store.specs.declared.change.StoreChange.{StoreChange}
 use Rattle.replica_store.specs.declared.change.StoreChange.TheVariants.{Rot}
 use Rattle.replica_store.specs.Replicas.{Replica, ServerDisk, disk_changed, disk_changed_by_all, replica_of}
-use Rattle.server_store.specs.Stores.{MadePart}
+use Rattle.replica_store.specs.Stores.{MadePart}
 use Rattle.disk_store.proofs.Saying.{changed_alike}
 use Rattle.protocol.specs.Choice.{Ending, Goes, Lost, Stops, made_changes}
 use Rattle.protocol.specs.Conforms.{ServerRots, rotted}

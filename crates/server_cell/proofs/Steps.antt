@@ -5,7 +5,7 @@ use Rattle.messages.specs.declared.event.NodeInput.{NodeInput}
 use Rattle.messages.specs.declared.event.StepOut.{StepOut}
 use Rattle.replica_store.specs.declared.change.StoreChange.{StoreChange}
 use Rattle.replica_store.specs.Replicas.{ServerDisk, disk_changed_by_all}
-use Rattle.server_store.specs.Stores.{IsFound, MadePart}
+use Rattle.replica_store.specs.Stores.{IsFound, MadePart}
 use Rattle.protocol.specs.Choice.{Choice, Ending, Goes, Lost, Stops, decided_changes}
 use Rattle.protocol.specs.declared.seen.Seen.{Seen}
 use Rattle.protocol.specs.Seen.{is_numbering, Taken, no_output, down_output, no_step}

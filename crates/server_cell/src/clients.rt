@@ -8,11 +8,11 @@ ghost use Rattle.server_cell.specs.Kinds.{is_of_clients};
 
 use crate::server_writes::takes_mutate;
 use messages::message::{Body, Message};
+use replica_store::fault::ReplicaStoreFault;
+use replica_store::store::ReplicaStore;
 use server_handlers::effects::ServerEffects;
 use server_handlers::reads::Asking;
 use server_handlers::server::Server;
-use server_store::fault::ReplicaStoreFault;
-use server_store::store::ReplicaStore;
 
 pub(crate) fn takes_of_clients<S: ReplicaStore>(
     server: &mut Server<S>,

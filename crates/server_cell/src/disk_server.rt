@@ -11,10 +11,10 @@ ghost use Rattle.protocol.specs.Server.{started_server, stopped_server};
 ghost use Rattle.protocol.specs.Tables.{moment_limit};
 ghost use Rattle.protocol.specs.declared.seen.Seen.{Seen};
 ghost use Rattle.replica_store.specs.Replicas.{ServerDisk, row_at};
-ghost use Rattle.step_outcome.specs.Causes.{IsDownFor};
+ghost use Rattle.protocol.specs.Causes.{IsDownFor};
 ghost use Rattle.server_cell.specs.Inputs.{input_of};
 ghost use Rattle.server_cell.specs.Settings.{KeepsSettings};
-ghost use Rattle.server_store.specs.declared.fault.ReplicaStoreFault.TheVariants as faults;
+ghost use Rattle.replica_store.specs.declared.fault.ReplicaStoreFault.TheVariants as faults;
 ghost use Rattle.store_disk.specs.Formats.{IsHeadOf, is_head_open};
 ghost use Rattle.store_disk.specs.Places.{disk_size};
 
@@ -25,11 +25,11 @@ use gfs_types::config::Config;
 use gfs_types::ids::{Handle, Moment, ServerId};
 use messages::event::{NodeInput, StepOut};
 use messages::message::Message;
+use protocol::step_outcome::Outcome;
+use replica_store::fault::ReplicaStoreFault;
 use replica_store::row::Row;
-use server_store::fault::ReplicaStoreFault;
 use std::alloc::Global;
 use std::marker::Model;
-use step_outcome::Outcome;
 use store_disk::Layout;
 
 /// What a server takes a step on.

@@ -1,19 +1,19 @@
 //! How a step ends.
 
 ghost use Rattle.std.specs.Prelude.{◌≡◌, ◌<◌, []};
-ghost use Rattle.step_outcome.specs.Causes.{IsDownFor};
-ghost use Rattle.step_outcome.specs.declared.down_cause.DownCause.TheVariants as causes;
+ghost use Rattle.protocol.specs.Causes.{IsDownFor};
+ghost use Rattle.protocol.specs.declared.down_cause.DownCause.TheVariants as causes;
 ghost use Rattle.server_cell.specs.Ends.{Ends};
 ghost use Rattle.server_cell.specs.Settings.{KeepsSettings};
 ghost use Rattle.server_handlers.specs.Doing.{doing};
 
 use crate::numberings::numberings;
 use messages::event::StepOut;
+use protocol::down_cause::DownCause;
+use protocol::step_outcome::Outcome;
+use replica_store::store::ReplicaStore;
 use server_handlers::effects::ServerEffects;
 use server_handlers::server::Server;
-use server_store::store::ReplicaStore;
-use step_outcome::Outcome;
-use step_outcome::down_cause::DownCause;
 
 // Why it goes down, where its disk had failed so often before.
 pub(crate) fn cause_since<S: ReplicaStore>(server: &Server<S>, before: u64) -> DownCause

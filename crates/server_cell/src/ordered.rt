@@ -7,10 +7,10 @@ ghost use Rattle.server_handlers.specs.Doing.{doing};
 
 use gfs_types::ids::{Handle, Moment, OrderNo, ServerId, Version};
 use gfs_types::lists::ServerList;
+use replica_store::fault::ReplicaStoreFault;
+use replica_store::store::ReplicaStore;
 use server_handlers::effects::ServerEffects;
 use server_handlers::server::Server;
-use server_store::fault::ReplicaStoreFault;
-use server_store::store::ReplicaStore;
 
 // Create.
 pub(crate) fn orders_create<S: ReplicaStore>(

@@ -11,10 +11,10 @@ use crate::ordered::{
     orders_set_version,
 };
 use messages::message::{Body, Message};
+use replica_store::fault::ReplicaStoreFault;
+use replica_store::store::ReplicaStore;
 use server_handlers::effects::ServerEffects;
 use server_handlers::server::Server;
-use server_store::fault::ReplicaStoreFault;
-use server_store::store::ReplicaStore;
 
 pub(crate) fn takes_of_master<S: ReplicaStore>(
     server: &mut Server<S>,

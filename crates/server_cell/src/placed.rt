@@ -14,12 +14,12 @@ use gfs_types::mutation::Mutation;
 use gfs_types::refusal::Refusal;
 use messages::message::Change;
 use replica_store::change::StoreChange;
+use replica_store::fault::ReplicaStoreFault;
+use replica_store::store::ReplicaStore;
 use server_handlers::effects::ServerEffects;
 use server_handlers::mutate::Forwarded;
 use server_handlers::mutations::others;
 use server_handlers::server::Server;
-use server_store::fault::ReplicaStoreFault;
-use server_store::store::ReplicaStore;
 
 // A mutation takes the next serial; then it is applied, then forwarded. A counter at its limit lets nothing happen.
 pub(crate) fn places<S: ReplicaStore>(

@@ -14,10 +14,10 @@ use crate::orders::takes_of_master;
 use crate::servers::takes_of_servers;
 use gfs_types::ids::Moment;
 use messages::message::{Body, Message};
+use replica_store::fault::ReplicaStoreFault;
+use replica_store::store::ReplicaStore;
 use server_handlers::effects::ServerEffects;
 use server_handlers::server::Server;
-use server_store::fault::ReplicaStoreFault;
-use server_store::store::ReplicaStore;
 
 fn is_of_clients(body: &Body) -> bool
     ensures { result ≡ is_of_clients body.now }

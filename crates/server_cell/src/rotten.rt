@@ -5,8 +5,8 @@ ghost use Rattle.replica_store.specs.declared.change.StoreChange.TheVariants.{Ro
 ghost use Rattle.server_cell.specs.Rots.{IsRotten};
 
 use gfs_types::ids::Handle;
+use replica_store::store::ReplicaStore;
 use server_handlers::server::Server;
-use server_store::store::ReplicaStore;
 
 // Where the disk fails under it, or memory is refused, the server stops, and the change is under way.
 pub(crate) fn rots<S: ReplicaStore>(server: &mut Server<S>, handle: Handle, place: u64, byte: u8)

@@ -7,7 +7,7 @@ ghost use Rattle.protocol.specs.Conforms.{ServerSteps, ServerRestarts, ServerRot
 ghost use Rattle.protocol.specs.Server.{started_server, stopped_server};
 ghost use Rattle.protocol.specs.Tables.{moment_limit};
 ghost use Rattle.replica_store.specs.Replicas.{row_at};
-ghost use Rattle.step_outcome.specs.Causes.{IsDownFor};
+ghost use Rattle.protocol.specs.Causes.{IsDownFor};
 ghost use Rattle.server_cell.specs.Inputs.{input_of};
 ghost use Rattle.server_cell.specs.Settings.{KeepsSettings};
 
@@ -18,14 +18,14 @@ use gfs_types::config::Config;
 use gfs_types::ids::{Handle, Moment, ServerId};
 use messages::event::StepOut;
 use messages::message::Message;
+use protocol::step_outcome::{Outcome, down_output, no_output};
+use replica_store::armed_store::ArmedStore;
+use replica_store::reopened_store::ReopenedStore;
 use replica_store::row::Row;
+use replica_store::store::ReplicaStore;
 use server_handlers::server::Server;
-use server_store::armed_store::ArmedStore;
-use server_store::reopened_store::ReopenedStore;
-use server_store::store::ReplicaStore;
 use std::alloc::Global;
 use std::marker::Model;
-use step_outcome::{Outcome, down_output, no_output};
 
 /// A chunkserver over a store of its replicas. While it is up, nothing is under way on its disk.
 #[derive(Drop)]

@@ -15,16 +15,16 @@ ghost use Rattle.server_cell.specs.Settings.{IsForServers};
 use crate::disk_server::Server;
 use disk::{FuseDisk, MemDisk, StopPlan};
 use gfs_types::config::Config;
+use gfs_types::ghost_list::GhostList;
 use gfs_types::ids::{Handle, Moment, ServerId};
 use gfs_types::torn::Torn;
-use ghost_list::GhostList;
 use messages::event::StepOut;
 use messages::message::Message;
+use protocol::step_outcome::{Outcome, down_output, no_output};
+use replica_store::fault::ReplicaStoreFault;
 use replica_store::row::Row;
-use server_store::fault::ReplicaStoreFault;
 use std::alloc::Global;
 use std::marker::Model;
-use step_outcome::{Outcome, down_output, no_output};
 
 /// A server over a disk in memory, which a script stops and restarts. Where the server can't be opened again, its disk stays here, and the
 /// server is down.

@@ -19,10 +19,10 @@ use messages::message::Target;
 use primary_order::answer::Accept;
 use record_append::place;
 use record_append::placing::Placing;
+use replica_store::fault::ReplicaStoreFault;
+use replica_store::store::ReplicaStore;
 use server_handlers::effects::ServerEffects;
 use server_handlers::server::Server;
-use server_store::fault::ReplicaStoreFault;
-use server_store::store::ReplicaStore;
 
 /// A Mutate.
 pub fn takes_mutate<S: ReplicaStore>(

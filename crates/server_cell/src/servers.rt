@@ -7,12 +7,12 @@ ghost use Rattle.server_handlers.specs.Doing.{doing};
 ghost use Rattle.server_cell.specs.Kinds.{is_of_servers};
 
 use messages::message::{Body, Message};
+use replica_store::fault::ReplicaStoreFault;
+use replica_store::store::ReplicaStore;
 use server_handlers::effects::ServerEffects;
 use server_handlers::forward::MemberRequest;
 use server_handlers::mutations::server_number;
 use server_handlers::server::Server;
-use server_store::fault::ReplicaStoreFault;
-use server_store::store::ReplicaStore;
 
 pub(crate) fn takes_of_servers<S: ReplicaStore>(
     server: &mut Server<S>,

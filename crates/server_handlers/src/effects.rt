@@ -7,7 +7,7 @@ use messages::message::Message;
 use messages::message_lists::MessageList;
 use protocol::seen::{Seen, SeenList};
 use replica_store::change::{ChangeList, StoreChange};
-use server_store::fault::ReplicaStoreFault;
+use replica_store::fault::ReplicaStoreFault;
 use std::alloc::Global;
 
 /// The messages to send, the changes of the disk, and what is seen, each in order.

@@ -13,8 +13,8 @@ use gfs_types::ids::{DataId, Handle, Node, Serial, Version};
 use gfs_types::refusal::Refusal;
 use messages::message::{Body, Change};
 use replica_store::change::StoreChange;
-use server_store::fault::ReplicaStoreFault;
-use server_store::store::ReplicaStore;
+use replica_store::fault::ReplicaStoreFault;
+use replica_store::store::ReplicaStore;
 
 /// What a primary asks of a member.
 #[derive(Clone, Copy)]

@@ -4,7 +4,7 @@ ghost use Rattle.std.specs.Prelude.{◌≡◌, ◌≤◌, [], ◌∷◌, OnOk, O
 ghost use Rattle.gfs_types.specs.Settings.{largest_chunk};
 ghost use Rattle.replica_store.specs.Replicas.{disk_changed, disk_changed_by_all};
 ghost use Rattle.replica_store.specs.declared.change.StoreChange.TheVariants.{Rot};
-ghost use Rattle.server_store.specs.Stores.{IsFound, MadePart};
+ghost use Rattle.replica_store.specs.Stores.{IsFound, MadePart};
 ghost use Rattle.protocol.specs.Tables.{moment_limit};
 ghost use Rattle.protocol.specs.Server.{started_server, stopped_server};
 
@@ -14,11 +14,11 @@ use crate::server::Server;
 use gfs_types::config::Config;
 use gfs_types::ids::{Handle, Moment, ServerId};
 use ordered_map::number_map::NumberMap;
+use replica_store::armed_store::ArmedStore;
 use replica_store::change::{ChangeList, StoreChange};
-use server_store::armed_store::ArmedStore;
-use server_store::fault::ReplicaStoreFault;
-use server_store::reopened_store::ReopenedStore;
-use server_store::store::{ReplicaStore, commit_all};
+use replica_store::fault::ReplicaStoreFault;
+use replica_store::reopened_store::ReopenedStore;
+use replica_store::store::{ReplicaStore, commit_all};
 use std::alloc::Global;
 
 impl<S: ReplicaStore> Server<S> {

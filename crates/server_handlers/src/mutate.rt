@@ -16,8 +16,8 @@ use gfs_types::refusal::Refusal;
 use messages::message::{Body, Change};
 use primary_order::answer::Settled;
 use protocol::seen::Seen;
-use server_store::fault::ReplicaStoreFault;
-use server_store::store::ReplicaStore;
+use replica_store::fault::ReplicaStoreFault;
+use replica_store::store::ReplicaStore;
 
 /// What goes to each other member.
 #[derive(Clone, Copy)]

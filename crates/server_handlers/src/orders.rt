@@ -15,8 +15,8 @@ use gfs_types::ids::{Handle, Moment, Node, OrderNo, Serial, ServerId, Version};
 use gfs_types::lists::ServerList;
 use messages::message::Body;
 use replica_store::change::StoreChange;
-use server_store::fault::ReplicaStoreFault;
-use server_store::store::ReplicaStore;
+use replica_store::fault::ReplicaStoreFault;
+use replica_store::store::ReplicaStore;
 
 impl<S: ReplicaStore> Server<S> {
     /// Whether an order is taken: only where its number is greater than the last one's; that number is on the disk first.

@@ -15,8 +15,8 @@ use gfs_types::ids::{DataId, Node, ServerId};
 use gfs_types::lists::ServerList;
 use gfs_types::no_memory::NoMemory;
 use messages::message::Body;
-use server_store::fault::ReplicaStoreFault;
-use server_store::store::ReplicaStore;
+use replica_store::fault::ReplicaStoreFault;
+use replica_store::store::ReplicaStore;
 use std::alloc::Global;
 
 impl<S: ReplicaStore> Server<S> {

@@ -10,8 +10,8 @@ use crate::server::Server;
 use gfs_types::ids::{Handle, Node, Version};
 use gfs_types::refusal::Refusal;
 use messages::message::Body;
-use server_store::fault::ReplicaStoreFault;
-use server_store::store::ReplicaStore;
+use replica_store::fault::ReplicaStoreFault;
+use replica_store::store::ReplicaStore;
 
 /// What is read of a replica, and for whom.
 #[derive(Clone, Copy)]

@@ -25,9 +25,9 @@ use messages::message::{Body, Message};
 use ordered_map::number_map::NumberMap;
 use primary_order::primary::Primary;
 use replica_store::change::StoreChange;
+use replica_store::fault::ReplicaStoreFault;
 use replica_store::row::Row;
-use server_store::fault::ReplicaStoreFault;
-use server_store::store::ReplicaStore;
+use replica_store::store::ReplicaStore;
 use std::alloc::Global;
 use std::marker::Model;
 

@@ -9,8 +9,8 @@ use crate::effects::ServerEffects;
 use crate::server::Server;
 use gfs_types::ids::{Moment, Node};
 use messages::message::Body;
-use server_store::fault::ReplicaStoreFault;
-use server_store::store::ReplicaStore;
+use replica_store::fault::ReplicaStoreFault;
+use replica_store::store::ReplicaStore;
 
 impl<S: ReplicaStore> Server<S> {
     /// A tick: leases that no longer count are forgotten, and the replicas and leases are reported to the master.

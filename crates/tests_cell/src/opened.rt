@@ -11,8 +11,8 @@ use gfs_types::torn::Torn;
 use master_cell::master::Master;
 use messages::event::{NodeInput, StepOut};
 use messages::message::{Body, Message, NameReply};
+use protocol::down_cause::DownCause;
 use std::alloc::Global;
-use step_outcome::down_cause::DownCause;
 
 const SIZE: usize = 65_536;
 

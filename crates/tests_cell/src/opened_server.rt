@@ -8,9 +8,9 @@ use gfs_types::ids::{ClientId, DataId, Handle, Moment, Node, OrderNo, ServerId, 
 use gfs_types::torn::Torn;
 use messages::event::{NodeInput, StepOut};
 use messages::message::{Body, Message, Target};
+use protocol::down_cause::DownCause;
 use server_cell::disk_server::Server;
 use std::alloc::Global;
-use step_outcome::down_cause::DownCause;
 use store_disk::Layout;
 
 const NOW: Moment = Moment(0);

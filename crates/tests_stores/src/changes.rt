@@ -5,9 +5,9 @@ ghost use Rattle.std.specs.Prelude.{◌≡◌, ◌%◌, [], OnOk};
 use bytes::Bytes;
 use gfs_types::ids::{Handle, OrderNo, Serial, Version};
 use replica_store::change::StoreChange;
+use replica_store::fault::ReplicaStoreFault;
 use replica_store::row::Row;
-use server_store::fault::ReplicaStoreFault;
-use server_store::store::ReplicaStore;
+use replica_store::store::ReplicaStore;
 use std::alloc::{AllocError, Global};
 use store_disk::Layout;
 

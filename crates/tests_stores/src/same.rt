@@ -9,8 +9,8 @@ use disk_store::disk_store::DiskStore;
 use gfs_types::ids::Handle;
 use memory_store::MemoryStore;
 use replica_store::change::StoreChange;
-use server_store::fault::ReplicaStoreFault;
-use server_store::store::ReplicaStore;
+use replica_store::fault::ReplicaStoreFault;
+use replica_store::store::ReplicaStore;
 use std::alloc::Global;
 use std::test::Fail;
 

@@ -5,7 +5,7 @@ ghost use Rattle.tests_stores.specs.StoppedStores.{HasStore};
 
 use disk::{FuseDisk, StopPlan};
 use disk_store::disk_store::DiskStore;
-use server_store::fault::ReplicaStoreFault;
+use replica_store::fault::ReplicaStoreFault;
 use std::alloc::Global;
 use store_disk::Layout;
 

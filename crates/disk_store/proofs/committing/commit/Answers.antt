@@ -1,7 +1,7 @@
 use Rattle.std.proofs.Common.{◌≡◌, ℕ, true, false, inl, inr, sym, ap, ◌∙◌, refl, subst, arith, Some, Err}
-use Rattle.server_store.specs.Stores.{IsCopyable}
-use Rattle.server_store.specs.declared.fault.ReplicaStoreFault.{ReplicaStoreFault}
-use Rattle.server_store.specs.declared.fault.ReplicaStoreFault.TheVariants.{NoMemory, NoRoom}
+use Rattle.replica_store.specs.Stores.{IsCopyable}
+use Rattle.replica_store.specs.declared.fault.ReplicaStoreFault.{ReplicaStoreFault}
+use Rattle.replica_store.specs.declared.fault.ReplicaStoreFault.TheVariants.{NoMemory, NoRoom}
 use Rattle.store_changes.specs.declared.fault.StoreFault.{StoreFault as ChangeFault}
 use Rattle.disk_store.specs.declared.known.Known.{Known}
 use Rattle.disk_store.specs.Faults.{HasCauseOf, of_change}

@@ -1,7 +1,7 @@
 use Rattle.std.proofs.Common.{◌≡◌, ℕ, sym, subst, ap, ◌∙◌, Bool, Err, Result}
 use Rattle.std.specs.Prelude.{IfOk}
 use Rattle.replica_store.specs.Replicas.{is_copyable_at}
-use Rattle.server_store.specs.declared.fault.ReplicaStoreFault.{ReplicaStoreFault}
+use Rattle.replica_store.specs.declared.fault.ReplicaStoreFault.{ReplicaStoreFault}
 use Rattle.disk_store.specs.Faults.{HasCause}
 use Rattle.disk_store.proofs.Causes.{look_cause}
 use Rattle.disk_store.proofs.Looked.{image_lacks, image_there}

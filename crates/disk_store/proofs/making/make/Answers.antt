@@ -5,7 +5,7 @@ use Rattle.std.proofs.lemmas.Result.{on_ok_weaker}
 use Rattle.replica_store.specs.Replicas.{disk_changed}
 use Rattle.replica_store.specs.declared.change.StoreChange.{StoreChange}
 use Rattle.replica_store.specs.declared.change.StoreChange.TheVariants.{SetOrder, Put, Write, Zero, Raise, Copy, Remove, Rot}
-use Rattle.server_store.specs.Stores.{IsCopyable}
+use Rattle.replica_store.specs.Stores.{IsCopyable}
 use Rattle.chunk_store.specs.Stores.{IsOpen}
 use Rattle.store_disk.proofs.Looked.{test_some}
 use Rattle.disk_store.specs.Faults.{IsFitting}

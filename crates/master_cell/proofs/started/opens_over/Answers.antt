@@ -2,7 +2,7 @@ use Rattle.std.proofs.Common.{sym, subst, ◌∙◌}
 use Rattle.protocol.specs.Logged.{LogDisk}
 use Rattle.master_cell.specs.Commits.{IsStopped}
 use Rattle.master_cell.specs.Ends.{AllMade}
-use Rattle.step_outcome.proofs.Causes.{counted}
+use Rattle.protocol.proofs.Causes.{counted}
 use Rattle.master_cell.proofs.Restarts.{cut_off, given_up, has_no_room, is_resting, is_up, no_room}
 use Rattle.master_cell.proofs.started.opens_over.Goals as goal
 

@@ -1,6 +1,6 @@
 use Rattle.std.proofs.Common.{◌≡◌, ◌++◌, map}
 use Rattle.std.specs.FinMap.{entries}
-use Rattle.server_store.specs.Stores.{line_of}
+use Rattle.replica_store.specs.Stores.{line_of}
 use Rattle.memory_store.proofs.store.lines_of.Given as goal
 
 -- what is left completes the lines

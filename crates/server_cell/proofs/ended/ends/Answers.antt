@@ -1,5 +1,5 @@
 use Rattle.std.proofs.Common.{refl, ◌∙◌}
-use Rattle.step_outcome.proofs.Causes.{down_for}
+use Rattle.protocol.proofs.Causes.{down_for}
 use Rattle.server_handlers.specs.Doing.{doing}
 use Rattle.server_cell.proofs.Settings.{changed_settings, part_settings}
 use Rattle.server_cell.proofs.Steps.{went, stopped_so}

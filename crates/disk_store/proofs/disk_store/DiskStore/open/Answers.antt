@@ -2,7 +2,7 @@ use Rattle.std.proofs.Common.{◌≡◌, ◌<◌, sym, ◌∙◌, subst}
 use Rattle.std.proofs.lemmas.Result.{IfErr-weaker}
 use Rattle.disk_redo.specs.GateMoments.{LeavesOnly}
 use Rattle.replica_store.specs.Replicas.{ServerDisk}
-use Rattle.server_store.specs.declared.fault.ReplicaStoreFault.TheVariants.{Damaged, DiskFailed, NoMemory}
+use Rattle.replica_store.specs.declared.fault.ReplicaStoreFault.TheVariants.{Damaged, DiskFailed, NoMemory}
 use Rattle.chunk_store.specs.Opening.{HoldsReplicas, IsOpening}
 use Rattle.chunk_store.proofs.Stopped.{held}
 use Rattle.disk_store.proofs.Causes.{opening_damaged, opening_failed}

@@ -1,6 +1,6 @@
 use Rattle.std.proofs.Common.{◌≡◌, refl, sym, ap, ◌∙◌, subst, List}
 use Rattle.replica_store.specs.Replicas.{ServerDisk, disk_changed}
-use Rattle.server_store.specs.declared.fault.ReplicaStoreFault.TheVariants.{Damaged, DiskFailed}
+use Rattle.replica_store.specs.declared.fault.ReplicaStoreFault.TheVariants.{Damaged, DiskFailed}
 use Rattle.chunk_store.specs.Stores.{StoreState}
 use Rattle.disk_store.specs.Standing.{DiskStoreView, IsKept, IsRemembered, changes_of, disk_said, is_standing_open, remembered}
 use Rattle.disk_store.specs.declared.standing.DiskStoreState.TheVariants.{Open}

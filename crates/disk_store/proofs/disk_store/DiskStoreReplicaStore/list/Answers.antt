@@ -1,6 +1,6 @@
 use Rattle.std.proofs.Common.{◌≡◌, subst}
 use Rattle.std.specs.Prelude.{IfOk}
-use Rattle.server_store.specs.Stores.{replica_lines}
+use Rattle.replica_store.specs.Stores.{replica_lines}
 use Rattle.disk_store.specs.Standing.{DiskStoreView, disk_said}
 use Rattle.disk_store.proofs.disk_store.DiskStoreReplicaStore.list.Goals as goal
 

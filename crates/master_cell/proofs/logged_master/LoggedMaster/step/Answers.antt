@@ -4,13 +4,13 @@ use Rattle.messages.specs.declared.event.StepOut.{StepOut}
 use Rattle.protocol.specs.Master.{MasterState}
 use Rattle.protocol.specs.MasterLimits.{can_count}
 use Rattle.protocol.specs.Conforms.{MasterSteps}
-use Rattle.step_outcome.specs.Causes.{IsDownFor}
+use Rattle.protocol.specs.Causes.{IsDownFor}
 use Rattle.master_plan.specs.Plans.{known}
 use Rattle.master_plan.specs.Changes.{changes_of}
 use Rattle.master_cell.specs.Shown.{shown_in}
 use Rattle.master_cell.specs.Inputs.{input_of}
 use Rattle.master_cell.specs.Standing.{LoggedMasterState, standing}
-use Rattle.step_outcome.proofs.Causes.{counted, down_for, memory_for, stays_for}
+use Rattle.protocol.proofs.Causes.{counted, down_for, memory_for, stays_for}
 use Rattle.master_cell.proofs.Steps.{as_down, stays_down, not_counted, lost, drafted_cut_off, drafted_went, drafted_rests, is_up_as, up_is}
 use Rattle.master_cell.proofs.Files.{shown_down, shown_still, shown_before, step_shows}
 use Rattle.master_cell.proofs.logged_master.LoggedMaster.step.Goals as goal

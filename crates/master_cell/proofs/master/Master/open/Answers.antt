@@ -1,6 +1,6 @@
 use Rattle.std.proofs.Common.{◌≡◌, arith}
 use Rattle.operation_log.specs.declared.fault.OperationLogFault.TheVariants as log
-use Rattle.step_outcome.specs.declared.down_cause.DownCause.TheVariants as cause
+use Rattle.protocol.specs.declared.down_cause.DownCause.TheVariants as cause
 use Rattle.master_cell.proofs.Disks.{not_read, not_up, opens_over}
 use Rattle.master_cell.proofs.master.Master.open.Goals as goal
 

@@ -1,7 +1,7 @@
 use Rattle.std.proofs.Common.{subst}
 use Rattle.std.specs.Option.{option_copied}
 use Rattle.protocol.specs.Conforms.{MasterSteps}
-use Rattle.step_outcome.specs.Causes.{IsDownFor}
+use Rattle.protocol.specs.Causes.{IsDownFor}
 use Rattle.master_cell.specs.Inputs.{input_of}
 use Rattle.master_cell.specs.Shown.{shown_in}
 use Rattle.master_cell.specs.Standing.{LoggedMasterState}

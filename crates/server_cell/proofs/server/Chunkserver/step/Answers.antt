@@ -1,8 +1,8 @@
 use Rattle.std.proofs.Common.{ℕ, sym, ap, subst, refl, ◌∙◌}
 use Rattle.std.specs.Option.{option_copied}
 use Rattle.messages.specs.declared.event.StepOut.{StepOut}
-use Rattle.step_outcome.specs.Causes.{IsDownFor}
-use Rattle.step_outcome.proofs.Causes.{counted, down_for, stays_for}
+use Rattle.protocol.specs.Causes.{IsDownFor}
+use Rattle.protocol.proofs.Causes.{counted, down_for, stays_for}
 use Rattle.server_handlers.specs.Standing.{HeldServerState}
 use Rattle.protocol.specs.Conforms.{ServerSteps}
 use Rattle.server_cell.specs.Inputs.{input_of}

@@ -1,5 +1,0 @@
-use Rattle.laws_calls.proofs.BoundedCalls.{placings_are_of_few_entries}
-use Rattle.laws_calls.proofs.bounded_calls.placings_are_of_few_entries.Goals as goal
-
-pub returns : goal.returns
-returns c = placings_are_of_few_entries

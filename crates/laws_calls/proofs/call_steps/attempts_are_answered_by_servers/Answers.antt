@@ -1,5 +1,0 @@
-use Rattle.laws_calls.proofs.Answerers.{attempts_are_answered_by_servers}
-use Rattle.laws_calls.proofs.call_steps.attempts_are_answered_by_servers.Goals as goal
-
-pub returns : goal.returns
-returns c = attempts_are_answered_by_servers

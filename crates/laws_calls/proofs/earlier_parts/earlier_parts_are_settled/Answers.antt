@@ -1,5 +1,0 @@
-use Rattle.laws_calls.proofs.AnsweredWrites.{earlier_parts_are_settled}
-use Rattle.laws_calls.proofs.earlier_parts.earlier_parts_are_settled.Goals as goal
-
-pub returns : goal.returns
-returns c = earlier_parts_are_settled

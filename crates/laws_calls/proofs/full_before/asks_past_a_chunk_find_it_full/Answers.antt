@@ -1,5 +1,0 @@
-use Rattle.laws_calls.proofs.FullBefore.{asks_past_a_chunk_find_it_full}
-use Rattle.laws_calls.proofs.full_before.asks_past_a_chunk_find_it_full.Goals as goal
-
-pub returns : goal.returns
-returns c = asks_past_a_chunk_find_it_full

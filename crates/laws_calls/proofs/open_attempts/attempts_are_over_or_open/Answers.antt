@@ -1,5 +1,0 @@
-use Rattle.laws_calls.proofs.OpenCalls.{attempts_are_over_or_open}
-use Rattle.laws_calls.proofs.open_attempts.attempts_are_over_or_open.Goals as goal
-
-pub returns : goal.returns
-returns c = attempts_are_over_or_open

@@ -1,5 +1,0 @@
-use Rattle.laws_entries.proofs.AnsweredAttempts.{answered_attempts_are_placed_no_more}
-use Rattle.laws_entries.proofs.answered_attempts.answered_attempts_are_placed_no_more.Goals as goal
-
-pub returns : goal.returns
-returns c = answered_attempts_are_placed_no_more

@@ -1,5 +1,0 @@
-use Rattle.laws_entries.proofs.BoundedEntries.{attempts_bound_entries}
-use Rattle.laws_entries.proofs.bounded_entries.attempts_bound_entries.Goals as goal
-
-pub returns : goal.returns
-returns c = attempts_bound_entries

@@ -1,5 +1,0 @@
-use Rattle.laws_entries.proofs.Forwards.{forwards_name_entries}
-use Rattle.laws_entries.proofs.caused_words.forwards_name_entries.Goals as goal
-
-pub returns : goal.returns
-returns c = forwards_name_entries

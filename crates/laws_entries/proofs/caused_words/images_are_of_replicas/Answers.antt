@@ -1,5 +1,0 @@
-use Rattle.laws_entries.proofs.Forwards.{images_are_of_replicas}
-use Rattle.laws_entries.proofs.caused_words.images_are_of_replicas.Goals as goal
-
-pub returns : goal.returns
-returns c = images_are_of_replicas

@@ -1,5 +1,0 @@
-use Rattle.laws_entries.proofs.Numbering.{entries_stem_from_mutates}
-use Rattle.laws_entries.proofs.chunk_orders.entries_stem_from_mutates.Goals as goal
-
-pub returns : goal.returns
-returns c = entries_stem_from_mutates

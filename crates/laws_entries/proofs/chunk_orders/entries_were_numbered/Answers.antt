@@ -1,5 +1,0 @@
-use Rattle.laws_entries.proofs.Numbering.{entries_were_numbered}
-use Rattle.laws_entries.proofs.chunk_orders.entries_were_numbered.Goals as goal
-
-pub returns : goal.returns
-returns c = entries_were_numbered

@@ -1,5 +1,0 @@
-use Rattle.laws_entries.proofs.CountedRounds.{numbered_serials_follow}
-use Rattle.laws_entries.proofs.counted_serials.numbered_serials_follow.Goals as goal
-
-pub returns : goal.returns
-returns c = numbered_serials_follow

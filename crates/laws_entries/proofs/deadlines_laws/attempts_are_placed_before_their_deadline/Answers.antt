@@ -1,5 +1,0 @@
-use Rattle.laws_entries.proofs.Deadlines.{attempts_are_placed_before_their_deadline}
-use Rattle.laws_entries.proofs.deadlines_laws.attempts_are_placed_before_their_deadline.Goals as goal
-
-pub returns : goal.returns
-returns c = attempts_are_placed_before_their_deadline

@@ -1,5 +1,0 @@
-use Rattle.laws_entries.proofs.Deadlines.{over_attempts_are_placed_no_more}
-use Rattle.laws_entries.proofs.deadlines_laws.over_attempts_are_placed_no_more.Goals as goal
-
-pub returns : goal.returns
-returns c = over_attempts_are_placed_no_more

@@ -1,5 +1,0 @@
-use Rattle.laws_entries.proofs.Stemming.{numbered_mutations_were_asked_for}
-use Rattle.laws_entries.proofs.entries.numbered_mutations_were_asked_for.Goals as goal
-
-pub returns : goal.returns
-returns c = numbered_mutations_were_asked_for

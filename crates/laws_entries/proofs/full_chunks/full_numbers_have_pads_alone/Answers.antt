@@ -1,5 +1,0 @@
-use Rattle.laws_entries.proofs.FullChunks.{full_numbers_have_pads_alone}
-use Rattle.laws_entries.proofs.full_chunks.full_numbers_have_pads_alone.Goals as goal
-
-pub returns : goal.returns
-returns c = full_numbers_have_pads_alone

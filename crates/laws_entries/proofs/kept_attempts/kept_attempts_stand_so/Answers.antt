@@ -1,5 +1,0 @@
-use Rattle.laws_entries.proofs.KeptAttempts.{kept_attempts_stand_so}
-use Rattle.laws_entries.proofs.kept_attempts.kept_attempts_stand_so.Goals as goal
-
-pub returns : goal.returns
-returns c = kept_attempts_stand_so

@@ -1,5 +1,0 @@
-use Rattle.laws_entries.proofs.KeptAttempts.{numbers_of_entries_are_kept}
-use Rattle.laws_entries.proofs.kept_attempts.numbers_of_entries_are_kept.Goals as goal
-
-pub returns : goal.returns
-returns c = numbers_of_entries_are_kept

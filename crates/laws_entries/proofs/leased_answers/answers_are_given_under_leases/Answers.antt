@@ -1,5 +1,0 @@
-use Rattle.laws_entries.proofs.LeasedAnswers.{answers_are_given_under_leases}
-use Rattle.laws_entries.proofs.leased_answers.answers_are_given_under_leases.Goals as goal
-
-pub returns : goal.returns
-returns c = answers_are_given_under_leases

@@ -1,5 +1,0 @@
-use Rattle.laws_entries.proofs.NumberedOnce.{numbers_are_placed_once}
-use Rattle.laws_entries.proofs.numbered_once.numbers_are_placed_once.Goals as goal
-
-pub returns : goal.returns
-returns c = numbers_are_placed_once

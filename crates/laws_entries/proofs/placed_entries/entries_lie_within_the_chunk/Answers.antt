@@ -1,5 +1,0 @@
-use Rattle.laws_entries.proofs.Within.{entries_lie_within_the_chunk}
-use Rattle.laws_entries.proofs.placed_entries.entries_lie_within_the_chunk.Goals as goal
-
-pub returns : goal.returns
-returns c = entries_lie_within_the_chunk

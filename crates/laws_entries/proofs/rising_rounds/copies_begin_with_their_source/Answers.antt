@@ -1,5 +1,0 @@
-use Rattle.laws_entries.proofs.CopiesBegin.{copies_begin_with_their_source}
-use Rattle.laws_entries.proofs.rising_rounds.copies_begin_with_their_source.Goals as goal
-
-pub returns : goal.returns
-returns c = copies_begin_with_their_source

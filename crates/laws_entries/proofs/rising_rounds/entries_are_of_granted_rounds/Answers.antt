@@ -1,5 +1,0 @@
-use Rattle.laws_entries.proofs.RisingRounds.{entries_are_of_granted_rounds}
-use Rattle.laws_entries.proofs.rising_rounds.entries_are_of_granted_rounds.Goals as goal
-
-pub returns : goal.returns
-returns c = entries_are_of_granted_rounds

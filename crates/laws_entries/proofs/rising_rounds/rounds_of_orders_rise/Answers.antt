@@ -1,5 +1,0 @@
-use Rattle.laws_entries.proofs.RisingRounds.{rounds_of_orders_rise}
-use Rattle.laws_entries.proofs.rising_rounds.rounds_of_orders_rise.Goals as goal
-
-pub returns : goal.returns
-returns c = rounds_of_orders_rise

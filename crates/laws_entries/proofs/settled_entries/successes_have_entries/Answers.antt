@@ -1,5 +1,0 @@
-use Rattle.laws_entries.proofs.SettledEntries.{successes_have_entries}
-use Rattle.laws_entries.proofs.settled_entries.successes_have_entries.Goals as goal
-
-pub returns : goal.returns
-returns c = successes_have_entries

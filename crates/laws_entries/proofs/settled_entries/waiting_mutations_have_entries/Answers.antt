@@ -1,5 +1,0 @@
-use Rattle.laws_entries.proofs.SettledEntries.{waiting_mutations_have_entries}
-use Rattle.laws_entries.proofs.settled_entries.waiting_mutations_have_entries.Goals as goal
-
-pub returns : goal.returns
-returns c = waiting_mutations_have_entries

@@ -1,5 +1,0 @@
-use Rattle.laws_entries.proofs.Successes.{successes_were_settled}
-use Rattle.laws_entries.proofs.successes_laws.successes_were_settled.Goals as goal
-
-pub returns : goal.returns
-returns c = successes_were_settled

@@ -1,5 +1,0 @@
-use Rattle.laws_entries.proofs.TakenSuccesses.{successes_are_of_the_noted_round}
-use Rattle.laws_entries.proofs.taken_successes.successes_are_of_the_noted_round.Goals as goal
-
-pub returns : goal.returns
-returns c = successes_are_of_the_noted_round

@@ -1,5 +1,0 @@
-use Rattle.laws_entries.proofs.ToldFull.{full_chunks_are_told_as_full}
-use Rattle.laws_entries.proofs.told_full_chunks.full_chunks_are_told_as_full.Goals as goal
-
-pub returns : goal.returns
-returns c = full_chunks_are_told_as_full

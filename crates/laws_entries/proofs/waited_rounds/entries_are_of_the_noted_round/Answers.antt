@@ -1,5 +1,0 @@
-use Rattle.laws_entries.proofs.NotedRounds.{entries_are_of_the_noted_round}
-use Rattle.laws_entries.proofs.waited_rounds.entries_are_of_the_noted_round.Goals as goal
-
-pub returns : goal.returns
-returns c = entries_are_of_the_noted_round

@@ -1,5 +1,0 @@
-use Rattle.laws_entries.proofs.WaitedMutates.{waited_mutates_were_sent}
-use Rattle.laws_entries.proofs.waited_rounds.waited_mutates_were_sent.Goals as goal
-
-pub returns : goal.returns
-returns c = waited_mutates_were_sent

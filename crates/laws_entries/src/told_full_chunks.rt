@@ -1,8 +1,0 @@
-//! A law of every lawful list of events from a new cell: calls, deliveries, losses, repeats, ticks, restarts, stops in a step, refused memory and rot.
-
-ghost use Rattle.laws_entries.specs.ToldFullChunks.{FullChunksAreToldAsFull};
-
-/// ChunkFull is told only of data whose Mutate a primary took while its own replica of the chunk was full, or of which it placed a pad there.
-pub fn full_chunks_are_told_as_full()
-    ensures { FullChunksAreToldAsFull }
-{}

@@ -1,6 +1,0 @@
-mod Calm
-mod Changed
-mod Lacking
-mod Looks
-mod OneName
-mod Skipped
