@@ -1,4 +1,5 @@
-"""Builds the program that takes the inputs of one node (`one_node_source`), unproved, in a copy of the crates whose fields are open."""
+"""Builds the program that takes the inputs of one node (`one_node_source`), unproved, in a copy of the crates whose fields are open. Its chunkserver stands over
+a store of replicas in memory, which is there too."""
 import os
 import re
 import subprocess
@@ -9,7 +10,8 @@ from crate_copy import copy_with
 from unproved import build
 
 CRATES = {'one_node': 'anyhow bytes chunk_table server_cell client_calls client_state client data_push gfs_types leases log_records master_cell master_replay master_plan '
-          'master_state memory_store messages namespace ordered_map operation_log primary_order protocol replica_store'}
+          'master_state memory_store messages namespace ordered_map operation_log primary_order protocol replica_store',
+          'memory_store': 'gfs_types messages ordered_map chunk_table replica_store store_disk bytes sha2'}
 
 
 def opened(text):

@@ -99,11 +99,11 @@ pub(crate) fn commit_first<S: ReplicaStore>(
 /// are seen as a hash.
 #[derive(Clone, Copy, PartialEq, Eq)]
 pub(crate) struct Shown {
-    order: OrderNo,
-    count: usize,
-    listed: u64,
-    rows: [Option<Row>; 3],
-    bytes: [Option<u64>; 3],
+    pub(crate) order: OrderNo,
+    pub(crate) count: usize,
+    pub(crate) listed: u64,
+    pub(crate) rows: [Option<Row>; 3],
+    pub(crate) bytes: [Option<u64>; 3],
 }
 
 pub(crate) fn seen<S: ReplicaStore>(
@@ -163,6 +163,6 @@ fn hash(bytes: &[u8]) -> u64 {
     sum
 }
 
-fn more(sum: u64, next: u64) -> u64 {
+pub(crate) fn more(sum: u64, next: u64) -> u64 {
     sum.wrapping_mul(31).wrapping_add(next)
 }

@@ -9,7 +9,6 @@ use crate::stopped_store::{TestStore, open_after, taken};
 use disk::{FuseDisk, StopPlan};
 use gfs_types::ids::Handle;
 use gfs_types::torn::Torn;
-use memory_store::MemoryStore;
 use replica_store::armed_store::ArmedStore;
 use replica_store::change::StoreChange;
 use replica_store::fault::ReplicaStoreFault;
@@ -48,23 +47,17 @@ struct Stopped {
     found: Shown,
 }
 
-fn seen_after<S: ReplicaStore>(
-    alloc: Global,
-    store: &mut S,
-    count: u64,
-) -> Result<Shown, ReplicaStoreFault>
-    requires { S.under_way store.old ≡ [] }
+// What a store whose disk doesn't stop shows after so many changes.
+fn seen_after(alloc: Global, store: TestStore, count: u64) -> Result<Shown, ReplicaStoreFault>
+    requires { store.under_way ≡ [] }
 {
-    commit_first(alloc, store, count)?;
-    seen(alloc, store)
+    let mut store = store;
+    commit_first(alloc, &mut store, count)?;
+    seen(alloc, &mut store)
 }
 
-// What a store in memory shows after so many changes.
 fn after(alloc: Global, count: u64) -> Result<Shown, ReplicaStoreFault> {
-    let mut model = MemoryStore::new(alloc, 64, 16, 4);
-    let shown = seen_after(alloc, &mut model, count);
-    drop(model);
-    shown
+    seen_after(alloc, new_store(alloc)?, count)
 }
 
 // The disk after an opening of its store, the store's sizes, and whether it was opened.

@@ -28,6 +28,8 @@ mod old_logs;
 #[cfg(test)]
 mod places;
 #[cfg(test)]
+mod plain_store;
+#[cfg(test)]
 mod plan;
 #[cfg(test)]
 mod refused;

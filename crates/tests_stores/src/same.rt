@@ -1,13 +1,13 @@
-//! A store on a disk says what one in memory says.
+//! A store on a disk says what a plain model says.
 
 ghost use Rattle.std.specs.Prelude.{◌≡◌, [], IfOk, OnOk};
 
-use crate::changes::{CHANGES, change_of, commit_first, layout, seen};
+use crate::changes::{CHANGES, Shown, change_of, commit_first, layout, seen};
+use crate::plain_store::PlainStore;
 use crate::stopped_store::{TestStore, open_again};
 use disk::{FuseDisk, MemDisk};
 use disk_store::disk_store::DiskStore;
 use gfs_types::ids::Handle;
-use memory_store::MemoryStore;
 use replica_store::change::StoreChange;
 use replica_store::fault::ReplicaStoreFault;
 use replica_store::store::ReplicaStore;
@@ -22,68 +22,34 @@ pub(crate) fn new_store(alloc: Global) -> Result<TestStore, ReplicaStoreFault>
     DiskStore::new(alloc, FuseDisk::new(disk), layout)
 }
 
-// Whether both show the same.
-fn are_same<S: ReplicaStore, T: ReplicaStore>(
-    alloc: Global,
-    store: &mut S,
-    model: &mut T,
-) -> Result<bool, ReplicaStoreFault>
-    requires store { S.under_way store.old ≡ [] }
-    requires model { T.under_way model.old ≡ [] }
-    ensures store { S.under_way store.new ≡ [] }
-    ensures model { T.under_way model.new ≡ [] }
-{
-    Ok(seen(alloc, store)? == seen(alloc, model)?)
-}
-
-// Whether both show the same after a change.
-fn go_on_alike<S: ReplicaStore, T: ReplicaStore>(
-    alloc: Global,
-    store: &mut S,
-    model: &mut T,
-    number: u64,
-) -> Result<bool, ReplicaStoreFault>
-    requires store { S.under_way store.old ≡ [] }
-    requires model { T.under_way model.old ≡ [] }
-    ensures store { OnOk result (S.under_way store.new ≡ []) }
-    ensures model { OnOk result (T.under_way model.new ≡ []) }
-{
-    store.commit(change_of(alloc, number)?)?;
-    model.commit(change_of(alloc, number)?)?;
-    are_same(alloc, store, model)
-}
-
-// Whether both show the same after a change, and once the first one is opened again over its disk.
-fn outlasts_alike<T: ReplicaStore>(
+// Whether a store shows what the model shows after a change, and once it is opened again over its disk.
+fn goes_on_alike(
     alloc: Global,
     store: TestStore,
-    model: &mut T,
+    model: &mut PlainStore,
     number: u64,
 ) -> Result<(TestStore, bool), ReplicaStoreFault>
-    requires store { store.under_way ≡ [] }
-    requires model { T.under_way model.old ≡ [] }
-    ensures store { IfOk result (λ r. r.0.under_way ≡ []) }
-    ensures model { OnOk result (T.under_way model.new ≡ []) }
+    requires { store.under_way ≡ [] }
+    ensures { IfOk result (λ r. r.0.under_way ≡ []) }
 {
     let mut store = store;
-    let open = go_on_alike(alloc, &mut store, model, number)?;
+    let change = change_of(alloc, number)?;
+    model.commit(&change);
+    store.commit(change)?;
+    let open = seen(alloc, &mut store)? == model.shown();
     let mut again = open_again(alloc, store)?;
-    let opened_again = are_same(alloc, &mut again, model)?;
+    let opened_again = seen(alloc, &mut again)? == model.shown();
     Ok((again, open && opened_again))
 }
 
-// Whether both show the same after each change.
-fn are_always_alike<T: ReplicaStore>(
-    alloc: Global,
-    store: TestStore,
-    model: &mut T,
-) -> Result<bool, ReplicaStoreFault>
-    requires store { store.under_way ≡ [] }
-    requires model { T.under_way model.old ≡ [] }
+// Whether it shows the same after each change.
+fn are_always_alike(alloc: Global, store: TestStore) -> Result<bool, ReplicaStoreFault>
+    requires { store.under_way ≡ [] }
 {
+    let mut model = PlainStore::new();
     let mut store = store;
     for number in 0..CHANGES {
-        let (again, are_alike) = outlasts_alike(alloc, store, model, number)?;
+        let (again, are_alike) = goes_on_alike(alloc, store, &mut model, number)?;
         store = again;
         if !are_alike {
             return Ok(false);
@@ -92,25 +58,14 @@ fn are_always_alike<T: ReplicaStore>(
     Ok(true)
 }
 
-// Whether a store shows what one in memory does. What owns a store has one way out, and calls `drop` there: a drop at the end of a scope is proved anew at each
-// place.
-fn is_as_in_memory(alloc: Global, store: TestStore) -> Result<bool, ReplicaStoreFault>
-    requires { store.under_way ≡ [] }
-{
-    let mut model = MemoryStore::new(alloc, 64, 16, 4);
-    let are_alike = are_always_alike(alloc, store, &mut model);
-    drop(model);
-    are_alike
-}
-
-fn new_is_as_in_memory(alloc: Global) -> Result<bool, ReplicaStoreFault> {
-    is_as_in_memory(alloc, new_store(alloc)?)
+fn new_is_always_alike(alloc: Global) -> Result<bool, ReplicaStoreFault> {
+    are_always_alike(alloc, new_store(alloc)?)
 }
 
 #[test]
-fn it_says_what_a_store_in_memory_says(rt: HostRuntime) -> Result<(), Fail> {
+fn it_says_what_a_plain_model_says(rt: HostRuntime) -> Result<(), Fail> {
     let alloc = rt.alloc();
-    assert!(rt; new_is_as_in_memory(alloc)?);
+    assert!(rt; new_is_always_alike(alloc)?);
     Ok(())
 }
 
@@ -120,39 +75,6 @@ fn rot(place: u64, byte: u8) -> StoreChange {
         place,
         byte,
     }
-}
-
-// The same byte of both rots.
-fn rot_both<S: ReplicaStore, T: ReplicaStore>(
-    store: &mut S,
-    model: &mut T,
-    place: u64,
-    byte: u8,
-) -> Result<(), ReplicaStoreFault>
-    requires store { S.under_way store.old ≡ [] }
-    requires model { T.under_way model.old ≡ [] }
-    ensures store { OnOk result (S.under_way store.new ≡ []) }
-    ensures model { OnOk result (T.under_way model.new ≡ []) }
-{
-    store.commit(rot(place, byte))?;
-    model.commit(rot(place, byte))
-}
-
-// Whether both show the same once each has four changes, and then the same byte of each is rotten.
-fn rot_alike<S: ReplicaStore, T: ReplicaStore>(
-    alloc: Global,
-    store: &mut S,
-    model: &mut T,
-) -> Result<bool, ReplicaStoreFault>
-    requires store { S.under_way store.old ≡ [] }
-    requires model { T.under_way model.old ≡ [] }
-    ensures store { OnOk result (S.under_way store.new ≡ []) }
-    ensures model { OnOk result (T.under_way model.new ≡ []) }
-{
-    commit_first(alloc, store, 4)?;
-    commit_first(alloc, model, 4)?;
-    rot_both(store, model, 3, 99)?;
-    are_same(alloc, store, model)
 }
 
 // Whether the block of that byte is neither read nor copied nor written over in part, and another block is.
@@ -167,22 +89,18 @@ fn is_shut<S: ReplicaStore>(alloc: Global, store: &mut S) -> Result<bool, Replic
     Ok(read.is_none() && !is_copyable && !over && beside)
 }
 
-// Whether the block is read again once that byte is what was stored; one that stands there already changes nothing.
-fn is_back_alike<S: ReplicaStore, T: ReplicaStore>(
+// Whether all is shown as before once that byte is what was stored; one that stands there already changes nothing.
+fn is_back<S: ReplicaStore>(
     alloc: Global,
     store: &mut S,
-    model: &mut T,
+    before: Shown,
 ) -> Result<bool, ReplicaStoreFault>
-    requires store { S.under_way store.old ≡ [] }
-    requires model { T.under_way model.old ≡ [] }
-    ensures store { OnOk result (S.under_way store.new ≡ []) }
-    ensures model { OnOk result (T.under_way model.new ≡ []) }
+    requires { S.under_way store.old ≡ [] }
+    ensures { OnOk result (S.under_way store.new ≡ []) }
 {
-    rot_both(store, model, 3, 65)?;
-    rot_both(store, model, 20, 66)?;
-    let read = store.read(alloc, Handle(7), 0, 64)?;
-    let is_alike = are_same(alloc, store, model)?;
-    Ok(read.is_some() && is_alike)
+    store.commit(rot(3, 65))?;
+    store.commit(rot(20, 66))?;
+    Ok(seen(alloc, store)? == before)
 }
 
 // Whether a byte past the chunk is refused. It doesn't rot then.
@@ -206,42 +124,40 @@ fn refuses_past<S: ReplicaStore>(store: &mut S) -> bool
     past == Err(ReplicaStoreFault::NoRoom) && empty == Ok(true)
 }
 
-// Whether it is so once a byte of both is rotten, and both show the same once the first one is opened again over its disk, and once the byte is back.
-fn is_rotten_alike<T: ReplicaStore>(
-    alloc: Global,
-    store: TestStore,
-    model: &mut T,
-) -> Result<bool, ReplicaStoreFault>
-    requires store { store.under_way ≡ [] }
-    requires model { T.under_way model.old ≡ [] }
+// Once a byte of the block is rotten its replica has no bytes to be shown, and all else is as before.
+fn without_bytes(before: Shown) -> Shown {
+    let [_rotten, second, third] = before.bytes;
+    Shown {
+        bytes: [None, second, third],
+        ..before
+    }
+}
+
+// Whether it is so once a byte is rotten, and once the store is opened again over its disk, and whether all is as before once the byte is back.
+fn is_rotten(alloc: Global, store: TestStore) -> Result<bool, ReplicaStoreFault>
+    requires { store.under_way ≡ [] }
 {
     let mut store = store;
-    let is_alike = rot_alike(alloc, &mut store, model)?;
+    commit_first(alloc, &mut store, 4)?;
+    let before = seen(alloc, &mut store)?;
+    store.commit(rot(3, 99))?;
+    let is_gone = seen(alloc, &mut store)? == without_bytes(before);
     let is_shut = is_shut(alloc, &mut store)?;
     let refuses = refuses_past(&mut store);
     let (again, refuses_rot) = refuses_rot(alloc, store)?;
     let mut again = again;
-    let is_same = are_same(alloc, &mut again, model)?;
-    let is_back = is_back_alike(alloc, &mut again, model)?;
-    Ok(is_alike && is_shut && refuses && refuses_rot && is_same && is_back)
+    let is_same = seen(alloc, &mut again)? == without_bytes(before);
+    let is_back = is_back(alloc, &mut again, before)?;
+    Ok(is_gone && is_shut && refuses && refuses_rot && is_same && is_back)
 }
 
-fn is_rotten_as_in_memory(alloc: Global, store: TestStore) -> Result<bool, ReplicaStoreFault>
-    requires { store.under_way ≡ [] }
-{
-    let mut model = MemoryStore::new(alloc, 64, 16, 4);
-    let is_alike = is_rotten_alike(alloc, store, &mut model);
-    drop(model);
-    is_alike
-}
-
-fn new_is_rotten_as_in_memory(alloc: Global) -> Result<bool, ReplicaStoreFault> {
-    is_rotten_as_in_memory(alloc, new_store(alloc)?)
+fn new_is_rotten(alloc: Global) -> Result<bool, ReplicaStoreFault> {
+    is_rotten(alloc, new_store(alloc)?)
 }
 
 #[test]
 fn a_byte_rots(rt: HostRuntime) -> Result<(), Fail> {
     let alloc = rt.alloc();
-    assert!(rt; new_is_rotten_as_in_memory(alloc)?);
+    assert!(rt; new_is_rotten(alloc)?);
     Ok(())
 }

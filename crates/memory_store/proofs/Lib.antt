@@ -1,3 +1,0 @@
-pub mod Lent
-pub mod Matching
-pub mod Restored
