@@ -6,13 +6,13 @@
 pub mod answered_appends;
 pub mod answered_attempts;
 pub mod answers;
+pub mod asked_entries;
 pub mod attempts;
 pub mod bounded_entries;
 pub mod caused_words;
 pub mod chunk_orders;
 pub mod counted_serials;
 pub mod deadlines_laws;
-pub mod entries;
 pub mod few_attempts;
 pub mod file_calls;
 pub mod full_chunks;

@@ -7,4 +7,4 @@ pub mod Bytes
 pub mod LinesRead
 pub mod ReadPlans
 pub mod Repeating
-pub mod Words
+pub mod DataWords

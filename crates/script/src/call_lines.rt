@@ -16,7 +16,7 @@ pub struct DataWord<'a>(pub &'a [u8]);
 impl fmt::Display for DataWord<'_> {
     ghost output = { λ d. Some (data_of d.0.now) };
 
-    #[tactic(auto, using(crate::proofs::Words::digits_of))]
+    #[tactic(auto, using(crate::proofs::DataWords::digits_of))]
     fn fmt<W: fmt::Write>(&self, f: &mut fmt::Formatter<W>) -> fmt::Result {
         if self.0.is_empty() {
             return f.write_str("0x");
