@@ -7,9 +7,9 @@ ghost use Rattle.protocol.specs.MasterNames.{is_busy, snapshot_call};
 ghost use Rattle.master_plan.specs.Plans.{doing, known};
 
 use crate::concerned::snapshot_plan;
-use crate::revokes::revokes_all;
 use master_plan::fault::PlanFault;
 use master_plan::plan::Plan;
+use master_plan::revokes::revokes_all;
 use master_plan::waiting::Pending;
 use std::alloc::Allocator;
 

@@ -15,3 +15,4 @@ pub mod Clashes
 pub mod Bounds
 pub mod Sources
 pub mod Waits
+pub mod Places

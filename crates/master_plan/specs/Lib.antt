@@ -10,3 +10,4 @@ pub mod Due
 pub mod Sizes
 pub mod Logging
 pub mod Reports
+pub mod Places

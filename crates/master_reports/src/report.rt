@@ -7,8 +7,8 @@ ghost use Rattle.master_plan.specs.Plans.{doing};
 
 use crate::drops::drops_useless;
 use crate::extends::extends_all;
+use crate::learning::learns;
 use gfs_types::ids::ServerId;
-use master_chunks::learning::learns;
 use master_plan::fault::PlanFault;
 use master_plan::plan::Plan;
 use messages::message::ReplicaLine;

@@ -6,10 +6,10 @@ ghost use Rattle.protocol.specs.MasterVersions.{is_complete, with_recorded, lear
 ghost use Rattle.master_plan.specs.Plans.{doing, known};
 
 use crate::granting::grants_to;
-use crate::numbers::{has_number, put_number, rising, same_numbers};
 use gfs_types::ids::{Handle, ServerId, Version};
 use gfs_types::lists::ServerList;
 use master_plan::fault::PlanFault;
+use master_plan::numbers::{has_number, put_number, rising, same_numbers};
 use master_plan::plan::Plan;
 use master_plan::waiting::VersionAttempt;
 use operation_log::log::OperationLog;
