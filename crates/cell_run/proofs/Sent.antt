@@ -22,8 +22,8 @@ use Rattle.master_state.proofs.kept.KeptCall.TheSendSync as kept
 use Rattle.master_state.proofs.kept.CopyRow.TheSendSync as copy
 use Rattle.master_state.specs.contracts.state.State as State
 use Rattle.master_plan.proofs.change.PlannedChange.TheSendSync as change
-use Rattle.master_plan.proofs.waiting.VersionAttempt.TheSendSync as attempt
-use Rattle.master_plan.proofs.waiting_list.WaitingSnapshots.TheSendSync as waiting
+use Rattle.master_waiting.proofs.waiting.VersionAttempt.TheSendSync as attempt
+use Rattle.master_waiting.proofs.waiting_list.WaitingSnapshots.TheSendSync as waiting
 use Rattle.master_plan.specs.contracts.plan.Plan as Plan
 use Rattle.disk.proofs.fuse.FuseDisk.TheSendSync as fuse
 use Rattle.disk.proofs.stop_plan.StopPlan.TheSendSync as stops

@@ -5,9 +5,9 @@ ghost use Rattle.protocol.specs.Logged.{LogDisk};
 ghost use Rattle.protocol.specs.MasterSnapshots.{revokes, revokes_all};
 ghost use Rattle.master_plan.specs.Plans.{doing};
 
-use crate::fault::PlanFault;
 use crate::plan::Plan;
 use gfs_types::ids::{Handle, Node};
+use master_waiting::fault::PlanFault;
 use messages::message::Body;
 use std::alloc::Allocator;
 

@@ -8,10 +8,10 @@ ghost use Rattle.master_plan.specs.Plans.{doing, known};
 use crate::granting::grants_to;
 use gfs_types::ids::{Handle, ServerId, Version};
 use gfs_types::lists::ServerList;
-use master_plan::fault::PlanFault;
-use master_plan::numbers::{has_number, put_number, rising, same_numbers};
 use master_plan::plan::Plan;
-use master_plan::waiting::VersionAttempt;
+use master_waiting::fault::PlanFault;
+use master_waiting::numbers::{has_number, put_number, rising, same_numbers};
+use master_waiting::waiting::VersionAttempt;
 use operation_log::log::OperationLog;
 use std::alloc::{Allocator, Global};
 

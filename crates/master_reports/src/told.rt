@@ -7,8 +7,8 @@ ghost use Rattle.master_plan.specs.Plans.{doing};
 
 use crate::learning::learns;
 use gfs_types::ids::{Handle, Moment, ServerId, Version};
-use master_plan::fault::PlanFault;
 use master_plan::plan::Plan;
+use master_waiting::fault::PlanFault;
 use operation_log::log::OperationLog;
 use std::alloc::Allocator;
 
