@@ -8,8 +8,8 @@ use Rattle.std.proofs.alloc.Global.TheSendSync as heap
 use Rattle.std.proofs.option.Option.TheSendSync as option
 use Rattle.std.specs.contracts.alloc.Global as Heap
 use Rattle.std.specs.contracts.impls.GlobalAllocator.TheImpl.{ghosts}
-use Rattle.path_trie.proofs.tree.Tree.TheLaws.TheKnot as knot
-use Rattle.path_trie.proofs.node.TrieNode.TheSendSync as node
+use Rattle.label_tree.proofs.tree.Tree.TheLaws.TheKnot as knot
+use Rattle.label_tree.proofs.node.TrieNode.TheSendSync as node
 use Rattle.namespace.proofs.node.NameNode.TheSendSync as name
 use Rattle.chunk_table.proofs.table.Table.TheSendSync as table
 use Rattle.ordered_map.proofs.OrderedMap.TheSendSync as ordered
