@@ -37,8 +37,8 @@ use Rattle.stored_log.proofs.disk_log.DiskLog.TheSendSync as disk_log
 use Rattle.stored_log.specs.contracts.disk_log.DiskLog as Log
 use Rattle.master_cell.specs.contracts.logged_master.LoggedMaster as Master
 use Rattle.master_cell.proofs.shown.ShownFiles.TheSendSync as shown
-use Rattle.cell_core.specs.contracts.master_slot.MasterSlot as Slot
-use Rattle.cell_core.specs.contracts.master_slot.MasterSlot.TheInside as Inside
+use Rattle.memory_nodes.specs.contracts.master_slot.MasterSlot as Slot
+use Rattle.memory_nodes.specs.contracts.master_slot.MasterSlot.TheInside as Inside
 use Rattle.cell_run.specs.contracts.master_stepper.MasterNode as Node
 use Rattle.cell_run.specs.contracts.running_master.RunningMaster as Running
 
