@@ -25,18 +25,18 @@ def copies(folder, tests):
     """Crates and lines are copied, once each, as they stand."""
     put(os.path.join(folder, 'crates.txt'), 'own: bytes\n')
     put(os.path.join(folder, 'crates', 'own', 'src', 'lib.rt'), '')
-    tests.same('take path_trie', took('path_trie', folder), (0, '2 crates taken: gfs_types path_trie\n', ''))
-    tests.same('the crates there', names_in(folder), (['gfs_types', 'own', 'path_trie'],) * 2)
-    for name in ('gfs_types', 'path_trie'):
+    tests.same('take path_trie', took('path_trie', folder), (0, '3 crates taken: gfs_types label_tree path_trie\n', ''))
+    tests.same('the crates there', names_in(folder), (['gfs_types', 'label_tree', 'own', 'path_trie'],) * 2)
+    for name in ('gfs_types', 'label_tree', 'path_trie'):
         here, there = (files_of(os.path.join(top, 'crates', name)) for top in (TOP, folder))
         tests.same(f'the files of {name}', (there == here, 'src/lib.rt' in there), (True, True))
     rows = rows_in(os.path.join(folder, 'crates.txt'))
     tests.same('its line', (rows['own'], rows['path_trie']), ('own: bytes', rows_in(os.path.join(TOP, 'crates.txt'))['path_trie']))
-    tests.same('once more', took('path_trie', folder), (0, '0 crates taken\n2 crates stood there in the same text: gfs_types path_trie\n', ''))
+    tests.same('once more', took('path_trie', folder), (0, '0 crates taken\n3 crates stood there in the same text: gfs_types label_tree path_trie\n', ''))
     tests.same('more crates', took('name_locks', 'leases', folder)[:2], (
         0, '4 crates taken: ordered_map name_locks chunk_table leases\n1 crates stood there in the same text: gfs_types\n'))
     tests.same('wrong bodies', [os.path.exists(os.path.join(top, 'crates', 'leases', 'must-fail')) for top in (TOP, folder)], [True, False])
-    tests.same('the crates there', names_in(folder), (['chunk_table', 'gfs_types', 'leases', 'name_locks', 'ordered_map', 'own', 'path_trie'],) * 2)
+    tests.same('the crates there', names_in(folder), (['chunk_table', 'gfs_types', 'label_tree', 'leases', 'name_locks', 'ordered_map', 'own', 'path_trie'],) * 2)
 
 
 def refusals(folder, tests):

@@ -3,7 +3,3 @@ pub mod Cuts
 pub mod Explained
 pub mod Reached
 pub mod CellLaws
-pub mod Files
-pub mod Settings
-pub mod NewDisks
-pub mod MasterSlots

@@ -3,8 +3,4 @@
 
 pub mod kept_promises;
 pub mod laws;
-pub mod making;
-pub mod master_slot;
-mod showing;
-pub mod start_fault;
 pub mod world;

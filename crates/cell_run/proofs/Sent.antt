@@ -8,8 +8,8 @@ use Rattle.std.proofs.alloc.Global.TheSendSync as heap
 use Rattle.std.proofs.option.Option.TheSendSync as option
 use Rattle.std.specs.contracts.alloc.Global as Heap
 use Rattle.std.specs.contracts.impls.GlobalAllocator.TheImpl.{ghosts}
-use Rattle.path_trie.proofs.tree.Tree.TheLaws.TheKnot as knot
-use Rattle.path_trie.proofs.node.TrieNode.TheSendSync as node
+use Rattle.label_tree.proofs.tree.Tree.TheLaws.TheKnot as knot
+use Rattle.label_tree.proofs.node.TrieNode.TheSendSync as node
 use Rattle.namespace.proofs.node.NameNode.TheSendSync as name
 use Rattle.chunk_table.proofs.table.Table.TheSendSync as table
 use Rattle.ordered_map.proofs.OrderedMap.TheSendSync as ordered
@@ -22,8 +22,8 @@ use Rattle.master_state.proofs.kept.KeptCall.TheSendSync as kept
 use Rattle.master_state.proofs.kept.CopyRow.TheSendSync as copy
 use Rattle.master_state.specs.contracts.state.State as State
 use Rattle.master_plan.proofs.change.PlannedChange.TheSendSync as change
-use Rattle.master_plan.proofs.waiting.VersionAttempt.TheSendSync as attempt
-use Rattle.master_plan.proofs.waiting_list.WaitingSnapshots.TheSendSync as waiting
+use Rattle.master_waiting.proofs.waiting.VersionAttempt.TheSendSync as attempt
+use Rattle.master_waiting.proofs.waiting_list.WaitingSnapshots.TheSendSync as waiting
 use Rattle.master_plan.specs.contracts.plan.Plan as Plan
 use Rattle.disk.proofs.fuse.FuseDisk.TheSendSync as fuse
 use Rattle.disk.proofs.stop_plan.StopPlan.TheSendSync as stops
@@ -37,8 +37,8 @@ use Rattle.stored_log.proofs.disk_log.DiskLog.TheSendSync as disk_log
 use Rattle.stored_log.specs.contracts.disk_log.DiskLog as Log
 use Rattle.master_cell.specs.contracts.logged_master.LoggedMaster as Master
 use Rattle.master_cell.proofs.shown.ShownFiles.TheSendSync as shown
-use Rattle.cell_core.specs.contracts.master_slot.MasterSlot as Slot
-use Rattle.cell_core.specs.contracts.master_slot.MasterSlot.TheInside as Inside
+use Rattle.memory_nodes.specs.contracts.master_slot.MasterSlot as Slot
+use Rattle.memory_nodes.specs.contracts.master_slot.MasterSlot.TheInside as Inside
 use Rattle.cell_run.specs.contracts.master_stepper.MasterNode as Node
 use Rattle.cell_run.specs.contracts.running_master.RunningMaster as Running
 

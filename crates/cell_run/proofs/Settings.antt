@@ -3,7 +3,7 @@ use Rattle.std.proofs.Common.{◌≡◌, ℕ, Bool, true, Option, Some, None, re
 use Rattle.std.specs.Prelude.{IsTrue, is_none, if◌then◌else◌}
 use Rattle.gfs_types.specs.declared.config.Config.{Config}
 use Rattle.gfs_types.specs.Settings.{first_out_of_range}
-use Rattle.cell_core.specs.Starts.{is_count}
+use Rattle.memory_nodes.specs.Starts.{is_count}
 use Rattle.cell_run.specs.Starts.{bad_start}
 use Rattle.cell_run.specs.declared.start_fault.StartFault.{StartFault}
 use Rattle.cell_run.specs.declared.start_fault.StartFault.TheVariants as faults

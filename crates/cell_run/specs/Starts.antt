@@ -2,7 +2,7 @@
 use Rattle.std.specs.Prelude.{◌≡◌, ◌⊎◌, ℕ, ◌+◌, ◌<◌, is_none, if◌then◌else◌, Option, Some, None}
 use Rattle.gfs_types.specs.declared.config.Config.{Config}
 use Rattle.gfs_types.specs.Settings.{first_out_of_range}
-use Rattle.cell_core.specs.Starts.{is_count}
+use Rattle.memory_nodes.specs.Starts.{is_count}
 use Rattle.cell_run.specs.Parked.{ParkedState}
 use Rattle.cell_run.specs.ParkedSeats.{count_anew}
 use Rattle.cell_run.specs.declared.start_fault.StartFault.{StartFault}

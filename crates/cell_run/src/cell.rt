@@ -14,7 +14,7 @@ ghost use Rattle.cell_run.specs.NewNodes.{IsFitting};
 ghost use Rattle.cell_seats.specs.NodeLocks.{node_name};
 ghost use Rattle.cell_seats.specs.Registries.{IsSameRegistry};
 ghost use Rattle.cell_seats.specs.Controls.{WritesControls, no_policy, policy_in};
-ghost use Rattle.cell_core.specs.Starts.{is_count};
+ghost use Rattle.memory_nodes.specs.Starts.{is_count};
 ghost use Rattle.cell_run.specs.EndedCells.{IsEnded};
 ghost use Rattle.cell_run.specs.Cells.{IsCellOf, IsNewCell, IsNewSeat, IsSeatFault, more, with_policy, asked_again, names_of};
 ghost use Rattle.cell_run.specs.Starts.{IsOfMachine, IsStartFault, bad_start};

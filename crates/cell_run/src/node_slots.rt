@@ -14,13 +14,13 @@ use crate::running_client::RunningClient;
 use crate::running_master::RunningMaster;
 use crate::running_server::RunningServer;
 use crate::start_fault::StartFault;
-use cell_core::making;
 use cell_seats::node_journal::NodeJournal;
 use cell_seats::node_registry::NodeRegistry;
 use cell_seats::slot::Slot;
 use gfs_types::config::Config;
 use gfs_types::ids::{ClientId, Node, ServerId};
 use gfs_types::no_memory::NoMemory;
+use memory_nodes::making;
 use std::alloc::Global;
 
 /// What the master's lock guards.

@@ -11,13 +11,13 @@ ghost use Rattle.server_cell.specs.Settings.{IsForServers};
 ghost use Rattle.cell_run.specs.Standing.{ServerStands};
 
 use crate::step_message::message_in;
-use cell_core::making::new_server;
 use cell_journal::journal_entry::StepCause;
 use cell_seats::stepper::{NodeStep, Stepper};
 use gfs_types::call::Call;
 use gfs_types::config::Config;
 use gfs_types::ids::{Moment, ServerId};
 use gfs_types::no_memory::NoMemory;
+use memory_nodes::making::new_server;
 use messages::event::StepOut;
 use protocol::seen::SeenList;
 use protocol::step_outcome::{Outcome, no_output};

@@ -18,13 +18,12 @@ use Rattle.messages.specs.declared.message.Body.TheVariants as body
 use Rattle.messages.specs.declared.message.NameReply.{NameReply}
 use Rattle.messages.specs.declared.message.NameReply.TheVariants as replies
 use Rattle.messages.specs.declared.message.Message.{Message}
-use Rattle.relaxed_file.specs.Machine.{Machine, Client, OpenCall, new_machine}
-use Rattle.relaxed_file.specs.Answers.{descriptors_after, returned}
+use Rattle.relaxed_file.specs.Machine.{Machine, OpenCall, new_machine}
 use Rattle.relaxed_file.specs.NameStep.{is_name_call}
 use Rattle.relaxed_file.specs.Run.{Action, Invoke, IsLawful, LeadsTo, Visible, Called, after, after_all, Allows, IsReached, IsRunTo, Return, ReturnFd, Answered, visible, shown}
 use Rattle.relaxed_file.proofs.Reached.{leads_on, leads_by}
-use Rattle.relaxed_file.proofs.Tables.{put_same, put_other, at_some}
-use Rattle.machine_names.specs.NameProjections.{AreNamesOf, AreSameCalls, IsReady}
+use Rattle.relaxed_file.proofs.Tables.{put_same, put_other}
+use Rattle.machine_names.specs.NameProjections.{AreNamesOf, IsReady}
 use Rattle.machine_names.proofs.Actions.{name_actions_are_taken}
 use Rattle.machine_names.specs.NameRuns.{LeadsByNames, is_name_action}
 use Rattle.machine_names.specs.UnseenRuns.{IsLeft}
@@ -89,6 +88,7 @@ use Rattle.headline.proofs.RequestsNumbered.{events_keep_requests_numbered}
 use Rattle.headline.specs.ClientsEvents.{AreOpenCallsKnown}
 use Rattle.headline.proofs.ClientsFileSteps.{untold_words}
 use Rattle.headline.proofs.FileWords.{later_client, words_at}
+use Rattle.headline.proofs.NameReturns.{open_too, none_too, return_leaves}
 use Rattle.headline.proofs.StepStages.{IsNewCall, next_step, next_call}
 use Rattle.laws_machine.proofs.ToldShapes.{told_still, shapes_on}
 use Rattle.laws_machine.proofs.RoundSizes.{sizes_beside}
@@ -247,6 +247,9 @@ module _ (config : Config) (servers clients : ℕ) (w : WorldState) (r : world.I
           adds = adds_passed;
         }
 
+    stands_down_now : IsBesideAfter trace (record { state = stopped_client s; out = record { sent = []; answer = None; down = true }; seen = [] })
+    stands_down_now = stands_still (stopped_client s) true (λ on. absurd (true≢false (sym on))) (λ on. absurd (true≢false (sym on))) (λ on. absurd (true≢false (sym on)))
+
     later : IsClientBeside config trace greatest (client_at s moment) p.names h.requests client
     later = record { beside = record { call = (own.beside).call; count = (own.beside).count }; naming = own.naming; settings = own.settings; now = max-le own.now early }
 
@@ -254,23 +257,18 @@ module _ (config : Config) (servers clients : ℕ) (w : WorldState) (r : world.I
       idle_goes : client_begins (client_at s moment) ≡ client_goes s moment i
       idle_goes = ap (λ (o : Option CurrentCall). client_does (client_begins (client_at s moment)) i o) (sym none)
 
-      idle_ends : (end : Ending) → IsBesideAfter trace (client_ends s (client_begins (client_at s moment)) end)
-      idle_ends Goes = stands_still (client_at s moment) false (λ on. later) (λ on. later_client p.whole client s moment (files_passed index s at up)) (λ on x was to firm. said_passed index s at up x was to firm)
-      idle_ends Lost = stands_still (stopped_client s) true (λ on. absurd (true≢false (sym on))) (λ on. absurd (true≢false (sym on))) (λ on. absurd (true≢false (sym on)))
-      idle_ends (Stops changes) = stands_still (stopped_client s) true (λ on. absurd (true≢false (sym on))) (λ on. absurd (true≢false (sym on))) (λ on. absurd (true≢false (sym on)))
-
       abbrev Idles : Taken ClientState → Type 0
       Idles t = IsBesideAfter (answered_trace client t.out.answer trace) t
 
-      idle_seen : (end : Ending) → Idles (client_ends s (client_begins (client_at s moment)) end)
-      idle_seen Goes = idle_ends Goes
-      idle_seen Lost = idle_ends Lost
-      idle_seen (Stops changes) = idle_ends (Stops changes)
+      idle_ends : (end : Ending) → Idles (client_ends s (client_begins (client_at s moment)) end)
+      idle_ends Goes = stands_still (client_at s moment) false (λ on. later) (λ on. later_client p.whole client s moment (files_passed index s at up)) (λ on x was to firm. said_passed index s at up x was to firm)
+      idle_ends Lost = stands_down_now
+      idle_ends (Stops changes) = stands_down_now
 
       pub idle_stands : Idles (client_step s moment i choice)
       idle_stands =
           on_cond Idles (may_step s) (client_ends s (client_goes s moment i) choice.ending) (no_step s)
-          (λ _. subst (λ (d : ClientDoing). Idles (client_ends s d choice.ending)) idle_goes (idle_seen choice.ending))
+          (λ _. subst (λ (d : ClientDoing). Idles (client_ends s d choice.ending)) idle_goes (idle_ends choice.ending))
           (λ _. stands_still s false (λ on. own) (λ on. files_passed index s at up) (λ on. said_passed index s at up))
 
     -- a call is made
@@ -497,8 +495,7 @@ module _ (config : Config) (servers clients : ℕ) (w : WorldState) (r : world.I
           (given config trace greatest w.clients w.sent k.log ss p.names h.requests p.named asking_passed number index s up at known_client moment early none c name) tt
 
       closed_same : (closed.config ≡ made.config) × (closed.files ≡ made.files)
-      closed_same =
-          at_some (λ (n : Machine). (n.config ≡ made.config) × (n.files ≡ made.files)) (λ (x : OpenCall). returned made client x reply) made (made.clients client).open_call (refused_too.0).0 (refused_too.0).1 (refl, refl)
+      closed_same = let same = return_leaves made client (refused_too.0).0 (refused_too.0).1 reply in (same.0, same.1)
 
       others_closed : (other : ℕ) (z : ClientState) → (other ≡ index → ⊥) → IsFileClient p.whole (suc other) z
           → IsFileClient closed (suc other) z × ((j : NodeInput) → IsFirmInput j → IsSaid p.whole (suc other) z j → IsSaid closed (suc other) z j)
@@ -558,14 +555,8 @@ module _ (config : Config) (servers clients : ℕ) (w : WorldState) (r : world.I
       waiting_here : IsBesideAt p.names h.requests client x AskedNames
       waiting_here = here config trace greatest w.clients w.sent k.log ss p.names h.requests p.named asking_passed number index s up at known_still moment early i came x is staged
 
-      -- it is open at the whole machine too
-      open_too : (a b : Option OpenCall) → AreSameCalls (p.whole.clients client) a b → a ≡ Some waiting_here.0 → (o : OpenCall) × (b ≡ Some o) × (is_name_call o.asked.call ≡ true)
-      open_too None b same there = none_some waiting_here.0 there
-      open_too (Some y) None same there = absurd same
-      open_too (Some y) (Some o) same there = (o, refl, ap is_name_call same.call_is ∙ same.naming)
-
       open_there : (o : OpenCall) × ((p.whole.clients client).open_call ≡ Some o) × (is_name_call o.asked.call ≡ true)
-      open_there = open_too (p.names.clients client).open_call (p.whole.clients client).open_call (p.same.calls client) (waiting_here.1).is_open
+      open_there = open_too (p.whole.clients client) (p.names.clients client).open_call (p.whole.clients client).open_call waiting_here.0 (p.same.calls client) (waiting_here.1).is_open
 
       told_as_made : (j : NodeInput) → ComesTo w.sent client j → TellsAsMade p.whole j
       told_as_made (input.Deliver y) to = λ number file shape is. (told_still config k.machine p.whole before leads_passed w.sent h.shapes).opened (to.0).0 number y file shape (to.0).1 is
@@ -653,14 +644,9 @@ module _ (config : Config) (servers clients : ℕ) (w : WorldState) (r : world.I
           both_take : Allows p.whole a × AreNamesOf then_whole then_names
           both_take = name_actions_are_taken p.whole p.names a p.same of_names allowed ready
 
-          none_then : (b o : Option OpenCall) → AreSameCalls (then_whole.clients client) b o → o ≡ None → b ≡ None
-          none_then None o same there = refl
-          none_then (Some y) None same there = absurd same
-          none_then (Some y) (Some o) same there = none_some o (sym there)
-
           left : ((then_names.clients client).open_call ≡ None) × ((then_names.clients client).fd_count ≡ doing.client.fd_count)
           left = (
-            none_then (then_names.clients client).open_call (then_whole.clients client).open_call ((both_take.1).calls client) (subst (λ (o : Option CurrentCall). IsCallAlike then_whole client o) over.none_open files_over.call),
+            none_too (then_whole.clients client) (then_names.clients client).open_call (then_whole.clients client).open_call ((both_take.1).calls client) (subst (λ (o : Option CurrentCall). IsCallAlike then_whole client o) over.none_open files_over.call),
             (both_take.1).fds client ∙ sym files_over.fds,
           )
 
@@ -732,13 +718,8 @@ module _ (config : Config) (servers clients : ℕ) (w : WorldState) (r : world.I
 
       -- by its answer, or by a descriptor
 
-      abbrev closed_client : Answer → Client
-      closed_client reply = record (p.whole.clients client) { open_call = None; descriptors = descriptors_after (p.whole.clients client).descriptors (open_there.0).asked.call reply }
-
       return_same : (reply : Answer) → (let n : Machine = after p.whole (Return client reply) in (n.config ≡ p.whole.config) × (n.files ≡ p.whole.files) × ((n.clients client).fd_count ≡ (p.whole.clients client).fd_count))
-      return_same reply =
-          at_some (λ (n : Machine). (n.config ≡ p.whole.config) × (n.files ≡ p.whole.files) × ((n.clients client).fd_count ≡ (p.whole.clients client).fd_count)) (λ (y : OpenCall). returned p.whole client y reply) p.whole
-          (p.whole.clients client).open_call open_there.0 open_there.1 (refl, refl, ap (λ (y : Client). y.fd_count) (put_same client (closed_client reply) p.whole.clients))
+      return_same reply = return_leaves p.whole client open_there.0 open_there.1 reply
 
       name_there : is_name_call (waiting_here.0).asked.call ≡ true
       name_there = ap is_name_call waiting_here.2 ∙ waiting_here.3
@@ -795,8 +776,8 @@ module _ (config : Config) (servers clients : ℕ) (w : WorldState) (r : world.I
 
       step_ends : (end : Ending) → Steps (client_ends s doing end)
       step_ends Goes = step_goes
-      step_ends Lost = stands_still (stopped_client s) true (λ on. absurd (true≢false (sym on))) (λ on. absurd (true≢false (sym on))) (λ on. absurd (true≢false (sym on)))
-      step_ends (Stops changes) = stands_still (stopped_client s) true (λ on. absurd (true≢false (sym on))) (λ on. absurd (true≢false (sym on))) (λ on. absurd (true≢false (sym on)))
+      step_ends Lost = stands_down_now
+      step_ends (Stops changes) = stands_down_now
 
       pub name_step_stands : Steps (client_step s moment i choice)
       name_step_stands =

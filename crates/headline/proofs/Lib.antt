@@ -33,6 +33,7 @@ pub mod LongRefusals
 pub mod MadeFiles
 pub mod MasterEvents
 pub mod Moves
+pub mod NameReturns
 pub mod NewGrants
 pub mod NumberedAttempts
 pub mod NumberedCalls

@@ -1,5 +1,3 @@
-pub mod Places
-pub mod Grants
 pub mod Servers
 pub mod Ranks
 pub mod Issues

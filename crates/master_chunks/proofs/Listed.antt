@@ -16,7 +16,7 @@ use Rattle.protocol.specs.LogSizes.{checkpoint_fits}
 use Rattle.protocol.specs.Master.{MasterDoing, appends, fits, is_of_copy, writes_checkpoint}
 use Rattle.master_plan.specs.Plans.{PlanState, doing, without_copies}
 use Rattle.master_plan.specs.Logging.{was_logged, tried}
-use Rattle.master_plan.proofs.Concerning.{own_key}
+use Rattle.master_waiting.proofs.Concerning.{own_key}
 use Rattle.master_chunks.specs.Own.{IsListed, IsOwn}
 
 at_end : (xs : List ℕ) (x : ℕ) → element_at (xs ++ x ∷ []) (length xs) ≡ Some x

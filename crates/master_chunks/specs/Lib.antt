@@ -1,4 +1,3 @@
-pub mod Places
 pub mod Askers
 pub mod VersionPlaces
 pub mod Tests

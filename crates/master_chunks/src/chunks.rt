@@ -15,8 +15,8 @@ use crate::row::{ChunkState, chunk_of};
 use crate::telling::{tells_holders, tells_none};
 use gfs_types::ids::{FileId, Handle};
 use gfs_types::refusal::Refusal;
-use master_plan::fault::PlanFault;
 use master_plan::plan::Plan;
+use master_waiting::fault::PlanFault;
 use messages::message::Body;
 use std::alloc::Allocator;
 

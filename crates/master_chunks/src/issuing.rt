@@ -14,9 +14,9 @@ use crate::targets::{TargetList, VersionTarget, holder_targets, new_attempt, pla
 use crate::telling::{tells_location, tells_to_wait};
 use gfs_types::ids::{Handle, Node, OrderNo, Version};
 use log_records::record::Record;
-use master_plan::fault::PlanFault;
 use master_plan::logging::logs;
 use master_plan::plan::Plan;
+use master_waiting::fault::PlanFault;
 use messages::message::Body;
 use messages::message_lists::HolderList;
 use operation_log::log::OperationLog;

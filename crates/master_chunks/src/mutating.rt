@@ -17,10 +17,10 @@ use crate::wanting::wants_primary;
 use gfs_types::ids::Handle;
 use gfs_types::refusal::Refusal;
 use log_records::record::Record;
-use master_names::revokes::revokes;
-use master_plan::fault::PlanFault;
 use master_plan::logging::logs;
 use master_plan::plan::Plan;
+use master_plan::revokes::revokes;
+use master_waiting::fault::PlanFault;
 use operation_log::log::OperationLog;
 use std::alloc::Allocator;
 

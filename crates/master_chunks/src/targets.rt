@@ -11,9 +11,9 @@ use crate::row::ChunkState;
 use gfs_types::ids::{Handle, ServerId, Version};
 use gfs_types::lists::{Sequence, ServerList};
 use gfs_types::no_memory::NoMemory;
-use master_plan::fault::PlanFault;
 use master_plan::plan::Plan;
-use master_plan::waiting::VersionAttempt;
+use master_waiting::fault::PlanFault;
+use master_waiting::waiting::VersionAttempt;
 use std::alloc::{Allocator, Global};
 use std::marker::Model;
 

@@ -15,8 +15,8 @@ use crate::targets::holder_targets;
 use crate::telling::tells_to_wait;
 use gfs_types::ids::Handle;
 use leases::master::may_issue;
-use master_plan::fault::PlanFault;
 use master_plan::plan::Plan;
+use master_waiting::fault::PlanFault;
 use operation_log::log::OperationLog;
 use std::alloc::Allocator;
 

@@ -18,7 +18,7 @@ use Rattle.protocol.specs.Master.{MasterState, PendingSnapshot}
 use Rattle.protocol.specs.MasterSnapshots.{node_handles, row_has_ended, is_ready}
 use Rattle.master_plan.specs.Plans.{PlanState, known}
 use Rattle.protocol.specs.Logged.{Logged}
-use Rattle.master_plan.specs.Due.{WaitAt, is_ready_at}
+use Rattle.master_waiting.specs.Due.{WaitAt, is_ready_at}
 use Rattle.master_plan.proofs.Waits.{one_more_waits}
 use Rattle.master_names.proofs.Sources.{all_rising, handles_of_nodes}
 

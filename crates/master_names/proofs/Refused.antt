@@ -14,7 +14,7 @@ use Rattle.protocol.specs.Logged.{Logged}
 use Rattle.protocol.specs.Master.{MasterState}
 use Rattle.protocol.specs.MasterNames.{is_busy, master_refusal, reply_by}
 use Rattle.master_state.specs.Refusals.{refusal_by}
-use Rattle.master_plan.specs.CallLocks.{are_paths}
+use Rattle.master_waiting.specs.CallLocks.{are_paths}
 
 -- one path, which is none
 bad_one : (x : Bool) → x && true ≡ false → (rest other : List (Bool × Refusal)) → first_refusal ((not x, BadPath) ∷ rest) ≡ first_refusal ((not x, BadPath) ∷ other)

@@ -18,7 +18,7 @@ use Rattle.chunk_table.specs.ChunkTable.{ChunkTable, handles_of}
 use Rattle.protocol.specs.Tables.{rising}
 use Rattle.protocol.specs.Master.{MasterState, PendingSnapshot}
 use Rattle.protocol.specs.MasterSnapshots.{node_handles, snapshot_handles}
-use Rattle.master_plan.proofs.Concerning.{any_rising}
+use Rattle.master_waiting.proofs.Concerning.{any_rising}
 
 all_none : (p : ℕ → Bool) (xs : List ℕ) → list_all p xs ≡ not (list_any (λ x. not (p x)) xs)
 all_none p [] = refl

@@ -8,7 +8,7 @@ ghost use Rattle.master_plan.specs.Plans.{known};
 
 use gfs_types::ids::FileId;
 use master_plan::plan::Plan;
-use master_plan::waiting::Pending;
+use master_waiting::waiting::Pending;
 use namespace::name_kind::NameKind;
 use std::alloc::Allocator;
 

@@ -7,10 +7,10 @@ ghost use Rattle.protocol.specs.MasterNames.{is_busy, snapshot_call};
 ghost use Rattle.master_plan.specs.Plans.{doing, known};
 
 use crate::concerned::snapshot_plan;
-use crate::revokes::revokes_all;
-use master_plan::fault::PlanFault;
 use master_plan::plan::Plan;
-use master_plan::waiting::Pending;
+use master_plan::revokes::revokes_all;
+use master_waiting::fault::PlanFault;
+use master_waiting::waiting::Pending;
 use std::alloc::Allocator;
 
 // The locks are taken; version numbers of the chunks that are under way, and copies for the files, are given up, and leases are

@@ -16,10 +16,10 @@ use gfs_types::ids::{ClientId, MAX_COUNTER, Moment};
 use gfs_types::lists::Text;
 use gfs_types::shape::Shape;
 use log_records::record::Record;
-use master_plan::fault::PlanFault;
 use master_plan::plan::Plan;
-use master_plan::waiting::Pending;
 use master_state::names::path_of;
+use master_waiting::fault::PlanFault;
+use master_waiting::waiting::Pending;
 use operation_log::log::OperationLog;
 use std::alloc::Allocator;
 

@@ -4,9 +4,9 @@ ghost use Rattle.std.specs.Prelude.{◌≡◌, IfOk};
 ghost use Rattle.protocol.specs.MasterSnapshots.{snapshot_handles, snapshot_files};
 ghost use Rattle.master_plan.specs.Plans.{known};
 
-use master_plan::fault::PlanFault;
 use master_plan::plan::Plan;
-use master_plan::waiting::Pending;
+use master_waiting::fault::PlanFault;
+use master_waiting::waiting::Pending;
 use snapshot::plan::SnapshotPlan;
 use std::alloc::Allocator;
 

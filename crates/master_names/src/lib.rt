@@ -12,6 +12,5 @@ pub mod looks;
 pub mod names;
 pub mod ready;
 pub mod refusals;
-pub mod revokes;
 pub mod snapshots_ready;
 mod waits;

@@ -12,9 +12,9 @@ use crate::refusals::master_refusal;
 use gfs_types::call::Call;
 use gfs_types::ids::Node;
 use gfs_types::no_memory::NoMemory;
-use master_plan::fault::PlanFault;
 use master_plan::plan::Plan;
 use master_replay::lists::list;
+use master_waiting::fault::PlanFault;
 use messages::message::{Body, NameReply};
 use std::alloc::Allocator;
 

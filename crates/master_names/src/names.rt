@@ -11,8 +11,8 @@ use crate::locks::is_waiting;
 use crate::refusals::master_refusal;
 use gfs_types::call::Call;
 use gfs_types::ids::{ClientId, Moment};
-use master_plan::fault::PlanFault;
 use master_plan::plan::Plan;
+use master_waiting::fault::PlanFault;
 use operation_log::log::OperationLog;
 use std::alloc::Allocator;
 

@@ -9,9 +9,9 @@ use crate::awaited::has_waited;
 use crate::begins::lets_go;
 use crate::waits::{all_wait, notes_wait};
 use log_records::record::Record;
-use master_plan::fault::PlanFault;
 use master_plan::plan::Plan;
-use master_plan::waiting::Pending;
+use master_waiting::fault::PlanFault;
+use master_waiting::waiting::Pending;
 use operation_log::log::OperationLog;
 use std::alloc::Allocator;
 

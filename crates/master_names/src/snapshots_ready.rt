@@ -10,9 +10,9 @@ use crate::alone::{file_alone, handles_of};
 use crate::concerned::snapshot_plan;
 use gfs_types::ids::Handle;
 use leases::master::ended;
-use master_plan::fault::PlanFault;
 use master_plan::plan::Plan;
-use master_plan::waiting::Pending;
+use master_waiting::fault::PlanFault;
+use master_waiting::waiting::Pending;
 use std::alloc::Allocator;
 
 /// Whether no lease of the chunks concerned is left to end.

@@ -4,14 +4,14 @@ ghost use Rattle.std.specs.Prelude.{◌≡◌, true, false, not, IfSome};
 ghost use Rattle.std.specs.List.{list_all};
 ghost use Rattle.chunk_table.specs.ChunkTable.{chunk_of, handles_of};
 ghost use Rattle.protocol.specs.MasterSnapshots.{is_ready, row_has_ended};
-ghost use Rattle.master_plan.specs.Due.{WaitAt, is_ready_at};
+ghost use Rattle.master_waiting.specs.Due.{WaitAt, is_ready_at};
 ghost use Rattle.master_plan.specs.Plans.{known};
 
 use crate::alone::handles_of;
 use crate::awaited::{file_at, is_in_source};
 use gfs_types::ids::{FileId, Handle};
 use master_plan::plan::Plan;
-use master_plan::waiting::{Awaited, Pending};
+use master_waiting::waiting::{Awaited, Pending};
 use std::alloc::Allocator;
 
 /// Whether it is known that none is ready: it was put down, or the chunks say it for which they were found to wait. Takes no memory.

@@ -16,8 +16,8 @@ use Rattle.protocol.specs.Tables.{has_number}
 use Rattle.protocol.specs.Logged.{Logged, Copy, after_record, swapped_in}
 use Rattle.protocol.specs.Master.{PendingSnapshot}
 use Rattle.protocol.specs.MasterSnapshots.{node_handles, node_files}
-use Rattle.master_plan.specs.Concerned.{NumberSet, is_in, copies_file, shares_chunk, AreConcerned, IfKnown, is_source, is_by_trash, is_for_one, touches, followed}
-use Rattle.master_plan.proofs.Concerning.{same_tests, or_cases, neither, number_or_not, put_one, any_both, any_there, there_any, shared_is, one_file, file_with, other_key, own_key, all_stay}
+use Rattle.master_waiting.specs.Concerned.{NumberSet, is_in, copies_file, shares_chunk, AreConcerned, IfKnown, is_source, is_by_trash, is_for_one, touches, followed}
+use Rattle.master_waiting.proofs.Concerning.{same_tests, or_cases, neither, number_or_not, put_one, any_both, any_there, there_any, shared_is, one_file, file_with, other_key, own_key, all_stay}
 
 -- A hidden name lies at no path and below none, but at those by the directory of deleted files.
 

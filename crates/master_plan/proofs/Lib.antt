@@ -1,4 +1,3 @@
-pub mod Concerning
 pub mod Followed
 pub mod Logs
 pub mod LogBytes
@@ -8,10 +7,4 @@ pub mod FirstReports
 pub mod StillWhole
 pub mod GrantedRows
 pub mod Watching
-pub mod Locked
-pub mod Due
-pub mod CallLocks
-pub mod Clashes
-pub mod Bounds
-pub mod Sources
 pub mod Waits

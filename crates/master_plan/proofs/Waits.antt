@@ -23,11 +23,11 @@ use Rattle.protocol.specs.Master.{PendingSnapshot}
 use Rattle.protocol.specs.MasterSnapshots.{node_handles, row_has_ended}
 use Rattle.master_state.specs.Copied.{handles_copied}
 use Rattle.master_state.specs.Follows.{table_of}
-use Rattle.master_plan.specs.Concerned.{is_source, is_by_trash, moves, shares_chunk}
-use Rattle.master_plan.specs.Due.{WaitAt, is_ready_at, leaves_leases}
-use Rattle.master_plan.proofs.Concerning.{any_both, any_there, there_any, shared_is, file_with, number_or_not, other_key, own_key, itself}
+use Rattle.master_waiting.specs.Concerned.{is_source, is_by_trash, moves, shares_chunk}
+use Rattle.master_waiting.specs.Due.{WaitAt, is_ready_at, leaves_leases}
+use Rattle.master_waiting.proofs.Concerning.{any_both, any_there, there_any, shared_is, file_with, number_or_not, other_key, own_key, itself}
 use Rattle.master_plan.proofs.Followed.{apart, hidden_same, renamed_same}
-use Rattle.master_plan.proofs.Locked.{all_more}
+use Rattle.master_waiting.proofs.Locked.{all_more}
 
 -- A snapshot waits for a chunk.
 

@@ -1,12 +1,7 @@
-pub mod Coding
-pub mod Concerned
-pub mod Faults
 pub mod Changes
 pub mod Plans
 pub mod Watched
 pub mod Granted
-pub mod CallLocks
-pub mod Due
 pub mod Sizes
 pub mod Logging
 pub mod Reports

@@ -9,14 +9,14 @@ ghost use Rattle.master_plan.specs.Changes.{changes_of};
 ghost use Rattle.master_plan.specs.Plans.{begun, started};
 
 use crate::change::PlannedChangeList;
-use crate::fault::PlanFault;
 use crate::plan::Plan;
-use crate::waiting_list::WaitingSnapshots;
 use gfs_types::config::Config;
 use gfs_types::ids::Moment;
 use gfs_types::lists::Sequence;
 use gfs_types::no_memory::NoMemory;
 use master_state::state::State;
+use master_waiting::fault::PlanFault;
+use master_waiting::waiting_list::WaitingSnapshots;
 use messages::message_lists::MessageList;
 use ordered_map::OrderedMap;
 use ordered_map::number_map::NumberMap;

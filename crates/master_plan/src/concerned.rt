@@ -4,10 +4,10 @@ ghost use Rattle.std.specs.Prelude.{◌≡◌, IfOk};
 ghost use Rattle.protocol.specs.MasterSnapshots.{waits_for};
 ghost use Rattle.master_plan.specs.Plans.{known};
 
-use crate::fault::PlanFault;
 use crate::plan::Plan;
-use crate::waiting_concerned::{chunks_of_all, files_of_all, has};
 use gfs_types::ids::Handle;
+use master_waiting::fault::PlanFault;
+use master_waiting::waiting_concerned::{chunks_of_all, files_of_all, has};
 use std::alloc::Allocator;
 
 impl<A: Allocator + Clone> Plan<A> {

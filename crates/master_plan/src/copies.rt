@@ -8,12 +8,12 @@ ghost use Rattle.protocol.specs.MasterSnapshots.{row_has_ended};
 ghost use Rattle.chunk_table.specs.ChunkTable.{chunk_of, set_end};
 ghost use Rattle.master_plan.specs.Plans.{without_copies, without_attempts, with_end, with_lease_extended};
 
-use crate::fault::PlanFault;
 use crate::plan::Plan;
-use crate::still_waiting::has_ended_at;
-use crate::waiting::VersionAttempt;
 use gfs_types::ids::{Handle, Moment};
 use master_state::state::State;
+use master_waiting::fault::PlanFault;
+use master_waiting::still_waiting::has_ended_at;
+use master_waiting::waiting::VersionAttempt;
 use ordered_map::OrderedMap;
 use std::alloc::Allocator;
 

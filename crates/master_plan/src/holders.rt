@@ -6,9 +6,9 @@ ghost use Rattle.protocol.specs.Master.{is_present, version_held, chunks_held, h
 ghost use Rattle.protocol.specs.MasterClones.{is_attempt_at};
 ghost use Rattle.master_plan.specs.Plans.{known};
 
-use crate::fault::PlanFault;
 use crate::plan::Plan;
 use gfs_types::ids::{Handle, ServerId, Version};
+use master_waiting::fault::PlanFault;
 use ordered_map::OrderedMap;
 use std::alloc::Allocator;
 use std::mem;

@@ -5,9 +5,9 @@ ghost use Rattle.protocol.specs.Sending.{handle_of, version_of};
 ghost use Rattle.protocol.specs.MasterSnapshots.{revokes};
 ghost use Rattle.master_plan.specs.Plans.{next_order, doing};
 
-use crate::fault::PlanFault;
 use crate::plan::Plan;
 use gfs_types::ids::{Handle, MAX_COUNTER, Node, OrderNo};
+use master_waiting::fault::PlanFault;
 use messages::message::Body;
 use std::alloc::Allocator;
 

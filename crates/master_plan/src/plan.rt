@@ -8,14 +8,14 @@ ghost use Rattle.protocol.specs.Master.{has_lease};
 ghost use Rattle.master_plan.specs.Plans.{known, told};
 
 use crate::change::PlannedChangeList;
-use crate::fault::PlanFault;
-use crate::waiting::{Pending, VersionAttempt};
-use crate::waiting_list::WaitingSnapshots;
 use chunk_table::chunk::Chunk;
 use gfs_types::config::Config;
 use gfs_types::ids::{Handle, Moment, Node, Version};
 use leases::master::ended;
 use master_state::state::State;
+use master_waiting::fault::PlanFault;
+use master_waiting::waiting::{Pending, VersionAttempt};
+use master_waiting::waiting_list::WaitingSnapshots;
 use messages::message::{Body, Message};
 use messages::message_lists::MessageList;
 use ordered_map::OrderedMap;
@@ -86,8 +86,8 @@ impl<A: Allocator> Model for Plan<A> {
     ghost use Rattle.master_plan.specs.Changes.{changes_of};
     ghost use Rattle.master_plan.specs.Plans.{PlanState};
     ghost use Rattle.master_plan.specs.Watched.{IsWholeAt};
-    ghost use Rattle.master_plan.specs.Concerned.{AreConcerned, IfKnown};
-    ghost use Rattle.master_plan.specs.Due.{WaitAt};
+    ghost use Rattle.master_waiting.specs.Concerned.{AreConcerned, IfKnown};
+    ghost use Rattle.master_waiting.specs.Due.{WaitAt};
 
     ghost Value = { PlanState };
 

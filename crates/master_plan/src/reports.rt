@@ -4,10 +4,10 @@ ghost use Rattle.std.specs.Prelude.{◌≡◌, ◌==◌, ◌&&◌, true, Some, n
 ghost use Rattle.std.specs.FinMap as map;
 ghost use Rattle.master_plan.specs.Reports.{with_holder, with_report, table_of_lines};
 
-use crate::fault::PlanFault;
 use crate::plan::Plan;
-use crate::waiting::VersionAttempt;
 use gfs_types::ids::{Handle, ServerId, Version};
+use master_waiting::fault::PlanFault;
+use master_waiting::waiting::VersionAttempt;
 use messages::message::ReplicaLine;
 use ordered_map::OrderedMap;
 use ordered_map::number_map::NumberMap;

@@ -2,13 +2,13 @@
 
 ghost use Rattle.std.specs.Prelude.{◌≡◌};
 
-use crate::fault::PlanFault;
 use crate::plan::Plan;
 use gfs_types::ids::Moment;
 use gfs_types::lists::Text;
 use gfs_types::no_memory::NoMemory;
 use gfs_types::path::Path;
 use master_replay::room::has_room_to_copy;
+use master_waiting::fault::PlanFault;
 use std::alloc::Allocator;
 
 impl<A: Allocator + Clone> Plan<A> {

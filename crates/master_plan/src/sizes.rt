@@ -7,8 +7,8 @@ ghost use Rattle.master_plan.specs.Changes.{changes_of, change_of};
 ghost use Rattle.master_plan.specs.Sizes.{size_after};
 
 use crate::change::PlannedChange;
-use crate::fault::PlanFault;
 use log_records::record::Record;
+use master_waiting::fault::PlanFault;
 use operation_log::log::OperationLog;
 use operation_log::sizes::{area_size, used_with};
 

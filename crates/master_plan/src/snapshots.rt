@@ -5,23 +5,23 @@ ghost use Rattle.std.specs.List.{list_all, list_any};
 ghost use Rattle.name_locks.specs.Locks.{sets_clash};
 ghost use Rattle.protocol.specs.MasterNames.{is_busy, is_waiting_call, snapshot_call};
 ghost use Rattle.protocol.specs.MasterSnapshots.{is_ready};
-ghost use Rattle.master_plan.specs.CallLocks.{has_paths, locks_of_snapshot};
-ghost use Rattle.master_plan.specs.Due.{WaitAt};
+ghost use Rattle.master_waiting.specs.CallLocks.{has_paths, locks_of_snapshot};
+ghost use Rattle.master_waiting.specs.Due.{WaitAt};
 ghost use Rattle.master_plan.specs.Plans.{known};
 
-use crate::fault::PlanFault;
 use crate::plan::Plan;
-use crate::waiting::{Awaited, Pending};
 use gfs_types::ids::ClientId;
 use gfs_types::no_memory::NoMemory;
 use gfs_types::path::Path;
+use master_waiting::fault::PlanFault;
+use master_waiting::waiting::{Awaited, Pending};
 use name_locks::lock_set::Mode;
 use ordered_map::OrderedMap;
 use std::alloc::Allocator;
 
 impl<A: Allocator + Clone> Plan<A> {
     /// A snapshot that no other makes busy waits from now on, behind the others, under its locks.
-    #[tactic(auto, using(crate::proofs::Clashes::none_clashes))]
+    #[tactic(auto, using(master_waiting::proofs::Clashes::none_clashes))]
     pub fn put_snapshot(&mut self, snapshot: Pending) -> Result<(), PlanFault>
         requires { is_busy (known self.old) (snapshot_call snapshot) ≡ false }
         ensures { OnOk result (self.new ≡ record self.old { snapshots = self.old.snapshots ++ snapshot ∷ [] }) }

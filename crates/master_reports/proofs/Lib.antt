@@ -6,3 +6,4 @@ pub mod Files
 pub mod DropOrders
 pub mod HiddenNames
 pub mod Cloned
+pub mod Grants

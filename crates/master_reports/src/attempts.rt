@@ -7,9 +7,9 @@ ghost use Rattle.master_plan.specs.Plans.{doing, known};
 ghost use Rattle.master_reports.specs.Late.{late_attempts};
 
 use gfs_types::no_memory::NoMemory;
-use master_plan::fault::PlanFault;
 use master_plan::plan::Plan;
-use master_plan::waiting::VersionAttempt;
+use master_waiting::fault::PlanFault;
+use master_waiting::waiting::VersionAttempt;
 use std::alloc::Allocator;
 
 /// A version number that is under way too long is given up.

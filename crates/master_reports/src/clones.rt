@@ -9,8 +9,8 @@ ghost use Rattle.master_plan.specs.Watched.{IsWhole, servers_in};
 ghost use Rattle.master_reports.specs.Cloned.{orders_this};
 
 use gfs_types::ids::{Handle, Node, ServerId, Version};
-use master_plan::fault::PlanFault;
 use master_plan::plan::Plan;
+use master_waiting::fault::PlanFault;
 use messages::message::Body;
 use rereplicate::clone_order::CloneOrder;
 use rereplicate::holders::Holders;

@@ -11,8 +11,8 @@ ghost use Rattle.master_reports.specs.Late.{is_held};
 
 use gfs_types::ids::{Handle, ServerId, Version};
 use gfs_types::no_memory::NoMemory;
-use master_plan::fault::PlanFault;
 use master_plan::plan::Plan;
+use master_waiting::fault::PlanFault;
 use std::alloc::Allocator;
 
 /// A copy that nobody recorded in time is given up.

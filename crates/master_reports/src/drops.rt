@@ -9,8 +9,8 @@ ghost use Rattle.master_reports.specs.Drops.{orders_drops};
 ghost use Rattle.master_plan.specs.Plans.{doing};
 
 use gfs_types::ids::{Node, ServerId};
-use master_plan::fault::PlanFault;
 use master_plan::plan::Plan;
+use master_waiting::fault::PlanFault;
 use messages::message::{Body, ReplicaLine};
 use stale_collect::drop_order::DropOrder;
 use stale_collect::reply::reply;

@@ -6,9 +6,9 @@ ghost use Rattle.master_plan.specs.Plans.{doing};
 
 use gfs_types::ids::FileId;
 use log_records::record::Record;
-use master_plan::fault::PlanFault;
 use master_plan::logging::logs;
 use master_plan::plan::Plan;
+use master_waiting::fault::PlanFault;
 use operation_log::log::OperationLog;
 use stale_collect::expired::expired;
 use std::alloc::Allocator;

@@ -9,8 +9,8 @@ ghost use Rattle.master_plan.specs.Plans.{doing, known};
 
 use chunk_table::chunk::Chunk;
 use gfs_types::ids::{Moment, Node, ServerId};
-use master_plan::fault::PlanFault;
 use master_plan::plan::Plan;
+use master_waiting::fault::PlanFault;
 use messages::message::{Body, LeaseLine};
 use std::alloc::Allocator;
 

@@ -7,10 +7,10 @@ ghost use Rattle.master_plan.specs.Plans.{doing};
 
 use crate::drops::drops_useless;
 use crate::extends::extends_all;
+use crate::learning::learns;
 use gfs_types::ids::ServerId;
-use master_chunks::learning::learns;
-use master_plan::fault::PlanFault;
 use master_plan::plan::Plan;
+use master_waiting::fault::PlanFault;
 use messages::message::ReplicaLine;
 use messages::message_lists::{LeaseList, ReplicaList};
 use operation_log::log::OperationLog;

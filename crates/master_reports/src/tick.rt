@@ -8,8 +8,8 @@ use crate::attempts::gives_up_attempts;
 use crate::clones::clones_next;
 use crate::copies::gives_up_lost_copies;
 use crate::expiry::expires_old;
-use master_plan::fault::PlanFault;
 use master_plan::plan::Plan;
+use master_waiting::fault::PlanFault;
 use operation_log::log::OperationLog;
 use std::alloc::Allocator;
 

@@ -5,10 +5,10 @@ ghost use Rattle.protocol.specs.Logged.{LogDisk};
 ghost use Rattle.protocol.specs.MasterReports.{holds_now, takes_recorded, takes_cloned, takes_revoked};
 ghost use Rattle.master_plan.specs.Plans.{doing};
 
+use crate::learning::learns;
 use gfs_types::ids::{Handle, Moment, ServerId, Version};
-use master_chunks::learning::learns;
-use master_plan::fault::PlanFault;
 use master_plan::plan::Plan;
+use master_waiting::fault::PlanFault;
 use operation_log::log::OperationLog;
 use std::alloc::Allocator;
 

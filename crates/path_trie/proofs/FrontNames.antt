@@ -9,9 +9,9 @@ use Rattle.path_trie.specs.Below.{child_entries, children_by_part, copies_of, re
 use Rattle.path_trie.specs.Copies.{entries_at}
 use Rattle.path_trie.specs.Counts.{IsCounted}
 use Rattle.path_trie.specs.Walks.{name_in, wanted}
-use Rattle.path_trie.specs.Entries.{BeginsFrom, under}
-use Rattle.path_trie.specs.Behind.{rest_of, with_rest, behind}
-use Rattle.path_trie.proofs.Behind.{same_byte}
+use Rattle.label_tree.specs.Entries.{BeginsFrom, under}
+use Rattle.label_tree.specs.Behind.{rest_of, with_rest, behind}
+use Rattle.label_tree.proofs.Behind.{same_byte}
 use Rattle.path_trie.proofs.LowerNames.{begins_is, some_is, these}
 use Rattle.path_trie.proofs.Maps.{names_of}
 use Rattle.path_trie.proofs.Rests.{and_first, and_second, begins}

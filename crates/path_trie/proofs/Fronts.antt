@@ -4,10 +4,10 @@ use mathlib.Core.Bool.{false≢true}
 use Rattle.std.proofs.lemmas.Bool.Decides.{nat_tests}
 use Rattle.std.specs.List.{list_any}
 use Rattle.gfs_types.specs.Paths.{root}
-use Rattle.path_trie.specs.Entries.{AllFrom, under, own, is_nothing}
-use Rattle.path_trie.specs.Nodes.{IsWhole}
-use Rattle.path_trie.specs.declared.node.TrieNode.{TrieNode}
-use Rattle.path_trie.specs.Behind.{rest_of, with_rest, behind, is_longer, has_more}
+use Rattle.label_tree.specs.Entries.{AllFrom, under, own, is_nothing}
+use Rattle.label_tree.specs.Nodes.{IsWhole}
+use Rattle.label_tree.specs.declared.node.TrieNode.{TrieNode}
+use Rattle.label_tree.specs.Behind.{rest_of, with_rest, behind, is_longer, has_more}
 
 same_either : (x y : ℕ) → (x == y) ≡ (y == x)
 same_either x y = by_test (x == y) refl
@@ -73,7 +73,7 @@ module _ {X : Type 0} where
   more_below [] h = refl
   more_below (e ∷ es) h = by_name e.0 h.0
     where
-      by_name : (n : List ℕ) → Rattle.path_trie.specs.Entries.BeginsFrom 0 n → (is_longer n || list_any (λ x. is_longer x.0) es) ≡ true
+      by_name : (n : List ℕ) → Rattle.label_tree.specs.Entries.BeginsFrom 0 n → (is_longer n || list_any (λ x. is_longer x.0) es) ≡ true
       by_name [] p = absurd p
       by_name (d ∷ n) p = refl
 

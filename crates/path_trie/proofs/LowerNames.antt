@@ -11,10 +11,10 @@ use Rattle.std.proofs.lemmas.Slice.Eq.{bytes_eq-Decides}
 use Rattle.gfs_types.specs.Paths.{root, is_below}
 use Rattle.path_trie.specs.Texts.{Names}
 use Rattle.path_trie.specs.Below.{has_below, has_at_or_below}
-use Rattle.path_trie.specs.Entries.{find_path, is_nothing}
-use Rattle.path_trie.specs.Behind.{rest_of, with_rest, behind, is_longer, has_more}
+use Rattle.label_tree.specs.Entries.{find_path, is_nothing}
+use Rattle.label_tree.specs.Behind.{rest_of, with_rest, behind, is_longer, has_more}
 use Rattle.path_trie.specs.Counts.{IsCounted}
-use Rattle.path_trie.proofs.Behind.{same_byte}
+use Rattle.label_tree.proofs.Behind.{same_byte}
 use Rattle.path_trie.proofs.Maps.{names_of, entries_names, get_names}
 
 -- to begin with a front

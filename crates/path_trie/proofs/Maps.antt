@@ -7,7 +7,7 @@ use Rattle.std.specs.FinMap.{IsAntisymmetric, get, entries, insert, remove, len,
 use Rattle.std.specs.declared.cmp.Ordering.TheVariants.{Less, Equal, Greater}
 use Rattle.std.specs.Str.{is_utf8}
 use Rattle.std.specs.FinMap.Entries.{by_order, is_sorted-put, is_sorted-where_key, find-put, find-where_key, length-put, length_without}
-use Rattle.path_trie.specs.Entries.{find_path, put_path, without_path}
+use Rattle.label_tree.specs.Entries.{find_path, put_path, without_path}
 use mir.Val.{bool_byte}
 use Rattle.path_trie.specs.Texts.{Names, are_texts}
 use Rattle.path_trie.proofs.Rests.{and_first, and_second}

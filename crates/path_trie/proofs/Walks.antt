@@ -10,9 +10,9 @@ use Rattle.std.proofs.lemmas.List.Folds.{Any-from_list_any, list_all-append}
 use Rattle.std.proofs.lemmas.List.Sums.{prefix_len_passes}
 use Rattle.std.proofs.lemmas.Slice.Eq.{bytes_eq-Decides}
 use Rattle.gfs_types.specs.Paths.{Path, root, is_slash, is_below, is_child, parent, last_part}
-use Rattle.path_trie.specs.Entries.{under, own, level}
-use Rattle.path_trie.proofs.Levels.{joined}
-use Rattle.path_trie.specs.Behind.{with_rest}
+use Rattle.label_tree.specs.Entries.{under, own, level}
+use Rattle.label_tree.proofs.Levels.{joined}
+use Rattle.label_tree.specs.Behind.{with_rest}
 use Rattle.path_trie.specs.Below.{child_entries}
 use Rattle.path_trie.specs.Texts.{are_texts}
 use Rattle.path_trie.specs.Walks.{name_in, is_past, wanted}

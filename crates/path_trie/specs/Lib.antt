@@ -3,10 +3,3 @@ pub mod Copies
 pub mod Counts
 pub mod Texts
 pub mod Walks
-pub mod Fronts
-pub mod Turns
-pub mod Behind
-pub mod Entries
-pub mod Falls
-pub mod Nodes
-pub mod Siblings

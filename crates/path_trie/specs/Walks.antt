@@ -2,7 +2,7 @@
 use Rattle.std.specs.Prelude.{ℕ, ◌+◌, Bool, false, if◌then◌else◌, List, [], ◌∷◌, Option, Some, None, drop, length}
 use Rattle.std.specs.List.{list_any}
 use Rattle.gfs_types.specs.Paths.{Path, is_slash, is_child, last_part}
-use Rattle.path_trie.specs.Behind.{with_rest}
+use Rattle.label_tree.specs.Behind.{with_rest}
 
 -- a path under its whole text; in the list of a directory's children, a child under its last part
 abbrev pub name_in : Option Path → Path → Option (List ℕ)

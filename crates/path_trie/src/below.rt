@@ -2,11 +2,11 @@
 
 ghost use Rattle.std.specs.Prelude.{◌≡◌, ◌++◌, not};
 ghost use Rattle.gfs_types.specs.Paths.{root};
-ghost use Rattle.path_trie.specs.Entries.{BeginsFrom, is_nothing};
-ghost use Rattle.path_trie.specs.Behind.{behind, has_more};
+ghost use Rattle.label_tree.specs.Entries.{BeginsFrom, is_nothing};
+ghost use Rattle.label_tree.specs.Behind.{behind, has_more};
 
-use crate::place::place;
-use crate::tree::Tree;
+use label_tree::place::place;
+use label_tree::tree::Tree;
 use std::alloc::Allocator;
 
 /// Whether a name begins with these bytes and has more.

@@ -4,8 +4,8 @@ ghost use Rattle.std.specs.Prelude.{◌≡◌, ◌≤◌, ◌++◌, false, true,
 ghost use Rattle.std.specs.FinMap.{entries};
 ghost use Rattle.std.specs.List.{list_all};
 ghost use Rattle.gfs_types.specs.Paths.{is_at_or_below};
-ghost use Rattle.path_trie.specs.Entries.{under};
-ghost use Rattle.path_trie.specs.Behind.{behind};
+ghost use Rattle.label_tree.specs.Entries.{under};
+ghost use Rattle.label_tree.specs.Behind.{behind};
 ghost use Rattle.path_trie.specs.Below.{has_at_or_below, copied_entries, copies_of, with_entries};
 ghost use Rattle.path_trie.specs.Copies.{entries_at, paired, texts_of, without_names};
 

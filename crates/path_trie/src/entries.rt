@@ -3,16 +3,16 @@
 ghost use Rattle.std.specs.Prelude.{◌≡◌, ◌+◌, ◌++◌, ◌∷◌, [], IsTrue, OnOk, drop, length, option_copied};
 ghost use Rattle.std.specs.List.{list_any};
 ghost use Rattle.gfs_types.specs.Paths.{is_slash};
-ghost use Rattle.path_trie.specs.Entries.{BeginsFrom, own, under};
-ghost use Rattle.path_trie.specs.Behind.{behind};
+ghost use Rattle.label_tree.specs.Entries.{BeginsFrom, own, under};
+ghost use Rattle.label_tree.specs.Behind.{behind};
 ghost use Rattle.path_trie.specs.Texts.{are_texts};
 ghost use Rattle.path_trie.specs.Walks.{name_in, is_past, wanted};
 
 use crate::child::Named;
 use crate::parts::{is_child, last_part};
-use crate::place::place;
-use crate::tree::Tree;
 use gfs_types::no_memory::NoMemory;
+use label_tree::place::place;
+use label_tree::tree::Tree;
 use std::alloc::Allocator;
 
 // The name of a path in the list, or None where the list doesn't have it.

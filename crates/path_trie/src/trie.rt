@@ -8,11 +8,11 @@ ghost use Rattle.path_trie.specs.Below.{children_by_part, has_below, has_at_or_b
 use crate::below::{has_more, has_slash_behind};
 use crate::child::Child;
 use crate::entries::{add_behind, add_names};
-use crate::insert::insert;
-use crate::remove::remove;
-use crate::tree::Tree;
 use gfs_types::no_memory::NoMemory;
 use gfs_types::path::Path;
+use label_tree::insert::insert;
+use label_tree::remove::remove;
+use label_tree::tree::Tree;
 use std::alloc::{Allocator, Global};
 use std::marker::Model;
 
@@ -93,7 +93,7 @@ impl<V: Drop, A: Allocator + Clone> Trie<V, A> {
                 self.count += usize::from(is_new);
                 Ok(())
             }
-            Err(back) => Err(back),
+            Err((back, _)) => Err((back, NoMemory)),
         }
     }
 

@@ -29,7 +29,7 @@ use Rattle.cell_simulator.specs.Steps.{Step, Simulated, DropsTimes, Stays, Lead,
 use Rattle.cell_simulator.specs.Lines.{ComesTo}
 use Rattle.cell_simulator.specs.Scripts.{ComeTo, RunsOn, StopsWith}
 use Rattle.shell.specs.Worlds.{DropsMessages, Steps}
-use Rattle.cell_core.specs.Starts.{is_count}
+use Rattle.memory_nodes.specs.Starts.{is_count}
 use Rattle.shell.specs.Cells.{IsNew, are_in_range, world_of}
 use Rattle.shell.specs.Explained.{LeadsTo, MayDrop, LeadTo, LineLeads, raised_step, IsRunOfMachine, AreRunsOfMachine, AreExplained, IsEndlessExplained, AreExplainedUntil}
 use Rattle.shell.specs.Scripts.{at_0}

@@ -1,9 +1,9 @@
 -- Settings and counts of a cell that can be made lie in their ranges.
 use Rattle.std.proofs.Common.{◌≡◌, Bool, true, false, Option, Some, None}
 use Rattle.std.specs.Prelude.{◌&&◌, if◌then◌else◌, IsFalse}
-use Rattle.cell_core.specs.Starts.{IsStartFault}
-use Rattle.cell_core.specs.declared.start_fault.StartFault.{StartFault}
-use Rattle.cell_core.specs.declared.start_fault.StartFault.TheVariants as faults
+use Rattle.memory_nodes.specs.Starts.{IsStartFault}
+use Rattle.memory_nodes.specs.declared.start_fault.StartFault.{StartFault}
+use Rattle.memory_nodes.specs.declared.start_fault.StartFault.TheVariants as faults
 
 -- what lets no cell be made, by what was tested
 abbrev bad : Bool → Bool → Bool → Option StartFault

@@ -2,7 +2,7 @@
 use Rattle.std.specs.Prelude.{◌≡◌, ◌⊎◌, ℕ, Bool, ◌&&◌, is_none}
 use Rattle.gfs_types.specs.Settings.{first_out_of_range}
 use Rattle.protocol.specs.World.{WorldState, new_world}
-use Rattle.cell_core.specs.Starts.{is_count}
+use Rattle.memory_nodes.specs.Starts.{is_count}
 use Rattle.cell_world.specs.Held.{HeldCell, IsHeldAs}
 use Rattle.script.specs.declared.options.Options.{Options}
 use Rattle.script.specs.declared.script_fault.ScriptFault.{ScriptFault}

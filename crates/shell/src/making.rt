@@ -4,8 +4,8 @@ ghost use Rattle.std.specs.Prelude.{◌≡◌, Err, IfOk, IfErr, IsFalse};
 ghost use Rattle.shell.specs.Cells.{IsNew, IsOfStart, are_in_range};
 
 use crate::world::SimulatedWorld;
-use cell_core::start_fault::StartFault;
 use cell_core::world::World;
+use memory_nodes::start_fault::StartFault;
 use script::options::Options;
 use script::script_fault::ScriptFault;
 use std::alloc::{Allocator, Global};

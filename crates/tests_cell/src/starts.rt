@@ -1,10 +1,10 @@
 //! New cells, whose names have much or little room.
 
 use crate::outcome::small_cell;
-use cell_core::start_fault::StartFault;
 use cell_core::world::World;
 use gfs_types::config::Config;
 use linked_list_allocator::LocalHeap;
+use memory_nodes::start_fault::StartFault;
 use script::options::Options;
 use std::alloc::Global;
 

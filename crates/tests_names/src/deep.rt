@@ -1,8 +1,8 @@
 //! Trees as deep as paths may be long, and with as many siblings as there are bytes.
 
 use crate::put::put;
-use path_trie::remove::remove;
-use path_trie::tree::Tree;
+use label_tree::remove::remove;
+use label_tree::tree::Tree;
 use std::alloc::Global;
 use std::test::Fail;
 

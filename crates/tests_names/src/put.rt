@@ -2,10 +2,9 @@
 
 ghost use Rattle.std.specs.Prelude.{◌≡◌, IfErr};
 
-use gfs_types::no_memory::NoMemory;
-use path_trie::insert::insert;
-use path_trie::tree::Tree;
-use std::alloc::Allocator;
+use label_tree::insert::insert;
+use label_tree::tree::Tree;
+use std::alloc::{AllocError, Allocator};
 
 /// Puts a value at a path, or hands it back where the path is empty or memory is refused.
 pub fn put<A: Allocator + Clone>(
@@ -13,11 +12,11 @@ pub fn put<A: Allocator + Clone>(
     alloc: &A,
     path: &[u8],
     value: u64,
-) -> Result<(), (u64, NoMemory)>
+) -> Result<(), (u64, AllocError)>
     ensures { IfErr result (λ e. e.0 ≡ value) }
 {
     if path.is_empty() {
-        return Err((value, NoMemory));
+        return Err((value, AllocError));
     }
     insert(tree, alloc, path, value)
 }

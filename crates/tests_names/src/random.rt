@@ -1,10 +1,9 @@
 //! The tree beside an ordered map.
 
 use crate::put::put;
-use gfs_types::no_memory::NoMemory;
+use label_tree::remove::remove;
+use label_tree::tree::Tree;
 use linked_list_allocator::LocalHeap;
-use path_trie::remove::remove;
-use path_trie::tree::Tree;
 use std::alloc::{AllocError, Allocator, Global};
 use std::collections::BTreeMap;
 use std::test::Fail;
@@ -42,7 +41,7 @@ fn put_in_both<A: Allocator + Clone>(
             plain.insert(path, value)?;
             Ok(Some(true))
         }
-        Err((back, NoMemory)) => {
+        Err((back, AllocError)) => {
             let was_there = plain.get(&path).is_some();
             Ok(if back == value && !was_there {
                 Some(false)

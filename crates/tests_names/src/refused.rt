@@ -1,10 +1,9 @@
 //! Each growth refused in turn, and memory that comes back.
 
 use crate::put::put;
-use gfs_types::no_memory::NoMemory;
+use label_tree::remove::remove;
+use label_tree::tree::Tree;
 use linked_list_allocator::LocalHeap;
-use path_trie::remove::remove;
-use path_trie::tree::Tree;
 use std::alloc::{AllocError, Allocator, Global};
 use std::test::Fail;
 
@@ -59,7 +58,7 @@ fn met_in<A: Allocator + Clone>(
     }
     let met = match put(tree, alloc, second, 2) {
         Ok(()) => Met::Put,
-        Err((2, NoMemory)) => Met::Refused,
+        Err((2, AllocError)) => Met::Refused,
         Err(_) => Met::Wrong,
     };
     if is_as_put(tree, alloc, first, second, met == Met::Refused) {

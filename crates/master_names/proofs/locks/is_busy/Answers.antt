@@ -3,9 +3,9 @@ use Rattle.std.specs.Prelude.{Option, MatchOption, IsTrue, IsFalse}
 use Rattle.std.specs.List.{list_any}
 use Rattle.name_locks.specs.Locks.{sets_clash}
 use Rattle.protocol.specs.Master.{PendingSnapshot}
-use Rattle.master_plan.specs.CallLocks.{are_paths, locks_of, locks_of_snapshot}
+use Rattle.master_waiting.specs.CallLocks.{are_paths, locks_of, locks_of_snapshot}
 use Rattle.master_plan.specs.Plans.{known}
-use Rattle.master_plan.proofs.Clashes.{busy_is}
+use Rattle.master_waiting.proofs.Clashes.{busy_is}
 use Rattle.master_names.proofs.locks.is_busy.Goals as goal
 
 pub returns-in-Some : goal.returns-in-Some

@@ -1,5 +1,5 @@
 use Rattle.std.proofs.Common.{rules, ◌≡◌, ◌+◌, ◌<◌, length, take, get_or, min, sym, subst}
-use Rattle.master_plan.specs.Due.{WaitAt}
+use Rattle.master_waiting.specs.Due.{WaitAt}
 use Rattle.master_names.proofs.LeasedChunks.{next_waits}
 use Rattle.master_names.proofs.waits.all_wait_until.Goals as goal
 

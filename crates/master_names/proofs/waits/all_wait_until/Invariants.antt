@@ -1,5 +1,5 @@
 use Rattle.std.proofs.Common.{take}
-use Rattle.master_plan.specs.Due.{WaitAt}
+use Rattle.master_waiting.specs.Due.{WaitAt}
 use Rattle.master_names.proofs.waits.all_wait_until.Given as goal
 
 -- those so far wait

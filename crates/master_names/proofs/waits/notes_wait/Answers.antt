@@ -1,6 +1,6 @@
 use Rattle.std.proofs.Common.{List, subst}
 use Rattle.protocol.specs.Master.{PendingSnapshot}
-use Rattle.master_plan.specs.Due.{WaitAt}
+use Rattle.master_waiting.specs.Due.{WaitAt}
 use Rattle.master_names.proofs.waits.notes_wait.Goals as goal
 
 pub note_all_wait-requires : goal.note_all_wait-requires

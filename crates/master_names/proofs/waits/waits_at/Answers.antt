@@ -5,7 +5,7 @@ use Rattle.gfs_types.specs.Paths.{is_at_or_below}
 use Rattle.relaxed_file.specs.Names.{File}
 use Rattle.chunk_table.specs.ChunkTable.{chunk_of, handles_of}
 use Rattle.protocol.specs.MasterSnapshots.{row_has_ended}
-use Rattle.master_plan.specs.Due.{is_ready_at}
+use Rattle.master_waiting.specs.Due.{is_ready_at}
 use Rattle.master_names.proofs.LeasedChunks.{must_wait_at, some_weaker}
 use Rattle.master_names.proofs.waits.waits_at.Goals as goal
 

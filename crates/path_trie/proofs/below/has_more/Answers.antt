@@ -1,5 +1,5 @@
 use Rattle.std.proofs.Common.{◌++◌, not, sym, ap, ◌∙◌}
-use Rattle.path_trie.specs.Entries.{own}
+use Rattle.label_tree.specs.Entries.{own}
 use Rattle.path_trie.proofs.Fronts.{more_here}
 use Rattle.path_trie.proofs.below.has_more.Goals as goal
 

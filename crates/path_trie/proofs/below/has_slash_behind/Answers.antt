@@ -1,7 +1,7 @@
 use Rattle.std.proofs.Common.{◌++◌, not, sym, ap, ◌∙◌, arith}
 use Rattle.gfs_types.specs.Paths.{root}
-use Rattle.path_trie.specs.Entries.{own, is_nothing}
-use Rattle.path_trie.specs.Behind.{behind}
+use Rattle.label_tree.specs.Entries.{own, is_nothing}
+use Rattle.label_tree.specs.Behind.{behind}
 use Rattle.path_trie.proofs.Fronts.{found_is, alive_there, slash_none, slash_below, slash_here}
 use Rattle.path_trie.proofs.below.has_slash_behind.Goals as goal
 

@@ -1,7 +1,7 @@
 use Rattle.std.proofs.Common.{◌≡◌, ◌++◌, true, length, take, option_copied, sym, ap, ◌∙◌, arith, rules}
 use Rattle.std.proofs.Math.Seq.{take-append_seam}
-use Rattle.path_trie.specs.Entries.{under, own, level, bytes_in}
-use Rattle.path_trie.specs.Falls.{below_falls, next_falls}
+use Rattle.label_tree.specs.Entries.{under, own, level, bytes_in}
+use Rattle.label_tree.specs.Falls.{below_falls, next_falls}
 use Rattle.path_trie.specs.Texts.{are_texts}
 use Rattle.path_trie.specs.Walks.{is_past, wanted}
 use Rattle.path_trie.proofs.Walks.{none_listed, node_listed, node_texts, next_texts}

@@ -1,5 +1,5 @@
 use Rattle.std.proofs.Common.{◌≡◌, ◌≤◌, ◌++◌, true, option_copied}
-use Rattle.path_trie.specs.Entries.{under, bytes_in}
+use Rattle.label_tree.specs.Entries.{under, bytes_in}
 use Rattle.path_trie.specs.Texts.{are_texts}
 use Rattle.path_trie.specs.Walks.{wanted}
 use Rattle.path_trie.proofs.entries.+add_names.Given as goal

@@ -1,6 +1,6 @@
 use Rattle.std.proofs.Common.{◌≡◌, ◌++◌, option_copied, sym, ap, ◌∙◌}
-use Rattle.path_trie.specs.Entries.{under, own}
-use Rattle.path_trie.specs.Behind.{behind}
+use Rattle.label_tree.specs.Entries.{under, own}
+use Rattle.label_tree.specs.Behind.{behind}
 use Rattle.path_trie.specs.Texts.{are_texts}
 use Rattle.path_trie.specs.Walks.{wanted}
 use Rattle.path_trie.proofs.Walks.{place_listed, place_texts}

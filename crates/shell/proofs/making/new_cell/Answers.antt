@@ -1,6 +1,6 @@
 use Rattle.std.specs.Prelude.{is_none}
 use Rattle.gfs_types.specs.Settings.{first_out_of_range}
-use Rattle.cell_core.specs.Starts.{is_count}
+use Rattle.memory_nodes.specs.Starts.{is_count}
 use Rattle.shell.proofs.Ranges.{never_good, never_of_memory}
 use Rattle.shell.proofs.making.new_cell.Goals as goal
 

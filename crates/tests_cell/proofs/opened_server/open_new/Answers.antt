@@ -3,7 +3,7 @@ use Rattle.std.specs.Prelude.{◌%◌}
 use Rattle.disk.specs.Failing.{FuseState}
 use Rattle.replica_store.specs.Replicas.{new_server_disk}
 use Rattle.chunk_store.specs.Opening.{HoldsReplicas}
-use Rattle.cell_core.proofs.NewDisks.{holds_none}
+use Rattle.memory_nodes.proofs.NewDisks.{holds_none}
 use Rattle.tests_cell.proofs.Servers.{in_settings, is_tested}
 use Rattle.tests_cell.proofs.opened_server.open_new.Goals as goal
 

@@ -1,6 +1,6 @@
 use Rattle.std.proofs.Common.{◌≤◌, length, arith}
 use Rattle.std.proofs.lemmas.Grind.{common_steps}
-use Rattle.path_trie.proofs.LabelCuts.{begins_some}
+use Rattle.label_tree.proofs.LabelCuts.{begins_some}
 use Rattle.tests_names.proofs.put.put.Goals as goal
 
 pub insert-requires : goal.insert-requires

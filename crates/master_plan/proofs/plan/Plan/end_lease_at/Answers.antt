@@ -1,6 +1,6 @@
 use Rattle.std.proofs.Common.{ap}
 use Rattle.protocol.specs.Logged.{Logged}
-use Rattle.master_plan.proofs.Concerning.{same_files}
+use Rattle.master_waiting.proofs.Concerning.{same_files}
 use Rattle.master_plan.proofs.Watching.{ended_if}
 use Rattle.master_plan.proofs.Waits.{ended_if as waits_if}
 use Rattle.master_plan.proofs.plan.Plan.end_lease_at.Goals as goal

@@ -4,9 +4,9 @@ use Rattle.leases.specs.LeaseEnds.{end_from}
 use Rattle.protocol.specs.Logged.{Logged}
 use Rattle.master_state.specs.Follows.{table_of}
 use Rattle.master_state.proofs.Extended.{by_end}
-use Rattle.master_plan.specs.Concerned.{AreConcerned, IfKnown}
+use Rattle.master_waiting.specs.Concerned.{AreConcerned, IfKnown}
 use Rattle.master_plan.specs.Watched.{IsWholeAt}
-use Rattle.master_plan.proofs.Concerning.{same_files}
+use Rattle.master_waiting.proofs.Concerning.{same_files}
 use Rattle.master_plan.proofs.Watching.{ended_if}
 use Rattle.master_plan.proofs.Waits.{extended_if}
 use Rattle.master_plan.proofs.plan.Plan.extend_lease.Goals as goal

@@ -1,6 +1,6 @@
 use Rattle.std.proofs.Common.{ap}
 use Rattle.protocol.specs.Logged.{Logged}
-use Rattle.master_plan.proofs.Concerning.{same_files}
+use Rattle.master_waiting.proofs.Concerning.{same_files}
 use Rattle.master_plan.proofs.Watching.{given_up_if}
 use Rattle.master_plan.proofs.Waits.{none_given_up}
 use Rattle.master_plan.proofs.plan.Plan.give_up_copies.Goals as goal

@@ -2,8 +2,8 @@ use Rattle.std.proofs.Common.{◌≡◌, Bool, subst, List, length, sym, ap, ◌
 use Rattle.protocol.specs.Master.{PendingSnapshot}
 use Rattle.std.specs.Prelude.{◌==◌}
 use Rattle.std.proofs.lemmas.Bool.{eqb-true}
-use Rattle.master_plan.specs.Concerned.{AreConcerned, IfKnown}
-use Rattle.master_plan.proofs.Concerning.{live_on}
+use Rattle.master_waiting.specs.Concerned.{AreConcerned, IfKnown}
+use Rattle.master_waiting.proofs.Concerning.{live_on}
 use Rattle.master_plan.proofs.Waits.{some_wait_if}
 use Rattle.master_plan.proofs.plan.Plan.keep_live_snapshots.Goals as goal
 

@@ -1,6 +1,6 @@
 use Rattle.std.proofs.Common.{sym, subst}
 use Rattle.master_plan.specs.Plans.{PlanState}
-use Rattle.master_plan.specs.Due.{WaitAt}
+use Rattle.master_waiting.specs.Due.{WaitAt}
 use Rattle.master_plan.proofs.plan.Plan.note_all_wait.Goals as goal
 
 pub invariant_of-self : goal.invariant_of-self

@@ -1,7 +1,7 @@
 use Rattle.std.proofs.Common.{List, sym, subst, IfSome}
 use Rattle.protocol.specs.Master.{PendingSnapshot}
-use Rattle.master_plan.specs.Concerned.{AreConcerned, IfKnown}
-use Rattle.master_plan.specs.Due.{WaitAt}
+use Rattle.master_waiting.specs.Concerned.{AreConcerned, IfKnown}
+use Rattle.master_waiting.specs.Due.{WaitAt}
 use Rattle.master_plan.proofs.plan.Plan.note_awaited.Goals as goal
 
 pub invariant_of-self : goal.invariant_of-self

@@ -4,10 +4,10 @@ use Rattle.protocol.specs.Tables.{moment_limit}
 use Rattle.master_plan.specs.declared.plan.Plan.TheInside.{Inside}
 use Rattle.master_plan.specs.Plans.{PlanState}
 use Rattle.master_plan.specs.Watched.{IsWholeAt}
-use Rattle.master_plan.specs.Concerned.{AreConcerned, IfKnown}
+use Rattle.master_waiting.specs.Concerned.{AreConcerned, IfKnown}
 use Rattle.master_plan.proofs.StillWhole.{whole_reported}
 use Rattle.rereplicate.proofs.Doubting.{mapped_if}
-use Rattle.master_plan.specs.Due.{WaitAt}
+use Rattle.master_waiting.specs.Due.{WaitAt}
 use Rattle.master_plan.proofs.plan.Plan.note_report.Goals.{then-reported_after, else-reported_after}
 use Rattle.master_plan.proofs.plan.Plan.note_report.Goals as goal
 

@@ -1,9 +1,9 @@
 use Rattle.std.proofs.Common.{◌≡◌, true, false, sym, subst}
 use Rattle.std.specs.List.{list_all, list_any}
 use Rattle.name_locks.specs.Locks.{sets_clash}
-use Rattle.master_plan.specs.CallLocks.{has_paths, locks_of_snapshot}
+use Rattle.master_waiting.specs.CallLocks.{has_paths, locks_of_snapshot}
 use Rattle.master_plan.specs.Plans.{PlanState, known}
-use Rattle.master_plan.proofs.Clashes.{none_clashes}
+use Rattle.master_waiting.proofs.Clashes.{none_clashes}
 use Rattle.master_plan.proofs.plan.Plan.put_snapshot.Goals as goal
 
 pub push-requires : goal.push-requires

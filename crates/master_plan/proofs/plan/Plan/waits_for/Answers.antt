@@ -2,8 +2,8 @@ use Rattle.std.proofs.Common.{◌≡◌, true, Bool, List, sym, ap, ◌∙◌, s
 use Rattle.protocol.specs.Master.{PendingSnapshot}
 use Rattle.protocol.specs.MasterSnapshots.{waits_for}
 use Rattle.master_plan.specs.Plans.{PlanState, known}
-use Rattle.master_plan.specs.Concerned.{NumberSet, AreConcerned, IfKnown, is_in, copies_file, shares_chunk}
-use Rattle.master_plan.proofs.Concerning.{found}
+use Rattle.master_waiting.specs.Concerned.{NumberSet, AreConcerned, IfKnown, is_in, copies_file, shares_chunk}
+use Rattle.master_waiting.proofs.Concerning.{found}
 use Rattle.master_plan.proofs.plan.Plan.waits_for.Goals as goal
 
 pub returns-then-self-clause-answer : goal.returns-then-self-clause-answer

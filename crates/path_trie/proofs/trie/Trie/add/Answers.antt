@@ -2,7 +2,7 @@ use Rattle.std.proofs.Common.{◌≡◌, true, sym, ap, subst, ◌∙◌, ◌+�
 use Rattle.std.specs.FinMap as map
 use Rattle.std.specs.Str.{is_utf8}
 use Rattle.std.proofs.lemmas.Str.{is_utf8-from_IsUtf8}
-use Rattle.path_trie.specs.Entries.{put_path}
+use Rattle.label_tree.specs.Entries.{put_path}
 use Rattle.path_trie.specs.Counts.{IsCounted}
 use Rattle.path_trie.proofs.Maps.{names_of, inserted, counted_put, found, copied_is_some, copied_none}
 use Rattle.path_trie.proofs.trie.Trie.add.Goals as goal

@@ -1,7 +1,7 @@
 use Rattle.std.proofs.Common.{◌++◌, Some, sym, ap, subst, ◌∙◌}
 use Rattle.gfs_types.specs.Paths.{front_below}
-use Rattle.path_trie.specs.Entries.{BeginsFrom, under}
-use Rattle.path_trie.specs.Behind.{behind}
+use Rattle.label_tree.specs.Entries.{BeginsFrom, under}
+use Rattle.label_tree.specs.Behind.{behind}
 use Rattle.path_trie.specs.Walks.{wanted}
 use Rattle.path_trie.proofs.FrontNames.{begins_below, children_of_map, texts_behind}
 use Rattle.path_trie.proofs.trie.Trie.children.Goals as goal

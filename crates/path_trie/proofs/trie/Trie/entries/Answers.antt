@@ -1,5 +1,5 @@
 use Rattle.std.proofs.Common.{◌++◌, [], None, ap, ◌∙◌}
-use Rattle.path_trie.specs.Entries.{under}
+use Rattle.label_tree.specs.Entries.{under}
 use Rattle.path_trie.proofs.Fronts.{under_nil}
 use Rattle.path_trie.specs.Texts.{are_texts}
 use Rattle.path_trie.specs.Walks.{wanted}

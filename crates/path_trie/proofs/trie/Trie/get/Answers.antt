@@ -1,6 +1,6 @@
 use Rattle.std.proofs.Common.{sym, ap, ◌∙◌}
 use Rattle.std.specs.FinMap as map
-use Rattle.path_trie.specs.Entries.{find_path}
+use Rattle.label_tree.specs.Entries.{find_path}
 use Rattle.path_trie.proofs.Maps.{get_names}
 use Rattle.path_trie.proofs.trie.Trie.get.Goals as goal
 

@@ -2,8 +2,8 @@ use Rattle.std.proofs.Common.{◌≡◌, true, false, not, ◌++◌, sym, ap, �
 use Rattle.std.specs.Str.{bytes_eq}
 use Rattle.std.proofs.lemmas.Slice.Eq.{bytes_eq-Decides}
 use Rattle.gfs_types.specs.Paths.{root}
-use Rattle.path_trie.specs.Entries.{is_nothing}
-use Rattle.path_trie.specs.Behind.{behind, has_more}
+use Rattle.label_tree.specs.Entries.{is_nothing}
+use Rattle.label_tree.specs.Behind.{behind, has_more}
 use Rattle.path_trie.proofs.LowerNames.{any_below_root, any_below}
 use Rattle.path_trie.proofs.trie.Trie.has_below.Goals as goal
 

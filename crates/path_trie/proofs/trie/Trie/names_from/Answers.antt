@@ -1,6 +1,6 @@
 use Rattle.std.proofs.Common.{◌≡◌, ◌++◌, None, ap, ◌∙◌}
-use Rattle.path_trie.specs.Entries.{under}
-use Rattle.path_trie.specs.Behind.{behind}
+use Rattle.label_tree.specs.Entries.{under}
+use Rattle.label_tree.specs.Behind.{behind}
 use Rattle.path_trie.specs.Walks.{wanted}
 use Rattle.path_trie.proofs.FrontNames.{texts_behind}
 use Rattle.path_trie.proofs.LowerNames.{these}

@@ -1,6 +1,6 @@
 use Rattle.std.proofs.Common.{sym, ap, subst, ◌∙◌, ◌-◌, is_some}
 use Rattle.std.specs.FinMap as map
-use Rattle.path_trie.specs.Entries.{without_path}
+use Rattle.label_tree.specs.Entries.{without_path}
 use Rattle.path_trie.specs.Counts.{IsCounted}
 use Rattle.path_trie.proofs.Maps.{names_of, removed, counted_without, found}
 use Rattle.path_trie.proofs.trie.Trie.take.Goals as goal

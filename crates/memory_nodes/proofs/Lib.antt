@@ -1,0 +1,4 @@
+pub mod Files
+pub mod MasterSlots
+pub mod NewDisks
+pub mod Settings

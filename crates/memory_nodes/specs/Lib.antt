@@ -1,0 +1,2 @@
+pub mod MasterSlots
+pub mod Starts

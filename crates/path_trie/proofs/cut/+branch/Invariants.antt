@@ -1,5 +1,0 @@
-use Rattle.std.proofs.Common.{length}
-use Rattle.path_trie.proofs.cut.+branch.Given as goal
-
-abbrev pub decreases-branch : goal.decreases-branch
-decreases-branch g l = length l.path.now

@@ -1,5 +1,0 @@
-use Rattle.path_trie.specs.Entries.{bytes_in}
-use Rattle.path_trie.proofs.siblings.+cut_before.Given as goal
-
-abbrev pub decreases-cut_before : goal.decreases-cut_before
-decreases-cut_before g l = bytes_in l.tree.now
