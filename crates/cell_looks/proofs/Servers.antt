@@ -9,7 +9,7 @@ use Rattle.protocol.specs.Tables.{element_at}
 use Rattle.cell_journal.specs.Identity.{Closed}
 use Rattle.cell_journal.specs.WholeHistories.{whole_of}
 use Rattle.cell_seats.specs.ParkedNodes.{IsLedBy}
-use Rattle.cell_run.specs.Standing.{ServerStands}
+use Rattle.running_nodes.specs.Standing.{ServerStands}
 use Rattle.protocol.specs.Lookups.{StoredAt, stored_on}
 use Rattle.script.specs.declared.stored.StoredReplica.{StoredReplica}
 use Rattle.cell_world.specs.AsStored.{as_stored}

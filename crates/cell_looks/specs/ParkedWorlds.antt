@@ -14,7 +14,7 @@ use Rattle.protocol_journal.specs.Laws.{Shows}
 use Rattle.cell_journal.specs.Identity.{Closed}
 use Rattle.cell_journal.specs.WholeHistories.{whole_of}
 use Rattle.cell_seats.specs.ParkedNodes.{IsLedBy}
-use Rattle.cell_run.specs.Standing.{MasterStands, ServerStands}
+use Rattle.running_nodes.specs.Standing.{MasterStands, ServerStands}
 use Rattle.cell_looks.specs.Looks.{LooksState}
 
 -- A world to which the cell's whole history led, with the master and the servers as they were parked.

@@ -25,13 +25,15 @@ use Rattle.cell_seats.specs.Seats.{SeatState}
 use Rattle.cell_seats.specs.declared.controls.Controls.{Controls}
 use Rattle.cell_seats.specs.declared.controls.ControlWriter.{ControlWriter}
 use Rattle.cell_seats.specs.declared.mailboxes.Policy.{Policy}
-use Rattle.cell_run.specs.declared.client_places.ClientPlace.{ClientPlace}
+use Rattle.running_nodes.specs.declared.client_places.ClientPlace.{ClientPlace}
 use Rattle.cell_run.specs.declared.resume_room.ResumeRoom.{ResumeRoom}
-use Rattle.cell_run.specs.declared.running_client.RunningClient.{RunningClient}
+use Rattle.running_nodes.specs.declared.running_client.RunningClient.{RunningClient}
 use Rattle.cell_run.specs.Cells.{CellState, cell_state, names_of, IsFresh, HasMade}
-use Rattle.cell_run.specs.Parked.{ParkedState, AreNodesOf, IsSeatOf, AllGoOver, IsResumed}
-use Rattle.cell_run.specs.ParkedSeats.{ParkedSeatState, count_anew}
-use Rattle.cell_run.specs.Resumed.{behind_of, ArePlacesOf, AreNewClients, IsRoomFor, HasRoom, IsSeating}
+use Rattle.cell_run.specs.Parked.{ParkedState, AreNodesOf, IsResumed}
+use Rattle.running_nodes.specs.Seatings.{IsSeatOf, AllGoOver, IsSeating}
+use Rattle.running_nodes.specs.ParkedSeats.{ParkedSeatState, count_anew}
+use Rattle.cell_run.specs.Resumed.{behind_of, IsRoomFor, HasRoom}
+use Rattle.running_nodes.specs.Places.{ArePlacesOf, AreNewClients}
 use Rattle.cell_run.proofs.NewLocks.{numbers_count}
 
 -- the list beside a journal to which nothing was added has what stands before it

@@ -1,4 +1,3 @@
-pub mod Stepping
 pub mod Sent
 pub mod Settings
 pub mod Standing
@@ -6,8 +5,5 @@ pub mod NewSeats
 pub mod NewLocks
 pub mod Parking
 pub mod Led
-pub mod Anew
 pub mod Fresh
 pub mod Going
-pub mod GoingSeats
-pub mod Placing

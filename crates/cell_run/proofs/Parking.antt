@@ -21,8 +21,9 @@ use Rattle.cell_seats.specs.Registry.{Registers}
 use Rattle.cell_seats.specs.Seats.{SeatState}
 use Rattle.cell_run.specs.Cells.{names_of}
 use Rattle.cell_run.specs.EndedCells.{IsBeside}
-use Rattle.cell_run.specs.Parked.{ParkedState, parked_state, IsParked, IsSeatOf, ArePartsOf}
-use Rattle.cell_run.specs.ParkedSeats.{ParkedSeatState}
+use Rattle.cell_run.specs.Parked.{ParkedState, parked_state, IsParked, ArePartsOf}
+use Rattle.running_nodes.specs.Seatings.{IsSeatOf}
+use Rattle.running_nodes.specs.ParkedSeats.{ParkedSeatState}
 
 -- there is room for as many
 pub as_many : (seats : List ParkedSeatState) (all : List SeatState) (room : ℕ) → map (λ p. p.seat) seats ≡ all → length all ≤ room → length seats ≤ room

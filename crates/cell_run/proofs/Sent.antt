@@ -39,7 +39,7 @@ use Rattle.master_cell.specs.contracts.logged_master.LoggedMaster as Master
 use Rattle.master_cell.proofs.shown.ShownFiles.TheSendSync as shown
 use Rattle.memory_nodes.specs.contracts.master_slot.MasterSlot as Slot
 use Rattle.memory_nodes.specs.contracts.master_slot.MasterSlot.TheInside as Inside
-use Rattle.cell_run.specs.contracts.master_stepper.MasterNode as Node
+use Rattle.running_nodes.specs.contracts.master_stepper.MasterNode as Node
 use Rattle.cell_run.specs.contracts.running_master.RunningMaster as Running
 
 state_send : IsSend (State.the_row Heap.the_row ghosts)

@@ -1,11 +1,8 @@
-pub mod Standing
 pub mod NewNodes
 pub mod StartFaults
 pub mod Starts
 pub mod Cells
 pub mod SeatFaults
 pub mod Parked
-pub mod ParkedSeats
 pub mod Resumed
-pub mod Seatings
 pub mod EndedCells

@@ -1,17 +1,18 @@
 -- A cell that is parked.
-use Rattle.std.specs.Prelude.{◌≡◌, ℕ, ◌≤◌, ◌<◌, ◌+◌, true, false, List, [], ◌∷◌, map, length, replicate, All, IfSome, IsTrue}
+use Rattle.std.specs.Prelude.{◌≡◌, ℕ, ◌≤◌, ◌<◌, ◌+◌, true, false, List, [], map, length, replicate, All, IsTrue}
 use Rattle.gfs_types.specs.declared.config.Config.{Config}
 use Rattle.gfs_types.specs.declared.ids.Node.TheVariants.{Client}
 use Rattle.protocol_journal.specs.Journal.{Entry, own, sent_after}
 use Rattle.cell_journal.specs.Clocks.{are_clocks_kept}
 use Rattle.cell_journal.specs.Identity.{Identity, Closed}
 use Rattle.cell_journal.specs.Log.{Listed, listed}
-use Rattle.cell_journal.specs.WholeHistories.{whole_of, is_retired}
+use Rattle.cell_journal.specs.WholeHistories.{whole_of}
 use Rattle.cell_seats.specs.ParkedNodes.{ParkedNodeState, name_of, HasSeenAll}
 use Rattle.cell_seats.specs.Controls.{no_policy}
-use Rattle.cell_seats.specs.Seats.{SeatState, GoesOver}
+use Rattle.cell_seats.specs.Seats.{SeatState}
 use Rattle.cell_run.specs.Cells.{CellState, names_of}
-use Rattle.cell_run.specs.ParkedSeats.{ParkedSeatState, goes_anew, count_anew}
+use Rattle.running_nodes.specs.ParkedSeats.{ParkedSeatState, count_anew}
+use Rattle.running_nodes.specs.Seatings.{IsSeatOf, AllGoOver}
 use Rattle.cell_run.specs.declared.park_fault.ParkFault.{ParkFault}
 use Rattle.cell_run.specs.declared.park_fault.ParkFault.TheVariants.{Clock, NoMemory}
 
@@ -50,11 +51,6 @@ pub record HaveSeen (cell : Identity) (servers : ℕ) (list : Listed Entry) (nod
   pub nodes_are : AreNodesOf cell servers (length list.items) nodes
   pub name_is : list.name ≡ cell.name
 
--- a seat of this name, whose client, if it is there, saw so many entries
-pub record IsSeatOf (cell : Identity) (count : ℕ) (s : ParkedSeatState) : Type 0 where
-  pub named : s.seat.cell.name ≡ cell.name
-  pub saw : IfSome s.saw (λ k. k ≡ count)
-
 -- the parts of a parked cell beside its list: each of its nodes saw the whole history, in which clocks were kept, and so did the clients; no client was written of that was not made
 pub record ArePartsOf (journal : Closed) (config : Config) (nothing : Listed Entry) (sent : ℕ) (nodes : List ParkedNodeState) (seats : List ParkedSeatState) (servers made : ℕ) : Type 0 where
   pub parked : journal.is_over ≡ false
@@ -69,12 +65,6 @@ pub record ArePartsOf (journal : Closed) (config : Config) (nothing : Listed Ent
   pub seats_are : All (IsSeatOf journal.cell (length (whole_of journal))) seats
   pub made_few : made ≤ 64
   pub fresh : (n : ℕ) → made < n → own (Client (record { 0 = n })) (whole_of journal) ≡ []
-
--- each seat goes over to this cell, in order
-abbrev pub AllGoOver : Identity → List ParkedSeatState → List SeatState → Type 0
-AllGoOver cell [] [] = Unit {0}
-AllGoOver cell (old ∷ olds) (new ∷ news) = GoesOver cell old.saw old.seat new × AllGoOver cell olds news
-AllGoOver cell olds news = ⊥
 
 -- the cell goes on behind all that it did, and each seat goes over
 pub record IsResumed (p : ParkedState) (c : CellState) (seats : List SeatState) : Type 0 where

@@ -4,7 +4,7 @@ use Rattle.gfs_types.specs.declared.config.Config.{Config}
 use Rattle.gfs_types.specs.Settings.{first_out_of_range}
 use Rattle.memory_nodes.specs.Starts.{is_count}
 use Rattle.cell_run.specs.Parked.{ParkedState}
-use Rattle.cell_run.specs.ParkedSeats.{count_anew}
+use Rattle.running_nodes.specs.ParkedSeats.{count_anew}
 use Rattle.cell_run.specs.declared.start_fault.StartFault.{StartFault}
 use Rattle.cell_run.specs.declared.start_fault.StartFault.TheVariants as faults
 

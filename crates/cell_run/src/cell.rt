@@ -21,9 +21,7 @@ ghost use Rattle.cell_run.specs.Starts.{IsOfMachine, IsStartFault, bad_start};
 
 use crate::node_locks::{NodeLocks, new_lock};
 use crate::node_slots::{are_fitting, client_slot, master_slot, server_slot};
-use crate::running_client::RunningClient;
 use crate::running_master::RunningMaster;
-use crate::running_server::RunningServer;
 use crate::seat_fault::SeatFault;
 pub use crate::start_fault::StartFault;
 use crate::threads::{serve, stop_all, tick, wait_for_clients};
@@ -37,13 +35,14 @@ use cell_seats::journal::Journal;
 use cell_seats::mailboxes::{Input, MailboxItem, MailboxSenders, Mailboxes, Policy};
 use cell_seats::node_lock::NodeLock;
 use cell_seats::node_registry::NodeRegistry;
-use cell_seats::seat::Seat;
 use cell_seats::shared_state::{CLOSING, ENDED, MOST_CLIENTS, SharedState};
 use cell_seats::stepper::Stepper;
 use crossbeam_channel::{Receiver, Sender, unbounded};
 use gfs_types::config::Config;
 use gfs_types::ids::{ClientId, Node, ServerId};
 use gfs_types::no_memory::NoMemory;
+pub use running_nodes::running_client::ClientSeat;
+use running_nodes::running_server::RunningServer;
 use std::alloc::Global;
 use std::marker::Model;
 use std::sync::atomic::{AtomicU64, Ordering};
@@ -51,9 +50,6 @@ use std::sync::{Arc, Wait};
 use std::thread;
 use std::thread::{JoinHandle, Threads};
 use std::time::{Clock, Duration};
-
-/// A client of a running cell.
-pub type ClientSeat = Seat<RunningClient>;
 
 /// How many servers a cell may have.
 pub const MOST_SERVERS: u16 = 64;

@@ -4,25 +4,17 @@
 
 mod behind;
 pub mod cell;
-pub mod client_places;
-pub mod client_stepper;
 pub mod laws;
-pub mod master_stepper;
 pub mod node_locks;
 pub mod node_slots;
 mod park;
 pub mod park_fault;
 pub mod parked;
-pub mod parked_seat;
 mod resume;
 pub mod resume_room;
-pub mod running_client;
 pub mod running_master;
-pub mod running_server;
 pub mod seat_fault;
-mod seating;
 pub mod start_fault;
-mod step_message;
 mod threads;
 pub mod watch;
 

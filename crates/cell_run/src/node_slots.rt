@@ -3,24 +3,27 @@
 ghost use Rattle.std.specs.Prelude.{◌≡◌, ◌≤◌, ◌<◌, ◌+◌, [], None, false, IfOk, IfErr, OnOk, OnErr, IsTrue, is_none};
 ghost use Rattle.gfs_types.specs.declared.ids.Node.TheVariants as node;
 ghost use Rattle.gfs_types.specs.Settings.{first_out_of_range};
+ghost use Rattle.protocol.specs.Server.{started_server};
 ghost use Rattle.protocol_journal.specs.Journal.{own};
+ghost use Rattle.replica_store.specs.Replicas.{new_server_disk};
+ghost use Rattle.server_cell.specs.Settings.{IsForServers};
 ghost use Rattle.cell_journal.specs.WholeHistories.{is_retired};
 ghost use Rattle.cell_run.specs.declared.start_fault.StartFault.TheVariants.{NoMemory as OutOfMemory};
-ghost use Rattle.cell_seats.specs.Registry.{IsRegistered};
 ghost use Rattle.cell_seats.specs.Registries.{IsSameRegistry};
 ghost use Rattle.cell_run.specs.NewNodes.{IsFitting, IsNewNode, IsNewClient};
 
-use crate::running_client::RunningClient;
 use crate::running_master::RunningMaster;
-use crate::running_server::RunningServer;
 use crate::start_fault::StartFault;
-use cell_seats::node_journal::NodeJournal;
 use cell_seats::node_registry::NodeRegistry;
 use cell_seats::slot::Slot;
 use gfs_types::config::Config;
 use gfs_types::ids::{ClientId, Node, ServerId};
 use gfs_types::no_memory::NoMemory;
 use memory_nodes::making;
+use memory_nodes::making::new_server;
+use running_nodes::client_places::client_journal;
+use running_nodes::running_client::RunningClient;
+use running_nodes::running_server::RunningServer;
 use std::alloc::Global;
 
 /// What the master's lock guards.
@@ -57,6 +60,17 @@ pub fn master_slot(alloc: Global, registry: &mut NodeRegistry) -> Result<MasterS
     Ok(Slot::new(alloc, journal, master))
 }
 
+// A server over a new disk, which has no replica.
+fn running_server(alloc: Global, config: Config, id: ServerId) -> Result<RunningServer, NoMemory>
+    requires { IsForServers config }
+    ensures { IfOk result (λ r. r.server ≡ started_server config id.0 (new_server_disk config.chunk config.block config.slots) 0) }
+{
+    match making::new_server(alloc, config, id) {
+        Ok(server) => Ok(RunningServer { alloc, server }),
+        Err(_) => Err(NoMemory),
+    }
+}
+
 /// A server with its journal.
 pub fn server_slot(
     alloc: Global,
@@ -72,24 +86,9 @@ pub fn server_slot(
     ensures fault { IfErr result (λ f. f ≡ OutOfMemory) }
     ensures slot { IfOk result (λ s. IsNewNode (node.Server id) registry.old.writer.me.0 s.node s.view) }
 {
-    let server = RunningServer::new(alloc, registry.config, id)?;
+    let server = running_server(alloc, registry.config, id)?;
     let journal = registry.next(Node::Server(id))?;
     Ok(Slot::new(alloc, journal, server))
-}
-
-pub(crate) fn client_journal(
-    registry: &mut NodeRegistry,
-    id: ClientId,
-) -> Result<NodeJournal, NoMemory>
-    requires next { (registry.old.registered ≡ registry.old.servers + id.0) × (0 < id.0) × (id.0 ≤ 64) }
-    requires goes_on { is_retired registry.old.cell (node.Client id) ≡ false }
-    ensures same { IsSameRegistry registry.old registry.new }
-    ensures ok { OnOk result (registry.new.registered ≡ registry.old.registered + 1) }
-    ensures err { OnErr result (registry.new.registered ≡ registry.old.registered) }
-    ensures journal { IfOk result (λ d. IsRegistered registry.old.config registry.old.servers (node.Client id) registry.old.writer.me.0 d.node d.writer.me.0) }
-{
-    let _servers = registry.servers;
-    registry.next(Node::Client(id))
 }
 
 /// A client with its journal.

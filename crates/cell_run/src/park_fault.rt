@@ -1,7 +1,8 @@
 //! Why a cell was not parked.
 
-use crate::cell::{Cell, ClientSeat};
+use crate::cell::Cell;
 use cell_seats::journal::Journal;
+use running_nodes::running_client::ClientSeat;
 
 /// Why a cell was not parked, with all that was handed in.
 #[derive(Drop)]

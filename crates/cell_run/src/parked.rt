@@ -9,18 +9,19 @@ ghost use Rattle.cell_journal.specs.Identity.{closed};
 ghost use Rattle.cell_journal.specs.Log.{listed};
 ghost use Rattle.cell_journal.specs.WholeHistories.{whole_of};
 ghost use Rattle.cell_seats.specs.ParkedNodes.{IsLedBy};
-ghost use Rattle.cell_run.specs.Parked.{AreNodesOf, IsSeatOf};
-ghost use Rattle.cell_run.specs.ParkedSeats.{count_anew};
-ghost use Rattle.cell_run.specs.Standing.{MasterStands, ServerStands};
+ghost use Rattle.cell_run.specs.Parked.{AreNodesOf};
+ghost use Rattle.running_nodes.specs.Seatings.{IsSeatOf};
+ghost use Rattle.running_nodes.specs.ParkedSeats.{count_anew};
+ghost use Rattle.running_nodes.specs.Standing.{MasterStands, ServerStands};
 
 use crate::node_locks::ParkedNodes;
-use crate::parked_seat::ParkedSeat;
 use crate::running_master::RunningMaster;
-use crate::running_server::RunningServer;
 use cell_journal::raised_entry::RaisedEntry;
 use cell_journal::{Beginning, GrowingList};
 use cell_seats::journal::Journal;
 use gfs_types::config::Config;
+use running_nodes::parked_seat::ParkedSeat;
+use running_nodes::running_server::RunningServer;
 use std::alloc::Global;
 use std::marker::Model;
 use std::time::Duration;
@@ -127,7 +128,7 @@ fn sum_of(made: u64, anew: u64) -> u64
     made + anew
 }
 
-#[tactic(auto, using(crate::proofs::Anew::count_one_more, crate::proofs::Anew::count_as_before))]
+#[tactic(auto, using(running_nodes::proofs::Anew::count_one_more, running_nodes::proofs::Anew::count_as_before))]
 fn count_in(seats: &[ParkedSeat]) -> u64
     ensures { result ≡ count_anew seats.now }
 {
@@ -141,7 +142,7 @@ fn count_in(seats: &[ParkedSeat]) -> u64
     count
 }
 
-#[tactic(auto, using(crate::proofs::Anew::clients_more))]
+#[tactic(auto, using(running_nodes::proofs::Anew::clients_more))]
 fn all_have_clients(seats: &[ParkedSeat]) -> bool
     ensures { result ≡ true → All (λ s. IsSome s.saw) seats.now }
 {
@@ -154,7 +155,7 @@ fn all_have_clients(seats: &[ParkedSeat]) -> bool
 }
 
 // The flags of so many clients.
-#[tactic(auto, using(crate::proofs::Anew::others_stay))]
+#[tactic(auto, using(running_nodes::proofs::Anew::others_stay))]
 fn first_flags(count: u64) -> [bool; 64]
     requires { count ≤ 64 }
     ensures { (k : ℕ) → count ≤ k → get_or result k false ≡ false }
@@ -167,7 +168,7 @@ fn first_flags(count: u64) -> [bool; 64]
 }
 
 // Without those of the clients whose seats go on as they are.
-#[tactic(auto, using(crate::proofs::Anew::others_stay))]
+#[tactic(auto, using(running_nodes::proofs::Anew::others_stay))]
 fn without_stays(flags: [bool; 64], count: u64, seats: &[ParkedSeat]) -> [bool; 64]
     requires few { count ≤ 64 }
     requires down { (k : ℕ) → count ≤ k → get_or flags k false ≡ false }

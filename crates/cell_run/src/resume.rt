@@ -2,17 +2,18 @@
 
 ghost use Rattle.std.specs.Prelude.{◌≡◌, ◌≤◌, ◌<◌, ◌+◌, true, false, IfOk, IfErr, OnOk};
 ghost use Rattle.cell_run.specs.Parked.{IsResumed};
-ghost use Rattle.cell_run.specs.ParkedSeats.{count_anew};
+ghost use Rattle.running_nodes.specs.ParkedSeats.{count_anew};
 ghost use Rattle.cell_run.specs.Resumed.{StandsBehind};
 ghost use Rattle.cell_run.specs.Starts.{IsOfMachine, IsResumeFault};
 
 use crate::behind::{Behind, begin};
-use crate::cell::{Cell, ClientSeat};
+use crate::cell::Cell;
 use crate::parked::{Parked, ParkedParts};
 use crate::resume_room::ThreadRoom;
 use crate::start_fault::StartFault;
 use cell_seats::gate::Gate;
 use cell_seats::shared_state::MOST_CLIENTS;
+use running_nodes::running_client::ClientSeat;
 use std::sync::Wait;
 use std::thread::Threads;
 use std::time::{Clock, Duration};

@@ -4,7 +4,6 @@ ghost use Rattle.std.specs.Prelude.{◌≡◌, ◌≤◌, IfOk};
 ghost use Rattle.protocol.specs.MasterStep.{new_master};
 ghost use Rattle.stored_log.specs.Kept.{IsDiskSize};
 
-use crate::master_stepper::MasterNode;
 use cell_journal::journal_entry::StepCause;
 use cell_seats::stepper::{NodeStep, Stepper};
 use cell_world::master::CellMaster;
@@ -13,6 +12,7 @@ use gfs_types::config::Config;
 use gfs_types::ids::Moment;
 use gfs_types::no_memory::NoMemory;
 use memory_nodes::master_slot::MasterSlot;
+use running_nodes::master_stepper::MasterNode;
 use std::alloc::Global;
 
 /// The master of a running cell. At a restart its disk stops, and it is opened over what that left.

@@ -32,8 +32,8 @@ use Rattle.cell_seats.specs.Seen.{visible_of}
 use Rattle.cell_seats.proofs.Sitting.{explains}
 use Rattle.cell_seats.specs.Seats.{SeatState, shown, IsAnswered, IsLost, GoesOver}
 use Rattle.cell_seats.proofs.GoingOver.{shown_same}
-use Rattle.cell_run.specs.Parked.{AllGoOver}
-use Rattle.cell_run.specs.ParkedSeats.{ParkedSeatState}
+use Rattle.running_nodes.specs.Seatings.{AllGoOver}
+use Rattle.running_nodes.specs.ParkedSeats.{ParkedSeatState}
 use Rattle.cell_run.specs.Cells.{IsCellOf}
 use Rattle.live.specs.declared.play.Player.{Player}
 use Rattle.live.specs.declared.reopen.Unseated.{Unseated}

@@ -6,8 +6,9 @@ use Rattle.std.proofs.lemmas.List.Elements.{All-nil, All-cons, All-head, All-tai
 use Rattle.cell_journal.specs.Identity.{Identity}
 use Rattle.cell_seats.specs.Seats.{SeatState}
 use Rattle.cell_run.specs.Cells.{CellState}
-use Rattle.cell_run.specs.Parked.{IsNotParked, AllGoOver}
-use Rattle.cell_run.specs.ParkedSeats.{ParkedSeatState}
+use Rattle.cell_run.specs.Parked.{IsNotParked}
+use Rattle.running_nodes.specs.Seatings.{AllGoOver}
+use Rattle.running_nodes.specs.ParkedSeats.{ParkedSeatState}
 use Rattle.cell_run.specs.declared.park_fault.ParkFault.{ParkFault}
 use Rattle.cell_run.specs.declared.park_fault.ParkFault.TheVariants.{Clock, NoMemory}
 use Rattle.tests_live.specs.ParkFaults.{KeepsName}

@@ -3,7 +3,7 @@ use Rattle.std.specs.Prelude.{IfOk, IfErr}
 use Rattle.cell_journal.specs.Log.{listed}
 use Rattle.cell_journal.specs.WholeHistories.{whole_of}
 use Rattle.cell_run.specs.Parked.{ParkedState}
-use Rattle.cell_run.specs.ParkedSeats.{count_anew}
+use Rattle.running_nodes.specs.ParkedSeats.{count_anew}
 use Rattle.cell_run.proofs.behind.begin.Goals as goal
 
 pub list_behind-requires : goal.list_behind-requires

@@ -5,8 +5,8 @@ use Rattle.protocol_journal.specs.Journal.{own}
 use Rattle.cell_journal.specs.Clocks.{are_clocks_kept}
 use Rattle.cell_journal.specs.Identity.{Identity, Closed}
 use Rattle.cell_journal.specs.WholeHistories.{whole_of}
-use Rattle.cell_run.specs.Parked.{AllGoOver, IsSeatOf}
-use Rattle.cell_run.specs.Resumed.{ArePlacesOf}
+use Rattle.running_nodes.specs.Seatings.{AllGoOver, IsSeatOf}
+use Rattle.running_nodes.specs.Places.{ArePlacesOf}
 use Rattle.cell_run.proofs.Going.{ready_behind}
 use Rattle.cell_run.proofs.behind.seats_over.Goals as goal
 

@@ -1,4 +1,5 @@
-use Rattle.cell_run.proofs.Standing.{client_led, new_node}
+use Rattle.cell_run.proofs.Standing.{new_node}
+use Rattle.running_nodes.proofs.Standing.{client_led}
 use Rattle.cell_run.proofs.node_slots.client_slot.Goals as goal
 
 pub new-requires-2 : goal.new-requires-2

@@ -4,7 +4,7 @@ use Rattle.std.specs.Vec.Iter.{into_iter_items}
 use Rattle.std.proofs.lemmas.List.{map-append}
 use Rattle.std.proofs.lemmas.List.Elements.{All-push}
 use Rattle.cell_seats.specs.Seats.{SeatState}
-use Rattle.cell_run.specs.ParkedSeats.{ParkedSeatState}
+use Rattle.running_nodes.specs.ParkedSeats.{ParkedSeatState}
 use Rattle.cell_run.proofs.park.park_seats.Goals as goal
 
 pub loop-seat-preserved : goal.loop-seat-preserved

@@ -1,5 +1,5 @@
 use Rattle.std.proofs.Common.{◌≡◌, ◌≤◌, take}
-use Rattle.cell_run.specs.ParkedSeats.{count_anew}
+use Rattle.running_nodes.specs.ParkedSeats.{count_anew}
 use Rattle.cell_run.proofs.parked.count_in.Given as goal
 
 -- those that were looked at are counted

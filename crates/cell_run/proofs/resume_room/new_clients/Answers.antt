@@ -1,7 +1,7 @@
 use Rattle.std.proofs.Common.{◌≡◌, ℕ, ◌+◌, [], ◌∷◌, length, length-append, sym, ap, ◌∙◌, arith}
 use Rattle.std.specs.Prelude.{Some}
 use Rattle.protocol.specs.Client.{new_client}
-use Rattle.cell_run.proofs.Placing.{client_more}
+use Rattle.running_nodes.proofs.Placing.{client_more}
 use Rattle.cell_run.proofs.resume_room.new_clients.Goals as goal
 
 pub loop-before-preserved : goal.loop-before-preserved

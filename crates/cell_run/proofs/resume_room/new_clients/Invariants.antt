@@ -1,5 +1,5 @@
 use Rattle.std.proofs.Common.{◌≡◌, length}
-use Rattle.cell_run.specs.Resumed.{AreNewClients}
+use Rattle.running_nodes.specs.Places.{AreNewClients}
 use Rattle.cell_run.proofs.resume_room.new_clients.Given as goal
 
 -- so many clients of new numbers are there

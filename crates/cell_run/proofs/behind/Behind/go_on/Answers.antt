@@ -11,8 +11,8 @@ use Rattle.cell_seats.specs.Controls.{WritesControls}
 use Rattle.cell_seats.specs.declared.shared_state.SharedState.{SharedState}
 use Rattle.cell_seats.specs.ParkedNodes.{HasSeenBase}
 use Rattle.cell_run.specs.Cells.{names_of}
-use Rattle.cell_run.specs.Parked.{AllGoOver}
-use Rattle.cell_run.specs.ParkedSeats.{ParkedSeatState}
+use Rattle.running_nodes.specs.Seatings.{AllGoOver}
+use Rattle.running_nodes.specs.ParkedSeats.{ParkedSeatState}
 use Rattle.cell_run.specs.Resumed.{IsRoomFor, behind_of}
 use Rattle.cell_run.proofs.Going.{nodes_count, seen_base, seats_behind, made_behind, resumed_so}
 use Rattle.cell_run.proofs.behind.Behind.go_on.Goals as goal

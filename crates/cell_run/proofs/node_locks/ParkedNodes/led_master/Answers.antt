@@ -1,6 +1,6 @@
 use Rattle.std.proofs.Common.{sym, subst}
 use Rattle.cell_run.specs.Parked.{HaveSeen}
-use Rattle.cell_run.specs.Standing.{MasterStands}
+use Rattle.running_nodes.specs.Standing.{MasterStands}
 use Rattle.cell_run.proofs.Led.{master_seen, led_so}
 use Rattle.gfs_types.specs.declared.ids.Node.TheVariants.{Master}
 use Rattle.cell_run.proofs.node_locks.ParkedNodes.led_master.Goals as goal

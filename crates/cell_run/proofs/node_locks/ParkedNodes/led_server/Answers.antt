@@ -2,7 +2,7 @@ use Rattle.std.proofs.Common.{◌≡◌, ◌+◌, List, get_or, sym, subst, rule
 use Rattle.protocol.specs.Sending.{the_server}
 use Rattle.cell_seats.specs.ParkedNodes.{ParkedNodeState}
 use Rattle.cell_run.specs.Parked.{HaveSeen}
-use Rattle.cell_run.specs.Standing.{ServerStands}
+use Rattle.running_nodes.specs.Standing.{ServerStands}
 use Rattle.cell_run.proofs.Led.{within_servers, server_seen, led_so}
 use Rattle.cell_run.proofs.node_locks.ParkedNodes.led_server.Goals as goal
 

@@ -1,7 +1,7 @@
 use Rattle.std.proofs.Common.{◌+◌, ◌≤◌, inr, subst}
 use Rattle.std.proofs.lemmas.Result.{IfErr-weaker}
 use Rattle.cell_run.specs.Parked.{ParkedState}
-use Rattle.cell_run.specs.ParkedSeats.{count_anew}
+use Rattle.running_nodes.specs.ParkedSeats.{count_anew}
 use Rattle.cell_run.specs.Starts.{IsOfMachine, IsResumeFault}
 use Rattle.cell_run.proofs.parked.Parked.resume.Goals as goal
 

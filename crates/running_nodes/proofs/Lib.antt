@@ -1,0 +1,5 @@
+pub mod Stepping
+pub mod Standing
+pub mod Anew
+pub mod Placing
+pub mod GoingSeats

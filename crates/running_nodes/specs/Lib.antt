@@ -1,0 +1,4 @@
+pub mod Standing
+pub mod ParkedSeats
+pub mod Places
+pub mod Seatings
