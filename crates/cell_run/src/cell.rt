@@ -35,6 +35,7 @@ use cell_seats::journal::Journal;
 use cell_seats::mailboxes::{Input, MailboxItem, MailboxSenders, Mailboxes, Policy};
 use cell_seats::node_lock::NodeLock;
 use cell_seats::node_registry::NodeRegistry;
+use cell_seats::seat::Seat;
 use cell_seats::shared_state::{CLOSING, ENDED, MOST_CLIENTS, SharedState};
 use cell_seats::stepper::Stepper;
 use crossbeam_channel::{Receiver, Sender, unbounded};
