@@ -1,5 +1,5 @@
 pub mod Extended
-mod Learning
+mod NoAttempts
 pub mod Kept
 pub mod Held
 pub mod Files

@@ -46,7 +46,7 @@ fn hears<A: Allocator + Clone>(
 }
 
 // Version numbers may be complete with it. Looks at no replica where none is under way.
-#[tactic(auto, using(crate::proofs::Learning::learns_nothing))]
+#[tactic(auto, using(crate::proofs::NoAttempts::learns_nothing))]
 fn learns_all<L: OperationLog, A: Allocator + Clone>(
     log: &L,
     plan: &mut Plan<A>,
