@@ -18,7 +18,7 @@ use Rattle.cell_journal.specs.WholeHistories.{whole_of}
 use Rattle.cell_seats.specs.Journals.{JournalState}
 use Rattle.cell_seats.specs.ParkedNodes.{IsLedBy}
 use Rattle.running_nodes.specs.Standing.{MasterStands}
-use Rattle.cell_run.proofs.NewLocks.{numbers_count}
+use Rattle.cell_nodes.proofs.NewLocks.{numbers_count}
 use Rattle.cell_looks.specs.Looks.{looks_state}
 use Rattle.cell_looks.specs.ParkedWorlds.{IsWorldOf, AreLed}
 

@@ -28,13 +28,14 @@ use Rattle.cell_seats.specs.declared.mailboxes.Policy.{Policy}
 use Rattle.running_nodes.specs.declared.client_places.ClientPlace.{ClientPlace}
 use Rattle.cell_run.specs.declared.resume_room.ResumeRoom.{ResumeRoom}
 use Rattle.running_nodes.specs.declared.running_client.RunningClient.{RunningClient}
-use Rattle.cell_run.specs.Cells.{CellState, cell_state, names_of, IsFresh, HasMade}
-use Rattle.cell_run.specs.Parked.{ParkedState, AreNodesOf, IsResumed}
+use Rattle.cell_run.specs.Cells.{CellState, cell_state, IsFresh, HasMade}
+use Rattle.cell_nodes.specs.Nodes.{names_of, AreNodesOf}
+use Rattle.cell_run.specs.Parked.{ParkedState, IsResumed}
 use Rattle.running_nodes.specs.Seatings.{IsSeatOf, AllGoOver, IsSeating}
 use Rattle.running_nodes.specs.ParkedSeats.{ParkedSeatState, count_anew}
 use Rattle.cell_run.specs.Resumed.{behind_of, IsRoomFor, HasRoom}
 use Rattle.running_nodes.specs.Places.{ArePlacesOf, AreNewClients}
-use Rattle.cell_run.proofs.NewLocks.{numbers_count}
+use Rattle.cell_nodes.proofs.NewLocks.{numbers_count}
 
 -- the list beside a journal to which nothing was added has what stands before it
 pub list_behind : (h : Filled) (l : Listed Entry) → l ≡ listed h.cell.name (history_of h.cell h.entries) → h.entries ≡ [] → l ≡ listed h.cell.name h.cell.base
@@ -108,12 +109,6 @@ behind_one journal items cell is behind base name =
     (base, name, subst (AreBehind journal.now.cell) (sym (append-nil journal.earlier)) behind)
 
 -- of nodes that saw as much as there is behind a cell the first one did, and so did the others
-
-pub first_seen : (cell : Identity) (master : ParkedNodeState) (servers : List ParkedNodeState) → All (HasSeenBase cell) (master ∷ servers) → HasSeenBase cell master
-first_seen cell master servers all = All-head (HasSeenBase cell) master servers all
-
-pub others_seen : (cell : Identity) (master : ParkedNodeState) (servers : List ParkedNodeState) → All (HasSeenBase cell) (master ∷ servers) → All (HasSeenBase cell) servers
-others_seen cell master servers all = All-tail (HasSeenBase cell) master servers all
 
 -- a cell that goes on so is the parked one's
 pub resumed_so : (p : ParkedState) (retired : List Bool) (of : Identity) (c : CellState) (seats : List SeatState) (made : ℕ) (policy : Policy) (restarts : List ℕ) → c ≡ cell_state of made policy restarts → of ≡ behind_of p.journal retired

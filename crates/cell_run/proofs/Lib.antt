@@ -1,9 +1,5 @@
-pub mod Sent
 pub mod Settings
-pub mod Standing
 pub mod NewSeats
-pub mod NewLocks
 pub mod Parking
-pub mod Led
 pub mod Fresh
 pub mod Going

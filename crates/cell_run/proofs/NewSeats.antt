@@ -14,7 +14,7 @@ use Rattle.cell_journal.specs.Identity.{Identity}
 use Rattle.cell_journal.specs.WholeHistories.{all_seen, all_steps, IsHistoryOf}
 use Rattle.cell_journal.specs.declared.view.View.{View}
 use Rattle.cell_journal.proofs.Grown.{none_lawful}
-use Rattle.cell_run.specs.NewNodes.{IsNewClient}
+use Rattle.cell_nodes.specs.NewNodes.{IsNewClient}
 use Rattle.cell_seats.specs.Seats.{IsGone, IsSeat}
 use Rattle.cell_seats.specs.Seen.{visible_of, answered_only}
 use Rattle.cell_seats.proofs.Starting.{no_steps}

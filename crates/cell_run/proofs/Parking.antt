@@ -19,7 +19,7 @@ use Rattle.cell_journal.specs.declared.view.View.{View}
 use Rattle.cell_seats.specs.ParkedNodes.{ParkedNodeState, name_of, HasSeenAll}
 use Rattle.cell_seats.specs.Registry.{Registers}
 use Rattle.cell_seats.specs.Seats.{SeatState}
-use Rattle.cell_run.specs.Cells.{names_of}
+use Rattle.cell_nodes.specs.Nodes.{names_of}
 use Rattle.cell_run.specs.EndedCells.{IsBeside}
 use Rattle.cell_run.specs.Parked.{ParkedState, parked_state, IsParked, ArePartsOf}
 use Rattle.running_nodes.specs.Seatings.{IsSeatOf}

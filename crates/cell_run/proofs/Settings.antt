@@ -1,16 +1,12 @@
 -- Settings that were checked are in their ranges.
-use Rattle.std.proofs.Common.{◌≡◌, ℕ, Bool, true, Option, Some, None, refl, ap, ◌∙◌}
-use Rattle.std.specs.Prelude.{IsTrue, is_none, if◌then◌else◌}
+use Rattle.std.proofs.Common.{◌≡◌, ℕ, Bool, true, Option, Some, None, ap, ◌∙◌}
+use Rattle.std.specs.Prelude.{is_none, if◌then◌else◌}
 use Rattle.gfs_types.specs.declared.config.Config.{Config}
 use Rattle.gfs_types.specs.Settings.{first_out_of_range}
 use Rattle.memory_nodes.specs.Starts.{is_count}
 use Rattle.cell_run.specs.Starts.{bad_start}
 use Rattle.cell_run.specs.declared.start_fault.StartFault.{StartFault}
 use Rattle.cell_run.specs.declared.start_fault.StartFault.TheVariants as faults
-
-pub none_in : {A : Type 0} (o : Option A) (b : Bool) → b ≡ is_none o → IsTrue b → o ≡ None
-none_in None b is t = refl
-none_in (Some x) b is t = absurd (cc)
 
 -- a cell of such settings and servers may be started
 abbrev bad_of : Bool → Bool → Option StartFault

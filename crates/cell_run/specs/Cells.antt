@@ -1,11 +1,9 @@
 -- A running cell.
-use Rattle.std.specs.Prelude.{◌≡◌, ◌≤◌, ◌<◌, ◌+◌, ℕ, List, [], ◌∷◌, map, None, false, replicate}
+use Rattle.std.specs.Prelude.{◌≡◌, ◌≤◌, ◌<◌, ◌+◌, ℕ, List, [], None, false, replicate}
 use Rattle.gfs_types.specs.Settings.{first_out_of_range}
 use Rattle.gfs_types.specs.declared.config.Config.{Config}
 use Rattle.gfs_types.specs.declared.ids.Node.{Node}
-use Rattle.gfs_types.specs.declared.ids.Node.TheVariants.{Master, Client}
-use Rattle.protocol.specs.Tables.{first_numbers}
-use Rattle.protocol.specs.Sending.{the_server}
+use Rattle.gfs_types.specs.declared.ids.Node.TheVariants.{Client}
 use Rattle.protocol_journal.specs.Journal.{Entry, own}
 use Rattle.cell_journal.specs.Log.{Listed, listed}
 use Rattle.cell_journal.specs.Identity.{Identity}
@@ -15,7 +13,6 @@ use Rattle.cell_seats.specs.declared.controls.Controls.{Controls}
 use Rattle.cell_seats.specs.declared.controls.ControlWriter.{ControlWriter}
 use Rattle.cell_seats.specs.declared.mailboxes.Policy.{Policy}
 use Rattle.cell_seats.specs.Controls.{WritesControls, no_policy, restarted}
-use Rattle.cell_seats.specs.NodeLocks.{NodeName, node_name}
 use Rattle.cell_seats.specs.Seats.{SeatState, seat_state}
 use Rattle.cell_run.specs.declared.seat_fault.SeatFault.{SeatFault}
 use Rattle.cell_run.specs.declared.seat_fault.SeatFault.TheVariants.{Many, Closed, NoMemory}
@@ -29,10 +26,6 @@ pub record CellState : Type 0 where
 
 abbrev pub cell_state : Identity → ℕ → Policy → List ℕ → CellState
 cell_state of made policy restarts = record { of = of; made = made; policy = policy; restarts = restarts }
-
--- a cell's master and its servers
-abbrev pub names_of : Identity → ℕ → List NodeName
-names_of cell servers = node_name cell Master ∷ map (λ s. node_name cell (the_server s)) (first_numbers servers)
 
 -- it has these settings, each in its range, and so many servers, and may have 64 clients
 pub record IsCellOf (config : Config) (servers : ℕ) (cell : Identity) : Type 0 where

@@ -1,4 +1,3 @@
-pub mod NewNodes
 pub mod StartFaults
 pub mod Starts
 pub mod Cells

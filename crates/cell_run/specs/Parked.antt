@@ -7,10 +7,11 @@ use Rattle.cell_journal.specs.Clocks.{are_clocks_kept}
 use Rattle.cell_journal.specs.Identity.{Identity, Closed}
 use Rattle.cell_journal.specs.Log.{Listed, listed}
 use Rattle.cell_journal.specs.WholeHistories.{whole_of}
-use Rattle.cell_seats.specs.ParkedNodes.{ParkedNodeState, name_of, HasSeenAll}
+use Rattle.cell_seats.specs.ParkedNodes.{ParkedNodeState}
 use Rattle.cell_seats.specs.Controls.{no_policy}
 use Rattle.cell_seats.specs.Seats.{SeatState}
-use Rattle.cell_run.specs.Cells.{CellState, names_of}
+use Rattle.cell_nodes.specs.Nodes.{AreNodesOf}
+use Rattle.cell_run.specs.Cells.{CellState}
 use Rattle.running_nodes.specs.ParkedSeats.{ParkedSeatState, count_anew}
 use Rattle.running_nodes.specs.Seatings.{IsSeatOf, AllGoOver}
 use Rattle.cell_run.specs.declared.park_fault.ParkFault.{ParkFault}
@@ -40,16 +41,6 @@ IsClosedSo cell seats journal back = (journal.cell ≡ cell) × (journal.is_over
 abbrev pub IsNotParked : CellState → List SeatState → ParkFault → Type 0
 IsNotParked c seats (Clock journal back) = IsClosedSo c.of seats journal.now back.items
 IsNotParked c seats (NoMemory cell back) = (cell ≡ c) × (back.items ≡ seats)
-
--- the master and the servers of a cell, each of which saw so many entries of its history
-pub record AreNodesOf (cell : Identity) (servers count : ℕ) (nodes : List ParkedNodeState) : Type 0 where
-  pub names : map name_of nodes ≡ names_of cell servers
-  pub seen : All (λ p. HasSeenAll p.cell count p) nodes
-
--- the master and the servers of a cell have seen all that this list has, under the cell's name
-pub record HaveSeen (cell : Identity) (servers : ℕ) (list : Listed Entry) (nodes : List ParkedNodeState) : Type 0 where
-  pub nodes_are : AreNodesOf cell servers (length list.items) nodes
-  pub name_is : list.name ≡ cell.name
 
 -- the parts of a parked cell beside its list: each of its nodes saw the whole history, in which clocks were kept, and so did the clients; no client was written of that was not made
 pub record ArePartsOf (journal : Closed) (config : Config) (nothing : Listed Entry) (sent : ℕ) (nodes : List ParkedNodeState) (seats : List ParkedSeatState) (servers made : ℕ) : Type 0 where

@@ -8,7 +8,7 @@ use Rattle.cell_seats.specs.declared.node_registry.NodeRegistry.{NodeRegistry}
 use Rattle.cell_seats.specs.Controls.{WritesControls, policy_in, no_policy}
 use Rattle.cell_run.specs.declared.resume_room.ClientRoom.{ClientRoom}
 use Rattle.cell_run.specs.declared.resume_room.ResumeRoom.{ResumeRoom}
-use Rattle.cell_run.specs.Cells.{names_of}
+use Rattle.cell_nodes.specs.Nodes.{names_of}
 use Rattle.cell_run.specs.Parked.{ParkedState}
 use Rattle.running_nodes.specs.ParkedSeats.{count_anew}
 use Rattle.running_nodes.specs.Places.{AreNewClients}

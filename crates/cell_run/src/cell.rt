@@ -1,6 +1,6 @@
 //! A running cell.
 
-ghost use Rattle.std.specs.Prelude.{◌≡◌, ◌+◌, ◌≤◌, ◌<◌, ◌++◌, ◌∷◌, [], None, IfOk, IfErr, OnOk, OnErr, IsTrue, true, false, vec_len, replicate};
+ghost use Rattle.std.specs.Prelude.{◌≡◌, ◌+◌, ◌≤◌, ◌<◌, [], None, IfOk, IfErr, OnOk, OnErr, IsTrue, true, false, vec_len, replicate};
 ghost use Rattle.std.specs.Arc.{arc_value};
 ghost use Rattle.gfs_types.specs.Settings.{first_out_of_range};
 ghost use Rattle.headline.specs.Journals.{AreExplained};
@@ -10,18 +10,17 @@ ghost use Rattle.cell_journal.specs.Rules.{IsJournalOf};
 ghost use Rattle.cell_journal.specs.declared.retention.Retention.TheVariants.{Whole};
 ghost use Rattle.cell_journal.specs.WholeHistories.{whole_of};
 ghost use Rattle.gfs_types.specs.declared.ids.Node.TheVariants.{Master, Server};
-ghost use Rattle.cell_run.specs.NewNodes.{IsFitting};
+ghost use Rattle.cell_nodes.specs.NewNodes.{IsFitting};
+ghost use Rattle.cell_nodes.specs.Nodes.{names_of};
 ghost use Rattle.cell_seats.specs.NodeLocks.{node_name};
 ghost use Rattle.cell_seats.specs.Registries.{IsSameRegistry};
 ghost use Rattle.cell_seats.specs.Controls.{WritesControls, no_policy, policy_in};
 ghost use Rattle.memory_nodes.specs.Starts.{is_count};
 ghost use Rattle.cell_run.specs.EndedCells.{IsEnded};
-ghost use Rattle.cell_run.specs.Cells.{IsCellOf, IsNewCell, IsNewSeat, IsSeatFault, more, with_policy, asked_again, names_of};
+ghost use Rattle.cell_run.specs.Cells.{IsCellOf, IsNewCell, IsNewSeat, IsSeatFault, more, with_policy, asked_again};
 ghost use Rattle.cell_run.specs.Starts.{IsOfMachine, IsStartFault, bad_start};
 
-use crate::node_locks::{NodeLocks, new_lock};
-use crate::node_slots::{are_fitting, client_slot, master_slot, server_slot};
-use crate::running_master::RunningMaster;
+use crate::client_slot::client_slot;
 use crate::seat_fault::SeatFault;
 pub use crate::start_fault::StartFault;
 use crate::threads::{serve, stop_all, tick, wait_for_clients};
@@ -29,6 +28,10 @@ use crate::watch::{Watch, Watcher, tell_on};
 use cell_journal::history::History;
 use cell_journal::raised_entry::RaisedEntry;
 use cell_journal::{Beginning, Retention, open};
+use cell_nodes::keep::keep;
+use cell_nodes::node_locks::{NodeLocks, new_lock};
+use cell_nodes::node_slots::{are_fitting, master_slot, server_slot};
+use cell_nodes::running_master::RunningMaster;
 use cell_seats::controls::{ControlWriter, new_controls};
 use cell_seats::gate::Gate;
 use cell_seats::journal::Journal;
@@ -41,7 +44,6 @@ use cell_seats::stepper::Stepper;
 use crossbeam_channel::{Receiver, Sender, unbounded};
 use gfs_types::config::Config;
 use gfs_types::ids::{ClientId, Node, ServerId};
-use gfs_types::no_memory::NoMemory;
 pub use running_nodes::running_client::ClientSeat;
 use running_nodes::running_server::RunningServer;
 use std::alloc::Global;
@@ -114,7 +116,8 @@ impl Model for Cell {
     ghost use Rattle.std.specs.Arc.{arc_value};
     ghost use Rattle.cell_seats.specs.Controls.{policy_in};
     ghost use Rattle.cell_seats.specs.Journals.{joined, AreBehind};
-    ghost use Rattle.cell_run.specs.Cells.{CellState, cell_state, HasMade, names_of};
+    ghost use Rattle.cell_nodes.specs.Nodes.{names_of};
+    ghost use Rattle.cell_run.specs.Cells.{CellState, cell_state, HasMade};
 
     ghost Value = { CellState };
 
@@ -566,15 +569,6 @@ fn new_registry(
             control_writer,
         }),
         Err(_) => Err(StartFault::NoMemory),
-    }
-}
-
-pub(crate) fn keep<T: Drop>(all: &mut Vec<T>, one: T) -> Result<(), NoMemory>
-    ensures { OnOk result (all.new.items ≡ all.old.items ++ one ∷ []) }
-{
-    match all.push(one) {
-        Ok(()) => Ok(()),
-        Err(_) => Err(NoMemory),
     }
 }
 

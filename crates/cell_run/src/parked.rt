@@ -9,15 +9,15 @@ ghost use Rattle.cell_journal.specs.Identity.{closed};
 ghost use Rattle.cell_journal.specs.Log.{listed};
 ghost use Rattle.cell_journal.specs.WholeHistories.{whole_of};
 ghost use Rattle.cell_seats.specs.ParkedNodes.{IsLedBy};
-ghost use Rattle.cell_run.specs.Parked.{AreNodesOf};
+ghost use Rattle.cell_nodes.specs.Nodes.{AreNodesOf};
 ghost use Rattle.running_nodes.specs.Seatings.{IsSeatOf};
 ghost use Rattle.running_nodes.specs.ParkedSeats.{count_anew};
 ghost use Rattle.running_nodes.specs.Standing.{MasterStands, ServerStands};
 
-use crate::node_locks::ParkedNodes;
-use crate::running_master::RunningMaster;
 use cell_journal::raised_entry::RaisedEntry;
 use cell_journal::{Beginning, GrowingList};
+use cell_nodes::node_locks::ParkedNodes;
+use cell_nodes::running_master::RunningMaster;
 use cell_seats::journal::Journal;
 use gfs_types::config::Config;
 use running_nodes::parked_seat::ParkedSeat;

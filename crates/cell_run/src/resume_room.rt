@@ -1,34 +1,27 @@
 //! All memory that a parked cell takes to go on, beside its journal.
 
-ghost use Rattle.std.specs.Prelude.{◌≡◌, ◌≤◌, ◌<◌, ◌+◌, [], map, length, vec_len, vec_capacity, IfOk};
-ghost use Rattle.std.specs.Arc.{arc_value};
-ghost use Rattle.protocol.specs.Tables.{first_numbers};
-ghost use Rattle.protocol.specs.Sending.{the_server};
+ghost use Rattle.std.specs.Prelude.{◌≡◌, ◌≤◌, ◌<◌, ◌+◌, [], length, vec_len, vec_capacity, IfOk};
 ghost use Rattle.cell_seats.specs.Controls.{WritesControls};
-ghost use Rattle.cell_seats.specs.NodeLocks.{node_name};
-ghost use Rattle.cell_run.specs.Cells.{names_of};
 ghost use Rattle.running_nodes.specs.ParkedSeats.{count_anew};
 ghost use Rattle.cell_run.specs.Resumed.{HasRoom, IsRoomFor};
 ghost use Rattle.running_nodes.specs.Places.{AreNewClients};
 
-use crate::cell::{Thread, keep};
-use crate::node_locks::{NodeLocks, new_lock};
+use crate::cell::Thread;
 use crate::parked::ParkedParts;
 use cell_journal::identity::CellIdentity;
+use cell_nodes::keep::keep;
+use cell_nodes::node_locks::{NodeLocks, new_locks};
 use cell_seats::controls::{ControlWriter, Controls, new_controls};
 use cell_seats::journal::Journal;
 use cell_seats::mailboxes::{MailboxItem, MailboxSenders, Mailboxes};
-use cell_seats::node_lock::NodeLock;
 use cell_seats::shared_state::MOST_CLIENTS;
 use crossbeam_channel::Receiver;
 use gfs_types::config::Config;
-use gfs_types::ids::{ClientId, Node, ServerId};
+use gfs_types::ids::ClientId;
 use gfs_types::no_memory::NoMemory;
 use running_nodes::client_places::ClientPlace;
 use running_nodes::running_client::{ClientSeat, RunningClient};
-use running_nodes::running_server::RunningServer;
 use std::alloc::Global;
-use std::sync::Arc;
 
 /// What is made for a cell before any part of the parked one is taken: its locks, in which no node lies yet, what its clients need, and room
 /// for its base.
@@ -157,31 +150,6 @@ fn client_room(
         places,
         seats,
     })
-}
-
-// The locks of a cell's nodes, in which none lies yet.
-fn new_locks(alloc: Global, servers: u16, cell: &CellIdentity) -> Result<NodeLocks, NoMemory>
-    ensures { IfOk result (λ l. l ≡ names_of cell.now servers) }
-{
-    let master = new_lock(alloc, cell, Node::Master)?;
-    let servers = server_locks(alloc, servers, cell)?;
-    Ok(NodeLocks { master, servers })
-}
-
-fn server_locks(
-    alloc: Global,
-    servers: u16,
-    cell: &CellIdentity,
-) -> Result<Vec<Arc<NodeLock<RunningServer>>>, NoMemory>
-    ensures { IfOk result (λ l. map arc_value l.items ≡ map (λ s. node_name cell.now (the_server s)) (first_numbers servers)) }
-{
-    let mut locks = Vec::new(alloc);
-    for before in 0..servers {
-        let node = Node::Server(ServerId(before + 1));
-        let lock: Arc<NodeLock<RunningServer>> = new_lock(alloc, cell, node)?;
-        keep(&mut locks, lock)?;
-    }
-    Ok(locks)
 }
 
 // So many clients of the numbers behind those that were made, in rising order.

@@ -4,6 +4,8 @@
 #[cfg(test)]
 mod gathered;
 #[cfg(test)]
+mod held;
+#[cfg(test)]
 mod payloads;
 #[cfg(test)]
 mod places;

@@ -1,6 +1,6 @@
 use denote.Exit.{yes}
 use denote.Param.Send.{param_send, arg_send}
-use Rattle.cell_run.proofs.Sent.{running_send}
+use Rattle.cell_nodes.proofs.Sent.{running_send}
 use Rattle.cell_run.proofs.behind.start_all.Goals as goal
 
 pub start_at-requires-send-N : goal.start_at-requires-send-N

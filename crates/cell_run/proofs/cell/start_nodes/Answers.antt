@@ -7,7 +7,7 @@ use Rattle.protocol.specs.Sending.{the_server}
 use Rattle.cell_journal.specs.Identity.{Identity}
 use Rattle.cell_seats.specs.NodeLocks.{NodeName, node_name}
 use Rattle.cell_seats.specs.Registries.{IsSameRegistry}
-use Rattle.cell_run.proofs.NewLocks.{one_lock_more}
+use Rattle.cell_nodes.proofs.NewLocks.{one_lock_more}
 use Rattle.cell_run.proofs.cell.start_nodes.Goals as goal
 
 pub loop-before-preserved : goal.loop-before-preserved

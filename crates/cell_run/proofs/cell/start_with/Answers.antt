@@ -7,7 +7,7 @@ use Rattle.cell_journal.specs.Log.{listed}
 use Rattle.cell_seats.specs.Controls.{WritesControls}
 use Rattle.cell_seats.specs.declared.shared_state.SharedState.{SharedState}
 use Rattle.cell_seats.specs.Journals.{joined, AreBehind}
-use Rattle.cell_run.specs.Cells.{names_of}
+use Rattle.cell_nodes.specs.Nodes.{names_of}
 use Rattle.cell_run.proofs.Fresh.{all_fresh}
 use Rattle.cell_run.proofs.cell.start_with.Goals as goal
 

@@ -2,7 +2,7 @@ use Rattle.std.proofs.Common.{ℕ, sym, ap, ◌∙◌}
 use Rattle.cell_journal.specs.Clocks.{are_clocks_kept}
 use Rattle.cell_journal.specs.Identity.{Closed}
 use Rattle.cell_journal.specs.WholeHistories.{whole_of}
-use Rattle.cell_run.specs.Cells.{names_of}
+use Rattle.cell_nodes.specs.Nodes.{names_of}
 use Rattle.cell_run.proofs.Parking.{parked_parts, parked_so}
 use Rattle.cell_run.proofs.park.park_cell.Goals as goal
 

@@ -2,7 +2,7 @@ use Rattle.std.proofs.Common.{◌≡◌, List, sym, subst}
 use Rattle.std.specs.Prelude.{All, IfOk, IfErr}
 use Rattle.cell_seats.specs.Seats.{SeatState}
 use Rattle.cell_run.specs.Parked.{IsParked, IsClosedSo}
-use Rattle.cell_run.proofs.NewLocks.{locks_fit}
+use Rattle.cell_nodes.proofs.NewLocks.{locks_fit}
 use Rattle.cell_run.proofs.park.park_in.Goals as goal
 
 pub take_nodes-requires-clause-servers : goal.take_nodes-requires-clause-servers

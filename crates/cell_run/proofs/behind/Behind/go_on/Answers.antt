@@ -10,7 +10,7 @@ use Rattle.cell_journal.specs.WholeHistories.{whole_of}
 use Rattle.cell_seats.specs.Controls.{WritesControls}
 use Rattle.cell_seats.specs.declared.shared_state.SharedState.{SharedState}
 use Rattle.cell_seats.specs.ParkedNodes.{HasSeenBase}
-use Rattle.cell_run.specs.Cells.{names_of}
+use Rattle.cell_nodes.specs.Nodes.{names_of}
 use Rattle.running_nodes.specs.Seatings.{AllGoOver}
 use Rattle.running_nodes.specs.ParkedSeats.{ParkedSeatState}
 use Rattle.cell_run.specs.Resumed.{IsRoomFor, behind_of}

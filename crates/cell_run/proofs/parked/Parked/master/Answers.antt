@@ -2,7 +2,7 @@ use Rattle.std.proofs.Common.{ap, ◌∙◌}
 use Rattle.gfs_types.specs.declared.ids.Node.TheVariants.{Master}
 use Rattle.cell_run.specs.Parked.{ParkedState}
 use Rattle.running_nodes.specs.Standing.{MasterStands}
-use Rattle.cell_run.proofs.Led.{have_seen, led_whole}
+use Rattle.cell_nodes.proofs.Led.{have_seen, led_whole}
 use Rattle.cell_run.proofs.parked.Parked.master.Goals as goal
 
 pub led_master-requires : goal.led_master-requires

@@ -2,7 +2,7 @@ use Rattle.std.proofs.Common.{◌+◌, ◌<◌, sym, ap, subst, ◌∙◌}
 use Rattle.protocol.specs.Sending.{the_server}
 use Rattle.cell_run.specs.Parked.{ParkedState}
 use Rattle.running_nodes.specs.Standing.{ServerStands}
-use Rattle.cell_run.proofs.Led.{have_seen, led_whole}
+use Rattle.cell_nodes.proofs.Led.{have_seen, led_whole}
 use Rattle.cell_run.proofs.parked.Parked.server_behind.Goals as goal
 
 pub led_server-requires : goal.led_server-requires

@@ -1,6 +1,7 @@
 use Rattle.std.proofs.Common.{ℕ, length, sym, subst}
 use Rattle.cell_journal.specs.WholeHistories.{whole_of}
-use Rattle.cell_run.specs.Parked.{ParkedState, AreNodesOf}
+use Rattle.cell_run.specs.Parked.{ParkedState}
+use Rattle.cell_nodes.specs.Nodes.{AreNodesOf}
 use Rattle.cell_run.proofs.parked.ParkedParts.nodes.Goals as goal
 
 pub returns : goal.returns

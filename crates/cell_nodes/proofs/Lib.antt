@@ -1,0 +1,5 @@
+pub mod Sent
+pub mod Settings
+pub mod Standing
+pub mod NewLocks
+pub mod Led

@@ -1,0 +1,2 @@
+pub mod NewNodes
+pub mod Nodes
