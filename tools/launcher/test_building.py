@@ -36,6 +36,7 @@ sum=$({SUM})
 echo "rt: low is kept: an earlier run"; echo "fn low::f: proved"; sleep 0.5
 echo "rt: high proved"; echo "rt: high: trying its must-fail edits (2)"; sleep 0.5
 echo "rt: gfscell proved"; sleep 0.5
+while [ -e held ]; do sleep 0.1; done
 [ -e full ] || echo "$sum" >kept
 '''
 BUILT, LATER = 'the program is built, unproved', 'until its code changes later runs begin at once'
@@ -169,11 +170,13 @@ def proved(shop, tests):
     tests.same('a second proof', shop.run('prove')[2], ['gfscell: the program stands, proved from this text'])
     shop.touch('crates/low/specs/Lib.antt')
     tests.same('a changed definition', shop.run('sim', 'script.gfs'), (*UNPROVED, NOTE))
+    put(shop.at('held'), '')
     other = shop.begun('prove')
     while 'crates proved' not in other.stderr.readline():
         pass
     shop.touch('crates/low/src/lib.rt')
     tests.same('a run beside a proof', shop.run('sim', 'script.gfs')[:2], UNPROVED)
+    os.remove(shop.at('held'))
     said = other.communicate()[1]
     tests.has('a proof of a text that has changed meanwhile', said.splitlines(), 'a source has changed meanwhile')
     tests.same('behind it', (other.returncode, shop.run('sim', 'script.gfs')), (70, (*UNPROVED, NOTE)))
