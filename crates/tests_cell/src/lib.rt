@@ -1,7 +1,6 @@
-//! Tests of a cell by scripts and by lists of events, and callers of the tables that stand alone.
+//! Tests of a cell by scripts and by lists of events.
 #![tactic(auto)]
 
-pub mod callers;
 #[cfg(test)]
 mod chunk;
 #[cfg(test)]
@@ -21,21 +20,13 @@ mod nul;
 #[cfg(test)]
 mod old_request;
 #[cfg(test)]
-mod opened;
-#[cfg(test)]
-mod opened_server;
-#[cfg(test)]
 mod outcome;
-#[cfg(test)]
-mod primary;
 #[cfg(test)]
 mod random;
 #[cfg(test)]
 mod rebased;
 #[cfg(test)]
 mod recorded;
-#[cfg(test)]
-mod records;
 #[cfg(test)]
 mod refused;
 #[cfg(test)]

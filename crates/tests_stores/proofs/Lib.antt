@@ -1,1 +1,2 @@
 pub mod ChunksGoing
+mod Servers

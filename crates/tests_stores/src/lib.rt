@@ -1,4 +1,4 @@
-//! Tests of the store of replicas and of the operation log: stops at each moment, faults, and calls by chance.
+//! Tests of the store of replicas and of the operation log: stops at each moment, faults, and calls by chance; and of nodes over disks.
 #![tactic(auto)]
 
 #[cfg(test)]
@@ -25,6 +25,10 @@ mod log_faults;
 mod log_stops;
 #[cfg(test)]
 mod old_logs;
+#[cfg(test)]
+mod opened;
+#[cfg(test)]
+mod opened_server;
 #[cfg(test)]
 mod places;
 #[cfg(test)]

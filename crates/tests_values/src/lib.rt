@@ -1,6 +1,7 @@
-//! Tests of values, their codes, and the command line.
+//! Tests of values, their codes, and the command line, and callers of the tables that stand alone.
 #![tactic(auto)]
 
+pub mod callers;
 #[cfg(test)]
 mod gathered;
 #[cfg(test)]
@@ -9,6 +10,10 @@ mod held;
 mod payloads;
 #[cfg(test)]
 mod places;
+#[cfg(test)]
+mod primary;
+#[cfg(test)]
+mod records;
 #[cfg(test)]
 mod samples;
 #[cfg(test)]

@@ -20,10 +20,10 @@ const NOW: Moment = Moment(0);
 
 const DEADLINE: Moment = Moment(1_000);
 
-pub(crate) type DiskMaster = Master<Global, FuseDisk>;
+type DiskMaster = Master<Global, FuseDisk>;
 
 /// A new disk; none where memory is refused.
-pub(crate) fn new_disk(alloc: Global) -> Option<FuseDisk> {
+fn new_disk(alloc: Global) -> Option<FuseDisk> {
     match MemDisk::new(alloc, SIZE) {
         Ok(disk) => Some(FuseDisk::new(disk)),
         Err(_) => None,
@@ -31,7 +31,7 @@ pub(crate) fn new_disk(alloc: Global) -> Option<FuseDisk> {
 }
 
 /// The master of three chunkservers over a disk; none where it can't be up.
-pub(crate) fn open_master(alloc: Global, disk: FuseDisk) -> Option<DiskMaster> {
+fn open_master(alloc: Global, disk: FuseDisk) -> Option<DiskMaster> {
     let config = Config {
         log_bytes: SIZE as u64,
         ..Config::default()
@@ -61,7 +61,7 @@ fn answer_in(out: &StepOut) -> Option<Answer> {
 }
 
 /// What the master gives on a client's message.
-pub(crate) fn tell(master: &mut DiskMaster, body: Body) -> StepOut {
+fn tell(master: &mut DiskMaster, body: Body) -> StepOut {
     let message = Message {
         number: 1,
         sender: Node::Client(ClientId(1)),
@@ -90,7 +90,7 @@ fn change(master: &mut DiskMaster, call_number: u64, call: Call) -> Option<Answe
 }
 
 /// What a Mkdir is answered.
-pub(crate) fn make(
+fn make(
     master: &mut DiskMaster,
     alloc: Global,
     call_number: u64,
@@ -101,7 +101,7 @@ pub(crate) fn make(
 }
 
 /// What a first Create is answered.
-pub(crate) fn create(master: &mut DiskMaster, alloc: Global) -> Result<Option<Answer>, NoMemory> {
+fn create(master: &mut DiskMaster, alloc: Global) -> Result<Option<Answer>, NoMemory> {
     let call = Call::Create(Text::from_str("/f", alloc)?, None);
     Ok(change(master, 1, call))
 }

@@ -2,8 +2,8 @@ use Rattle.std.proofs.Common.{ℕ, refl}
 use Rattle.std.specs.Prelude.{◌%◌}
 use Rattle.disk.specs.Writes.{LeftBy}
 use Rattle.chunk_store.specs.Opening.{HoldsReplicas}
-use Rattle.tests_cell.proofs.Servers.{found_again, in_settings, is_tested}
-use Rattle.tests_cell.proofs.opened_server.open_again.Goals as goal
+use Rattle.tests_stores.proofs.Servers.{found_again, in_settings, is_tested}
+use Rattle.tests_stores.proofs.opened_server.open_again.Goals as goal
 
 pub open-requires-clause-whole : goal.open-requires-clause-whole
 open-requires-clause-whole c = rw (c.settings-config.ensures.chunk, c.settings-config.ensures.block) refl

@@ -4,8 +4,8 @@ use Rattle.disk.specs.Failing.{FuseState}
 use Rattle.replica_store.specs.Replicas.{new_server_disk}
 use Rattle.chunk_store.specs.Opening.{HoldsReplicas}
 use Rattle.memory_nodes.proofs.NewDisks.{holds_none}
-use Rattle.tests_cell.proofs.Servers.{in_settings, is_tested}
-use Rattle.tests_cell.proofs.opened_server.open_new.Goals as goal
+use Rattle.tests_stores.proofs.Servers.{in_settings, is_tested}
+use Rattle.tests_stores.proofs.opened_server.open_new.Goals as goal
 
 pub open-requires-clause-whole : goal.open-requires-clause-whole
 open-requires-clause-whole c = rw (c.settings-config.ensures.chunk, c.settings-config.ensures.block) refl
