@@ -1,4 +1,4 @@
-//! Tests of the store of replicas and of the operation log: stops at each moment, faults, and calls by chance; and of nodes over disks.
+//! Tests of the store of replicas and of the operation log: stops at each moment, and faults; and of nodes over disks.
 #![tactic(auto)]
 
 #[cfg(test)]
