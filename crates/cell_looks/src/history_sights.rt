@@ -24,6 +24,7 @@ use std::alloc::Global;
 /// The regions of a chunk, by its handle, up to the end of a journal.
 ///
 /// - `Partial`: of the cell's history some entries were let go.
+/// - `NoMemory`: memory was refused.
 pub fn regions_of_chunk(
     alloc: Global,
     journal: &Journal,

@@ -100,6 +100,7 @@ impl<'a> Looks<'a> {
     ///
     /// - `Down`: the master is down.
     /// - `Partial`: of the cell's history some entries were let go.
+    /// - `NoMemory`: memory was refused.
     pub fn regions(
         &self,
         alloc: Global,
@@ -122,6 +123,7 @@ impl<'a> Looks<'a> {
     ///
     /// - `Down`: the master is down.
     /// - `Partial`: of the cell's history some entries were let go.
+    /// - `NoMemory`: memory was refused.
     pub fn all_regions(&self, alloc: Global, file: FileId) -> Result<Vec<Vec<Region>>, LookFault>
         ensures regions { IfOk result (λ all. (w : WorldState) → IsWorldOf self.now w → map (λ v. v.items) all.items ≡ file_regions w file.0) }
         ensures fault { IfErr result (IsLookFault self.now) }
@@ -141,6 +143,7 @@ impl<'a> Looks<'a> {
     /// file has no such chunk.
     ///
     /// - `Down`: the master is down.
+    /// - `NoMemory`: memory was refused.
     pub fn replicas(
         &self,
         alloc: Global,

@@ -32,6 +32,7 @@ pub use gfs_types::config::Config;
 pub use gfs_types::ids::{Fd, Node, ServerId};
 pub use gfs_types::lists::Text;
 pub use gfs_types::refusal::Refusal;
+pub use gfs_types::shape::Shape;
 pub use park_fault::ParkFault;
 pub use parked::Parked;
 pub use seat_fault::SeatFault;

@@ -110,7 +110,7 @@ pub data Fails (old new : SeatState) (asked : Call) (refusal : Refusal) : Type 0
   AnswersSo : IsAnswered old new asked (answer.Refused refusal) → Fails old new asked refusal
   Loses : IsLost old new refusal → Fails old new asked refusal
 
--- A seat goes over to its cell that was parked and goes on, with what it saw, and answers again. One whose client saw the whole history goes on as the client that it is, or, where a call of it waits, as one of a new number, whose descriptors are gone; what it shows stays. One that an earlier parking left behind goes on as one of a new number, which shows nothing yet.
+-- A seat goes over to its cell that was parked and goes on, with what it saw, and answers again. One whose client saw the whole history goes on as the client that it is, or, where a call of it waits, as one of a new number, whose descriptors are gone; what it shows stays. One that an earlier parking left behind goes on without earlier numbers.
 pub record GoesOver (cell : Identity) (saw : Option ℕ) (old new : SeatState) : Type 0 where
   pub cell_is : new.cell ≡ cell
   pub name : new.cell.name ≡ old.cell.name

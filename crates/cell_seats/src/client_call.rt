@@ -25,7 +25,7 @@ pub struct AnsweredCall {
     pub count: usize,
 }
 
-/// Why a call was refused by the cell itself, and whether it stands in the journal.
+/// Why a call was refused by the cell itself, and, where clocks were kept, whether it stands in the journal.
 #[derive(Clone, Copy)]
 pub struct CallFault {
     pub refusal: Refusal,

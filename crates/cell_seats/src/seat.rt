@@ -41,7 +41,7 @@ pub struct Seat<N: Stepper + Drop> {
     earlier: [bool; 64],
     /// Why no call of this client is taken any more.
     lost: Option<Refusal>,
-    /// Whether a call of it stands in the journal that was not answered.
+    /// Whether a call of it stands in the journal that was not answered, where clocks were kept.
     waits: bool,
 }
 
@@ -167,7 +167,7 @@ impl<N: Stepper + Drop> Seat<N> {
         self.earlier
     }
 
-    /// Whether a call of it stands in the journal that was not answered.
+    /// Whether a call of it stands in the journal that was not answered, where clocks were kept.
     pub fn waits(&self) -> bool
         ensures { result ≡ self.now.waits }
     {

@@ -32,7 +32,7 @@ use std::marker::Model;
 use store_changes::StoreFault;
 use store_disk::{HeldReplica, Layout};
 
-/// A chunkserver's replicas on a disk: the number of the last order that was taken, and where the replicas lie. The bytes are on the disk alone.
+/// A chunkserver's replicas on a disk: the number of the last order that was taken, and where the replicas lie. The bytes are on the disk; in memory stand those of two blocks at most, which were hashed last.
 #[derive(Drop)]
 pub struct Store<D: Disk> {
     volume: StoreVolume<D>,
@@ -404,7 +404,7 @@ impl<D: Disk> Store<D> {
         done
     }
 
-    /// A byte of a replica becomes another on the disk, past its digest, as a failing disk might do. The simulator's alone.
+    /// A byte of a replica becomes another on the disk, past its digest, as a failing disk might do. For tests and simulators alone.
     pub fn rot(
         &mut self,
         alloc: Global,

@@ -14,7 +14,7 @@ pub enum TableFault {
     /// The file has no chunk of that index.
     #[error("no chunk of that index")]
     NoIndex,
-    /// That version is not the one that was issued last, or it is granted already.
+    /// That version is not the one that was issued last, or it is granted already; of a row that is put, the granted one is past the one that was issued last.
     #[error("version not issued last")]
     NotIssued,
     /// The chunk has an owner.
@@ -26,7 +26,7 @@ pub enum TableFault {
     /// That file id or handle was not given out.
     #[error("id not given out")]
     NotGiven,
-    /// A counter would pass [`gfs_types::ids::MAX_COUNTER`].
+    /// A counter would pass [`gfs_types::ids::MAX_COUNTER`], or one that is put would fall.
     #[error("counter at its limit")]
     Limit,
     /// The allocator refused a growth. No other cause held.

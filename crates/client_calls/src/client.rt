@@ -152,7 +152,7 @@ impl Client {
         self.current = None;
     }
 
-    /// A call. One while another is open, or of a client that is down, changes nothing and is not answered.
+    /// A call. One while another is open, or of a client that is down or with a counter at its limit, changes nothing and is not answered.
     pub fn call(&mut self, now: Moment, call: Call) -> StepOut
         ensures taken { may_call self.old ≡ true → ClientCalls self.old now.0 call result self.new }
         ensures void { may_call self.old ≡ false → self.new ≡ self.old }
@@ -168,7 +168,7 @@ impl Client {
         .into_out()
     }
 
-    /// A call of a client that may take one. For want of memory it may be refused before its first message; nothing else has changed then.
+    /// A call of a client that may take one. For want of memory it may be refused before its first message; nothing but its clock has changed then.
     pub fn take_call(&mut self, now: Moment, call: Call) -> StepOut
         ensures { ClientCalls self.old now.0 call result self.new }
     {

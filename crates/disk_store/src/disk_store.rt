@@ -34,7 +34,7 @@ use std::mem;
 use store_disk::Layout;
 
 /// A server's replicas on a disk. In memory it keeps the last order's number and each replica's row, so that it answers them while its disk
-/// is to be read anew; proofs alone read how the store was when it last was open. Its drop stands here, once, so that no crate above proves
+/// is to be read anew, and of bytes the two blocks at most that were hashed last; proofs alone read how the store was when it last was open. Its drop stands here, once, so that no crate above proves
 /// those of all that it owns.
 pub struct DiskStore<D: Disk> {
     alloc: Global,

@@ -25,6 +25,7 @@ use std::io::Write;
 /// Prints each call and each answer of the whole history up to a journal's end, a line for each.
 ///
 /// - `Partial`: some entries were let go.
+/// - `NoMemory`: memory was refused.
 /// - `Write`: the writer failed.
 pub fn print_history<W: Write>(
     alloc: Global,

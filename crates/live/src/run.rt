@@ -48,7 +48,7 @@ impl Watcher for NoWatcher {
 /// Each line is looked at as it comes, and all of them before the cell is made: behind a bad one nothing is read.
 ///
 /// - `Line`: a line isn't in the language, or names a client that the cell doesn't have.
-/// - `Start`: a setting or a count of nodes is out of its range, or the cell could not be started.
+/// - `Start`: a setting or a count of nodes is out of its range, or the cell could not be started, or not parked or resumed at a line `reopen`.
 /// - `NoMemory`: memory was refused outside the cell's own steps.
 /// - `Read`, `Write`: the reader or the writer failed.
 pub fn run_live<T: Threads + Wait + Clock + Copy + Send + Sync + 'static, R: Read, W: Write>(
@@ -81,7 +81,8 @@ pub fn run_live<T: Threads + Wait + Clock + Copy + Send + Sync + 'static, R: Rea
 /// the chunk's regions at the end. A watcher, if there is one, is told once a second how far the cell is, until all calls were answered; without memory
 /// or a thread for it the script runs all the same. Gives the cell's journal.
 ///
-/// - `NoMemory`: also where a path is given and entries were let go.
+/// - `Start`: also where a path is given and clocks were not kept.
+/// - `NoMemory`: also where a path is given that names a file with a chunk, and entries were let go.
 pub fn run_live_with<
     T: Threads + Wait + Clock + Copy + Send + Sync + 'static,
     P: Watcher + Send + Drop + 'static,

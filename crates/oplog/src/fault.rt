@@ -19,10 +19,10 @@ pub enum LogFault {
     /// What stands on the disk is no log.
     #[error("log damaged")]
     Damaged,
-    /// The disk failed. The log is open no more: open its disk again.
+    /// The disk failed. After a change the log is open no more: open its disk again.
     #[error("disk failed")]
     Device,
-    /// Memory was refused, and nothing changed.
+    /// Memory was refused. After a change nothing changed.
     #[error("no memory")]
     NoMemory,
 }

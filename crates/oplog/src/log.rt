@@ -55,7 +55,7 @@ impl<D: Disk> Model for Log<D> {
 }
 
 impl<D: Disk> Log<D> {
-    /// Opens the log on a disk, with its last checkpoint's items and the records appended after it. A disk whose head is closed is formatted, and holds an empty log.
+    /// Opens the log on a disk, with its last checkpoint's items and the records appended after it. A disk whose head is closed is formatted, and holds an empty log; a log of format 1 gets format 2.
     ///
     /// An error hands the disk back. `Damaged`: what stands on the disk is no log. `NoMemory`: an allocator refused what the call needs. `Device`: the disk failed in this call.
     pub fn open(disk: D, alloc: Global) -> Result<(Log<D>, Vec<Record>), (D, LogFault)>
@@ -68,10 +68,10 @@ impl<D: Disk> Log<D> {
         // Damaged comes only where the disk holds no log.
         ensures undamaged { (items records : List Record) → IsLogOf items records (D.seen disk) → IfErr result (λ e. e.1 ≡ faults.Damaged → ⊥) }
         ensures not_full { IfErr result (λ e. e.1 ≡ faults.Full → ⊥) }
-        // What is read once the call is over, also after an error: the same bytes, or an empty log where none stood there.
+        // What is read once the call is over, also after an error: the same bytes, or an empty log where none stood there, or one of format 1 in either format.
         ensures read { IfOk result (λ x. IsReopened (D.seen disk) (D.seen x.0.disk)) }
         ensures read_of_error { IfErr result (λ e. IsReopened (D.seen disk) (D.seen e.0)) }
-        // A stop at any moment of the call leaves what one before it might have left, or an empty log where none stood there.
+        // A stop at any moment of the call leaves what one before it might have left, or an empty log where none stood there, or one of format 1 in either format.
         ensures any_moment { IfOk result (λ x. LeavesOnly D.moment D.left_since disk x.0.disk (IsOpening (D.seen disk) (D.may_leave disk))) }
         ensures any_moment_of_error { IfErr result (λ e. LeavesOnly D.moment D.left_since disk e.0 (IsOpening (D.seen disk) (D.may_leave disk))) }
         ensures cause { IfErr result (λ e. e.1 ≡ faults.Device → D.failed disk < D.failed e.0) }

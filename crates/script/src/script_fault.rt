@@ -14,14 +14,15 @@ use std::io::{self, ErrorKind};
 /// Why a script is not run to its end.
 #[derive(Clone, Copy, Debug, PartialEq, Eq)]
 pub enum ScriptFault {
-    /// The line of this number isn't in the language, or names a node, a file or a chunk that the cell doesn't have. Lines
-    /// count from 1.
+    /// The line of this number isn't in the language, or names a node, a file or a chunk that the cell doesn't have, or is a call by a client
+    /// whose last call is open, or is past the greatest number of lines. Lines count from 1.
     Line(u64),
     /// The line of this number needs more than a million rounds of ticks.
     NoEnd(u64),
-    /// There is no such cell: a setting is out of its range, or a count of nodes, or the first names found no room.
+    /// There is no such cell: a setting is out of its range, or a count of nodes, or the first names found no room; or one on threads could not
+    /// start, go on, or be looked at.
     Start,
-    /// Memory was refused outside the cell's own steps.
+    /// Memory was refused outside the cell's own steps, or regions were asked for of a cell on threads whose entries were let go.
     NoMemory,
     /// The reader failed.
     Read,

@@ -67,7 +67,7 @@ pub fn run_serve<
 /// The same. Where a path is given, a line for each chunk of its file is printed behind all answers, with the chunk's regions at the end.
 ///
 /// - `Start`: also where a path is given and clocks were not kept.
-/// - `NoMemory`: also where a path is given and entries were let go.
+/// - `NoMemory`: also where a path is given that names a file with a chunk, and entries were let go.
 pub fn run_serve_with<
     T: Threads + Wait + Clock + Copy + Send + 'static,
     R: Read + Send + Drop + 'static,

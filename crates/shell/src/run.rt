@@ -19,8 +19,7 @@ use std::io::{BufRead, Write};
 /// The cell is made before the first line is read. At a fault the lines that were printed before stay printed, and no later
 /// line is run.
 ///
-/// - `Start`: a setting or a count of nodes is out of its range, or the master's log or a server's store couldn't be made on its
-///   new disk. Nothing was read or printed.
+/// - `Start`: a setting or a count of nodes is out of its range, or the first names find no room. Nothing was read or printed.
 /// - `Line`: a line isn't in the language, names a node, a file or a chunk that isn't there, is a call by a client whose last
 ///   call is open, or is past the greatest number of lines.
 /// - `NoEnd`: a line needs too many rounds of ticks.

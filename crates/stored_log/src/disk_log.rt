@@ -80,7 +80,7 @@ fn if_more(walk: Walk, has_more: bool) -> Option<Walk>
 
 impl<D: Disk> DiskLog<D> {
     /// Opens the log that stands on a disk; a disk whose head is closed holds an empty one. An error hands the disk back, which then reads as
-    /// it did, or as an empty log where none stood.
+    /// it did, or as an empty log where none stood, or, of a log of format 1, with the same items and records in either format.
     pub fn open(disk: D, alloc: Global) -> Result<DiskLog<D>, (D, OperationLogFault)>
         requires { IsDiskSize (length (D.seen disk)) }
         ensures opened { IfOk result (λ l. IsLogOf l.disk.items l.disk.records (D.seen disk)) }
