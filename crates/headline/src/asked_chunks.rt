@@ -7,7 +7,7 @@ pub fn asks_add_the_next_chunk()
     ensures { AsksAddTheNextChunk }
 {}
 
-/// A call that asked for the next chunk of a file may have it at the machine.
+/// A call that asked for the next chunk of a file may have it at the machine, where the file is not collected and, for an append, its last chunk is full.
 pub fn asked_chunks_may_be_added()
     ensures { AskedChunksMayBeAdded }
 {}

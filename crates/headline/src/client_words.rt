@@ -7,7 +7,7 @@ pub fn clients_tell_nothing()
     ensures { ClientsTellNothing }
 {}
 
-/// An answer that was sent to a client that is up is under a number that it used.
+/// A location, what a reading gave, or a refusal other than NoLease that was sent to a client that is up is under a number that it used.
 pub fn answers_carry_used_numbers()
     ensures { AnswersCarryUsedNumbers }
 {}

@@ -10,7 +10,7 @@ pub fn journals_are_explained()
     ensures { JournalsAreExplained }
 {}
 
-/// In such a run each call is answered what it asks for, or a refusal.
+/// In such a run each call that was answered has an answer to what it asks for, or a refusal.
 pub fn calls_have_their_answers()
     ensures { InEachRun CallsHaveTheirAnswers }
 {}

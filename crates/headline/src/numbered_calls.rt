@@ -2,7 +2,7 @@
 
 ghost use Rattle.headline.specs.NumberedCalls.{NumberedMutationsAreForOpenCalls, RequestsStayOfCalls, EventsKeepRequestsNumbered};
 
-/// Each mutation that a server may number is for its client's open call at the machine.
+/// Under settings in their ranges each mutation that a server may number is for its client's open call at the machine.
 pub fn numbered_mutations_are_for_open_calls()
     ensures { NumberedMutationsAreForOpenCalls }
 {}

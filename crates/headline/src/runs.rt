@@ -2,12 +2,12 @@
 
 ghost use Rattle.headline.specs.Runs.{AnswersAreARun, ReachedWorldsAreWhole, SettingsInRangeAreSo};
 
-/// Beside each world that is reached goes the whole machine.
+/// Beside each world that is reached, under settings in their ranges, goes the whole machine.
 pub fn reached_worlds_are_whole()
     ensures { ReachedWorldsAreWhole }
 {}
 
-/// The headline: the answers of each such world are a run of the relaxed-file machine, which led to what the world shows.
+/// The headline: under settings in their ranges the answers of each such world are a run of the relaxed-file machine, which led to what the world shows.
 pub fn answers_are_a_run()
     ensures { AnswersAreARun }
 {}

@@ -3,7 +3,7 @@
 ghost use Rattle.laws_base.specs.Bytes.{AnsweredAppendsHaveTheirBytes};
 ghost use Rattle.laws_base.specs.AnsweredAppends.{AnsweredAppendsHaveEntries};
 
-/// The place that a client answers an open append is that of a settled entry of its own data in some chunk's order, in the chunk of the file that it was told.
+/// The place that a client answers an open append is that of a settled entry of its own data in some chunk's order.
 pub fn answered_appends_have_entries()
     ensures { AnsweredAppendsHaveEntries }
 {}

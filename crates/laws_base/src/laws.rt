@@ -37,17 +37,17 @@ pub fn versions_have_one_primary()
     ensures { VersionsHaveOnePrimary }
 {}
 
-/// Where clocks are kept, a lease that ends after the greatest moment is of the version that the row of a master that is up grants, its server is the row's primary, and the row's end is not earlier.
+/// Where clocks are kept, a lease that ends after the greatest moment is of the version that the row of a master that is up grants, if it has one for the chunk, its server is the row's primary, and the row's end is not earlier.
 pub fn lasting_leases_are_of_the_master()
     ensures { LastingLeasesAreOfTheMaster }
 {}
 
-/// Where clocks are kept, the log, replayed, grants the version of a lease that ends after the greatest moment, to its server, also while the master is down.
+/// Where clocks are kept, the log, replayed, grants the version of a lease that ends after the greatest moment, to its server, where the chunk is there, also while the master is down.
 pub fn lasting_leases_are_in_the_log()
     ensures { LastingLeasesAreInTheLog }
 {}
 
-/// Where clocks are kept, a lease that counts for its primary as it begins a step is of the version that the row of a master that is up grants, its server is the row's primary, and it has not ended at the master.
+/// Where clocks are kept, a lease that counts for its primary as it begins a step is of the version that the row of a master that is up grants, if it has one for the chunk, its server is the row's primary, and it has not ended at the master.
 pub fn counting_leases_have_not_ended()
     ensures { CountingLeasesHaveNotEnded }
 {}

@@ -2,7 +2,7 @@
 
 ghost use Rattle.laws_base.specs.Words.{LocationsNameCurrentHolders};
 
-/// The master alone tells locations, and each holder that it names has the granted version or a later one.
+/// The master alone tells locations, and each holder that it names is told with the told round or a later version.
 pub fn locations_name_current_holders()
     ensures { LocationsNameCurrentHolders }
 {}

@@ -7,7 +7,7 @@ pub fn client_numbers_rise()
     ensures { ClientNumbersRise }
 {}
 
-/// What a client sends later has a number that it has not used yet, but for the Mutate of the data for which it waits.
+/// An ask, a reading, a push or a Mutate that a client sends later has a number that it has not used yet, but for the Mutate of the data for which it waits.
 pub fn later_requests_have_later_numbers()
     ensures { LaterRequestsHaveLaterNumbers }
 {}

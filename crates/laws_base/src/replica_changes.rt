@@ -2,7 +2,7 @@
 
 ghost use Rattle.laws_base.specs.ReplicaChanges.{ReplicasChangeInSerialOrder, ReplicasAreFoundInSerialOrder};
 
-/// A replica that stays over a server's step loses no bytes; it is as it was, or was raised to a new version with its bytes and serial 0, or was written to, as a member's under a later serial than its last one, as the primary's under a serial that the step shows.
+/// A replica that stays over a server's step loses no bytes; it is as it was, or has its bytes and serial 0, or was written to at its version, under a later serial than its last one or one that the step shows.
 pub fn replicas_change_in_serial_order()
     ensures { ReplicasChangeInSerialOrder }
 {}

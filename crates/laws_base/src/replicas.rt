@@ -2,7 +2,7 @@
 
 ghost use Rattle.laws_base.specs.Replicas.{ReplicasLieWithinTheChunk, LeasesHaveTheirReplica, MutationsArePlacedByReplicas, PrimariesApplyWhatTheyNumber};
 
-/// Each replica lies within the chunk: on the disk of a server, and on what a restart finds, however the change under way at a stop is decided.
+/// Each replica lies within the settings' chunk: on the disk of a server, and on what a restart finds, however the change under way at a stop is decided.
 pub fn replicas_lie_within_the_chunk()
     ensures { ReplicasLieWithinTheChunk }
 {}

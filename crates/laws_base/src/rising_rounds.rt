@@ -12,7 +12,7 @@ pub fn entries_are_of_granted_rounds()
     ensures { EntriesAreOfGrantedRounds }
 {}
 
-/// From the step on that begins a copy, the copy's order begins with that of its source, and each version of the copy that is granted is above the rounds of these entries.
+/// From the step on that begins a copy, the copy's order begins with that which its source had before it, but for what became settled since, and each version of the copy that is granted is above the rounds of these entries.
 pub fn copies_begin_with_their_source()
     ensures { CopiesBeginWithTheirSource }
 {}

@@ -8,7 +8,7 @@ pub fn opened_shapes_are_logged()
     ensures { OpenedShapesAreLogged }
 {}
 
-/// Where a chunk is, is told with the chunk's shape, or with that of a file to which it is added in this step.
+/// Where a chunk is, is told with the chunk's shape, or, where its handle is new, with that of some file.
 pub fn told_shapes_are_of_their_chunks()
     ensures { ToldShapesAreOfTheirChunks }
 {}

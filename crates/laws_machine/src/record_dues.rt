@@ -8,7 +8,7 @@ pub fn steps_log_what_is_due()
     ensures { StepsLogWhatIsDue }
 {}
 
-/// Each Grant of a step is of what was attempted before it; a copy that is granted was under way before it, and of its source nothing was granted.
+/// Each Grant of a step is of what was attempted before it; a copy that is granted was under way before it, and of its source nothing was granted since the step began.
 pub fn steps_grant_what_was_attempted()
     ensures { StepsGrantWhatWasAttempted }
 {}

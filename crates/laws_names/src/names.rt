@@ -19,7 +19,7 @@ pub fn refusals_are_the_machines()
     ensures { RefusalsAreTheMachines }
 {}
 
-/// What the master reads for Open and List is what the machine's step reads.
+/// What the master reads for Open and List is what the machine's step reads, where no snapshot makes the name busy.
 pub fn looks_read_the_names()
     ensures { LooksReadTheNames }
 {}

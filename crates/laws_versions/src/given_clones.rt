@@ -2,7 +2,7 @@
 
 ghost use Rattle.laws_versions.specs.GivenClones.{CopiedVersionsWereGiven, OrderedVersionsWereGiven};
 
-/// Each version that a Clone, a CopyAsk or an Image names was given to a server by an order before.
+/// Each version that a Clone, a CopyAsk or an Image names was given to a server by an order.
 pub fn copied_versions_were_given()
     ensures { CopiedVersionsWereGiven }
 {}

@@ -7,7 +7,7 @@ pub fn numbered_mutations_may_follow()
     ensures { NumberedMutationsMayFollow }
 {}
 
-/// Where clocks and disks are kept, each entry of each order is so behind those before it, rounds of the order never fall, and the order of a copy begins with its source's.
+/// Where clocks and disks are kept, each entry of each order is so behind those before it, rounds of the order never fall, and the order of a copy begins with its source's up to the version that is copied.
 pub fn orders_are_lawful()
     ensures { OrdersAreLawful }
 {}

@@ -12,7 +12,7 @@ pub fn told_ends_are_the_masters()
     ensures { ToldEndsAreTheMasters }
 {}
 
-/// A Revoke goes to the server to which its version was granted, and is numbered after that Grant.
+/// A Revoke goes to the server to which its version was granted, and has no earlier number than that Grant.
 pub fn revokes_follow_their_grants()
     ensures { RevokesFollowTheirGrants }
 {}

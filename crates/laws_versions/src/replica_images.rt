@@ -7,7 +7,7 @@ pub fn images_are_written_to()
     ensures { ImagesAreWrittenTo }
 {}
 
-/// Where clocks and disks are kept, each replica, on a server's disk and as a restart finds it, is the image of some entries of its chunk's order up to its version, in order; its last serial is that of one of them.
+/// Where clocks and disks are kept, each replica, on a server's disk and as a restart finds it, is the image of some entries of its chunk's order up to its version, in order; its last serial is 0 or that of one of them.
 pub fn replicas_are_images()
     ensures { ReplicasAreImages }
 {}

@@ -32,7 +32,7 @@ pub fn copies_have_their_sources_size()
     ensures { CopiesHaveTheirSourcesSize }
 {}
 
-/// Each entry in the order of a chunk that was granted was placed in a round that was granted with the same size, of this chunk or of one of which it is a copy, and lies within it.
+/// Each entry in the order of a chunk that was granted was placed in a round that was granted with the same size, of some chunk, and lies within it.
 pub fn entries_are_of_their_chunks_size()
     ensures { EntriesAreOfTheirChunksSize }
 {}

@@ -2,7 +2,7 @@
 
 ghost use Rattle.machine_names.specs.NameProjections.{ChunkActionsKeepNames, FileCallsKeepNames, NameActionsAreTaken};
 
-/// Each action on names that the machine by names alone takes, the whole one may take too, where a snapshot finds its rounds closed.
+/// Each action on names that the machine by names alone takes, the whole one may take too, where a snapshot finds its rounds closed, and no call is open where one is made.
 pub fn name_actions_are_taken()
     ensures { NameActionsAreTaken }
 {}

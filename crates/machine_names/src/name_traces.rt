@@ -2,7 +2,7 @@
 
 ghost use Rattle.machine_names.specs.NameTraces.{AnsweredNamesCameToIt, ClockAndSettingsAreSeen, UnseenClientsAreLeft};
 
-/// A client of which nothing is seen keeps its call and its descriptors; the clock is the last moment that was seen to pass, and the settings stay.
+/// A client of which nothing is seen keeps its call and has as many descriptors; the clock is the last moment that was seen to pass, and the settings stay.
 pub fn unseen_clients_are_left()
     ensures clients { UnseenClientsAreLeft }
     ensures clock { ClockAndSettingsAreSeen }

@@ -8,7 +8,7 @@ pub fn reads_are_selections()
     ensures gives { InEachRun ReadsAreSelections }
 {}
 
-/// Each byte that a read was answered is zero, or was put there by a call that was made before the answer.
+/// Each byte that a read was answered is zero, or was written there, or is a byte of a record appended, by a call that was made before the answer, on the file or on one that it goes back to by snapshots.
 pub fn no_other_byte_is_read()
     ensures { InEachRun NoOtherByteIsRead }
 {}

@@ -18,14 +18,14 @@ pub fn answered_records_lie_apart()
     ensures { InEachRun AnsweredRecordsLieApart }
 {}
 
-/// A later read whose answer reaches past a record shows it whole, until a later mutation covers some of it; that of another client, where it names a round no earlier than the record's.
+/// A later read that begins no later than a record and whose answer reaches past it shows it whole, until a later mutation covers some of it; that of another client, where it names a round no earlier than the record's.
 pub fn records_are_read()
     ensures any { InEachRun RecordsAreRead }
     ensures own { InEachRun OwnRecordsAreRead }
     ensures seen { InEachRun SeenRoundsSuffice }
 {}
 
-/// In a file that nobody writes into, each record stands uncovered, and its client reads it back.
+/// In a file that nobody writes into, nor into one that it goes back to by snapshots, each record stands uncovered, and its client reads it back.
 pub fn appended_records_are_read_back()
     ensures alone { InEachRun AppendsLeaveRecordsAlone }
     ensures back { InEachRun AppendedRecordsAreReadBack }

@@ -3,7 +3,7 @@
 ghost use Rattle.promises.specs.Promises.{InEachRun, Promises};
 ghost use Rattle.promises.specs.ExplainedWorlds.{AnsweredRecordsAreShown, ExplainedWorldsArePromised, RunsOfWorldsKeepPromises};
 
-/// Each run, and so each world that one explains, keeps all promises.
+/// Each run, and so each world that one explains, keeps the promises of records, writes and reads.
 pub fn promises_are_kept()
     ensures runs { InEachRun Promises }
     ensures worlds { RunsOfWorldsKeepPromises }

@@ -7,7 +7,7 @@ pub fn answered_writes_stand()
     ensures { InEachRun AnsweredWritesStand }
 {}
 
-/// A later read whose answer reaches past a part of a write shows it, until a later mutation covers some of it; that of another client, where it names a round no earlier than the part's.
+/// A later read that begins no later than a part of a write and whose answer reaches past it shows it, until a later mutation covers some of it; that of another client, where it names a round no earlier than the part's.
 pub fn writes_are_read()
     ensures any { InEachRun WritesAreRead }
     ensures own { InEachRun OwnWritesAreRead }

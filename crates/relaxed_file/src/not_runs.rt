@@ -7,12 +7,12 @@ pub fn no_answer_without_call()
     ensures { NoAnswerWithoutCall }
 {}
 
-/// No two records that a client appended by one descriptor are answered places that overlap.
+/// In no run are two records that a client appended by one descriptor, each answered at once, answered places that overlap.
 pub fn no_shared_offset()
     ensures { NoSharedOffset }
 {}
 
-/// No client that appended a record reads nothing where it stands.
+/// In no run does a client that appended a record read nothing where it stands, by a read that comes next.
 pub fn no_stale_read()
     ensures { NoStaleRead }
 {}
