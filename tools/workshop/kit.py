@@ -8,7 +8,7 @@ import shutil
 import sys
 
 sys.dont_write_bytecode = True
-# The largest checks of the gate take 5.0 GB (`tests_cell`), 4.8 (`cell_run`) and 4.5 (`tests_live`), most others less than 3.5, so four side by side have room by this.
+# The largest checks of the gate take 4.8 GB (`cell_run`), 4.6 (`tests_live`) and 4.5 (`tests_cell`), most others less than 3.5, so four side by side have room by this.
 CHECK = 4_800_000_000
 ROOT = os.path.dirname(os.path.dirname(os.path.dirname(os.path.abspath(__file__))))
 
