@@ -117,8 +117,8 @@ impl<A: Allocator + Clone> World<A> {
 }
 
 impl<A: Allocator + Clone> World<A> {
-    /// One event, and what it answers. One that names no such node, message, replica, place or moment, or a node that is down, changes
-    /// nothing. A run of the machine has the calls and answers so far, and led to what the cell shows.
+    /// One event, and what it answers. One that names no such node, message, replica, place or moment, or, but for a restart, a node that is
+    /// down, changes nothing. A run of the machine has the calls and answers so far, and led to what the cell shows.
     pub fn step(&mut self, event: Event) -> Option<Answer>
         ensures steps { HasEffect self.old (λ w choice. happens w event choice) result self.new }
         ensures explained { StepsAsMachine self.old event result self.new }

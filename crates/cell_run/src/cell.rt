@@ -74,7 +74,7 @@ impl Ticker {
     }
 }
 
-/// A cell whose nodes run on threads. One that is dropped and not closed goes on.
+/// A cell whose nodes run on threads. One that is dropped and not closed goes on, and its nodes tick no more.
 pub struct Cell {
     pub(crate) alloc: Global,
     pub(crate) registry: NodeRegistry,
@@ -239,7 +239,7 @@ impl Cell {
         }
     }
 
-    /// For how many steps more there was room in the journal, at some moment of the call.
+    /// For how many steps more there is room in the journal, those under way not taken off.
     pub fn room(&self) -> u64 {
         self.registry.shared.progress(self.most_entries()).room
     }

@@ -1,5 +1,5 @@
 -- What the network and the nodes of a running cell are asked.
-use Rattle.std.specs.Prelude.{◌≡◌, ℕ, ◌+◌, ◌%◌, ◌^◌, List, length, slice_index, slice_set}
+use Rattle.std.specs.Prelude.{◌≡◌, ℕ, ◌+◌, ◌%◌, ◌^◌, nat_lt, if◌then◌else◌, List, length, slice_index, slice_set}
 use Rattle.gfs_types.specs.declared.ids.Node.{Node}
 use Rattle.gfs_types.specs.declared.ids.Node.TheVariants.{Master, Server, Client}
 use Rattle.cell_journal.specs.WordRules.{IsWriterOf}
@@ -16,10 +16,10 @@ policy_in words = record { drop_every = slice_index words 0; repeat_every = slic
 abbrev pub raised : List ℕ → ℕ → List ℕ
 raised counts place = slice_set counts place ((slice_index counts place + 1) % 2 ^ 64)
 
--- how often each node was asked to begin again: servers by their numbers, and then the master
+-- how often each node was asked to begin again: servers by their numbers, up to 64, and then the master
 abbrev pub restarted : List ℕ → Node → List ℕ
 restarted counts Master = raised counts 65
-restarted counts (Server id) = raised counts id.0
+restarted counts (Server id) = if nat_lt id.0 65 then raised counts id.0 else counts
 restarted counts (Client id) = counts
 
 -- what it writes is what is asked there

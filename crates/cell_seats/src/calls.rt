@@ -116,7 +116,7 @@ impl<N: Stepper + Drop> Seat<N> {
         offset_in(self.call(rt, Call::Append(fd, bytes)))
     }
 
-    /// Answers the bytes, and the rounds of the chunks that they lie in.
+    /// Answers the bytes, and the rounds of the chunks that were looked at.
     pub fn read<R: Wait + Clock>(
         &mut self,
         rt: &R,

@@ -66,7 +66,7 @@ impl ControlWriter {
         write(&controls.policy, &mut self.policy, 2, policy.hold_every);
     }
 
-    /// A node is asked once more to begin again. A client never is.
+    /// A node is asked once more to begin again. A client never is, nor a server of a number past 64.
     pub fn ask_restart(&mut self, controls: &Controls, node: Node)
         requires { WritesControls controls.now self.old }
         ensures asks { WritesControls controls.now self.new }
@@ -75,7 +75,12 @@ impl ControlWriter {
     {
         match node {
             Node::Master => self.raise(controls, PLACE_OF_MASTER),
-            Node::Server(id) => self.raise(controls, usize::from(id.0)),
+            Node::Server(id) => {
+                let place = usize::from(id.0);
+                if place < PLACE_OF_MASTER {
+                    self.raise(controls, place);
+                }
+            }
             Node::Client(_) => {}
         }
     }

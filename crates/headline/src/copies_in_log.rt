@@ -2,7 +2,7 @@
 
 ghost use Rattle.headline.specs.CopiesInLog.{CopiesInTheLogAreOver};
 
-/// Copies under way in the log have no lease, also ones that the master gave up since.
+/// Each lease of a copy under way in the log is over, also of one that the master gave up since.
 pub fn copies_in_the_log_are_over()
     ensures { CopiesInTheLogAreOver }
 {}

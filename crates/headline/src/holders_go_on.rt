@@ -2,7 +2,7 @@
 
 ghost use Rattle.headline.specs.HoldersGoOn.{HoldersGoOn, NewGrantsAreApart, ToldChunksStandAfter};
 
-/// Holders that were told may go on over each event after which chunks are alike again.
+/// Holders that were told may go on over each event after which chunks are alike again, where rounds ended only of chunks whose leases are over, orders stay, and no handle is used again.
 pub fn holders_may_go_on()
     ensures { HoldersGoOn }
 {}

@@ -12,7 +12,7 @@ pub fn requests_stay_of_calls()
     ensures { RequestsStayOfCalls }
 {}
 
-/// At each event requests stay of calls, and tries numbered.
+/// At each event requests stay of calls, and tries numbered, where the machine places only what is numbered.
 pub fn events_keep_requests_numbered()
     ensures { EventsKeepRequestsNumbered }
 {}

@@ -7,7 +7,7 @@ pub fn forwards_name_entries()
     ensures { ForwardsNameEntries }
 {}
 
-/// A server that sends an Acked has applied that serial in the same step: its replica is of that version, and has that serial.
+/// A server that sends an Acked has, after that step, a replica of that version with that serial.
 pub fn acked_serials_are_applied()
     ensures { AckedSerialsAreApplied }
 {}

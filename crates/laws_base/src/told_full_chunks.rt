@@ -2,7 +2,7 @@
 
 ghost use Rattle.laws_base.specs.ToldFullChunks.{FullChunksAreToldAsFull};
 
-/// ChunkFull is told only of data whose Mutate a primary took while its own replica of the chunk was full, or of which it placed a pad there.
+/// ChunkFull is told only of data whose Mutate a primary took while its own replica of the chunk was full, or of which its step places a pad there, where nothing hinders it.
 pub fn full_chunks_are_told_as_full()
     ensures { FullChunksAreToldAsFull }
 {}

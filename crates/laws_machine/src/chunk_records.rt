@@ -22,7 +22,7 @@ pub fn new_files_have_no_chunk()
     ensures { NewFilesHaveNoChunk }
 {}
 
-/// A grant of a chunk that one file has, of which each lease is over: the machine closes the round before it and opens this one.
+/// A grant of a higher version of a chunk that stands at one place alone: the machine closes the round before it and opens this one.
 pub fn grants_open_rounds()
     ensures { GrantsOpenRounds }
 {}
@@ -32,7 +32,7 @@ pub fn copies_take_their_place()
     ensures { CopiesTakeTheirPlace }
 {}
 
-/// The machine may close each open round below a snapshot's source, where each lease of these chunks is over.
+/// The machine may close each open round below a snapshot's source.
 pub fn rounds_are_closed()
     ensures { RoundsAreClosed }
 {}

@@ -12,12 +12,12 @@ pub fn same_files_keep_chunks_beside()
     ensures { SameFilesKeepChunksBeside }
 {}
 
-/// So does an event of a server or a client, at which the machine places and settles what is seen.
+/// So does an event of a server or a client, at which the machine places and settles what is seen, where what may be numbered is for open calls.
 pub fn other_events_keep_chunks_beside()
     ensures { OtherEventsKeepChunksBeside }
 {}
 
-/// So does an event of the master, where the machine followed its log.
+/// So does an event of the master, where the machine followed its log and holders may go on.
 pub fn masters_events_keep_chunks_beside()
     ensures { MastersEventsKeepChunksBeside }
 {}

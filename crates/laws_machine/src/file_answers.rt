@@ -32,7 +32,7 @@ pub fn lengths_are_measured()
     ensures { LengthsAreMeasured }
 {}
 
-/// A settled entry of the call in the chunk that it uses has the part done.
+/// A settled entry of the call in the chunk that it uses, of no later round than was told, has the part done.
 pub fn settled_entries_are_successes()
     ensures { SettledEntriesAreSuccesses }
 {}

@@ -2,7 +2,7 @@
 
 ghost use Rattle.laws_machine.specs.OpenRounds.{ChunksOfOneOwnerStandOnce, CountingRoundsAreOpen, RoundsAreOpenAtTheirPlace, RoundsGoWithLeases};
 
-/// From one world to the next the round of each lease that isn't over is open, where rounds end only of chunks whose leases are over.
+/// From one world to the next the round of each lease that isn't over is open, where rounds end only of chunks whose leases are over, and what is granted has its round open.
 pub fn rounds_go_with_leases()
     ensures { RoundsGoWithLeases }
 {}

@@ -2,7 +2,7 @@
 
 ghost use Rattle.laws_machine.specs.Rounds.{EachEventKeepsRounds, EndedRoundsAreOver, LeasedChunksStandOnce, LogsWithinStepsEndLeases, OpenRoundsHaveOneSpot, OtherEventsKeepRounds, SharedChunksInEachLogHaveNoLease, SourcesOfGrantedCopiesHaveNoLease};
 
-/// At an event that is no step of the master nothing is granted, so the round of each lease that isn't over stays open.
+/// At an event that is no step of the master nothing is granted, so the round of each lease that isn't over stays open, where rounds end only of chunks whose leases are over.
 pub fn other_events_keep_rounds()
     ensures { OtherEventsKeepRounds }
 {}

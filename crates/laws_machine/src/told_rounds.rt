@@ -14,7 +14,7 @@ pub fn told_rounds_stay_over()
     ensures { ToldRoundsStayOver }
 {}
 
-/// From one world to the next each told round is open in the file's chunk of the told index, or over.
+/// From one world to the next each told round is open in the file's chunk of the told index, or over, where rounds end only of chunks whose leases are over.
 pub fn told_rounds_go_on()
     ensures { ToldRoundsGoOn }
 {}
@@ -24,12 +24,12 @@ pub fn counting_rounds_are_open_where_told()
     ensures { CountingRoundsAreOpenWhereTold }
 {}
 
-/// From one world to the next the shapes that clients were told are those of the machine's files.
+/// From one world to the next the shapes that clients were told are those of the machine's files, where it has made those of a master that is up.
 pub fn told_shapes_go_on()
     ensures { ToldShapesGoOn }
 {}
 
-/// From one world to the next the open round of each lease has the size that its Grant told, also where the file was collected.
+/// From one world to the next the open round of each lease has the size that its Grant told, also where the file was collected, if old rounds stay open or are over, and new ones are so.
 pub fn round_sizes_go_on()
     ensures { RoundSizesGoOn }
 {}

@@ -3,7 +3,7 @@
 ghost use Rattle.laws_machine.specs.OverRounds.{GrantsAreLast, MastersEventsAreSteps, OpeningsEndNoRound, OpeningsExpireNothing, RestartsKeepRounds, RoundsThatEndAreOver, RoundsThatEndStayOver, StepsKeepRounds, StoppedStepsKeepRounds};
 ghost use Rattle.laws_machine.specs.WholeSteps.{EndsAreReached, MasterStepsAreTaken, OnlyAsksAddChunks, RestartsAreTaken, StatesHaveTheirLogsFiles, StopsAreTaken};
 
-/// A step of the master: the whole machine follows each change of its log, where calls asked for the chunks that are added.
+/// A step of the master: the whole machine follows each change of its log, where calls asked for the chunks that are added, and a Name is of its client's open call.
 pub fn master_steps_are_taken()
     ensures { MasterStepsAreTaken }
 {}
@@ -53,7 +53,7 @@ pub fn steps_keep_rounds()
     ensures { StepsKeepRounds }
 {}
 
-/// A tick of a master that is up, and a message that is delivered to it, are its steps.
+/// At a moment within the limit a tick of a master that is up, and a message that is delivered to it, are its steps.
 pub fn masters_events_are_steps()
     ensures { MastersEventsAreSteps }
 {}

@@ -2,7 +2,7 @@
 
 ghost use Rattle.laws_names.specs.ChunkSteps.{ChunkMessagesChangeNoNames};
 
-/// An Ask, and what servers tell the master, change no names, files, kept answers or locks, and answer no name call.
+/// An Ask, and what servers tell the master, need no action of the machine by names: it is beside the master still.
 pub fn chunk_messages_change_no_names()
     ensures { ChunkMessagesChangeNoNames }
 {}

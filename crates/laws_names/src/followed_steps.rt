@@ -2,12 +2,12 @@
 
 ghost use Rattle.laws_names.specs.FollowedSteps.{RestartsAreFollowed, StepsAreFollowed, StoppedStepsAreFollowed};
 
-/// The machine follows a step of the master that goes through, whatever it takes.
+/// The machine follows a step of the master that goes through, where a Name that may take effect, and a Look, is of its client's open call.
 pub fn steps_are_followed()
     ensures { StepsAreFollowed }
 {}
 
-/// Wherever the step stops, and however it is decided what was under way, the machine follows to where the log has come.
+/// So wherever the step stops, and however it is decided what was under way, the machine follows to where the log has come.
 pub fn stopped_steps_are_followed()
     ensures { StoppedStepsAreFollowed }
 {}

@@ -34,7 +34,7 @@ pub fn expired_files_are_collected()
     ensures { ExpiredFilesAreCollected }
 {}
 
-/// Records about chunks, and copies that are given up, change no names, files, kept answers or locks.
+/// Records about chunks, and copies that are given up, need no action of the machine by names.
 pub fn chunks_change_no_names()
     ensures { ChunksChangeNoNames }
 {}

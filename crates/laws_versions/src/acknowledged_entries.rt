@@ -25,7 +25,7 @@ pub fn ungranted_chunks_have_no_entry()
     ensures { UngrantedChunksHaveNoEntry }
 {}
 
-/// Where clocks are kept, no entry of a chunk lies between the two versions of a SetVersion or a CopyLocal of it, and none below that of a Create.
+/// Where clocks are kept, no entry of a chunk lies between the two versions of a SetVersion or a CopyLocal that gives it the later one, and none below that of a Create.
 pub fn orders_skip_no_entry()
     ensures { OrdersSkipNoEntry }
 {}

@@ -17,7 +17,7 @@ pub fn copies_stand_at_their_sources_index()
     ensures { CopiesStandAtTheirSourcesIndex }
 {}
 
-/// Where clocks are kept, an entry's chunk stands at the index for which the chunk was told that the entry's Mutate names.
+/// Where clocks are kept, an entry's chunk stands at the index for which the chunk that the entry's Mutate names was told with a granted round.
 pub fn entries_stand_at_their_told_index()
     ensures { EntriesStandAtTheirToldIndex }
 {}

@@ -2,7 +2,7 @@
 
 ghost use Rattle.laws_versions.specs.LawfulOrders.{NumberedMutationsMayFollow, OrdersAreLawful};
 
-/// Where clocks and disks are kept, what a server numbers is what the machine may place: a record or a pad begins at 0 or at an entry's end, past each entry that is settled or of its round, and within the chunk; a pad only where the record doesn't fit, up to the chunk's end.
+/// Where clocks and disks are kept, what a server numbers lies where the machine may place it: a record or a pad begins at 0 or at an entry's end, past each entry that is settled or of its round, and within the chunk; a pad only where the record doesn't fit, up to the chunk's end.
 pub fn numbered_mutations_may_follow()
     ensures { NumberedMutationsMayFollow }
 {}

@@ -7,7 +7,7 @@ pub fn drops_are_of_useless_replicas()
     ensures { DropsAreOfUselessReplicas }
 {}
 
-/// A version that is below the granted one of its chunk stays so in all that follows, and a chunk that is gone stays gone: at a master that is up, and in its log.
+/// A version that is below the granted one of its chunk stays so, or the chunk goes, in all that follows, and a chunk that is gone stays gone: at a master that is up, and in its log.
 pub fn outdated_versions_stay_outdated()
     ensures { OutdatedVersionsStayOutdated }
 {}

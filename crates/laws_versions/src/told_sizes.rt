@@ -37,7 +37,7 @@ pub fn entries_are_of_their_chunks_size()
     ensures { EntriesAreOfTheirChunksSize }
 {}
 
-/// Where clocks are kept, a location that was told of a chunk that was granted tells the size with which it was granted.
+/// Where clocks are kept, a location that was told with a granted round tells the size with which its chunk was granted.
 pub fn told_shapes_have_the_granted_size()
     ensures { ToldShapesHaveTheGrantedSize }
 {}

@@ -1,4 +1,4 @@
--- What holds of a held lease over any list of calls (section 3.1).
+-- What holds of a held lease over any list of calls, and of an extension of one (section 3.1).
 use Rattle.std.specs.Prelude.{◌≡◌, ℕ, ◌≤◌, Bool, false, List}
 use Rattle.leases.specs.LeaseHeld.{HeldState, HeldCall, at_moment, counts, extended_if, after_calls}
 

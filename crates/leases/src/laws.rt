@@ -1,4 +1,4 @@
-//! What holds of a held lease over any list of calls. The functions do nothing: their clauses are the laws.
+//! What holds of a held lease over any list of calls, and of an extension of one. The functions do nothing: their clauses are the laws.
 
 ghost use Rattle.leases.specs.Laws.{NeverCountsAgain, EndNeverMovesEarlier};
 

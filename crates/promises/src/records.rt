@@ -25,7 +25,7 @@ pub fn records_are_read()
     ensures seen { InEachRun SeenRoundsSuffice }
 {}
 
-/// In a file that nobody writes into, nor into one that it goes back to by snapshots, each record stands uncovered, and its client reads it back.
+/// In a file that nobody writes into, nor into one that it goes back to by snapshots, each record stands uncovered, and its client reads it back, by each later read that begins no later and whose answer reaches past it.
 pub fn appended_records_are_read_back()
     ensures alone { InEachRun AppendsLeaveRecordsAlone }
     ensures back { InEachRun AppendedRecordsAreReadBack }

@@ -1,4 +1,4 @@
--- What the master keeps by its operation log: the log is replayed at a restart, and each change of this state is the replay of its record (sections 2.6.3 and 4.1).
+-- What the master keeps by its operation log: the log is replayed at a restart, and each change of this state, but for leases' ends and copies that are given up, is the replay of its record (sections 2.6.3 and 4.1).
 use Rattle.std.specs.Prelude.{ℕ, ◌+◌, Bool, false, ◌==◌, nat_lt, List, [], ◌∷◌, ◌++◌, map, filter, find, max, Option, Some, None}
 use Rattle.std.specs.FinMap as table
 use Rattle.gfs_types.specs.declared.refusal.Refusal.{Refusal}

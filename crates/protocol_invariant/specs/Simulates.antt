@@ -1,4 +1,4 @@
--- The invariant: a world in which it is decided what was under way, a state of the machine, what is kept beside them, and the file and index of each handle. All its parts, and what each message that was ever sent says.
+-- The invariant: a world in which it is decided what was under way, a state of the machine, what is kept beside them, and the file and index of each handle. All its parts but what is said of shapes, and what each message that was ever sent says.
 use Rattle.std.specs.List.{AllByRecursion}
 use Rattle.relaxed_file.specs.Machine.{Machine}
 use Rattle.messages.specs.declared.message.Message.{Message}

@@ -233,7 +233,7 @@ HiddenNamesTellTheirMoment =
 abbrev pub IsSameOpen : Machine → Machine → ℕ → Type 0
 IsSameOpen m n client = (one : OpenCall) × (two : OpenCall) × IsOpen m client one × IsOpen n client two × (one.number ≡ two.number)
 
--- What a state gives a read of one chunk: with a round, which was opened by then, what a selection has there that leaves out no settled entry up to that round; without a round nothing, where the file has no such chunk.
+-- What a state gives a read of one chunk: with a round, no later than the last that was opened by then, what a selection has there that leaves out no settled entry up to that round; without a round nothing, where the file has no such chunk.
 abbrev pub IsGiven : Machine → ℕ → ℕ → ℕ → ℕ → List ℕ → Option ℕ → Type 0
 IsGiven m file offset count index bytes (Some named) =
     (named ≤ (chunk_at m file index).round) × (last : ℕ) × (chosen : List Entry) × (named ≤ last) × IsSelection last (chunk_at m file index).order chosen
@@ -252,7 +252,7 @@ WereGiven config m client file offset count index (piece ∷ rest) =
     (piece.index ≡ index) × WasGiven config m client file offset count piece
     × MatchBool (nat_lt (length piece.bytes) (part_length (chunk_size m file) offset count index)) (rest ≡ []) (WereGiven config m client file offset count (suc index) rest)
 
--- A read is answered what states during the call gave, chunk by chunk from where its range begins, and the rounds of these, each of them opened by then; nothing settled up to such a round is left out of what its chunk gave (sections 2.4 and 2.7.1).
+-- A read is answered what states during the call gave, chunk by chunk from where its range begins, and a round of each, no later than the last that was opened by then; nothing settled up to such a round is left out of what its chunk gave (sections 2.4 and 2.7.1).
 abbrev pub ReadsGiveSelections : Type 0
 ReadsGiveSelections =
     (config : Config) (m : Machine) (client file : ℕ) (fd : Fd) (offset count : ℕ) (bytes rounds : List ℕ)

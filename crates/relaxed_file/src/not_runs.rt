@@ -12,7 +12,7 @@ pub fn no_shared_offset()
     ensures { NoSharedOffset }
 {}
 
-/// In no run does a client that appended a record read nothing where it stands, by a read that comes next.
+/// In no run does a client that appended bytes read nothing where they stand, by a read that comes next, each answered at once.
 pub fn no_stale_read()
     ensures { NoStaleRead }
 {}

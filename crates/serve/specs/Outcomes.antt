@@ -71,7 +71,7 @@ pub record ServesWith (options : Options) (path : Option Path) (input before aft
   pub regions_are : AreRegionsOf path journal regions
   pub told : Appends middle after (told_regions regions)
 
--- Why it ended before that. Where regions were asked for and clocks were not kept, the answers to each client's first calls were printed.
+-- Why it ended before that. At Start nothing was printed, or the answers to each client's first calls were.
 abbrev pub StopsWith : Options → Option Path → Option (List ℕ) → Option (List ℕ) → Option (List ℕ) → ScriptFault → Type 0
 StopsWith options path input before after fault.Start = Keeps before after ⊎ (IsTrue (is_some path) × ServesFirst options input before after)
 StopsWith options path input before after other = Stops options input before after other

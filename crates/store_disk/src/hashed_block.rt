@@ -8,8 +8,8 @@ use crate::known_block::KnownBlock;
 use std::alloc::Global;
 use std::marker::Model;
 
-/// The block that was hashed last, and the last one with hardly a byte that isn't zero, with their digests: the same block isn't hashed again, and of one that has
-/// more written behind the same bytes these aren't.
+/// The last block with hardly a byte that isn't zero and the last other one that were hashed, with their digests: the same block isn't hashed again, and of one that
+/// has more written behind the same bytes these aren't.
 #[derive(Drop)]
 pub struct HashedBlock {
     filled: KnownBlock,

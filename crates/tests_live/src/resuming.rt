@@ -4,11 +4,14 @@ ghost use Rattle.std.specs.Prelude.{◌≡◌, ◌∷◌, [], All, IfSome};
 ghost use Rattle.tests_live.specs.ParkFaults.{KeepsName};
 
 use crate::cells::{OddClock, mkdir, small};
+use cell_journal::journal_entry::StepCause;
 use cell_run::ParkFault;
 use cell_run::cell::{Cell, ClientSeat, StartFault};
 use cell_run::parked::Parked;
 use cell_seats::gate::OpenGate;
+use cell_seats::journal::Journal;
 use gfs_types::config::Config;
+use gfs_types::ids::{Node, ServerId};
 use gfs_types::lists::Text;
 use gfs_types::refusal::Refusal;
 use std::alloc::Global;
@@ -18,6 +21,13 @@ use std::thread::Threads;
 use std::time::Clock;
 
 const NAMES: [&str; 10] = ["/a", "/b", "/c", "/d", "/e", "/f", "/g", "/h", "/i", "/j"];
+
+/// The nodes of a cell of two servers that begin again.
+const NODES: [Node; 3] = [
+    Node::Master,
+    Node::Server(ServerId(1)),
+    Node::Server(ServerId(2)),
+];
 
 /// How many steps may be taken before a cell is parked, whose journal has room for 64.
 const LEAST_ROOM: u64 = 40;
@@ -159,7 +169,7 @@ fn a_full_journal_is_gone_past(rt: HostRuntime) -> Result<(), Fail> {
     Ok(())
 }
 
-// What comes of going on by a clock that went back, and after that by the true one.
+// What comes of going on by a clock that can't be read, and after that by the true one.
 fn resume_by_odd_clock<R: Threads + Wait + Clock + Copy + Send + 'static>(
     rt: R,
     parked: Parked,
@@ -179,7 +189,7 @@ fn resume_by_odd_clock<R: Threads + Wait + Clock + Copy + Send + 'static>(
 }
 
 #[test]
-fn a_clock_that_went_back_leaves_a_parked_cell(rt: HostRuntime) -> Result<(), Fail> {
+fn a_clock_that_cannot_be_read_leaves_a_parked_cell(rt: HostRuntime) -> Result<(), Fail> {
     let alloc = rt.alloc();
     let cell = Cell::start(rt, alloc, small(), 1, OpenGate)?;
     let Some(seated) = new_seated(&rt, cell) else {
@@ -190,6 +200,100 @@ fn a_clock_that_went_back_leaves_a_parked_cell(rt: HostRuntime) -> Result<(), Fa
         None => None,
     };
     assert!(rt; outcome == Some(true));
+    Ok(())
+}
+
+// What comes of going on by the true clock, once the cell took a step by one that is ahead by an hour, and after that by the latter.
+fn resume_by_earlier_clock<R: Threads + Wait + Clock + Copy + Send + 'static>(
+    rt: R,
+    alloc: Global,
+    parked: Parked,
+) -> Option<bool> {
+    let ahead = OddClock {
+        rt,
+        is_broken: false,
+    };
+    let mut seated = resume(ahead, parked).ok()?;
+    mkdir(&ahead, alloc, &mut seated.seat, "/a").ok()?;
+    let parked = park(&ahead, alloc, seated)?;
+    let Err((parked, fault)) = parked.resume(rt, OpenGate) else {
+        return None;
+    };
+    let seated = resume(ahead, parked).ok()?;
+    let Seated { cell, seat } = seated;
+    drop(seat);
+    drop(cell.close(&ahead));
+    Some(fault == StartFault::Clock)
+}
+
+#[test]
+fn a_clock_that_went_back_leaves_a_parked_cell(rt: HostRuntime) -> Result<(), Fail> {
+    let alloc = rt.alloc();
+    let cell = Cell::start(rt, alloc, small(), 1, OpenGate)?;
+    let Some(seated) = new_seated(&rt, cell) else {
+        return Err(Fail::new("no client"));
+    };
+    let outcome = match park(&rt, alloc, seated) {
+        Some(parked) => resume_by_earlier_clock(rt, alloc, parked),
+        None => None,
+    };
+    assert!(rt; outcome == Some(true));
+    Ok(())
+}
+
+fn is_restart(cause: &StepCause) -> bool {
+    match cause {
+        StepCause::Restarts => true,
+        _ => false,
+    }
+}
+
+// Whether the master, and then each of two servers, began again before anything else was done.
+fn begins_with_restarts(journal: &Journal) -> bool {
+    let mut place: usize = 0;
+    for node in NODES {
+        let Some(entry) = journal.event(place) else {
+            return false;
+        };
+        if entry.node() != node || !is_restart(entry.cause()) {
+            return false;
+        }
+        place = place.wrapping_add(1);
+    }
+    true
+}
+
+fn count_restarts(journal: &Journal) -> usize {
+    let mut count: usize = 0;
+    for place in 0..journal.len() {
+        if let Some(entry) = journal.event(place) {
+            if is_restart(entry.cause()) {
+                count = count.wrapping_add(1);
+            }
+        }
+    }
+    count
+}
+
+#[test]
+fn nodes_begin_again_first_behind_a_parking(rt: HostRuntime) -> Result<(), Fail> {
+    let alloc = rt.alloc();
+    let cell = Cell::start(rt, alloc, small(), 2, OpenGate)?;
+    let Some(seated) = new_seated(&rt, cell) else {
+        return Err(Fail::new("no client"));
+    };
+    let Some(parked) = park(&rt, alloc, seated) else {
+        return Err(Fail::new("not parked"));
+    };
+    let Seated { mut cell, mut seat } = resume(rt, parked)?;
+    // No node has these numbers, so that none begins again.
+    cell.restart(&rt, Node::Server(ServerId(0)));
+    cell.restart(&rt, Node::Server(ServerId(65)));
+    let is_made = mkdir(&rt, alloc, &mut seat, "/a").is_ok();
+    let journal = cell.close(&rt);
+    assert!(rt; is_made);
+    assert!(rt; begins_with_restarts(&journal));
+    assert!(rt; count_restarts(&journal) == NODES.len());
     Ok(())
 }
 

@@ -17,7 +17,11 @@ const NEXT_ROW: &str = "====\n";
 const OPTIONS: &str = "# --";
 
 /// The words of a command line that stand behind the script's name where the row has no others.
-const SMALL_CELL: [&str; 4] = ["--chunk", "64", "--block", "16"];
+const SMALL_CELL: [(&str, &str); 3] = [
+    ("--chunk", "--chunk=64"),
+    ("--block", "--block=16"),
+    ("--clients", "--clients=2"),
+];
 
 /// A file with one record.
 const FIRST_APPEND: &str = "c1 create /f\nc1 open /f\nc1 append 1 a*13\n";
@@ -93,9 +97,11 @@ pub fn rows_outcome(alloc: Global, rows: &str) -> Result<String> {
 /// The outcome of a row: a script, a rule and what it has to print. Without options of its own it has two clients and small chunks.
 pub fn row_outcome(alloc: Global, row: &str) -> Result<String> {
     let (script, expected) = row.split_once(RULE).context("a row has no rule")?;
-    let mut first = Vec::from_slice(alloc, SMALL_CELL.as_slice())?;
-    if !row.contains("--clients") {
-        first.push("--clients=2")?;
+    let mut first = Vec::new(alloc);
+    for (option, word) in SMALL_CELL.iter() {
+        if !row.contains(*option) {
+            first.push(*word)?;
+        }
     }
     let options = options_of(alloc, first.as_slice(), row)?;
     outcome(alloc, &options, script, expected)
