@@ -161,7 +161,7 @@ class Source:
         self.call(client, 'append', descriptor, self.data(client, length), times=times)
 
     def write(self, client, descriptor, path):
-        """Into the file's bytes, or behind them, up to where the chunk behind the last one ends."""
+        """Into the file's bytes, or behind them, of two chunks at most."""
         length = self.chance.randint(1, min(2 * self.shapes[path], 4000))
         offset = self.chance.randint(0, self.planned[path])
         self.planned[path] = max(self.planned[path], offset + length)

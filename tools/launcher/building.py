@@ -1,7 +1,7 @@
 """The program, proved or not: whether one stands that was built from this text, and building it with lines that say how far that is.
 
 `crates/gfscell/out/gfscell` is the proved one, and `out/unproved/gfscell` the other. Beside each stands a mark that is as old as the beginning of the run that
-built it. A source that is newer makes it stale: for the proved program each file of a crate, for the other the code alone."""
+built it. A source that is newer makes it stale: for the proved program code, definitions and proofs, for the other the code alone, for both `crates.txt`."""
 import contextlib
 import fcntl
 import os

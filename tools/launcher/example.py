@@ -1,5 +1,5 @@
 """`./gfscell example NAME`: an example with its own options. By the definitions its script and its answers stand side by side, and the answers are compared with the
-file beside it; where a program is built, its answers are compared too."""
+file beside it; where a program is built, its answers are compared too. One for threads is run by the program alone, which is built where none stands."""
 import os
 import subprocess
 import sys
@@ -61,7 +61,7 @@ def side_by_side(rows):
 
 
 def built_program():
-    """The program that stands, and how it was built; none is built for an example."""
+    """The program that stands, and how it was built; none is built for a script of `sim`."""
     if building.proved_stands():
         return building.PROVED, 'the proved program'
     return (building.UNPROVED, 'the program, built unproved,') if building.unproved_stands() else (None, None)

@@ -1,5 +1,5 @@
-"""`./gfscell sim FILE --explain`, and so `live`: the program's words stay as they are, and below a fault stands its cause: of the words, of the settings, and of a bad
-line of `sim`, by the definitions."""
+"""`./gfscell sim FILE --explain`, and so `live`: the program's words stay as they are, and below a fault stands its cause: of the words, and of `sim` of the settings
+and of a bad line, by the definitions."""
 import io
 import re
 import subprocess

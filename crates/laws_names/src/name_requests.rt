@@ -2,7 +2,7 @@
 
 ghost use Rattle.laws_names.specs.NameRequests.{LooksAreFollowed, NameRequestsAreFollowed};
 
-/// The machine follows a Name that the master takes, and what the master answers is an outcome of the call.
+/// The machine follows a Name that the master takes, where one that may take effect is of its client's open call, and what the master answers is an outcome of the call.
 pub fn name_requests_are_followed()
     ensures { NameRequestsAreFollowed }
 {}

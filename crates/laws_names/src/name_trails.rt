@@ -2,7 +2,7 @@
 
 ghost use Rattle.laws_names.specs.NameTrails.{RestartsGoByRecords, StepsGoByRecords};
 
-/// A step of the master, record by record: the machine takes each record's action.
+/// A step of the master, record by record: the machine takes each record's action, where a Name that may take effect, and a Look, is of its client's open call.
 pub fn steps_go_by_records()
     ensures { StepsGoByRecords }
 {}

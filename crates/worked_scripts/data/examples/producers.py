@@ -4,7 +4,8 @@
     examples/producers.py [--records N] [--restarts] [--program PROGRAM] [options of serve]
 
 The program is ./gfscell of this repository, or PROGRAM. Each producer appends N records (100). With --restarts the master and the servers begin again in turn meanwhile. At the end it prints how many records were answered, how many of them the reader
-has, and how many it took twice or from appends that failed. The exit status is 0 where the reader has each record that was answered, at the offset that was answered."""
+has, and how many it took twice or from appends that failed. The exit status is 0 where all producers came to their end, the program ended with 0, and the
+reader has each record that was answered, at the offset that was answered."""
 import collections
 import os
 import queue
@@ -97,7 +98,7 @@ class Client:
         return int(self.call(f'append {descriptor} 0x{record.hex()}')[0])
 
     def read(self, descriptor, offset, count):
-        """The bytes, and the rounds of the chunks that they lie in."""
+        """The bytes, and the rounds of the chunks that were looked at."""
         _, digits, _, rounds = self.call(f'read {descriptor} {offset} {count}')
         return b'' if digits == '-' else bytes.fromhex(digits), [] if rounds == '-' else [int(it) for it in rounds.split(',')]
 
