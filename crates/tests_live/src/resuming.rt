@@ -4,12 +4,12 @@ ghost use Rattle.std.specs.Prelude.{◌≡◌, ◌∷◌, [], All, IfSome};
 ghost use Rattle.tests_live.specs.ParkFaults.{KeepsName};
 
 use crate::cells::{OddClock, mkdir, small};
+use cell_journal::closed_history::ClosedHistory;
 use cell_journal::journal_entry::StepCause;
 use cell_run::ParkFault;
 use cell_run::cell::{Cell, ClientSeat, StartFault};
 use cell_run::parked::Parked;
 use cell_seats::gate::OpenGate;
-use cell_seats::journal::Journal;
 use gfs_types::config::Config;
 use gfs_types::ids::{Node, ServerId};
 use gfs_types::lists::Text;
@@ -249,10 +249,10 @@ fn is_restart(cause: &StepCause) -> bool {
 }
 
 // Whether the master, and then each of two servers, began again before anything else was done.
-fn begins_with_restarts(journal: &Journal) -> bool {
+fn begins_with_restarts(history: &ClosedHistory) -> bool {
     let mut place: usize = 0;
     for node in NODES {
-        let Some(entry) = journal.event(place) else {
+        let Some(entry) = history.event(place) else {
             return false;
         };
         if entry.node() != node || !is_restart(entry.cause()) {
@@ -263,10 +263,10 @@ fn begins_with_restarts(journal: &Journal) -> bool {
     true
 }
 
-fn count_restarts(journal: &Journal) -> usize {
+fn count_restarts(history: &ClosedHistory) -> usize {
     let mut count: usize = 0;
-    for place in 0..journal.len() {
-        if let Some(entry) = journal.event(place) {
+    for place in 0..history.len() {
+        if let Some(entry) = history.event(place) {
             if is_restart(entry.cause()) {
                 count = count.wrapping_add(1);
             }
@@ -292,8 +292,11 @@ fn nodes_begin_again_first_behind_a_parking(rt: HostRuntime) -> Result<(), Fail>
     let is_made = mkdir(&rt, alloc, &mut seat, "/a").is_ok();
     let journal = cell.close(&rt);
     assert!(rt; is_made);
-    assert!(rt; begins_with_restarts(&journal));
-    assert!(rt; count_restarts(&journal) == NODES.len());
+    let history = journal.history();
+    assert!(rt; begins_with_restarts(history));
+    assert!(rt; count_restarts(history) == NODES.len());
+    // The journal's own steps stand behind these.
+    assert!(rt; journal.len() + NODES.len() == history.len());
     Ok(())
 }
 
