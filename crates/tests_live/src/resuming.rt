@@ -296,7 +296,7 @@ fn nodes_begin_again_first_behind_a_parking(rt: HostRuntime) -> Result<(), Fail>
     assert!(rt; begins_with_restarts(history));
     assert!(rt; count_restarts(history) == NODES.len());
     // The journal's own steps stand behind these.
-    assert!(rt; journal.len() + NODES.len() == history.len());
+    assert!(rt; journal.len().saturating_add(NODES.len()) == history.len());
     Ok(())
 }
 
