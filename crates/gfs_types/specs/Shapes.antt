@@ -8,7 +8,7 @@ use Rattle.gfs_types.specs.Settings.{is_within}
 abbrev pub usual_shape : Config → Shape
 usual_shape c = record { chunk = c.chunk; goal = min c.goal 255 }
 
--- A chunk is made of whole blocks, and has room where one of the settings' has it.
+-- A chunk is made of whole blocks, of 64 bytes at least, and has room where one of the settings' has it; the goal is 1 to 8.
 abbrev pub fits : Config → Shape → Bool
 fits c s = is_within 64 c.chunk s.chunk && s.chunk % c.block == 0 && is_within 1 8 s.goal
 

@@ -30,7 +30,7 @@ EachClient w P = EachPlace w.clients (λ place c. P (suc place) c)
 abbrev pub EachReplica : WorldState → (ℕ → ServerState → ℕ → Replica → Type 0) → Type 0
 EachReplica w P = EachServer w (λ server s. EachEntry s.disk.replicas (λ handle r. P server s handle r))
 
--- of the server with this number
+-- of the server with this number, if it is there
 abbrev pub AtServer : WorldState → ℕ → (ServerState → Type 0) → Type 0
 AtServer w server P = IfSome (element_at w.servers (server - 1)) P
 

@@ -1,4 +1,4 @@
--- What is to be shown of each world that a lawful list of events reaches: its calls and answers are those of a run of the machine, and that run led to what the world shows.
+-- What is to be shown of each world that a list of events reaches, under settings in range and with kept clocks and disks: its calls and answers are those of a run of the machine, and that run led to what the world shows.
 use Rattle.std.specs.Prelude.{◌≡◌, ℕ, suc, ◌*◌, ◌≤◌, ◌<◌, List, length, Some, IsTrue, IsFalse, true}
 use Rattle.std.specs.FinMap as table
 use Rattle.gfs_types.specs.declared.config.Config.{Config}
@@ -11,7 +11,7 @@ use Rattle.protocol.specs.World.{WorldState, IsReached, is_kept}
 use Rattle.protocol.specs.Conforms.{IsSelected}
 use Rattle.protocol.specs.Each.{EachEntry, EachPlace, EachNumber}
 
--- settings under which a call has an attempt and a chunk a block
+-- settings under which a call has an attempt, a chunk whole blocks and a replica, and a lease more than the clock bound
 pub record AreSettings (c : Config) : Type 0 where
   pub attempts : 1 ≤ c.attempts
   pub chunk : 1 ≤ c.chunk
@@ -19,12 +19,12 @@ pub record AreSettings (c : Config) : Type 0 where
   pub goal : 1 ≤ c.goal
   pub lease : c.skew_ms < c.lease_ms
 
--- What the world shows of names, files, chunks and their orders is the machine's. While the master is down its files are shown as they stood before its step: then the machine may have a chunk more that the log has already.
+-- What the world shows of names, files, chunks and their orders is the machine's. While the master is down its files are shown as they stood before its step: then the machine may have more files and chunks, which the log may have.
 pub record IsShown (w : WorldState) (m : Machine) : Type 0 where
   pub names_are : IsTrue w.master.up → m.names ≡ w.master.logged.names
-  -- each file that is shown has just as many chunks as the machine's
+  -- a file that is shown has no more chunks than the machine's, and just as many while the master is up
   pub counts_are : EachEntry w.observer.files (λ file handles. (length handles ≤ chunk_count m file) × (IsTrue w.master.up → length handles ≡ chunk_count m file))
-  -- and each file of the machine that is not collected is shown
+  -- while it is up each file of the machine that is not collected is shown
   pub files_are : IsTrue w.master.up → EachNumber m.file_count (λ n. IsFalse (m.files (suc n)).is_collected → table.contains_key w.observer.files (suc n) ≡ true)
   pub orders_are : EachEntry w.observer.files (λ file handles. EachPlace handles (λ index handle. entries_of w.observer handle ≡ (chunk_at m file index).order))
 
@@ -35,6 +35,6 @@ pub record Explains (w : WorldState) (m : Machine) : Type 0 where
   pub replicas_are : (file index handle place : ℕ) (r : StoredAt) → handle_at w file index ≡ Some handle
       → element_at (replicas_of w handle) place ≡ Some r → IsSelected m file index r
 
--- the theorem: under settings in their ranges and kept clocks and disks
+-- the theorem: under such settings, and with kept clocks and disks
 abbrev pub IsExplained : Config → ℕ → ℕ → WorldState → Type 0
 IsExplained config servers clients w = AreSettings config → IsReached config servers clients w → IsTrue (is_kept w) → (m : Machine) × Explains w m

@@ -33,7 +33,7 @@ pub record Logged : Type 0 where
   -- by the new handle
   pub copies : Table Copy
 
--- a new cell
+-- an empty log
 abbrev pub first_logged : Logged
 first_logged = record { names = first_names; table = new_chunk_table; next_file = 1; next_handle = 1; epoch = 0; kept = table.empty; copies = table.empty }
 
@@ -77,7 +77,7 @@ abbrev pub with_copied_nodes : ChunkTable → ℕ → List (Path × Node) → Ch
 with_copied_nodes t next [] = t
 with_copied_nodes t next (e ∷ rest) = with_copied_nodes (with_copied_node t next e.1) (id_after next e.1) rest
 
--- a snapshot: each name below the source is copied, and the chunks are shared (section 3.4)
+-- a snapshot: the source's name and each below it is copied, and the chunks are shared (section 3.4)
 abbrev pub snapshot_logged : Logged → List (Path × Node) → Logged
 snapshot_logged l copies =
     record l { names = with_copies l.names l.next_file copies; table = with_copied_nodes l.table l.next_file copies; next_file = id_after_all l.next_file copies }

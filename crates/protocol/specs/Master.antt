@@ -52,7 +52,7 @@ pub record MasterState : Type 0 where
   -- of each server, the moment of its last report
   pub reported : Table ℕ
 
--- One that is down keeps its disk alone, however far its last step had come.
+-- One that is down keeps its disk alone, and the change under way, however far its last step had come.
 abbrev pub stopped_master : MasterState → LogDisk → List LogChange → MasterState
 stopped_master m disk under_way =
     record {
@@ -146,7 +146,7 @@ is_of_copy l other = false
 abbrev pub logs_after_checkpoint : MasterDoing → Record → Bool → (MasterDoing → MasterDoing) → MasterDoing
 logs_after_checkpoint d r was_of_copy then_ = if fits d r && not was_of_copy then then_ (appends d r) else d
 
--- A record is logged, after a checkpoint where there is no room for it, and then the rest of the step follows. Where there is no room even so, or the checkpoint gave up the copy that it is of, that rest is left out.
+-- A record is logged, after a checkpoint where there is no room for it, and then what waits for it follows. Where there is no room even so, or the checkpoint gave up the copy that it is of, both are left out.
 abbrev pub logs : MasterDoing → Record → (MasterDoing → MasterDoing) → MasterDoing
 logs d r then_ =
     if fits d r then then_ (appends d r)

@@ -48,7 +48,7 @@ row_under l (Some handle) = chunk_of l.table handle
 abbrev pub counts_at : Config → Logged → ℕ → List ℕ → ℕ → Bool
 counts_at config l file handles index = counts_for config l (row_under l (element_at handles index)) && counts_for_copy (row_under l (copy_for l file index))
 
--- the index that an append is for: the last chunk's, where that isn't below the one asked for
+-- the index that an append is for: the last chunk's, or the next where that is below the one asked for
 abbrev pub append_index : List ℕ → ℕ → ℕ
 append_index handles after = if nat_lt after (length handles) then length handles - 1 else length handles
 

@@ -1,4 +1,4 @@
--- What servers tell the master: it asks them for their replicas and doesn't log these (sections 2.6.2, 4.4 and 4.5).
+-- What servers tell the master: they report their replicas, which it doesn't log (sections 2.6.2, 4.4 and 4.5).
 use Rattle.std.specs.Prelude.{ℕ, ◌+◌, Bool, true, not, ◌==◌, ◌&&◌, nat_lt, if◌then◌else◌, List, [], ◌∷◌, map, Option, Some, None}
 use Rattle.std.specs.FinMap as table
 use Rattle.messages.specs.declared.message.Body.TheVariants as body
@@ -27,7 +27,7 @@ abbrev pub revoked_row : MasterDoing → ℕ → ℕ → ℕ → Option ChunkRow
 revoked_row d server handle version None = d
 revoked_row d server handle version (Some row) = if (row.granted == version) && (row.primary == server) then ends_at d handle 0 else d
 
--- a Revoked ends the lease at the master
+-- its primary's Revoked ends the lease at the master
 abbrev pub takes_revoked : MasterDoing → ℕ → ℕ → ℕ → MasterDoing
 takes_revoked d server handle version = revoked_row d server handle version (chunk_of d.master.logged.table handle)
 

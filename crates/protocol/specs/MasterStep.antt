@@ -40,7 +40,7 @@ abbrev pub is_recorded : MasterState → ℕ → Option ChunkRow → Bool
 is_recorded m handle None = false
 is_recorded m handle (Some row) = is_some (first_of_list (holders_where m handle (λ v. v == row.issued)))
 
--- a copy that nobody recorded in time
+-- a copy without an attempt, of which nobody holds the number
 abbrev pub is_lost_copy : MasterState → ℕ → Bool
 is_lost_copy m handle = not (is_attempted m handle) && not (is_recorded m handle (chunk_of m.logged.table handle))
 

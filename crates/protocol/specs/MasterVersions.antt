@@ -45,7 +45,7 @@ tells_none d a = tells d a.client (body.Told a.number None)
 abbrev pub tells_to_wait : MasterDoing → Asker → MasterDoing
 tells_to_wait d a = tells d a.client (body.Wait a.number)
 
--- A server that is to get a version number, with the version that it must replace; without one it makes a new replica.
+-- A server that is to get a version number, with the version that it must hold; without one it makes a new replica.
 pub record VersionTarget : Type 0 where
   pub server : ℕ
   pub base : Option ℕ
@@ -86,7 +86,7 @@ issues_to d a own own_row handle row [] = tells_location d a own own_row []
 issues_to d a own own_row handle row targets =
     logs d (log.Issue (handle_of handle) (version_of (suc row.issued))) (λ e. sends_issued e a handle (suc row.issued) targets)
 
--- those that recorded a number that was given up
+-- those that hold the last number, where it isn't granted
 abbrev pub recorded_holders : MasterState → ℕ → ChunkRow → List HeldAt
 recorded_holders m handle row = if nat_lt row.granted row.issued then holders_where m handle (λ v. v == row.issued) else []
 

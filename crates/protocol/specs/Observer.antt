@@ -38,7 +38,7 @@ pub record Observer : Type 0 where
 abbrev pub new_observer : Table (List ℕ) → Observer
 new_observer files = record { trace = []; orders = table.empty; files = files; greatest = 0; are_clocks_kept = true; intact = []; are_disks_kept = true }
 
--- a moment was given: it is behind the greatest one by the clock bound at most
+-- a moment was given: clocks are kept where it is behind the greatest one by the clock bound at most
 abbrev pub observed_moment : ℕ → Observer → ℕ → Observer
 observed_moment skew o moment =
     record o {

@@ -109,7 +109,7 @@ abbrev pub IsForNode : List Message → Node → StepCause → Type 0
 IsForNode sent n (Takes (input.Deliver m)) = (number : ℕ) × (numbered_from_1 sent number ≡ Some m) × (m.receiver ≡ n)
 IsForNode sent n other = Unit {0}
 
--- an entry may follow where this was sent
+-- an entry may follow where this was sent, by the last moment
 abbrev pub MayFollow : List Message → Entry → Type 0
 MayFollow sent e = IsTrue (nat_le e.moment moment_limit) × IsForNode sent e.node e.cause
 

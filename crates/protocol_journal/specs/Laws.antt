@@ -6,7 +6,7 @@ use Rattle.protocol.specs.Choice.{Choice}
 use Rattle.protocol.specs.World.{WorldState, IsReached}
 use Rattle.protocol_journal.specs.Journal.{Entry, NodeState, node_in, node_step, may_take, sent_after, MayFollow, IsLawful, observer_of, with_end}
 
--- The world shows what the journal says: its nodes, its messages, its calls and answers, the orders of its chunks, and whether clocks were kept. No byte rotted.
+-- The world shows what the journal says: its nodes, its messages, its calls and answers, the orders of its chunks, and whether clocks were kept. Disks were kept.
 pub record Shows (w : WorldState) (entries : List Entry) (ends : Node → Option NodeState) : Type 0 where
   pub nodes_are : (n : Node) → node_in w n ≡ ends n
   pub sent_is : w.sent ≡ sent_after [] entries
