@@ -102,7 +102,7 @@ fn told_none(client: &mut Client, current: CurrentCall) -> Result<ClientEffects,
     }
 }
 
-/// A chunk's location; one without any holder is taken as a Wait.
+/// A chunk's location; where it has no holder this is noted, and the client waits.
 fn told_location(
     client: &mut Client,
     mut current: CurrentCall,

@@ -51,7 +51,7 @@ pub fn takes_refused(
     }
 }
 
-/// The master's refusals of an ask complete the call.
+/// The master's refusals of an ask: TooLong and Collected complete the call.
 fn master_refuses(client: &mut Client, current: CurrentCall, refusal: Refusal) -> ClientEffects
     ensures { master_refuses (holding client.old current) current refusal ≡ doing client.new result }
 {

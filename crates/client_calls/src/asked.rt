@@ -71,7 +71,7 @@ pub fn fd_of(call: &Call) -> u64
     }
 }
 
-/// A range that no file has.
+/// A range that no call may have.
 pub fn is_range_too_long(offset: u64, count: u64) -> bool
     ensures { result ≡ is_range_too_long offset count }
 {

@@ -171,7 +171,7 @@ impl Client {
         Ok(self.begins(attempt))
     }
 
-    /// An attempt of a name call: the same request again, under the same number.
+    /// An attempt of a name call: the same call again, under the same number.
     pub fn attempts_names(&mut self, mut current: CurrentCall) -> Result<ClientEffects, NoMemory>
         ensures { IfOk result (λ e. attempts_names (client_begins self.old) current ≡ doing self.new e) }
     {

@@ -1,4 +1,4 @@
-//! A call of the client. What is too long or empty, and what has no open descriptor, asks nobody.
+//! A call of the client. What is too long, an empty write or read, and what has no open descriptor ask nobody.
 
 ghost use Rattle.std.specs.Prelude.{◌≡◌, ◌/◌, suc, IfOk, OnOk, OnErr, [], None};
 ghost use Rattle.gfs_types.specs.declared.answer.Answer.TheVariants as answer;

@@ -14,7 +14,7 @@ use std::alloc::Global;
 use std::marker::Model;
 use std::num::NonZeroUsize;
 
-/// Locations by the place of their chunk, the one used last first, and at most so many. Each call takes constant time.
+/// Locations by the place of their chunk, the one used last first, and at most so many. Each call but `reset` takes constant time.
 #[derive(Drop)]
 pub struct Locations {
     kept: Lru<Place, Cached>,

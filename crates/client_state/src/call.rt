@@ -72,7 +72,7 @@ pub struct CurrentCall {
     pub last_chunk: Option<u64>,
     /// The attempts that the part has left, of which each is counted down as it ends.
     pub left: u32,
-    /// When the last attempt that was begun ends.
+    /// The deadline of the last attempt that was begun.
     pub deadline: Moment,
     /// When the client was told the location by which the attempt goes.
     pub told: Moment,

@@ -36,7 +36,7 @@ impl Gathered {
         }
     }
 
-    /// With one more piece, of a read of so many bytes. The first piece is shared; each later one is copied once.
+    /// With one more piece, of a read of so many bytes. A piece alone is shared; of several each is copied once.
     pub fn with(self, found: &Bytes, wanted: usize) -> Result<Gathered, NoMemory>
         ensures { IfOk result (λ g. g ≡ self ++ found.now) }
     {

@@ -102,7 +102,7 @@ pub trait Disk {
         ensures cause { HasCause (failed self.old) (failed self.new) result }
         ensures no_memory_needed { IsErrOf result NoMemory → ⊥ };
 
-    /// Sets the moment since which the disk tells what a stop might have left: this one. Each call of a store sets it as it begins. Changes no byte, and gives back the memory that was kept for what came before.
+    /// Sets the moment since which the disk tells what a stop might have left: this one. A store sets it before it writes. Changes no byte, and gives back the memory that was kept for what came before.
     fn forget_past(&mut self)
         ensures seen { seen self.new ≡ seen self.old }
         ensures crash { NoMore (may_leave self.old) (may_leave self.new) }

@@ -50,7 +50,7 @@ pub fn is_writable<D: Disk>(
     }
 }
 
-/// Whether every block of a replica of this version matches its digest.
+/// Whether every block of the bytes of a replica of this version matches its digest.
 pub fn is_copyable<D: Disk>(
     alloc: Global,
     store: &mut Store<D>,

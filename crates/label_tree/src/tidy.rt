@@ -51,7 +51,7 @@ fn joined<V: Drop, A: Allocator + Clone>(mut node: Boxed<V, A>, child: Boxed<V, 
     Tree::close(Link::More(node))
 }
 
-/// The same names, where a node without a value is left out, or joined with the only node below it where that one has room. It needs no memory.
+/// The same names: a node without a value is left out where nothing is below it, or joined with the only node there where that one has room. It needs no memory.
 pub fn tidied<V: Drop, A: Allocator + Clone>(mut node: Boxed<V, A>) -> Tree<V, A>
     requires { IsLoose node.value }
     ensures { result ≡ says node.value }

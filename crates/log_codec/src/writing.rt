@@ -81,7 +81,7 @@ pub fn has_shape(entry: &Record) -> bool
     )
 }
 
-/// Whether each field has room for it: paths are paths, members are fewer than 256, handles and the index fit 4 bytes.
+/// Whether each field has room for it: paths are paths, members are fewer than 256, the number of handles and the index fit 4 bytes.
 pub fn is_writable(entry: &Record) -> bool
     ensures { IsTrue result ↔ IsWritable entry.now }
 {

@@ -111,8 +111,8 @@ impl<L: OperationLog + Drop, A: Allocator + Clone> LoggedMaster<L, A> {
 
 impl<L: OperationLog + Drop, A: Allocator + Clone> LoggedMaster<L, A> {
     /// Opens the master over a log that an earlier one may have left, as a restart does: it reads the log, and logs a new epoch. An empty log
-    /// is that of a new cell. The chunks of its files are put into `shown`. Where it can't be up, its log comes back, with the epoch under way
-    /// or without it, and why. The settings are within their ranges.
+    /// is that of a new cell. The chunks of its files are put into `shown`. Where it can't be up, its log comes back, with what is under way,
+    /// and why. The settings are within their ranges.
     pub fn open(
         alloc: Global,
         config: Config,

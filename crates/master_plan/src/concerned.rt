@@ -11,8 +11,8 @@ use master_waiting::waiting_concerned::{chunks_of_all, files_of_all, has};
 use std::alloc::Allocator;
 
 impl<A: Allocator + Clone> Plan<A> {
-    /// Whether a snapshot waits for this chunk. The names are gone over once: what was found is known until a record changes a name at
-    /// a source or below it, a snapshot is taken, a file is collected, or a snapshot comes or goes.
+    /// Whether a snapshot waits for this chunk. The names are gone over once: what was found is known until a record may change it
+    /// otherwise than by a chunk at a file's end, or a snapshot comes or goes.
     pub fn waits_for(&mut self, handle: Handle) -> Result<bool, PlanFault>
         ensures answer { IfOk result (λ b. b ≡ waits_for (known self.old) handle.0) }
         ensures same { self.new ≡ self.old }

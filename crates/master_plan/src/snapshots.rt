@@ -75,7 +75,7 @@ impl<A: Allocator + Clone> Plan<A> {
         }
     }
 
-    /// It was found that at this moment none is ready. That is known until a lease ends that was counted on.
+    /// It was found that at this moment none is ready. That is known until then, unless a change may make one ready.
     pub fn note_all_wait(&mut self, moment: u64)
         requires { WaitAt self.old.logged self.old.snapshots moment }
         ensures { self.new ≡ self.old }

@@ -11,7 +11,7 @@ use std::fmt;
 /// Why a change was not made.
 #[derive(Clone, Copy, Debug, PartialEq, Eq)]
 pub enum ChangeFault {
-    /// The log didn't take its record, and the state is as it was.
+    /// The log failed as its record was appended, and the state is as it was.
     Log(OperationLogFault),
     /// Its record is in the log, and the state could not follow: it is of no further use.
     Replay(ReplayFault),

@@ -19,8 +19,8 @@ use std::alloc::Allocator;
 // The last moment, at which no lease is held.
 const LAST: Moment = Moment(u64::MAX);
 
-/// The replay of a Snapshot: each name at the source or below it is copied, and its file's chunks are shared. Damaged: a text is no
-/// path, a copied file isn't there, or a counter is at its limit.
+/// The replay of a Snapshot: each name at the source or below it is copied, and its file's chunks are shared. Damaged: a text or
+/// the name of a copy is no path, a copied file isn't there, or a counter is at its limit.
 #[tactic(auto, using(crate::proofs::Taken::refuted))]
 pub fn replay_snapshot<A: Allocator + Clone>(
     state: &mut State<A>,

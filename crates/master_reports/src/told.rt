@@ -50,7 +50,7 @@ pub fn takes_cloned<A: Allocator + Clone>(
     holds_now(plan, server, handle, version)
 }
 
-/// A Revoked ends the lease at the master. Takes no memory.
+/// A Revoked of the last lease's primary ends it at the master. Takes no memory.
 pub fn takes_revoked<A: Allocator + Clone>(
     plan: &mut Plan<A>,
     server: ServerId,

@@ -19,7 +19,7 @@ use snapshot::plan::{SnapshotPlan, plan};
 use std::alloc::Allocator;
 
 impl<A: Allocator + Clone> State<A> {
-    /// What a snapshot of `from` at `to` is about. Damaged: the name of a copy would be too long.
+    /// What a snapshot of `from` at `to` is about. Damaged: the name of a copy would be no path.
     #[tactic(auto, using(crate::proofs::SharedFiles::same_files, crate::proofs::SharedFiles::same_chunks))]
     pub fn plan_snapshot(&self, from: &Path, to: &Path) -> Result<SnapshotPlan, ReplayFault>
         ensures copies { IfOk result (λ p. p.copies ≡ copied_entries self.now.names from.now to.now) }

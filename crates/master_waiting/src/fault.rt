@@ -17,7 +17,7 @@ pub enum PlanFault {
     NoMemory,
     /// A counter is at its limit. A step that is taken has room for more orders and files than lie in memory, so this is an opening's alone.
     Limit,
-    /// A record doesn't follow the state, which no lawful master comes to.
+    /// A record doesn't follow the state, which no lawful master comes to; or an opening can't read its log.
     Damaged,
 }
 

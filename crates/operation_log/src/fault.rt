@@ -20,7 +20,7 @@ pub enum OperationLogFault {
     NoMemory,
     /// The disk failed.
     Device,
-    /// What stands on the disk is no log.
+    /// What stands on the disk, or would stand there, is no log; or a new log's disk has one.
     Damaged,
 }
 

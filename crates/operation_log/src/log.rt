@@ -29,7 +29,7 @@ pub trait OperationLog {
     /// The bytes of the log's disk.
     ghost log_bytes: { Self → ℕ };
 
-    /// It has been opened, and its disk hasn't failed since. One that isn't open answers `Device` to each call that needs its disk, until it is opened again.
+    /// It has been opened, and no change has failed since. One that isn't open answers `Device` to each call that needs its disk, until it is opened again.
     ghost is_open: { Self → Bool };
 
     /// How often its disk has failed since it began.

@@ -44,7 +44,7 @@ fn close_if_open<D: Disk>(disk: &mut D, gate: usize) -> Result<(), DiskFault>
 
 /// Writes a checkpoint into the other area: its items take the place of the volume's items and records. At `Ok` they have, for good.
 ///
-/// `Full`: it has no room, or the areas' numbers have come to an end. `NoMemory`: an allocator refused what the call needs. Both leave the volume as it was. `Device`: the disk failed in this call; the volume is open no more, and its disk holds the items and records from before, or the new items alone.
+/// `Full`: it has no room, or the areas' numbers have come to an end. `NoMemory`: an allocator refused what the call needs. Both leave what the volume says. `Device`: the disk failed in this call; the volume is open no more, and its disk holds the items and records from before, or the new items alone.
 pub fn checkpoint<D: Disk>(
     volume: &mut LogVolume<D>,
     alloc: Global,

@@ -13,7 +13,7 @@ use thiserror::Error;
 /// Why a call of the log failed.
 #[derive(Clone, Copy, Debug, PartialEq, Eq, Error)]
 pub enum LogFault {
-    /// There is no room, and nothing changed.
+    /// There is no room, or no area has a number left, and nothing changed.
     #[error("log full")]
     Full,
     /// What stands on the disk is no log.
@@ -22,7 +22,7 @@ pub enum LogFault {
     /// The disk failed. After a change the log is open no more: open its disk again.
     #[error("disk failed")]
     Device,
-    /// Memory was refused. After a change nothing changed.
+    /// Memory was refused. After a change the log says what it said.
     #[error("no memory")]
     NoMemory,
 }

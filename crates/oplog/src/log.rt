@@ -40,7 +40,7 @@ pub struct Log<D: Disk> {
     volume: LogVolume<D>,
     items: CountedRecords,
     records: CountedRecords,
-    // The disk hasn't failed since the log was opened.
+    // No change has failed on the disk since the log was opened.
     is_open: bool,
 }
 
@@ -179,7 +179,7 @@ impl<D: Disk> Log<D> {
 
     /// Appends a record. At `Ok` it is on the disk for good.
     ///
-    /// `Full`: it has no room. `NoMemory`: an allocator refused what the call needs. Both leave the log as it was. `Device`: the disk failed in this call; the log is open no more, and its disk holds the records from before, with the new one or without.
+    /// `Full`: it has no room. `NoMemory`: an allocator refused what the call needs. Both leave what the log says. `Device`: the disk failed in this call; the log is open no more, and its disk holds the records from before, with the new one or without.
     pub fn append(&mut self, alloc: Global, logged: &Record) -> Result<(), LogFault>
         requires writable { IsWritable logged.now }
         requires no_item { is_item logged.now ≡ false }
@@ -212,7 +212,7 @@ impl<D: Disk> Log<D> {
 
     /// Writes a checkpoint: its items take the place of the log's items and records. At `Ok` they have, for good.
     ///
-    /// `Full`: it has no room, or the areas' numbers have come to an end. `NoMemory`: an allocator refused what the call needs. Both leave the log as it was. `Device`: the disk failed in this call; the log is open no more, and its disk holds the items and records from before, or the new items alone.
+    /// `Full`: it has no room, or the areas' numbers have come to an end. `NoMemory`: an allocator refused what the call needs. Both leave what the log says. `Device`: the disk failed in this call; the log is open no more, and its disk holds the items and records from before, or the new items alone.
     pub fn checkpoint(&mut self, alloc: Global, items: &[Record]) -> Result<(), LogFault>
         requires writable { AllByRecursion IsWritable items.now }
         requires order { is_checkpoint items.now ≡ true }

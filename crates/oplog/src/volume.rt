@@ -123,7 +123,7 @@ impl<D: Disk> LogVolume<D> {
 
     /// Appends a record. At `Ok` it is on the disk for good.
     ///
-    /// `Full`: it has no room. `NoMemory`: an allocator refused what the call needs. Both leave the volume as it was. `Device`: the disk failed in this call; the volume is open no more, and its disk holds the records from before, with the new one or without.
+    /// `Full`: it has no room. `NoMemory`: an allocator refused what the call needs. Both leave what the volume says. `Device`: the disk failed in this call; the volume is open no more, and its disk holds the records from before, with the new one or without.
     pub fn append(&mut self, alloc: Global, logged: &Record) -> Result<(), LogFault>
         requires writable { IsWritable logged.now }
         requires no_item { is_item logged.now ≡ false }

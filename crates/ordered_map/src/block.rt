@@ -134,7 +134,7 @@ impl<V> Block<V> {
     }
 }
 
-/// Makes room for one more value, and for a quarter of those that are there, up to a whole block.
+/// Makes room for a quarter more values, and for one at least, up to a whole block.
 fn make_room<V>(values: &mut Vec<V>) -> Result<(), AllocError>
     ensures { values.new.items ≡ values.old.items }
 {

@@ -141,7 +141,7 @@ impl<V> Leaf<V> {
     }
 }
 
-/// Makes room for one more entry, and for a quarter of those that are there, up to a whole leaf.
+/// Makes room for a quarter more entries, and for one at least, up to a whole leaf.
 fn make_room<V>(entries: &mut Vec<(u64, V)>) -> Result<(), AllocError>
     ensures { entries.new.items ≡ entries.old.items }
 {

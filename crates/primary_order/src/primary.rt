@@ -74,7 +74,7 @@ impl Primary {
         self.was_used_since_report
     }
 
-    /// What an attempt with this number is answered. None: the number is greater than the client's last one under this lease.
+    /// What an attempt with this number is answered. None: the client has no number so great under this lease.
     /// Takes no memory.
     pub fn known(&self, client: ClientId, seq: u64) -> Option<Accept>
         ensures answer { result ≡ known self.now client seq }

@@ -14,9 +14,9 @@ use std::fmt;
 pub enum ReplicaStoreFault {
     /// An allocator refused what the call needs.
     NoMemory,
-    /// A call of the disk failed.
+    /// A call of the disk failed, or the disk isn't fit or has to be opened again.
     DiskFailed,
-    /// A place past the last one, or a replica more, than the store can have.
+    /// A place past the last one, or a replica more, than the store can have; or a change that can't be made.
     NoRoom,
     /// What stands on the disk is no store of this layout. An opening's alone.
     Damaged,

@@ -72,7 +72,7 @@ pub trait ReplicaStore {
         ensures open { is_open self.new ≡ is_open self.old }
         ensures cause { HasCause (is_open self.old) (failed self.old) (failed self.new) result };
 
-    /// Whether every block of the replica matches its digest. False where there is no such replica.
+    /// Whether every block of the replica's bytes matches its digest. False where there is no such replica.
     fn is_copyable(&mut self, handle: Handle) -> Result<bool, ReplicaStoreFault>
         requires { under_way self.old ≡ [] }
         ensures disk { disk self.new ≡ disk self.old }

@@ -128,8 +128,8 @@ impl<D: Disk + Drop> Server<D> {
         self.chunkserver.stop();
     }
 
-    /// A byte of a replica becomes another on the disk, past its digest; nothing happens where there is no such replica. Where its disk
-    /// fails under that, or memory is refused, it goes down.
+    /// A byte of a replica becomes another on the disk, past its digest; nothing happens where there is no such replica. Where the
+    /// change fails, it goes down.
     pub fn rot(&mut self, handle: Handle, place: u64, byte: u8)
         requires { self.old.state.up ≡ true }
         ensures { ServerRots self.old.state handle.0 place byte self.new.state }

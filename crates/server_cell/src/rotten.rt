@@ -8,7 +8,7 @@ use gfs_types::ids::Handle;
 use replica_store::store::ReplicaStore;
 use server_handlers::server::Server;
 
-// Where the disk fails under it, or memory is refused, the server stops, and the change is under way.
+// Where the change fails, the server stops, and the change is under way.
 pub(crate) fn rots<S: ReplicaStore>(server: &mut Server<S>, handle: Handle, place: u64, byte: u8)
     requires { server.old.state.under_way ≡ [] }
     ensures { IsRotten server.old.state (Rot handle place byte) server.new.state }

@@ -140,8 +140,8 @@ impl ServerSlot {
         server.stop();
     }
 
-    /// A byte of a replica becomes another on the disk, past its digest; nothing happens where there is no such replica. Where the disk fails
-    /// under that, or memory is refused, the server goes down.
+    /// A byte of a replica becomes another on the disk, past its digest; nothing happens where there is no such replica. Where the change
+    /// fails, the server goes down.
     pub fn rot(&mut self, handle: Handle, place: u64, byte: u8)
         requires { self.old.up ≡ true }
         ensures { ServerRots self.old handle.0 place byte self.new }

@@ -155,7 +155,7 @@ impl<S: ReplicaStore> Server<S> {
         self.acknowledges(effects, handle, server, serial)
     }
 
-    /// A Nacked: the member's refusal is handed to the client.
+    /// A Nacked: the member's refusal is handed to the client that waits, while the lease counts.
     pub fn takes_nacked(
         &mut self,
         effects: &mut ServerEffects,

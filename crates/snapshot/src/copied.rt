@@ -15,7 +15,7 @@ use path_trie::parts::is_at_or_below;
 use std::alloc::{Allocator, Global};
 
 /// What a copy of `from` at `to` adds, in the order of the paths, each file still under the id that it is copied from. A name may be no
-/// path, where it is too long.
+/// path.
 pub fn copied_names<A: Allocator + Clone>(
     alloc: Global,
     names: &Namespace<A>,

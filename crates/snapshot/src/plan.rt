@@ -56,7 +56,7 @@ impl SnapshotPlan {
     }
 }
 
-/// What a snapshot of `src` at `dst` is about: all that stands at `src` and below it. BadPath: the name of a copy would be too long.
+/// What a snapshot of `src` at `dst` is about: all that stands at `src` and below it. BadPath: the name of a copy would be no path.
 /// Goes over all names.
 pub fn plan<A: Allocator + Clone>(
     alloc: Global,

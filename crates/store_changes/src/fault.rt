@@ -26,10 +26,10 @@ pub enum StoreFault {
     /// Each slot is used, and nothing changed.
     #[error("no free slot")]
     NoRoom,
-    /// The disk failed. The store is open no more: open its disk again.
+    /// The disk failed. After a change the disk is to be opened again.
     #[error("disk failed")]
     Device,
-    /// Memory was refused. The store is open no more: open its disk again.
+    /// Memory was refused. After a change the disk is to be opened again.
     #[error("no memory")]
     NoMemory,
 }

@@ -36,7 +36,7 @@ fn row_after(row: Row, serial: Serial, end: u64) -> Row
     }
 }
 
-// What is written; `None` where a block of which a part stays doesn't match its digest.
+// What is written; `None` where a part of a block stays, and the first or the last block doesn't match its digest.
 fn checked_ranges<D: Disk>(
     alloc: Global,
     disk: &mut D,
@@ -74,7 +74,7 @@ fn checked_ranges<D: Disk>(
     Ok(Some(ranges))
 }
 
-/// Puts these bytes into a replica, as the mutation of this serial. `false`: the first or the last block of the range, of which a part would stay, doesn't match its digest, and nothing has changed.
+/// Puts these bytes into a replica, as the mutation of this serial. `false`: a part of a block would stay, and the first or the last block of the range doesn't match its digest; nothing has changed.
 ///
 /// A stop at any moment, and an error, leave a disk with the replica before the mutation or after it. After an error the disk is to be opened again.
 pub fn write<D: Disk>(

@@ -40,7 +40,7 @@ pub struct DiskLog<D: Disk> {
     alloc: Global,
     log: Log<D>,
     log_bytes: u64,
-    // while the log is read after an opening: its area's bytes
+    // while the log is read: its area's bytes
     walk: Option<Walk>,
     writing: Vec<Record>,
     // the bytes of an area that the log takes
