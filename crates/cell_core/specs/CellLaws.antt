@@ -37,7 +37,7 @@ HasOneLasting h =
 abbrev pub HasTreeOfNames : HeldCell → Type 0
 HasTreeOfNames h = IsTrue h.master.up → IsTree h.master.logged.names
 
--- The log, replayed, has the names, files and chunks of a master that is up, but for the ends of leases and for copies under way (section 2.6.3).
+-- The log, replayed, has the names, files and chunks of a master that is up, but for the ends of leases, for shapes and for copies under way (section 2.6.3).
 pub record IsReplayed (h : HeldCell) : Type 0 where
   pub names : HaveSameNames h.master.logged (replayed h.master.disk)
   pub files : h.master.logged.table.files ≡ (replayed h.master.disk).table.files

@@ -49,7 +49,7 @@ RebasesAsMachine old moment new =
     (config : Config) (servers clients : ℕ) (w : WorldState) (earlier : List Message) → IsReached config servers clients w → StandsFor w earlier old
     → (next : WorldState) × WorldRuns w (restart_events (server_count old) moment) [] next × StandsFor next next.sent new × IsMachineRun config next
 
--- What users rely on: in each such world a run that explains it keeps all promises, in the words of the calls and answers so far.
+-- What users rely on: under the same conditions a run that explains such a world keeps all promises, in the words of the calls and answers so far.
 abbrev pub ArePromisesKept : HeldCell → Type 0
 ArePromisesKept h =
     (config : Config) (servers clients : ℕ) (w : WorldState) (earlier : List Message) → IsReached config servers clients w → StandsFor w earlier h

@@ -15,7 +15,7 @@ use Rattle.protocol.specs.Conforms.{IsLeftAs}
 use Rattle.cell_world.specs.Kept.{blank_placed}
 use Rattle.cell_world.specs.Seeing.{orders_seen}
 
--- No code holds the trace, or whether clocks and disks kept what is asked of them. Of the moments that passed it holds the greatest, and of the mutations that were seen which places they cover.
+-- It holds neither the trace, nor whether clocks and disks kept what is asked of them. Of the moments that passed it holds the greatest, and of the mutations that were seen which places they cover.
 pub record HeldCell : Type 0 where
   pub config : Config
   pub master : MasterState
@@ -26,7 +26,7 @@ pub record HeldCell : Type 0 where
   pub seen : List Seen
   pub greatest : ℕ
 
--- orders that are the same but for the bytes of mutations, and whose they are
+-- orders that are the same but for what mutations are besides the places that they cover, and whose they are
 abbrev pub AreHeldAs : Table (List Placed) → Table (List Placed) → Type 0
 AreHeldAs orders held = (handle : ℕ) → map blank_placed (placed_in orders handle) ≡ map blank_placed (placed_in held handle)
 

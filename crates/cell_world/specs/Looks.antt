@@ -16,7 +16,7 @@ use Rattle.protocol.specs.World.{numbered_from_1}
 use Rattle.cell_world.specs.FileNames.{file_in}
 use Rattle.cell_world.specs.Held.{HeldCell}
 
--- the file of a name
+-- the file of a name, while the master is up
 abbrev pub file_held : HeldCell → Path → Option FileId
 file_held h path = option_map file_id (file_in h.master path)
 

@@ -93,7 +93,7 @@ IsClients x = IsNoAskIn x.body ⊎ ((client : ℕ) × (x.sender ≡ the_client c
 abbrev pub AsksComeFromClients : Type 0
 AsksComeFromClients = (config : Config) (servers clients : ℕ) (w : WorldState) → IsReached config servers clients w → (place : ℕ) (x : Message) → element_at w.sent place ≡ Some x → IsClients x
 
--- Each chunk that a step of the master adds is asked for, from each machine to which the one beside the world leads. A chunk has at least one byte.
+-- Where clocks are kept, each chunk that a step of the master adds is asked for, from each machine to which the one beside the world leads. A chunk has at least one byte.
 abbrev pub AddedChunksAreAskedFor : Type 0
 AddedChunksAreAskedFor =
     (config : Config) (servers clients : ℕ) (w : WorldState) → IsReached config servers clients w → IsTrue w.observer.are_clocks_kept → IsTrue w.master.up → (ss : List PendingSnapshot) (k : ChunkSides) → IsBeside config w ss k

@@ -40,7 +40,7 @@ IsOfUsed used (body.Bytes number bytes) = number ≤ used
 IsOfUsed used (body.LenIs number count) = number ≤ used
 IsOfUsed used other = Unit {0}
 
--- What is answered a client that is up answers what it asked.
+-- What is answered a client that is up has a number that it used.
 abbrev pub AnswersCarryUsedNumbers : Type 0
 AnswersCarryUsedNumbers =
     (config : Config) (servers clients : ℕ) (w : WorldState) → IsReached config servers clients w → (index : ℕ) (s : ClientState) → element_at w.clients index ≡ Some s → IsTrue s.up

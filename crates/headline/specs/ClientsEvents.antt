@@ -1,4 +1,4 @@
--- Which events are a client's, and what they keep (sections 2.3 and 2.7).
+-- Which events are a client's, and what they keep, where clocks and disks are kept (sections 2.3 and 2.7).
 use Rattle.std.specs.Prelude.{◌≡◌, ◌⊎◌, ℕ, suc, ◌≤◌, List, Some, None, IsTrue, IsFalse}
 use Rattle.gfs_types.specs.declared.config.Config.{Config}
 use Rattle.gfs_types.specs.declared.call.Call.{Call}

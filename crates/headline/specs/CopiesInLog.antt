@@ -4,6 +4,6 @@ use Rattle.gfs_types.specs.declared.config.Config.{Config}
 use Rattle.protocol.specs.World.{WorldState, IsReached}
 use Rattle.laws_machine.specs.MastersEvents.{AreCopiesOver}
 
--- Where clocks are kept, they have no lease.
+-- Where clocks are kept, each of their leases is over.
 abbrev pub CopiesInTheLogAreOver : Type 0
 CopiesInTheLogAreOver = (config : Config) (servers clients : ℕ) (w : WorldState) → IsReached config servers clients w → IsTrue w.observer.are_clocks_kept → AreCopiesOver w

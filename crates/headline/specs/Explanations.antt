@@ -11,7 +11,7 @@ abbrev pub FilesAreSeen : Type 0
 FilesAreSeen =
     (config : Config) (servers clients : ℕ) (w : WorldState) → IsReached config servers clients w → IsTrue w.master.up → w.observer.files ≡ w.master.logged.table.files
 
--- The machine beside a world has a run with the world's calls and answers, and agrees with all that is shown, also while the master is down.
+-- Where clocks and disks are kept, the machine beside a world has a run with the world's calls and answers, and agrees with all that is shown, also while the master is down.
 abbrev pub WholeWorldsAreExplained : Type 0
 WholeWorldsAreExplained =
     (config : Config) (servers clients : ℕ) (w : WorldState) → IsReached config servers clients w → IsTrue (is_kept w) → IsWholeWorld config w

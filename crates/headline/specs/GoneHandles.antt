@@ -46,7 +46,7 @@ ExpireFirst (x ∷ rest) = (IsExpiry x × ExpireFirst rest) ⊎ AreLasting (x �
 abbrev pub ExpiriesComeFirst : Type 0
 ExpiriesComeFirst = (m : MasterState) (moment : ℕ) (i : NodeInput) (refused : List Bool) → ExpireFirst (master_goes m moment i refused).changes
 
--- What goes along the changes of a step stood so in the log before the step, which has the state's files.
+-- Where clocks are kept, what goes along the changes of a step stood so in the log before the step, which has the state's files.
 abbrev pub StepsLetGoWhatStood : Type 0
 StepsLetGoWhatStood =
     (config : Config) (servers clients : ℕ) (w : WorldState) → IsReached config servers clients w → IsTrue w.observer.are_clocks_kept → IsTrue w.master.up

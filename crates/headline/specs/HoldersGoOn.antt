@@ -28,7 +28,7 @@ NewGrantsAreApart =
     → (j : ChunkSides) → IsLogOf (happens w e choice).world.master j.log → AreChunksAlike j
     → (client file : ℕ) (l : Location) → IsTold w.sent client file l → (version : ℕ) → IsToldVersion l version → AreGrantsApart w (happens w e choice).world j l.handle.0 version (record { file = file; index = l.index })
 
--- Holders that were told may go on over each event after which chunks are alike again, where rounds ended only of chunks whose leases are over, the machine left the orders of the chunks that there were, and no handle is used again.
+-- Where clocks are kept, holders that were told may go on over each event after which chunks are alike again, where rounds ended only of chunks whose leases are over, the machine left the orders of the chunks that there were, and no handle is used again.
 abbrev pub HoldersGoOn : Type 0
 HoldersGoOn =
     (config : Config) (servers clients : ℕ) (w : WorldState) → IsReached config servers clients w → (e : Event) (choice : Choice) → IsTrue (happens w e choice).world.observer.are_clocks_kept

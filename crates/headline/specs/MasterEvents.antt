@@ -1,4 +1,4 @@
--- The whole machine stays beside the world at an event of the master: a step that goes through, that is lost, that stops or that its limits refuse; a restart; and where it is down (sections 2.4, 2.6.3, 3.1, 3.4 and 4.1).
+-- Where clocks and disks are kept, the whole machine stays beside the world at an event of the master: a step that goes through, that is lost, that stops or that its limits refuse; a restart; and where it is down (sections 2.4, 2.6.3, 3.1, 3.4 and 4.1).
 use Rattle.std.specs.Prelude.{◌≡◌, ℕ, ◌<◌, ◌≤◌, List, IsTrue}
 use Rattle.gfs_types.specs.declared.config.Config.{Config}
 use Rattle.messages.specs.declared.event.Event.{Event}

@@ -26,7 +26,7 @@ RequestsStayOfCalls =
     → LeadsTo k.machine n → IsRunTo config (happens w e choice).world.observer.trace n → AreFileClients (happens w e choice).world.clients n
     → AreRequestsOfCalls config (happens w e choice).world n
 
--- And the tries stay numbered, where the machine places only what is numbered.
+-- And, where clocks are kept, the tries stay numbered, where the machine places only what is numbered.
 abbrev pub EventsKeepRequestsNumbered : Type 0
 EventsKeepRequestsNumbered =
     (config : Config) (w : WorldState) → IsTrue w.observer.are_clocks_kept → (e : Event) (choice : Choice) → RequestsStayNumbered config w (happens w e choice).world

@@ -16,7 +16,7 @@ use Rattle.laws_machine.specs.Tries.{places_nothing, HasNoMoreTries, AddsNumbere
 abbrev pub QuietActionsAddNoTries : Type 0
 QuietActionsAddNoTries = (m : Machine) (actions : List Action) → IsLawful m actions → IsTrue (list_all places_nothing actions) → HasNoMoreTries m (after_all m actions)
 
--- At each event the tries stay numbered, where nothing takes a place, or what a server numbers.
+-- Where clocks are kept, at each event the tries stay numbered, where nothing takes a place, or what a server numbers.
 abbrev pub TriesStayNumbered : Type 0
 TriesStayNumbered =
     (config : Config) (w : WorldState) (e : Event) (choice : Choice) → IsTrue w.observer.are_clocks_kept → (k : ChunkSides) → AreChunksBeside config w k → AreRequestsOfCalls config w k.machine → AreTriesNumbered w k.machine

@@ -12,7 +12,7 @@ use Rattle.laws_machine.specs.Rounds.{IsLogOf, IsEnded}
 use Rattle.laws_machine.specs.ServerSteps.{AreGoneOrdersAlike}
 use Rattle.laws_machine.specs.HoldersApart.{IsRoundAt, IsApart}
 
--- What stands in the master's log is apart at its spot, up to each version.
+-- Where clocks are kept, what stands in the master's log is apart at its spot, up to each version.
 abbrev pub LoggedChunksAreApart : Type 0
 LoggedChunksAreApart =
     (config : Config) (servers clients : ℕ) (w : WorldState) → IsReached config servers clients w → IsTrue w.observer.are_clocks_kept
@@ -27,7 +27,7 @@ abbrev pub AreGrantsApart : WorldState → WorldState → ChunkSides → (handle
 AreGrantsApart w then_ j handle version s =
     (other round : ℕ) (t : Spot) → IsNewGrant w then_ other round → round ≤ version → IsRoundAt j other round t → IsLeaseOver then_ other round ⊎ ((other ≡ handle → t ≡ s) × (t ≡ s → other ≡ handle))
 
--- Whatever handle and spot were apart are so after an event, where the rounds that were granted in it are apart: each other round that is open and not over was open before at its spot.
+-- Where clocks are kept, whatever handle and spot were apart are so after an event, where the rounds that were granted in it are apart: each other round that is open and not over was open before at its spot.
 abbrev pub RoundsStayApart : Type 0
 RoundsStayApart =
     (config : Config) (servers clients : ℕ) (w : WorldState) → IsReached config servers clients w → (e : Event) (choice : Choice) → IsTrue (happens w e choice).world.observer.are_clocks_kept

@@ -24,7 +24,7 @@ pub record AnswersAppend (w : WorldState) (index moment : ℕ) (s : ClientState)
   pub append : is_append current.asked ≡ true
   pub answered : (client_step s moment i choice).out.answer ≡ Some (answer.At offset)
 
--- data of this client have a settled entry, at this place of the file, as the client was told which chunk of the file it is
+-- data of this client have a settled entry in some chunk, at a place that at some index makes this place of the file
 pub record IsPlaceOfEntry (w : WorldState) (size client offset : ℕ) : Type 0 where
   pub id : DataId
   pub client_is : id.client.0 ≡ client
@@ -35,7 +35,7 @@ pub record IsPlaceOfEntry (w : WorldState) (size client offset : ℕ) : Type 0 w
   pub round : ℕ
   pub entry : HasSettledEntry w.observer handle round id place
 
--- The place that an append is answered has a settled entry (sections 2.7.1 and 3.3).
+-- The place that an append is answered has a settled entry in some chunk (sections 2.7.1 and 3.3).
 abbrev pub AnsweredAppendsHaveEntries : Type 0
 AnsweredAppendsHaveEntries =
     (config : Config) (servers clients : ℕ) (w : WorldState) → IsReached config servers clients w

@@ -16,7 +16,7 @@ pub record IsTry (start : WorldState) (steps : List (Event × Choice)) (handle i
   pub asked : WasAsked index start steps made part placed.seq
   pub counts : Counts (after_events start steps).sent index part placed.seq
 
--- A part of a call gets at most as many entries in a chunk's order as its client has attempts.
+-- A part of a call gets at most as many entries by attempts that count in a chunk's order as its client has attempts.
 abbrev pub AttemptsBoundEntries : Type 0
 AttemptsBoundEntries =
     (config : Config) (servers clients : ℕ) (steps : List (Event × Choice)) (handle index made : ℕ) (part : Option ℕ) (places : List ℕ) → AreApart places

@@ -19,7 +19,7 @@ bytes_in (mutation.Write offset bytes) = Some bytes
 bytes_in (mutation.Append offset bytes) = Some bytes
 bytes_in (mutation.Pad offset end) = None
 
--- these bytes have a settled entry of this client, at this place of the file
+-- these bytes have a settled entry of this client in some chunk, at a place that at some index makes this place of the file
 pub record IsPlaceOfBytes (w : WorldState) (size client offset : ℕ) (bytes : List ℕ) : Type 0 where
   pub id : DataId
   pub client_is : id.client.0 ≡ client
@@ -31,7 +31,7 @@ pub record IsPlaceOfBytes (w : WorldState) (size client offset : ℕ) (bytes : L
   pub entry : HasSettledEntry w.observer handle round id place
   pub bytes_are : bytes_in entry.placed.entry.mutation ≡ Some bytes
 
--- The place that an append is answered has a settled entry with the bytes of the call (sections 2.7.1 and 3.3).
+-- The place that an append is answered has a settled entry in some chunk with the bytes of the call (sections 2.7.1 and 3.3).
 abbrev pub AnsweredAppendsHaveTheirBytes : Type 0
 AnsweredAppendsHaveTheirBytes =
     (config : Config) (servers clients : ℕ) (w : WorldState) → IsReached config servers clients w

@@ -34,7 +34,7 @@ pub record IsPushed (sent : List Message) (id : DataId) (bytes : List ℕ) : Typ
   pub sender_is : push.sender ≡ the_client id.client.0
   pub body_is : push.body ≡ body.Push id bytes rest
 
--- what may be placed of these data for a target: they, or a pad where the record doesn't fit
+-- what may be placed of these data for a target: they, or for a record a pad
 abbrev pub IsPlacedFor : Target → List ℕ → Mutation → Type 0
 IsPlacedFor (target.Write at) bytes (mutation.Write offset written) = (offset ≡ at) × (written ≡ bytes)
 IsPlacedFor target.Append bytes (mutation.Append offset written) = written ≡ bytes

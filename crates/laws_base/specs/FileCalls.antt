@@ -1,4 +1,4 @@
--- A client's step by what its open call is of: calls on files leave descriptors and names, and a name call asks for itself (sections 2.4, 2.7.1 and 2.7.2).
+-- A client's step by what its open call is of: calls on files open no descriptor and ask for no name, and a name call asks for itself (sections 2.4, 2.7.1 and 2.7.2).
 use Rattle.std.specs.Prelude.{◌≡◌, ℕ, max, Option, Some, None, IsTrue, IsFalse}
 use Rattle.gfs_types.specs.declared.call.Call.{Call}
 use Rattle.gfs_types.specs.declared.answer.Answer.{Answer}

@@ -144,7 +144,7 @@ LastingLeasesAreOfTheMaster =
     → (index handle : ℕ) (p : SerialOrder) → HoldsLastingLease w index handle p → (row : ChunkRow) → chunk_of w.master.logged.table handle ≡ Some row
     → (p.held.version ≡ row.granted) × (suc index ≡ row.primary) × (p.held.until ≤ row.lease_end)
 
--- So is it in the log of a master, also of one that is down (section 3.1).
+-- In the log too, also of a master that is down, it is of that version and that primary (section 3.1).
 abbrev pub LastingLeasesAreInTheLog : Type 0
 LastingLeasesAreInTheLog =
     (config : Config) (servers clients : ℕ) (w : WorldState) → IsReached config servers clients w → IsTrue w.observer.are_clocks_kept
@@ -240,7 +240,7 @@ ChunksHaveTheirFilesShapes =
     (config : Config) (servers clients : ℕ) (w : WorldState) → IsReached config servers clients w → IsTrue w.master.up
     → HaveFilesShapes w.master.logged × HaveFilesShapes (replayed w.master.disk)
 
--- The log, replayed, tells the shape of each file of a master that is up, as it is there; no chunk of a file has fewer than 64 bytes (sections 2.3 and 2.6.3).
+-- The log, replayed, tells the shape of each file of a master that is up, as it is there; no file's chunks have fewer than 64 bytes (sections 2.3 and 2.6.3).
 abbrev pub LogHasTheShapes : Type 0
 LogHasTheShapes =
     (config : Config) (servers clients : ℕ) (w : WorldState) → IsReached config servers clients w → IsTrue w.master.up

@@ -20,7 +20,7 @@ use Rattle.protocol.specs.World.{WorldState, Happened, new_world, after_server, 
 use Rattle.laws_base.specs.Entries.{IsAmong, IsPushed}
 use Rattle.laws_base.specs.AnsweredAttempts.{IsAnswerTo}
 
--- In this event a server takes the Mutate of these data, as the primary of the chunk under the version that it names.
+-- In this event a server takes a step, as the primary of the chunk under the version that a Mutate of these data names.
 pub record IsTakenNow (w : WorldState) (x : Happened) (id : DataId) : Type 0 where
   pub index : ℕ
   pub moment : ℕ
@@ -44,7 +44,7 @@ abbrev pub WasTaken : WorldState → List (Event × Choice) → DataId → Type 
 WasTaken w [] id = ⊥
 WasTaken w (step ∷ rest) id = IsTakenNow w (happens w step.0 step.1) id ⊎ WasTaken (happens w step.0 step.1).world rest id
 
--- A Done of a client's data, or a refusal by which the attempt is over, is sent only where a server took the Mutate under a lease of the version that it names, which counted (sections 3.1 and 3.3).
+-- A Done of a client's data, or a refusal by which the attempt is over, is sent only where a server took a step under a lease of the version that the Mutate names, which counted (sections 3.1 and 3.3).
 abbrev pub AnswersAreGivenUnderLeases : Type 0
 AnswersAreGivenUnderLeases =
     (config : Config) (servers clients : ℕ) (steps : List (Event × Choice)) (place server : ℕ) (m : Message) → element_at (after_events (new_world config servers clients) steps).sent place ≡ Some m → m.sender ≡ the_server server

@@ -28,7 +28,7 @@ IsLaterRequest s (body.Push id bytes rest) = s.number < id.seq
 IsLaterRequest s (body.Mutate id handle version target deadline) = (s.number < id.seq) ⊎ (waited_data s.current ≡ Some id.seq)
 IsLaterRequest s other = Unit {0}
 
--- What a client sends from now on has a number that it has not used yet, but for the Mutate of the data for which it waits. So the numbers of a call are above the one at which it began (section 3.1).
+-- What a client sends from now on, names aside, has a number that it has not used yet, but for the Mutate of the data for which it waits. So the numbers of a call are above the one at which it began (section 3.1).
 abbrev pub LaterRequestsHaveLaterNumbers : Type 0
 LaterRequestsHaveLaterNumbers =
     (config : Config) (servers clients : ℕ) (w : WorldState) → IsReached config servers clients w → (steps : List (Event × Choice))

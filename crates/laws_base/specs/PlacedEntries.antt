@@ -16,7 +16,7 @@ LiesWithin size (Write offset bytes) = offset + length bytes ≤ size
 LiesWithin size (Append offset bytes) = offset + length bytes ≤ size
 LiesWithin size (Pad offset end) = (offset < size) × (end ≡ size)
 
--- Each entry of a chunk's order lies within the chunk, of the size that a Grant of its round told, and within a slot; the entries of a copy were placed in the chunk that was copied (sections 2.3, 3.3 and 3.4).
+-- Each entry of a chunk's order lies within a size that a Grant of its round told, of whichever chunk, and within a slot (sections 2.3, 3.3 and 3.4).
 abbrev pub EntriesLieWithinTheChunk : Type 0
 EntriesLieWithinTheChunk =
     (config : Config) (servers clients : ℕ) (steps : List (Event × Choice)) (handle place : ℕ) (p : Placed)

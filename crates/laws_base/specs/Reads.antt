@@ -82,7 +82,7 @@ IsTrueOf disk row chunk_size c chunk (body.Bytes n bytes) =
 IsTrueOf disk row chunk_size c chunk (body.LenIs n count) = IsTrue (is_length c.asked) × (row.count ≡ count)
 IsTrueOf disk row chunk_size c chunk other = ⊥
 
--- In a step of the list the server that was asked sent this answer; the client had sent the request and waited in the same call, and what the answer says was so at the server, under the told version.
+-- In a step of the list this answer was sent; the client had sent the request and waited in the same call, and what the answer says was so at the server that was asked, under the told version.
 pub record WasSo (start : WorldState) (steps : List (Event × Choice)) (index chunk_size : ℕ) (c : CurrentCall) (chunk : ToldChunk) (holder : Holder) (request : Message) (place : ℕ) (answer : Message) : Type 0 where
   pub before : List (Event × Choice)
   pub step : Event × Choice

@@ -18,7 +18,7 @@ IsNumberedIn (Numbered h version n id m ∷ rest) handle serial = ((h.0 ≡ hand
 IsNumberedIn (BecameSettled h version n ∷ rest) handle serial = IsNumberedIn rest handle serial
 IsNumberedIn (CopyStarted h copy ∷ rest) handle serial = IsNumberedIn rest handle serial
 
--- How a replica that stays is changed by a step that showed this: it has no fewer bytes, and is the same, or raised to a version with serial 0, or written to under a later serial, or under one that was given just now.
+-- How a replica that stays is changed by a step that showed this: it has no fewer bytes, and is the same, or has its bytes under some version with serial 0, or is written to under a later serial, or under one that was given just now.
 abbrev pub IsChangedBy : List Seen → ℕ → Replica → Replica → Type 0
 IsChangedBy seen handle r now =
     (r.count ≤ now.count)

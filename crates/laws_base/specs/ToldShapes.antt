@@ -27,7 +27,7 @@ OpenedShapesAreLogged =
 abbrev pub IsShapeIn : Logged → ℕ → Shape → Type 0
 IsShapeIn l handle shape = ((row : ChunkRow) × (chunk_of l.table handle ≡ Some row) × (row.shape ≡ shape)) ⊎ ((l.next_handle ≤ handle) × (file : ℕ) × (shape ≡ shape_of l.table file))
 
--- Where a chunk is, is told with the chunk's shape, or with that of a file to which it is added in this step (section 2.3).
+-- Where a chunk is, is told with the chunk's shape, or, where its handle is new, with that of a file (section 2.3).
 abbrev pub ToldShapesAreOfTheirChunks : Type 0
 ToldShapesAreOfTheirChunks =
     (m : MasterState) (moment : ℕ) (i : NodeInput) (choice : Choice) (place : ℕ) (x : Message) → element_at (master_step m moment i choice).out.sent place ≡ Some x

@@ -51,7 +51,7 @@ WaitedMutatesWereSent =
     (config : Config) (servers clients : ℕ) (steps : List (Event × Choice)) (index : ℕ) (s : ClientState) → element_at (after_events (new_world config servers clients) steps).clients index ≡ Some s
     → (chunk : ToldChunk) (number : ℕ) → waited s.current ≡ Some (chunk, number) → HasAskedFor (after_events (new_world config servers clients) steps).sent (suc index) chunk number
 
--- An entry of the number for which a client waits is of the round and the chunk that it noted.
+-- An entry of the number for which a client waits is of the round that it noted, in the chunk that it noted or a copy of it.
 abbrev pub EntriesAreOfTheNotedRound : Type 0
 EntriesAreOfTheNotedRound =
     (config : Config) (servers clients : ℕ) (steps : List (Event × Choice)) (index : ℕ) (s : ClientState) → element_at (after_events (new_world config servers clients) steps).clients index ≡ Some s

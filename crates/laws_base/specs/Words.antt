@@ -17,7 +17,7 @@ HoldAtLeast version (h ∷ rest) = (version ≤ h.version.0) × HoldAtLeast vers
 abbrev pub AreCurrent : Location → Type 0
 AreCurrent l = HoldAtLeast l.round.0 l.holders
 
--- The master alone tells locations, and each holder that it names has the granted version or a later one (section 4.5).
+-- The master alone tells locations, and each holder that it names is told with the told round or a later version (section 4.5).
 abbrev pub LocationsNameCurrentHolders : Type 0
 LocationsNameCurrentHolders =
     (config : Config) (servers clients : ℕ) (w : WorldState) → IsReached config servers clients w

@@ -113,7 +113,7 @@ RoundsAreClosed =
 abbrev pub gone_after : ℕ → List ℕ → (ℕ → Option Spot) → (ℕ → Option Spot)
 gone_after file handles gone handle = first_spot (option_map (λ index. record { file = file; index = index }) (index_in handle handles 0)) (gone handle)
 
--- A file is collected, and keeps its chunks at the machine; of the rounds that are open those stay so whose chunk was the file's alone, or none of its.
+-- A file is collected, and keeps its chunks at the machine; of the rounds that are open those stay so whose chunk stands once at most in files.
 abbrev pub CollectedFilesKeepTheirChunks : Type 0
 CollectedFilesKeepTheirChunks =
     (k : ChunkSides) (file : FileId) (handles : List ℕ) (moment : ℕ)

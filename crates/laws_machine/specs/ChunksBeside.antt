@@ -49,7 +49,7 @@ abbrev pub IsMastersEvent : WorldState → Event → Type 0
 IsMastersEvent w (event.Restart n now) = n ≡ Master
 IsMastersEvent w e = IsMastersStep w e
 
--- At each other event the machine places and settles what was seen, and it is so again; what was numbered is the only try that comes.
+-- Where clocks and disks are kept, at each other event the machine places and settles what was seen, and it is so again; what was numbered is the only try that comes.
 abbrev pub OtherEventsKeepChunksBeside : Type 0
 OtherEventsKeepChunksBeside =
     (config : Config) (servers clients : ℕ) (w : WorldState) → IsReached config servers clients w → IsTrue (is_kept w)
@@ -59,7 +59,7 @@ OtherEventsKeepChunksBeside =
     × AreChunksBeside config (happens w e choice).world (moved k actions k.log k.gone (happens w e choice).world.observer.orders)
     × AddsNumberedTries w (happens w e choice).world k (after_all k.machine actions)
 
--- At an event of the master it is so again, where the machine followed the log: chunks are alike, also of gone handles, rounds ended only of chunks whose leases are over, what was granted has its round open, and holders may go on.
+-- Where clocks are kept, at an event of the master it is so again, where the machine followed the log: chunks are alike, also of gone handles, rounds ended only of chunks whose leases are over, what was granted has its round open, and holders may go on.
 abbrev pub MastersEventsKeepChunksBeside : Type 0
 MastersEventsKeepChunksBeside =
     (config : Config) (servers clients : ℕ) (w : WorldState) → IsReached config servers clients w → (e : Event) (choice : Choice) → IsTrue (happens w e choice).world.observer.are_clocks_kept

@@ -75,7 +75,7 @@ LengthsAreMeasured =
     → Gives m client (Measure client x.file.0 chunk.index chunk.round.0 chunk.round.0 version chosen)
     (λ n p. Contains p.lengths (chunk.index * chunk_size m x.file.0 + image_length (mutations_of chosen)))
 
--- the mutation is what the call asked for in the chunk of this index, at this place if it is an append
+-- the mutation is a write for the part in hand, or an append at this place
 abbrev pub IsOfPart : ℕ → ℕ → ℕ → ℕ → Call → Mutation → Type 0
 IsOfPart size part index place (call.Write fd offset content) mutation = (index ≡ part) × IsWrite mutation
 IsOfPart size part index place (call.Append fd content) mutation = IsWithinPlaces size index place × IsAppendAt place mutation

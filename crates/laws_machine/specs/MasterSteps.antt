@@ -69,7 +69,7 @@ HaveCopiesRows l = (handle : ℕ) → IsCopy l handle → (row : ChunkRow) × (c
 abbrev pub AreCopiesApart : Logged → Type 0
 AreCopiesApart l = (handle : ℕ) → IsCopy l handle → times_in l.table.files handle ≡ 0
 
--- Handles whose rounds may end at a record: of the chunk that is granted and of the source whose place it takes, of the chunks below a snapshot's source, of a collected file's shared chunks.
+-- Handles whose rounds may end at a record: of the chunk that is granted and of the source whose place it takes, of the chunks below a snapshot's source, of shared chunks as a file is collected.
 abbrev pub EndsAt : Logged → Record → ℕ → Type 0
 EndsAt l (log.Snapshot client number from to) ended = StandsIn l (copied_entries l.names from to) ended
 EndsAt l (log.Expired file) ended = 2 ≤ times_in l.table.files ended

@@ -26,7 +26,7 @@ pub record AreOffersSo (w then_ : WorldState) (m : Machine) : Type 0 where
   pub lawful : IsLawful m offers
   pub said : (more : List Message) → then_.sent ≡ w.sent ++ more → AreWordsSo more w.clients (after_all m offers)
 
--- No copy under way in the master's log, however it is decided what of it was under way, has a lease, also one that the master has given up since.
+-- Of each copy under way in the master's log, however it is decided what of it was under way, each lease is over, also of one that the master has given up since.
 abbrev pub AreCopiesOver : WorldState → Type 0
 AreCopiesOver w =
     (decided : List Bool) (handle : ℕ) → IsCopy (log_read (log_changed_by_all w.master.disk (decided_changes decided w.master.under_way))) handle → AreLeasesOver w handle

@@ -1,4 +1,4 @@
--- The rounds that are open at the machine go with the leases: in each world that is reached the round of each lease which isn't over is open, and so the one under which a server numbers a mutation (section 3.1).
+-- Where clocks are kept, the rounds that are open at the machine go with the leases: in each world that is reached the round of each lease which isn't over is open, and so the one under which a server numbers a mutation (section 3.1).
 use Rattle.std.specs.Prelude.{◌≡◌, ◌⊎◌, ℕ, ◌≤◌, Some, IsTrue}
 use Rattle.gfs_types.specs.declared.config.Config.{Config}
 use Rattle.messages.specs.declared.event.Event.{Event}

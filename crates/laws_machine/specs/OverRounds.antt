@@ -1,4 +1,4 @@
--- The rounds that may end in a step of the master are of chunks whose leases are over as its moment has passed (sections 3.1 and 3.4).
+-- Where clocks are kept, the rounds that may end in a step of the master are of chunks whose leases are over as its moment has passed (sections 3.1 and 3.4).
 use Rattle.std.specs.Prelude.{◌≡◌, ◌⊎◌, ℕ, ◌≤◌, nat_le, Some, Bool, List, [], ◌∷◌, IsTrue}
 use Rattle.gfs_types.specs.declared.config.Config.{Config}
 use Rattle.gfs_types.specs.declared.ids.Moment.{Moment}

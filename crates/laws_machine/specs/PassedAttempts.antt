@@ -13,7 +13,7 @@ use Rattle.laws_base.specs.Entries.{IsPushed}
 use Rattle.laws_base.specs.AnsweredAttempts.{IsAnswerTo}
 use Rattle.laws_machine.specs.OpenAttempts.{WasSentFor}
 
--- Where clocks are kept, of two attempts of a client for one place in a file, by locations with different handles, of which a server answered the later one, the earlier one's lease is over (sections 3.1, 3.3 and 3.4).
+-- Where clocks are kept, of two attempts of a client for one place in a file, by locations with granted rounds and different handles, of which a server answered the later one, the earlier one's lease is over (sections 3.1, 3.3 and 3.4).
 abbrev pub PassedAttemptsHaveNoLease : Type 0
 PassedAttemptsHaveNoLease =
     (config : Config) (servers clients : ℕ) (steps : List (Event × Choice)) → IsTrue (after_events (new_world config servers clients) steps).observer.are_clocks_kept

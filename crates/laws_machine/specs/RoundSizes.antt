@@ -20,7 +20,7 @@ IsOpenWithSize k handle version size = (s : Spot) × IsRoundOpen k handle versio
 abbrev pub AreRoundsSized : WorldState → ChunkSides → Type 0
 AreRoundsSized w k = (handle version size : ℕ) → IsSizeGranted w.sent handle version size → IsLeaseOver w handle version ⊎ IsOpenWithSize k handle version size
 
--- From one world to the next it is so again, however the machine goes on, where each round that was granted before stays open at its place or its lease is over, and what is granted anew is so.
+-- Where clocks are kept, from one world to the next it is so again, however the machine goes on, where each round that was granted before stays open at its place or its lease is over, and what is granted anew is so.
 abbrev pub RoundSizesGoOn : Type 0
 RoundSizesGoOn =
     (config : Config) (servers clients : ℕ) (w : WorldState) → IsReached config servers clients w → (e : Event) (choice : Choice) → IsTrue (happens w e choice).world.observer.are_clocks_kept

@@ -1,4 +1,4 @@
--- The machine's open rounds from each world of a cell to the next: which event may end one, and why its lease is over then (sections 3.1 and 3.4).
+-- The machine's open rounds from each world of a cell to the next, where clocks are kept: which event may end one, and why its lease is over then (sections 3.1 and 3.4).
 use Rattle.std.specs.Prelude.{◌≡◌, ◌≢◌, ◌⊎◌, ℕ, ◌<◌, ◌≤◌, Bool, List, [], ◌∷◌, length, Some, IsTrue, IsFalse}
 use Rattle.std.specs.FinMap as table
 use Rattle.gfs_types.specs.declared.config.Config.{Config}
@@ -91,7 +91,7 @@ IsBegun s handle = (moment : ℕ) × (i : NodeInput) × (choice : Choice) × (pl
 abbrev pub IsShared : MasterState → ℕ → Type 0
 IsShared s handle = (l : Logged) × IsLogOf s l × (row : ChunkRow) × (chunk_of l.table handle ≡ Some row) × (2 ≤ row.references)
 
--- The master may end rounds of the chunk between these two states: of a chunk whose version is attempted, which is granted then; of a copy, and of what it copies; and of a chunk that several files own, before or after.
+-- The master may end rounds of the chunk between these two states: of a chunk whose version is attempted; of a copy, and of what it copies; and of a chunk that several files own, before or after.
 abbrev pub MayEnd : MasterState → MasterState → ℕ → Type 0
 MayEnd before after handle = IsTried before handle ⊎ IsCopied before handle ⊎ IsCopy before handle ⊎ IsBegun before handle ⊎ IsShared before handle ⊎ IsShared after handle
 

@@ -88,7 +88,7 @@ pub record HoldersMayGoOn (w then_ : WorldState) (k j : ChunkSides) : Type 0 whe
       → (version : ℕ) → IsToldVersion l version → IsApart (IsLeaseOver w) k l.handle.0 version (record { file = file; index = l.index }) → IsApart (IsLeaseOver then_) j l.handle.0 version (record { file = file; index = l.index })
   pub begun : (client file : ℕ) (l : Location) (t : IsTold then_.sent client file l) → length w.sent ≤ (t.sent_is).0 → IsToldLocation then_ j file l
 
--- Where chunks are alike before an event, what is told in it with a granted round stands there: its handle was used, and stands for the file's chunk up to each version.
+-- Where clocks are kept, and chunks are alike before an event, what is told in it with a granted round stands there: its handle was used, and stands for the file's chunk up to each version.
 abbrev pub ToldChunksStand : Type 0
 ToldChunksStand =
     (config : Config) (servers clients : ℕ) (w : WorldState) → IsReached config servers clients w → (e : Event) (choice : Choice) → IsTrue (happens w e choice).world.observer.are_clocks_kept

@@ -34,14 +34,14 @@ ToldRoundsStayOver =
     (config : Config) (servers clients : ℕ) (w : WorldState) → IsReached config servers clients w → (client file : ℕ) (l : Location) (place : ℕ) → IsToldAt w.sent client file l place
     → IsLeaseOver w l.handle.0 l.round.0 → (steps : List (Event × Choice)) → IsTrue (after_events w steps).observer.are_clocks_kept → IsLeaseOver (after_events w steps) l.handle.0 l.round.0
 
--- From one world to the next told rounds stay so, and what is told anew is so: where chunks are alike, the round of each lease that isn't over is open before, and rounds end only of chunks whose leases are over.
+-- Where clocks are kept, from one world to the next told rounds stay so, and what is told anew is so: where chunks are alike, the round of each lease that isn't over is open before, and rounds end only of chunks whose leases are over.
 abbrev pub ToldRoundsGoOn : Type 0
 ToldRoundsGoOn =
     (config : Config) (servers clients : ℕ) (w : WorldState) → IsReached config servers clients w → (e : Event) (choice : Choice) → IsTrue (happens w e choice).world.observer.are_clocks_kept
     → (k j : ChunkSides) → IsLogOf w.master k.log → AreChunksAlike k → HasRounds (IsLeaseOver w) k → KeepsRounds (IsEnded w (happens w e choice).world) k j
     → AreToldRounds w k → AreToldRounds (happens w e choice).world j
 
--- The round under which a server may number a mutation is open at the place for which a client was told it, and nowhere else.
+-- Where clocks are kept, the round under which a server may number a mutation is open at the place for which a client was told it, and nowhere else.
 abbrev pub CountingRoundsAreOpenWhereTold : Type 0
 CountingRoundsAreOpenWhereTold =
     (config : Config) (servers clients : ℕ) (w : WorldState) → IsReached config servers clients w → IsTrue w.observer.are_clocks_kept

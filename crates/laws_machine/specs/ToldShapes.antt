@@ -32,7 +32,7 @@ pub record AreShapesTold (sent : List Message) (m : Machine) : Type 0 where
 abbrev pub HasMadeFiles : Logged → Machine → Type 0
 HasMadeFiles l m = (file : ℕ) → IsTrue (table.contains_key l.table.files file) → IsMadeWith m file (shape_of l.table file)
 
--- From one world to the next they are so, however the machine goes on, where it has the files of a master that is up, with their shapes.
+-- Where clocks are kept, from one world to the next they are so, however the machine goes on, where it has the files of a master that is up, with their shapes.
 abbrev pub ToldShapesGoOn : Type 0
 ToldShapesGoOn =
     (config : Config) (servers clients : ℕ) (w : WorldState) → IsReached config servers clients w → (e : Event) (choice : Choice) → IsTrue (happens w e choice).world.observer.are_clocks_kept

@@ -23,7 +23,7 @@ abbrev pub places_nothing : Action → Bool
 places_nothing (Place client file index mutation) = false
 places_nothing other = true
 
--- Each chunk of the second has no more tries of a call than a chunk of this index of the first: its own, or that of the file of which it is a copy.
+-- Each chunk of the second has no more tries of a call than some file's chunk of this index of the first.
 abbrev pub HasNoMoreTries : Machine → Machine → Type 0
 HasNoMoreTries m n = (file index : ℕ) → (from : ℕ) × ((id : CallId) → tries_in id (chunk_at n file index) ≤ tries_in id (chunk_at m from index))
 

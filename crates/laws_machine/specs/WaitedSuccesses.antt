@@ -42,7 +42,7 @@ pub record HasTheCall (w : WorldState) (k : ChunkSides) (index : ℕ) (x : Curre
   pub stands : StandsUpTo k x.file.0 chunk.index chunk.handle.0 chunk.round.0
   pub part : IsTrue (has_index x.asked) → chunk.index ≡ x.index
 
--- Where clocks are kept: then the part is settled at the machine.
+-- Where clocks are kept, and the place is within 64 bits: then the part is settled at the machine.
 abbrev pub WaitedSuccessesAreSettled : Type 0
 WaitedSuccessesAreSettled =
     (config : Config) (servers clients : ℕ) (steps : List (Event × Choice)) → IsTrue (after_events (new_world config servers clients) steps).observer.are_clocks_kept

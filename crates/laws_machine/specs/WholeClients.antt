@@ -33,7 +33,7 @@ GivesClient w (event.Deliver number now) index moment i = (m : Message) × (numb
 GivesClient w (event.Tick n now) index moment i = (n ≡ the_client (suc index)) × (i ≡ input.Tick) × (now.0 ≡ moment)
 GivesClient w e index moment i = ⊥
 
--- what the client in this state was sent is so, where it waits for it
+-- what the client in this state was sent, but for a refusal as too long, is so, where it waits for it
 abbrev pub AreOwnWordsSo : List Message → Machine → ℕ → ClientState → Type 0
 AreOwnWordsSo sent m index s = (x : Message) → WasSent sent x → x.receiver ≡ the_client (suc index) → IsFirm x.body → IsSaid m (suc index) s (input.Deliver x)
 
@@ -48,7 +48,7 @@ pub record AreClientsTrue (config : Config) (w then_ : WorldState) (index moment
       → IsFollowed m (suc index) (client_goes s moment i) → (f : IsFollowed m (suc index) (client_goes s moment i)) × AreOwnWordsSo w.sent (after_all m f.actions) index (client_goes s moment i).client
   pub says : (more : List Message) → then_.sent ≡ w.sent ++ more → (m : Machine) → AreWordsSo more then_.clients m
 
--- A step of a client for its open call on a file keeps all so: where it goes on, is answered, or stops.
+-- Where clocks and disks are kept, a step of a client for its open call on a file keeps all so: where it goes on, is answered, or stops.
 abbrev pub FileStepsKeepWorldsWhole : Type 0
 FileStepsKeepWorldsWhole =
     (config : Config) (servers clients : ℕ) (w : WorldState) → IsReached config servers clients w → IsTrue (is_kept w)

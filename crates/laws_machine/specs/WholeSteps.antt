@@ -57,7 +57,7 @@ OnlyAsksAddChunks =
     (m : MasterState) (moment : ℕ) (i : NodeInput) (refused : List Bool) → TakesNoAsk i
     → (first : Machine) (orders : Table (List Placed)) (d : LogDisk) → AreAskedFor first orders d (master_goes m moment i refused).changes
 
--- A step that a master takes, whatever it is: the whole machine follows it, change by change, and the machine by names alone is beside the step in the end.
+-- A step that a master takes, whatever it is, where clocks are kept: the whole machine follows it, change by change, and the machine by names alone is beside the step in the end.
 abbrev pub MasterStepsAreTaken : Type 0
 MasterStepsAreTaken =
     (config : Config) (servers clients : ℕ) (w : WorldState) → IsReached config servers clients w → IsTrue w.observer.are_clocks_kept → IsTrue w.master.up

@@ -32,7 +32,7 @@ use Rattle.laws_machine.specs.Tries.{HasNoMoreTries, AddsNumberedTries}
 use Rattle.laws_machine.specs.ToldShapes.{AreShapesTold}
 use Rattle.laws_machine.specs.RoundSizes.{AreRoundsSized}
 
--- of each client that is up, what it was sent is so, where it waits for it
+-- of each client that is up, what it was sent, but for a refusal as too long, is so, where it waits for it
 abbrev pub AreWordsSo : List Message → List ClientState → Machine → Type 0
 AreWordsSo sent clients m =
     (index : ℕ) (s : ClientState) → element_at clients index ≡ Some s → IsTrue s.up
@@ -108,7 +108,7 @@ pub record AreServersTrue (config : Config) (w then_ : WorldState) : Type 0 wher
   pub answers : (ss : List PendingSnapshot) (k j : ChunkSides) → IsBeside config w ss k → LeadsTo k.machine j.machine → IsRunTo config w.observer.trace j.machine → AreChunksBeside config then_ j
       → AreFileClients w.clients j.machine → AreWordsSo w.sent w.clients j.machine → AreAnswersSo w then_ j.machine
 
--- An event of a server keeps all so.
+-- Where clocks and disks are kept, an event of a server keeps all so.
 abbrev pub ServersEventsKeepWorldsWhole : Type 0
 ServersEventsKeepWorldsWhole =
     (config : Config) (servers clients : ℕ) (w : WorldState) → IsReached config servers clients w → IsTrue (is_kept w)

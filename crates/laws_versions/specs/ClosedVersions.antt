@@ -15,7 +15,7 @@ pub record IsClosed (w : WorldState) (row : ChunkRow) (handle version : ℕ) : T
   pub given_up : (a : VersionAttempt) → table.get w.master.attempts handle ≡ Some a → a.version ≢ version
   pub ended : version ≡ row.granted → row.lease_end ≤ w.observer.greatest
 
--- A version that is closed at a master that is up stays closed in all that follows, as long as clocks are kept: its lease is over, so that no server numbers a mutation under it, nor will (sections 3.1 and 4.3).
+-- The lease of a version that is closed at a master that is up is over in all that follows, as long as clocks are kept, so that no server numbers a mutation under it, nor will (sections 3.1 and 4.3).
 abbrev pub ClosedVersionsStayClosed : Type 0
 ClosedVersionsStayClosed =
     (config : Config) (servers clients : ℕ) (w : WorldState) → IsReached config servers clients w → IsTrue w.master.up

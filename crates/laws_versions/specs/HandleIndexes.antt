@@ -22,14 +22,14 @@ HandlesStandAtOneIndex =
     (config : Config) (servers clients : ℕ) (w : WorldState) → IsReached config servers clients w
     → (handle file index other later : ℕ) → StandsAtIndex w file index handle → StandsAtIndex w other later handle → index ≡ later
 
--- Where a handle stood at a master that was up, at that index it stands in all files for all time: a chunk that is added, or copied, has a new handle; a snapshot copies lists as they are; and a copy takes its source's place (section 3.4).
+-- Where a handle stood at a master that was up, at that index, or nowhere, it stands in all files for all time: a chunk that is added, or copied, has a new handle; a snapshot copies lists as they are; and a copy takes its source's place (section 3.4).
 abbrev pub HandlesKeepTheirIndex : Type 0
 HandlesKeepTheirIndex =
     (config : Config) (servers clients : ℕ) (w : WorldState) → IsReached config servers clients w → IsTrue w.master.up
     → (handle file index : ℕ) → element_at (handles_of w.master.logged.table file) index ≡ Some handle
     → (steps : List (Event × Choice)) (other later : ℕ) → StandsAtIndex (after_events w steps) other later handle → index ≡ later
 
--- A copy stands, for all time, at the index at which its source stood: it takes its source's place (section 3.4).
+-- A copy stands, for all time, nowhere but at the index at which its source stood: it takes its source's place (section 3.4).
 abbrev pub CopiesStandAtTheirSourcesIndex : Type 0
 CopiesStandAtTheirSourcesIndex =
     (config : Config) (servers clients : ℕ) (w : WorldState) → IsReached config servers clients w → IsTrue w.master.up

@@ -68,7 +68,7 @@ NumberedMutationsMayFollow =
     → (lease : SerialOrder) × (table.get s.leases handle.0 ≡ Some lease) × (lease.held.version ≡ version.0)
     × MayFollow (chunk_limit s lease.chunk) (entries_of w.observer handle.0) version.0 m × ((bytes : List ℕ) × IsPushed w.sent id bytes × IsMadeOf (chunk_limit s lease.chunk) bytes m)
 
--- Rounds never fall in the order, and serials rise within a round; each entry may follow those before it, and is made of what its client pushed: in a chunk of a size that a Grant of its round told, of this chunk or of one that was copied, and that is at most this one.
+-- Rounds never fall in the order, and serials rise within a round; each entry may follow those before it, and is made of what its client pushed: in a chunk of a size that a Grant of its round told, of whichever chunk, and that is at most this one.
 abbrev pub IsLawful : (most : ℕ) → List Message → List Placed → Type 0
 IsLawful most sent order =
     AreRising order

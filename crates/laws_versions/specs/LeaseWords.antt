@@ -51,7 +51,7 @@ ToldEndsAreTheMasters =
     (config : Config) (servers clients : ℕ) (w : WorldState) → IsReached config servers clients w → IsTrue w.observer.are_clocks_kept
     → (place : ℕ) (m : Message) → element_at w.sent place ≡ Some m → (handle version until : ℕ) → IsTrue (tells_end handle version until m.body) → IsEndKnown w handle version until
 
--- A Revoke goes to the server to which its version was granted, and is numbered after that Grant (section 3.1).
+-- A Revoke goes to the server to which its version was granted, and has no lower number than that Grant (section 3.1).
 abbrev pub RevokesFollowTheirGrants : Type 0
 RevokesFollowTheirGrants =
     (config : Config) (servers clients : ℕ) (w : WorldState) → IsReached config servers clients w

@@ -19,7 +19,7 @@ use Rattle.protocol.specs.Choice.{Choice}
 use Rattle.protocol.specs.Server.{ServerState}
 use Rattle.protocol.specs.ServerStep.{server_step}
 
--- The cause of a refusal, by the member before and after its step: it has no replica, or one of another version, or of this version with this serial or a later one, or not the data; or a block that it would write to doesn't match its digest, and then its replica goes.
+-- The cause of a refusal, by the member before and after its step: it has no replica, or one of another version, or of this version with this serial or a later one, or not the data; or some range of it can't be written, and then its replica goes.
 abbrev pub IsRefusedFor : (before after : ServerState) → (handle version serial : ℕ) → DataId → Refusal → Type 0
 IsRefusedFor before after handle version serial id refusal.NoChunk = replica_of before.disk handle ≡ None
 IsRefusedFor before after handle version serial id refusal.Version = (r : Row) × (row_at before.disk handle ≡ Some r) × (r.version.0 ≢ version)

@@ -31,7 +31,7 @@ written_by (Pad offset end) = replicate (end - offset) 0
 abbrev pub with_bytes : List ℕ → ℕ → List ℕ → List ℕ
 with_bytes old offset new = take offset old ++ replicate (offset - length old) 0 ++ new ++ drop (offset + length new) old
 
--- The bytes of a chunk after mutations and one more are those after the first ones, with what the last one writes from its place on (section 2.7.1).
+-- The bytes of a chunk after mutations and one more that ends no earlier than it begins are those after the first ones, with what the last one writes from its place on (section 2.7.1).
 abbrev pub ImagesAreWrittenTo : Type 0
 ImagesAreWrittenTo = (ms : List Mutation) (m : Mutation) → start_of m ≤ end_of m → image (ms ++ m ∷ []) ≡ with_bytes (image ms) (start_of m) (written_by m)
 

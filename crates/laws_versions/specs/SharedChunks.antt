@@ -14,7 +14,7 @@ SharedChunksHaveNoLease =
     → (handle : ℕ) (row : ChunkRow) → chunk_of w.master.logged.table handle ≡ Some row → 2 ≤ row.references
     → (table.get w.master.attempts handle ≡ None) × AreLeasesOver w handle
 
--- So is it in the log of a master, also of one that is down (section 3.4).
+-- In the log too, also of a master that is down, each of its leases is over (section 3.4).
 abbrev pub SharedChunksInTheLogHaveNoLease : Type 0
 SharedChunksInTheLogHaveNoLease =
     (config : Config) (servers clients : ℕ) (w : WorldState) → IsReached config servers clients w → IsTrue w.observer.are_clocks_kept

@@ -83,7 +83,7 @@ CopiesHaveTheirSourcesSize =
     → (version later size other : ℕ) → IsSizeGranted (after_events (new_world config servers clients) steps).sent from version size
     → IsSizeGranted (after_events (new_world config servers clients) steps).sent handle later other → size ≡ other
 
--- So each entry in the order of a chunk that was granted was placed in a round that was granted with the same size, of this chunk or of one of which it is a copy, and lies within it (section 3.3).
+-- So each entry in the order of a chunk that was granted was placed in a round that was granted with the same size, of whichever chunk, and lies within it (section 3.3).
 abbrev pub EntriesAreOfTheirChunksSize : Type 0
 EntriesAreOfTheirChunksSize =
     (config : Config) (servers clients : ℕ) (steps : List (Event × Choice)) (handle place : ℕ) (p : Placed)

@@ -42,7 +42,7 @@ TraceWritesNone byte (Called client asked ∷ rest) = WritesNone byte asked × T
 TraceWritesNone byte (Answered client reply ∷ rest) = TraceWritesNone byte rest
 TraceWritesNone byte (Passed moment ∷ rest) = TraceWritesNone byte rest
 
--- A client opens two names and writes one of the files. Then a byte that nobody wrote before is read in the other file.
+-- A client opens two names and writes one of the files. Then a byte other than 0 that nobody wrote before is read in the other file.
 abbrev pub NoByteOfAnotherFile : Type 0
 NoByteOfAnotherFile =
     (config : Config) (before later : List Visible) (client : ℕ) (read written : Path) (fd fe : Fd) (offset place count byte : ℕ) (bytes found rounds : List ℕ)
@@ -52,7 +52,7 @@ NoByteOfAnotherFile =
     ∷ Called client (call.Write fe offset bytes) ∷ Answered client answer.Done
     ∷ Called client (call.Read fd place count) ∷ Answered client (answer.Bytes found rounds) ∷ later)) → ⊥
 
--- A file is changed by a write to its snapshot: it shows a byte that nobody wrote but to the snapshot.
+-- A file is changed by a write to its snapshot: it shows a byte other than 0 that nobody wrote but to the snapshot.
 abbrev pub NoWriteThroughSnapshot : Type 0
 NoWriteThroughSnapshot =
     (config : Config) (before later : List Visible) (client : ℕ) (source copy : Path) (fd fe : Fd) (offset place count byte : ℕ) (bytes found rounds : List ℕ)

@@ -1,4 +1,4 @@
--- A machine that was run by names alone beside a whole one: names, moments, files and open name calls are the same, and each action on names that the one takes the other may take too (sections 2.4 and 4.1).
+-- A machine that was run by names alone beside a whole one: names, moments, files and open name calls are the same, and each action on names that the one takes the other may take too, where it is ready for it (sections 2.4 and 4.1).
 use Rattle.std.specs.Prelude.{◌≡◌, ℕ, Bool, [], Option, Some, None, IsTrue, IsFalse}
 use Rattle.gfs_types.specs.declared.call.Call.{Call}
 use Rattle.gfs_types.specs.declared.call.Call.TheVariants as call
@@ -32,7 +32,7 @@ AreSameCalls state (Some c) (Some d) = IsSameCall state c d
 abbrev pub named_state : FileState → Bool × Shape
 named_state f = (f.is_collected, f.shape)
 
--- The second machine has the first one's names, and no more.
+-- The second machine has what the first one has of names.
 pub record AreNamesOf (m n : Machine) : Type 0 where
   pub config : n.config ≡ m.config
   pub clock : n.clock ≡ m.clock

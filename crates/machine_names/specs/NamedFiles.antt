@@ -1,4 +1,4 @@
--- The names of files in each run by names: one for each file, and a hidden one for each that was deleted (sections 4.1 and 4.4).
+-- The names of files in each run by names: one at most for each file, and a hidden one right in the directory of deleted files (sections 4.1 and 4.4).
 use Rattle.std.specs.Prelude.{◌≡◌, ℕ, ◌≤◌, ◌<◌, Some, IsTrue, IsFalse}
 use Rattle.gfs_types.specs.declared.config.Config.{Config}
 use Rattle.gfs_types.specs.Paths.{Path, trash, is_child, hidden_name}

@@ -1,4 +1,4 @@
--- What is done to names alone, while clients see nothing, leaves their calls, descriptors and the clock (section 4.1).
+-- What is done to names alone, while clients see nothing, leaves their calls, how many descriptors they have and the clock (section 4.1).
 use Rattle.std.specs.Prelude.{◌≡◌, ℕ, [], Option, Some, None}
 use Rattle.relaxed_file.specs.Machine.{Machine, Client, OpenCall}
 use Rattle.relaxed_file.specs.Run.{visible}

@@ -36,7 +36,7 @@ fd_of (call.Append fd bytes) = Some fd
 fd_of (call.Read fd offset count) = Some fd
 fd_of name_call = None
 
--- A record that was appended to the file and answered this place: it is settled, at one place of the order of one chunk, and lies whole in that chunk.
+-- A record at this place of the file: it is settled, at one place of the order of one chunk, and lies whole in that chunk.
 pub record IsStandingRecord (m : Machine) (file x : ℕ) (bytes : List ℕ) : Type 0 where
   pub index : ℕ
   pub offset : ℕ
@@ -49,7 +49,7 @@ pub record IsStandingRecord (m : Machine) (file x : ℕ) (bytes : List ℕ) : Ty
   pub what : entry.mutation ≡ Append offset bytes
   pub settled : IsTrue entry.settled
 
--- The part of a write that was answered, in one chunk: it is settled, at one place of the chunk's order.
+-- A write's bytes at this place of one chunk: settled, at one place of the chunk's order.
 pub record IsStandingPart (m : Machine) (file index start : ℕ) (bytes : List ℕ) : Type 0 where
   pub before : List Entry
   pub entry : Entry

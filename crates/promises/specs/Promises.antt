@@ -46,7 +46,7 @@ AnsweredRecordsLieApart config trace m run =
     → (length a.before ≡ length b.before → ⊥)
     → (x + length one ≤ y) ⊎ (y + length two ≤ x)
 
--- A read that is made after a record was answered, and whose answer reaches past it, shows it whole; unless a later mutation covers some of it, or the read names a round of the record's chunk that is before that of the record (sections 2.7.1 and 3.3).
+-- A read that is made after a record was answered, begins no later than it, and whose answer reaches past it, shows it whole; unless a later mutation covers some of it, or the read names a round of the record's chunk that is before that of the record (sections 2.7.1 and 3.3).
 abbrev pub RecordsAreRead : (config : Config) (trace : List Visible) (m : Machine) → IsRunTo config trace m → Type 0
 RecordsAreRead config trace m run =
     (client reader file : ℕ) (fd fe : Fd) (bytes : List ℕ) (x offset count : ℕ) (found rounds : List ℕ)
@@ -57,7 +57,7 @@ RecordsAreRead config trace m run =
     × (LeaveAlone s.offset (length bytes) s.later → IsSomeAnd (slice_get rounds (s.index - offset / chunk_size m file)) (λ named. s.entry.round ≤ named)
     → take (length bytes) (drop (x - offset) found) ≡ bytes)
 
--- A client's later reads show its own records, whatever rounds they name (section 2.7.1).
+-- A client's later reads that begin no later than its own records and reach past them show them until they are covered, whatever rounds they name (section 2.7.1).
 abbrev pub OwnRecordsAreRead : (config : Config) (trace : List Visible) (m : Machine) → IsRunTo config trace m → Type 0
 OwnRecordsAreRead config trace m run =
     (client file : ℕ) (fd fe : Fd) (bytes : List ℕ) (x offset count : ℕ) (found rounds : List ℕ)
@@ -67,7 +67,7 @@ OwnRecordsAreRead config trace m run =
     → (s : IsStandingRecord m file x bytes)
     × (LeaveAlone s.offset (length bytes) s.later → take (length bytes) (drop (x - offset) found) ≡ bytes)
 
--- Once the appender of a record read it, each read that names that round of the record's chunk or a later one shows it, whoever reads; unless a later mutation covers some of it (section 2.7.1).
+-- Once the appender of a record read it, each later read that begins no later, reaches past it and names that round of the record's chunk or a later one shows it, whoever reads; unless a later mutation covers some of it (section 2.7.1).
 abbrev pub SeenRoundsSuffice : (config : Config) (trace : List Visible) (m : Machine) → IsRunTo config trace m → Type 0
 SeenRoundsSuffice config trace m run =
     (client reader file : ℕ) (fd fe ff : Fd) (bytes : List ℕ) (x offset count : ℕ) (found rounds : List ℕ) (from many : ℕ) (read named : List ℕ)
@@ -90,7 +90,7 @@ abbrev pub AppendsLeaveRecordsAlone : (config : Config) (trace : List Visible) (
 AppendsLeaveRecordsAlone config trace m run =
     (file x : ℕ) (bytes : List ℕ) → IsOnlyAppended config trace m run file → (s : IsStandingRecord m file x bytes) → LeaveAlone s.offset (length bytes) s.later
 
--- And so a client reads back each record that it appended to such a file, at the place that it was answered.
+-- And so a client's later read that begins no later than a record which it appended to such a file, and reaches past it, shows it at the place that it was answered.
 abbrev pub AppendedRecordsAreReadBack : (config : Config) (trace : List Visible) (m : Machine) → IsRunTo config trace m → Type 0
 AppendedRecordsAreReadBack config trace m run =
     (client file : ℕ) (fd fe : Fd) (bytes : List ℕ) (x offset count : ℕ) (found rounds : List ℕ)
@@ -111,7 +111,7 @@ AnsweredWritesStand config trace m run =
 abbrev pub part_place : ℕ → ℕ → ℕ → ℕ
 part_place size offset index = index * size + part_start size offset index
 
--- A read that is made after a write was answered, and whose answer reaches past a part of it, shows the part; unless a later mutation covers some of it, or the read names a round of the chunk that is before that of the part (sections 2.7.1 and 3.1).
+-- A read that is made after a write was answered, begins no later than a part of it, and whose answer reaches past the part, shows the part; unless a later mutation covers some of it, or the read names a round of the chunk that is before that of the part (sections 2.7.1 and 3.1).
 abbrev pub WritesAreRead : (config : Config) (trace : List Visible) (m : Machine) → IsRunTo config trace m → Type 0
 WritesAreRead config trace m run =
     (client reader file : ℕ) (fd fe : Fd) (offset : ℕ) (bytes : List ℕ) (from count : ℕ) (found rounds : List ℕ)
@@ -124,7 +124,7 @@ WritesAreRead config trace m run =
     → IsSomeAnd (slice_get rounds (index - from / chunk_size m file)) (λ named. s.entry.round ≤ named)
     → take (length (part_bytes (chunk_size m file) offset bytes index)) (drop (part_place (chunk_size m file) offset index - from) found) ≡ part_bytes (chunk_size m file) offset bytes index)
 
--- A client's later reads show its own writes, whatever rounds they name (section 2.7.1).
+-- A client's later reads that begin no later than parts of its own writes and reach past them show them until they are covered, whatever rounds they name (section 2.7.1).
 abbrev pub OwnWritesAreRead : (config : Config) (trace : List Visible) (m : Machine) → IsRunTo config trace m → Type 0
 OwnWritesAreRead config trace m run =
     (client file : ℕ) (fd fe : Fd) (offset : ℕ) (bytes : List ℕ) (from count : ℕ) (found rounds : List ℕ)
@@ -142,7 +142,7 @@ Puts (call.Write fd offset bytes) place byte = (offset ≤ place) × (slice_get 
 Puts (call.Append fd bytes) place byte = Contains bytes byte
 Puts other place byte = ⊥
 
--- A call that was seen before put the byte at this place, in the file or in one that it goes back to by snapshots at a moment of the run.
+-- A call that was seen before asked to put the byte at this place, or in a record, in the file or in one that it goes back to by snapshots at a moment of the run.
 pub record WasPut (config : Config) (actions : List Action) (seen : List Visible) (file place byte : ℕ) : Type 0 where
   pub client : ℕ
   pub asked : Call
@@ -157,7 +157,7 @@ pub record WasPut (config : Config) (actions : List Action) (seen : List Visible
   pub is_of : IsOf so_far client fd from
   pub source : Contains (sources_of config so_far file) from
 
--- Each byte that a read was answered is zero, or was put there by a call that was made before the answer (sections 2.7.1 and 3.4).
+-- Each byte that a read was answered is zero, or one that a call made before the answer asked to put there (sections 2.7.1 and 3.4).
 abbrev pub NoOtherByteIsRead : (config : Config) (trace : List Visible) (m : Machine) → IsRunTo config trace m → Type 0
 NoOtherByteIsRead config trace m run =
     (client file : ℕ) (fd : Fd) (offset count : ℕ) (found rounds : List ℕ)
@@ -188,7 +188,7 @@ AnsweredReadsHaveAFile config trace m run =
     (client : ℕ) (fd : Fd) (offset count : ℕ) (found rounds : List ℕ)
     → WasAnswered trace client (call.Read fd offset count) (answer.Bytes found rounds) → (file : ℕ) × IsOf run.0 client fd file
 
--- All that users rely on.
+-- All of these.
 pub record Promises (config : Config) (trace : List Visible) (m : Machine) (run : IsRunTo config trace m) : Type 0 where
   pub one_file : DescriptorsAreOfOneFile config trace m run
   -- what was answered stands

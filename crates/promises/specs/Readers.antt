@@ -14,7 +14,7 @@ use Rattle.relaxed_file.specs.Run.{Action, Visible, IsRunTo}
 use Rattle.promises.specs.Answered.{WasAnswered, IsOf, IsStandingRecord, IsStandingPart}
 use Rattle.promises.specs.Promises.{IsOnlyAppended, part_place}
 
--- A call on the file was answered; after that the reader's Open of that file was answered; and after that a read of the file, through the new descriptor or another one of the reader.
+-- A call on the file was answered; after that the reader's Open of that file was made and answered; and after that a read of the file, through the new descriptor or another one of the reader.
 pub record IsReadAfterOpen (trace : List Visible) (actions : List Action) (client : ℕ) (fd : Fd) (asked : Call) (reply : Answer) (file reader offset count : ℕ) (found rounds : List ℕ) : Type 0 where
   pub put : WasAnswered trace client asked reply
   pub put_of : IsOf actions client fd file
@@ -26,7 +26,7 @@ pub record IsReadAfterOpen (trace : List Visible) (actions : List Action) (clien
   pub read : WasAnswered open_file.rest reader (call.Read through offset count) (answer.Bytes found rounds)
   pub read_of : IsOf actions reader through file
 
--- Such a read shows a record that was answered before whole, if the read's answer reaches past it, whatever rounds it names; unless a later mutation covers some of it (sections 2.4 and 2.7.1).
+-- Such a read shows a record that was answered before whole, if it begins no later and its answer reaches past it, whatever rounds it names; unless a later mutation covers some of it (sections 2.4 and 2.7.1).
 abbrev pub ReopenedFilesShowRecords : (config : Config) (trace : List Visible) (m : Machine) → IsRunTo config trace m → Type 0
 ReopenedFilesShowRecords config trace m run =
     (client : ℕ) (fd : Fd) (file x reader offset count : ℕ) (bytes found rounds : List ℕ)
@@ -67,7 +67,7 @@ WholeChunksMissNothing config trace m run =
     → IsReadAfterOpen trace run.0 client fd (call.Append fd bytes) (answer.At x) file reader (x / chunk_size m file * chunk_size m file) (chunk_size m file) found rounds → IsOnlyAppended config trace m run file
     → take (length bytes) (drop (x - x / chunk_size m file * chunk_size m file) found) ≡ bytes
 
--- A read after an Open shows each part of a write that was answered before, if the read's answer reaches past the part, whatever rounds it names; unless a later mutation covers some of it (sections 2.4 and 2.7.1).
+-- A read after an Open shows each part of a write that was answered before, if it begins no later than the part and its answer reaches past it, whatever rounds it names; unless a later mutation covers some of it (sections 2.4 and 2.7.1).
 abbrev pub ReopenedFilesShowWrites : (config : Config) (trace : List Visible) (m : Machine) → IsRunTo config trace m → Type 0
 ReopenedFilesShowWrites config trace m run =
     (client : ℕ) (fd : Fd) (file place reader offset count : ℕ) (bytes found rounds : List ℕ)

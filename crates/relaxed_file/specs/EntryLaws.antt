@@ -28,7 +28,7 @@ TooLongIsNeverPlaced =
     (config : Config) (m : Machine) → IsReached config m → (file index : ℕ)
     → AllByRecursion (IsOfCall m (IsOfLawfulLength (chunk_size m file))) (chunk_at m file index).order
 
--- a pad is of an append whose record doesn't fit behind it
+-- a pad is of an append whose record doesn't fit from its beginning on
 abbrev pub IsNeededBy : ℕ → Mutation → Call → Type 0
 IsNeededBy size (Pad at end) (call.Append fd bytes) = size < at + length bytes
 IsNeededBy size (Pad at end) other = ⊥

@@ -28,7 +28,7 @@ NoSharedOffset =
     → IsRun config (before ++ (Called client (call.Append fd one) ∷ Answered client (answer.At x)
     ∷ (between ++ (Called client (call.Append fd two) ∷ Answered client (answer.At y) ∷ later)))) → ⊥
 
--- A record that a client appended, and of which its next read gives nothing.
+-- A record that is not empty, and of which its client's next read gives nothing.
 abbrev pub NoStaleRead : Type 0
 NoStaleRead =
     (config : Config) (before later : List Visible) (client : ℕ) (fd : Fd) (bytes rounds : List ℕ) (x : ℕ) → 0 < length bytes

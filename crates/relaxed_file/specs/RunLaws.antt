@@ -252,7 +252,7 @@ WereGiven config m client file offset count index (piece ∷ rest) =
     (piece.index ≡ index) × WasGiven config m client file offset count piece
     × MatchBool (nat_lt (length piece.bytes) (part_length (chunk_size m file) offset count index)) (rest ≡ []) (WereGiven config m client file offset count (suc index) rest)
 
--- A read is answered what states during the call gave, chunk by chunk from where its range begins, and a round of each, no later than the last that was opened by then; nothing settled up to such a round is left out of what its chunk gave (sections 2.4 and 2.7.1).
+-- A read is answered what states during the call gave, chunk by chunk from where its range begins, and a round of each chunk that was there, no later than the last that was opened by then; nothing settled up to such a round is left out of what its chunk gave (sections 2.4 and 2.7.1).
 abbrev pub ReadsGiveSelections : Type 0
 ReadsGiveSelections =
     (config : Config) (m : Machine) (client file : ℕ) (fd : Fd) (offset count : ℕ) (bytes rounds : List ℕ)
@@ -324,7 +324,7 @@ RoundsComeOneByOne =
     → IsLawful (after m (OpenRound file index round)) actions → Allows (after_all (after m (OpenRound file index round)) actions) (OpenRound file index next)
     → Contains actions (CloseRound file index) × (round < next)
 
--- What a name call comes to at a moment: what the names say of it, Busy by another client's snapshot that holds a lock which conflicts, or NamesFull where it needs room and no other refusal holds (section 4.1).
+-- What a name call comes to at a moment: what the names say of it, Busy by another client's snapshot that holds a lock which conflicts, or NamesFull where it needs room, and paths and names refuse nothing (section 4.1).
 pub data ComesTo (m : Machine) (client : ℕ) (asked : Call) (outcome : Outcome) : Type 0 where
   by_names : outcome ≡ outcome_of m.config m.names asked → ComesTo m client asked outcome
   by_lock : (holder : ℕ) (snapshot : OpenCall) → holder ≢ client → IsOpen m holder snapshot → IsTrue snapshot.has_locks → snapshot.outcomes ≡ []

@@ -10,7 +10,7 @@ use Rattle.relaxed_file.specs.Regions.{regions_of}
 use Rattle.relaxed_file.specs.Machine.{Machine, chunk_at}
 use Rattle.relaxed_file.specs.Run.{Visible, Called, Answered, Passed, IsRunTo, IsRun}
 
--- chunks of 64 bytes, the rest by default
+-- chunks of 64 bytes and blocks of 16, the rest by default
 abbrev pub small_chunks : Config
 small_chunks = record {
   chunk = 64;
@@ -85,7 +85,7 @@ snapshot_trace =
     ∷ Called 1 (call.Open (codes "/e/f")) ∷ Answered 1 (answer.Fd (fd 2))
     ∷ Called 1 (call.Read (fd 2) 0 64) ∷ Answered 1 (answer.Bytes record_a (1 ∷ [])) ∷ []
 
--- A deleted file is found under its hidden name and can be brought back; its descriptors live on until it is collected.
+-- A deleted file is found under its hidden name and can be brought back; its descriptor is refused once it is collected.
 abbrev pub deletion_trace : List Visible
 deletion_trace =
     Passed 5000
