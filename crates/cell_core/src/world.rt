@@ -117,8 +117,9 @@ impl<A: Allocator + Clone> World<A> {
 }
 
 impl<A: Allocator + Clone> World<A> {
-    /// One event, and what it answers. One that names no such node, message, replica, place or moment, or, but for a restart, a node that is
-    /// down, changes nothing. A run of the machine has the calls and answers so far, and led to what the cell shows.
+    /// One event, and what it answers. One that names no such node, message, replica, place or moment, or, but for a restart or a fuse, a
+    /// node that is down, changes nothing. Where clocks and disks were kept, a run of the machine has the calls and answers so far, and led to
+    /// what the cell shows.
     pub fn step(&mut self, event: Event) -> Option<Answer>
         ensures steps { HasEffect self.old (λ w choice. happens w event choice) result self.new }
         ensures explained { StepsAsMachine self.old event result self.new }
@@ -126,7 +127,8 @@ impl<A: Allocator + Clone> World<A> {
         self.cell.step(event)
     }
 
-    /// The events in order, and their answers: a run of the machine has the calls and answers so far, and led to what the cell shows.
+    /// The events in order, and their answers: where clocks and disks were kept, a run of the machine has the calls and answers so far, and led to
+    /// what the cell shows.
     ///
     /// - `NoMemory`: memory was refused before the first event, and nothing has changed.
     pub fn run(&mut self, alloc: Global, events: &[Event]) -> Result<Vec<Answer>, RunFault>
@@ -137,8 +139,8 @@ impl<A: Allocator + Clone> World<A> {
         self.cell.run(alloc, events)
     }
 
-    /// The master and then each server, in rising number, begin again at a moment. Then all messages are dropped, and the next one has the
-    /// number 1. Clients, the chunks' orders and what clients saw stay, and a run of the machine has it. A node that can't open is down. At an
+    /// The master and then each server, in rising number, begin again at a moment that an event may have. Then all messages are dropped, and the
+    /// next one has the number 1. Clients, the chunks' orders and what clients saw stay. A node that can't open is down. At an
     /// error nothing has changed.
     ///
     /// - `Clock`: the moment is more than the clock bound behind the greatest one that a node was given.

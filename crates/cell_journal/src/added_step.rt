@@ -24,7 +24,7 @@ pub struct ExtendedHistory {
     pub are_clocks_kept: bool,
 }
 
-/// What comes of adding a step: the journal as it was then, and the table's word that was found.
+/// What comes of adding a step: the history as it was then, and the table's word that was found.
 #[derive(Drop)]
 pub struct AddedStep {
     pub extended: ExtendedHistory,

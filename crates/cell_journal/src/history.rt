@@ -178,8 +178,8 @@ impl History {
         self.reserved
     }
 
-    /// Room for one entry more is made. There is none where an allocator refused it, or the whole journal is to stay and the cell's settings allow no
-    /// more entries.
+    /// Room for one entry more is made. There is none where an allocator refused it, or no more entries may be: by the cell's settings where the
+    /// whole journal is to stay, else 2^62.
     #[tactic(auto, using(crate::proofs::Retained::room_kept))]
     pub fn reserve(&mut self) -> Result<(), NoMemory>
         ensures ok { OnOk result (self.new ≡ filled self.old.cell self.old.entries (self.old.reserved + 1)) }
@@ -283,7 +283,7 @@ impl History {
     }
 
     /// A journal behind what a parked one had, with these clients of which nothing more is written. It may have so many entries beside those that
-    /// the settings allow, and so many take no memory. Where there is no memory, or there would be more entries than can be counted, the list
+    /// the settings allow, and so many take no memory. Where there is no memory, or there would be more entries or messages than can be counted, the list
     /// comes back.
     #[tactic(auto, using(crate::proofs::Retained::room_none, crate::proofs::Retained::none_in, crate::proofs::Retained::none_counted))]
     pub fn behind(

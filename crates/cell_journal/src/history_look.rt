@@ -22,7 +22,7 @@ pub struct HistoryLook {
     pub count: usize,
 }
 
-/// Looks at the journal, which stays as it is. None: it was closed.
+/// Looks at the journal, which stays as it is. None: it is gone.
 pub fn look(
     rt: &impl Wait,
     shared: &SharedHistory,

@@ -23,7 +23,7 @@ const CLOSED: u64 = 3;
 /// than most steps have the journal.
 const LOOKS: u32 = 100;
 
-/// Takes the journal, once it is there. False: the cell was closed.
+/// Takes the journal, once it is there. False: it is out for good.
 pub fn acquire(rt: &impl Wait, shared: &SharedHistory, writer: &mut JournalWriter) -> bool
     requires shared { (shared.now.table_id.words ≡ 1) × (shared.now.table_id.slots ≡ 1) × (writer.old.table_id ≡ shared.now.table_id) }
     requires none { writer.old.me.1 ≡ [] }

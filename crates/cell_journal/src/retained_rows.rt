@@ -95,7 +95,7 @@ impl RetainedRows {
         &self.rows[place - self.first()]
     }
 
-    /// Memory for so many rows more is made. At an error the rows are the same.
+    /// Memory is made for what stays once so many rows more have come. At an error the rows are the same.
     pub fn reserve(&mut self, more: usize) -> Result<(), AllocError>
         requires few { length self.old.all + more < 2 ^ 63 }
         ensures same { (self.new.retention ≡ self.old.retention) × (self.new.all ≡ self.old.all) }

@@ -71,7 +71,7 @@ impl Drop for Behind {
     }
 }
 
-/// Makes the journal behind the parked one, and all that the cell needs to go on. A fault gives the parked cell back.
+/// Makes the journal behind the parked one, and what the cell needs to go on but its threads. A fault gives the parked cell back.
 pub fn begin<R: Wait + Clock>(
     rt: &R,
     parked: Parked,
@@ -298,8 +298,8 @@ impl Behind {
         parts.with_list(registry.reclaim(rt).into_list())
     }
 
-    /// Each node gets its place and lies in its lock, the seats go over, each node begins again, and the threads take steps. Nothing of it
-    /// fails.
+    /// Each node gets its place and lies in its lock, the seats go over, each node begins again or, if it can't, is down, and the threads take
+    /// steps.
     pub fn go_on<R: Wait + Clock>(
         self,
         rt: &R,
@@ -505,7 +505,7 @@ fn start_at<
     start_node(rt, theirs, threads, lock, node, inbox, gate.clone()?)
 }
 
-// The master and each server begin again, by what their log or store holds, and the threads take steps from then on.
+// The master and each server begin again, by what their log or store holds, or are down where they can't; and the threads take steps from then on.
 fn begin_again<R: Wait + Clock>(rt: &R, shared: &SharedState, locks: &NodeLocks) {
     locks.master.act(rt, Input::Restart, &OpenGate);
     for lock in locks.servers.as_slice() {

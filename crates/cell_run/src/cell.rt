@@ -131,7 +131,7 @@ impl Cell {
     ///
     /// - `Config`: a setting is out of its range.
     /// - `Count`: there are no servers, or too many.
-    /// - `NoMemory`, `Thread`, `Clock`: no memory, no thread or no clock was to be had. What was started was stopped.
+    /// - `NoMemory`, `Thread`, `Clock`: no memory, no thread or no clock was to be had. What runs is told to stop.
     pub fn start<
         R: Threads + Wait + Clock + Copy + Send + 'static,
         G: Gate + Clone + Send + Drop + 'static,
@@ -143,8 +143,8 @@ impl Cell {
         Cell::start_retaining(rt, alloc, config, servers, Retention::Whole, gate)
     }
 
-    /// The same, where only these entries of the journal stay in memory. Where that is the last so many, the cell runs on without an end: messages of
-    /// entries that were let go are lost, and the setting `journal` is not asked for.
+    /// The same, where only these entries of the journal stay in memory. Where that is the last so many, there may be 2^62 entries, whatever the
+    /// setting `journal` is: messages of entries that were let go are lost.
     pub fn start_retaining<
         R: Threads + Wait + Clock + Copy + Send + 'static,
         G: Gate + Clone + Send + Drop + 'static,
@@ -207,8 +207,8 @@ impl Cell {
             .set_policy(&self.registry.shared.controls, policy);
     }
 
-    /// The master or a server is asked once more to begin again, which it does before it takes the next message or tick. A client never
-    /// does.
+    /// The master or a server is asked once more to begin again. Before it takes a message or a tick it tries that once, if it did so less often. A
+    /// client never does.
     pub fn restart(&mut self, rt: &impl Wait, node: Node)
         ensures { self.new ≡ asked_again self.old node }
     {
@@ -244,19 +244,20 @@ impl Cell {
         self.registry.shared.progress(self.most_entries()).room
     }
 
-    /// How many messages were lost, since the cell began or was resumed and until some moment of the call, because the entries that sent them were let go.
+    /// How often a step found its message let go, since the cell began or was resumed; behind a gate that isn't open, at the master and the servers only
+    /// where the gate was told of it.
     pub fn lost(&self) -> u64 {
         self.registry.shared.progress(self.most_entries()).lost
     }
 
-    // How many entries its journal may have.
+    // How many steps its journal may have.
     fn most_entries(&self) -> u64 {
         let journal = u64::from(self.registry.config.journal);
         self.registry.cell.retention().most_entries(journal)
     }
 
     /// Ends the cell: no step is begun any more, each call that waits is refused, and the threads end. No step follows. Where clocks were
-    /// kept, the journal's calls and answers are a run of the machine.
+    /// kept, the cell's calls and answers are a run of the machine.
     pub fn close<R: Threads + Wait + Clock>(self, rt: &R) -> Journal
         ensures cell { result.now.cell ≡ self.of }
         ensures over { result.now.is_over ≡ true }

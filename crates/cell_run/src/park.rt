@@ -43,7 +43,7 @@ struct ParkRoom {
 
 impl Cell {
     /// Ends the cell's threads, and keeps its nodes, its history and these seats, which carry its name. A client whose seat is not handed in is
-    /// refused for good (Closed).
+    /// refused from then on, until that is handed in to a later parking.
     ///
     /// - `Clock`: clocks were not kept. The cell was closed.
     /// - `NoMemory`: memory was refused. The cell runs on.

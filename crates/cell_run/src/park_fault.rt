@@ -4,7 +4,7 @@ use crate::cell::Cell;
 use cell_seats::journal::Journal;
 use running_nodes::running_client::ClientSeat;
 
-/// Why a cell was not parked, with all that was handed in.
+/// Why a cell was not parked, with the seats that were handed in.
 #[derive(Drop)]
 pub enum ParkFault {
     /// Clocks were not kept. The cell was closed.

@@ -19,11 +19,11 @@ use std::thread::Threads;
 use std::time::{Clock, Duration};
 
 impl Parked {
-    /// Starts the cell's nodes again, each of which begins with what its log or store holds, and gives the seats that were handed in. A seat
-    /// keeps its number and its descriptors; one with a call that was not answered goes on as a client of a new number, without descriptors,
+    /// Starts the cell's nodes again, each of which begins with what its log or store holds, or is down if it can't, and gives the seats that were handed
+    /// in. A seat keeps its number and its descriptors; one with a call that was made and not answered goes on as a client of a new number, without descriptors,
     /// and so does one that an earlier parking left behind. A fault leaves the parked cell as it was. There is no policy of the network.
     ///
-    /// - `Clock`: there is no clock, or it went back by more than the clock bound.
+    /// - `Clock`: there is no clock, or it went back by more than the clock bound, or behind the cell's beginning.
     /// - `Count`: too few numbers of clients are left.
     /// - `NoMemory`, `Thread`: no memory or no thread was to be had.
     pub fn resume<

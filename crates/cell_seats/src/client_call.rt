@@ -17,7 +17,7 @@ use gfs_types::refusal::Refusal;
 use std::sync::Wait;
 use std::time::Clock;
 
-/// An answer, and the journal as it was then, with its length.
+/// An answer, and the history as it was then, with its length.
 #[derive(Drop)]
 pub struct AnsweredCall {
     pub answer: Answer,

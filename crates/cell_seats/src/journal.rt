@@ -24,10 +24,10 @@ use cell_journal::{GrowingList, closed_history};
 use gfs_types::ids::{Node, ServerId};
 use std::marker::Model;
 
-/// All steps in the journal of a cell that was closed or parked, in one order. It stands behind the journal up to which its cell was parked before.
+/// All steps in the journal of a cell that was closed or parked, in one order. It stands behind the journal up to which its cell was parked before, if it was.
 pub struct Journal {
     history: ClosedHistory,
-    /// With how many entries, which are no steps of the journal, its nodes began again.
+    /// With how many entries, all of which stay and are no steps of the journal, its nodes began again.
     skip: usize,
     /// The journal that it stands behind, if there is one.
     base: Vec<Journal>,
@@ -135,7 +135,8 @@ impl Journal {
         self.base.as_slice().first()
     }
 
-    /// How many steps there are. Behind those of the base, and the restarts of its nodes, they are a lawful history of the cell. Where clocks were
+    /// How many steps there are, restarts too once one of these was let go. Behind those of the base, and the restarts that are left out, they are a
+    /// lawful history of the cell. Where clocks were
     /// kept in it, its calls and answers are a run of the machine.
     pub fn len(&self) -> usize
         ensures count { result ≡ length (steps_in self.now) }
@@ -172,7 +173,7 @@ impl Journal {
     }
 }
 
-// With how many entries the nodes of a cell began again: one of each, the master's first, if all did behind an earlier journal, and else none.
+// With how many entries the nodes of a cell began again behind an earlier journal: one of each, the master's first, if all of these stay, and else none.
 fn restarts_in(history: &ClosedHistory, is_first: bool) -> usize
     ensures { AreSkipped history.now result }
 {

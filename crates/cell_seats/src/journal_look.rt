@@ -11,8 +11,8 @@ use gfs_types::ids::Node;
 use messages::message::Message;
 use std::sync::Wait;
 
-/// A copy of the message of a number, if it was sent to this node. No room is made for a step. There is none where there is no memory for it, or
-/// no journal any more.
+/// A copy of the message of a number, if it was sent to this node. No room is made for a step. There is none where there is no memory for it, its
+/// entry was let go, or there is no journal any more.
 pub(crate) fn look(
     rt: &impl Wait,
     shared: &SharedHistory,

@@ -25,7 +25,7 @@ pub enum MailboxItem {
     Stop,
 }
 
-/// Which messages the network loses, repeats and holds up: each one of so many, and none where it is 0.
+/// Which messages the network loses, else holds up, else repeats: each one of so many, and none where it is 0.
 #[derive(Clone, Copy, Debug, PartialEq, Eq)]
 pub struct Policy {
     pub drop_every: u64,
@@ -34,7 +34,7 @@ pub struct Policy {
 }
 
 impl Policy {
-    /// Each message comes once.
+    /// No message is hindered.
     pub const NONE: Policy = Policy {
         drop_every: 0,
         repeat_every: 0,
@@ -185,7 +185,7 @@ impl MailboxSenders {
         }
     }
 
-    /// Puts an item into a node's mailbox. It is lost where there is no memory for it.
+    /// Puts an item into a node's mailbox. It is lost where there is no memory for it, or no such mailbox.
     pub fn put(&self, rt: &impl Wait, to: Node, item: MailboxItem) {
         let sender = match to {
             Node::Master => Some(&self.master),

@@ -92,7 +92,7 @@ impl NodeJournal {
         }
     }
 
-    /// Looks at the whole history, which stays as it is. None: the journal was closed.
+    /// Looks at the whole history, which stays as it is. None: the journal is gone.
     pub fn look(&mut self, rt: &impl Wait) -> Option<HistoryLook>
         ensures node { self.new.node ≡ self.old.node }
         ensures later { IsLater self.old.writer.me.0 self.new.writer.me.0 }
@@ -131,7 +131,7 @@ impl NodeJournal {
         give_up(rt, &self.shared.table.shared, &mut self.writer, self.node);
     }
 
-    /// Adds a step that was begun, and gives its messages to the network. Answers the journal as it is then; none where it was closed.
+    /// Adds a step that was begun, and gives its messages to the network. Answers the history as it is then; none where the journal is gone.
     pub fn end(
         &mut self,
         rt: &impl Wait,
@@ -182,7 +182,7 @@ fn deliver_all(rt: &impl Wait, shared: &SharedState, receivers: &Vec<Node>, sent
     }
 }
 
-// To whom the messages of a step go. None of them comes where there is no memory for the list.
+// To whom the messages of a step go. Those for which the list finds no memory don't come.
 fn receivers_of(alloc: Global, out: &StepOut) -> Vec<Node> {
     let mut all = Vec::new(alloc);
     for message in out.sent.as_slice() {

@@ -154,7 +154,7 @@ pub fn park<R: Wait + Clock, N: Stepper + Drop>(
     unreachable!()
 }
 
-/// Looks at the whole history, once it has so many entries, where their number is given. None: the journal was closed.
+/// Looks at the whole history, once it has so many entries, where their number is given. None: the journal is gone.
 #[tactic(auto, using(cell_journal::proofs::WriterSteps::later_self, crate::proofs::Moving::later_trans))]
 pub(crate) fn look_until<R: Wait, N: Stepper + Drop>(
     rt: &R,

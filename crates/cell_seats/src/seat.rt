@@ -181,7 +181,7 @@ impl<N: Stepper + Drop> Seat<N> {
         self.slot.name()
     }
 
-    /// Makes a call, and waits for its answer. After a refusal of the cell itself every later call is refused so too.
+    /// Makes a call, and waits for its answer. After a refusal of the cell itself every later call is refused so too, until the seat goes on with a parked cell.
     pub fn call<R: Wait + Clock>(&mut self, rt: &R, call: Call) -> Result<Answer, Refusal>
         ensures ok { IfOk result (λ reply. IsAnswered self.old self.new call reply) }
         ensures err { IfErr result (λ refusal. IsLost self.old self.new refusal) }

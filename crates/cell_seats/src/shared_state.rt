@@ -21,8 +21,8 @@ pub const ENDED: u64 = 2;
 
 pub const STARTING: u64 = 3;
 
-/// How far a running cell was at some moment: how many calls were answered, how many steps were taken, for how many more there was room in its
-/// journal, and how many messages were lost since the entries that sent them were let go.
+/// How far a running cell was, each count at a moment of its own: how many calls were answered, how many steps were taken, for how many more there was
+/// room in its journal, and how often a step found its message let go.
 #[derive(Clone, Copy, Debug, PartialEq, Eq)]
 pub struct Progress {
     pub answered: u64,
@@ -44,7 +44,7 @@ pub struct SharedState {
     /// How many calls were answered, and how many steps stand in the journal.
     pub answered: AtomicU64,
     pub events: AtomicU64,
-    /// How many messages came too late: the entries that sent them were let go.
+    /// How often a step that was begun found its message let go.
     pub lost: AtomicU64,
     pub ghost one: { (table.shared.table_id.words ≡ 1) × (table.shared.table_id.slots ≡ 1) },
 }

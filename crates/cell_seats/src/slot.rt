@@ -57,7 +57,7 @@ impl<N: Stepper + Drop> Model for Slot<N> {
     ghost invariant = { λ s. IfSome s.node (λ n. IsLedTo s.journal.writer.me.0 s.journal.node (N.stands n)) };
 }
 
-/// What a step gave its caller: a copy of its answer, if there was one, and the journal as it was then, with its length. No answer is told where
+/// What a step gave its caller: a copy of its answer, if there was one, and the history as it was then, with its length. No answer is told where
 /// clocks were not kept (ClockBroken).
 #[derive(Drop)]
 pub struct StepResult {
@@ -85,7 +85,7 @@ impl<N: Stepper + Drop> Slot<N> {
         self.node.as_ref()
     }
 
-    /// Looks at its cell's whole history, which stays as it is. None: the journal was closed.
+    /// Looks at its cell's whole history, which stays as it is. None: the journal is gone.
     pub fn look<R: Wait>(&mut self, rt: &R) -> Option<HistoryLook>
         ensures node { self.new.node ≡ self.old.node }
         ensures later { IsLater self.old.view self.new.view }
@@ -179,7 +179,7 @@ fn take_in<R: Wait + Clock, N: Stepper + Drop, G: Gate>(
     steps(rt, alloc, journal, node, cause, None)
 }
 
-// Whether the step may be taken: the gate was told of it, and let it pass. It isn't told where what the step would be taken on can't be read.
+// Whether the step may be taken: the gate is open, or was told of it and let it pass. It isn't told where what the step would be taken on can't be read.
 fn pass<R: Wait, G: Gate>(rt: &R, journal: &mut NodeJournal, input: Input, gate: &G) -> bool
     ensures node { journal.new.node ≡ journal.old.node }
     ensures later { IsLater journal.old.writer.me.0 journal.new.writer.me.0 }
@@ -315,7 +315,7 @@ fn may_take<N: Stepper + Drop>(node: &Option<N>, cause: &StepCause) -> bool
     }
 }
 
-// The node takes its step, and the journal has it. None: the journal was closed.
+// The node takes its step, and the journal has it. None: the journal is gone.
 fn step_with<R: Wait, N: Stepper + Drop>(
     journal: &mut NodeJournal,
     rt: &R,

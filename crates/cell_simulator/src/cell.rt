@@ -23,7 +23,7 @@ pub trait SimulatedCell {
     fn step(&mut self, event: Event) -> Option<Answer>
         ensures { meaning.steps self.old event result self.new };
 
-    /// The master and then each server, in rising number, begin again at a moment, and all messages are dropped.
+    /// The master and then each server, in rising number, begin again at a moment that an event may have, and all messages are dropped.
     fn rebase(&mut self, now: Moment)
         ensures { meaning.rebases self.old now.0 self.new };
 

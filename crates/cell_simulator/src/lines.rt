@@ -21,7 +21,7 @@ use std::io::Write;
 #[derive(Clone, Copy, Debug, PartialEq, Eq)]
 pub enum LineEnd {
     Done,
-    /// It names a node, a file or a chunk that the cell doesn't have, or is a call by a client whose last call is open.
+    /// It names a node, a file or a chunk that the cell doesn't show, or is a call by a client whose last call is open.
     Bad,
     /// It needs more than a million rounds of ticks.
     NoEnd,
@@ -148,7 +148,7 @@ impl<C: SimulatedCell> Simulator<C> {
         Ok(LineEnd::Done)
     }
 
-    /// A node starts anew.
+    /// A node starts anew, if it is no client.
     fn run_restart<W: Write>(&mut self, node: Node, writer: &mut W) -> Result<LineEnd, ScriptFault>
         ensures ends { IfOk result (Ends C.meaning (state_of self.old) (CellLine.Restart node) (state_of self.new) (W.contents writer.old) (W.contents writer.new)) }
         ensures fault { IfErr result IsOfWrite }

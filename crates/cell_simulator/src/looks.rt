@@ -16,7 +16,7 @@ use script::script_fault::ScriptFault;
 use std::alloc::Global;
 use std::io::Write;
 
-/// Prints the regions of a chunk, and tells whether there is such a file and chunk.
+/// Prints the regions of a chunk, and tells whether the master shows such a file and chunk.
 pub fn print_regions<C: SimulatedCell, W: Write>(
     alloc: Global,
     cell: &C,
@@ -38,7 +38,7 @@ pub fn print_regions<C: SimulatedCell, W: Write>(
     Ok(true)
 }
 
-/// Prints the handle and the replicas of a chunk, and tells whether there is such a file and chunk.
+/// Prints the handle and the replicas of a chunk, and tells whether the master shows such a file and chunk.
 pub fn print_replicas<C: SimulatedCell, W: Write>(
     alloc: Global,
     cell: &C,
@@ -64,7 +64,7 @@ pub fn print_replicas<C: SimulatedCell, W: Write>(
     Ok(true)
 }
 
-/// The handle of a chunk, if there is such a file and chunk.
+/// The handle of a chunk, if the master shows such a file and chunk.
 pub fn handle<C: SimulatedCell>(
     alloc: Global,
     cell: &C,

@@ -120,7 +120,7 @@ impl NetworkOrders {
         Ok(self.twices.push(matter)?)
     }
 
-    /// Messages from and to the node are lost from now on.
+    /// Messages from and to the node that aren't put aside are lost from now on.
     pub fn cut(&mut self, node: Node) -> Result<(), NoMemory> {
         if self.is_cut(node) {
             return Ok(());

@@ -38,7 +38,7 @@ fn run_line<C: SimulatedCell, W: Write>(
 /// Runs the lines of a script, and prints each answer when it comes, and a chunk's regions or replicas as they then stand. At a
 /// fault the lines that were printed before stay printed, and no later line is run.
 ///
-/// - `Line`: a line isn't in the language, names a node, a file or a chunk that isn't there, is a call by a client whose last
+/// - `Line`: a line isn't in the language, names a node, a file or a chunk that isn't shown, is a call by a client whose last
 ///   call is open, or is past the greatest number of lines.
 /// - `NoEnd`: a line needs too many rounds of ticks.
 /// - `NoMemory`: memory was refused outside the cell's own steps.

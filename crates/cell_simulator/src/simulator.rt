@@ -153,7 +153,7 @@ impl<C: SimulatedCell> Simulator<C> {
         }
     }
 
-    /// The same, and then messages that can't come again are dropped. So between two lines of a script no message is on its way.
+    /// Sees to all that is to come, and then, if none is put aside, drops the messages. So between two lines of a script no message is on its way.
     pub fn deliver<W: Write>(&mut self, writer: &mut W) -> Result<(), ScriptFault>
         ensures clock { self.new.clock ≡ self.old.clock }
         ensures goes { OnOk result (Goes C.meaning (state_of self.old) (state_of self.new) (Only is_delivery) (W.contents writer.old) (W.contents writer.new)) }
@@ -189,7 +189,7 @@ impl<C: SimulatedCell> Simulator<C> {
         self.next = 1;
     }
 
-    /// A node starts anew.
+    /// A node starts anew, if it is no client.
     pub fn restart<W: Write>(&mut self, node: Node, writer: &mut W) -> Result<(), ScriptFault>
         ensures clock { self.new.clock ≡ self.old.clock }
         ensures goes { OnOk result (Goes C.meaning (state_of self.old) (state_of self.new) (First (Event.Restart node self.old.clock) is_delivery) (W.contents writer.old) (W.contents writer.new)) }

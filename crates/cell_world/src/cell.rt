@@ -60,7 +60,7 @@ impl<M: CellMaster> Model for CellState<M> {
 }
 
 impl<M: StoppableMaster> CellState<M> {
-    /// One event. One that names no such node, message, replica, place or moment, or, but for a restart, a node that is down, changes nothing.
+    /// One event. One that names no such node, message, replica, place or moment, or, but for a restart or a fuse, a node that is down, changes nothing.
     pub fn step(&mut self, event: Event) -> Option<Answer>
         ensures { HasEffect self.old (λ w choice. happens w event choice) result self.new }
     {

@@ -52,7 +52,7 @@ impl Network {
         self.count = 0;
     }
 
-    /// How many were sent, which is the last one's number.
+    /// How many there are, which is the last one's number.
     pub fn count(&self) -> u64
         ensures { result ≡ length self.now.messages }
     {

@@ -12,8 +12,8 @@ use crate::rebase_fault::RebaseFault;
 use gfs_types::ids::{Moment, Node, ServerId};
 
 impl<M: StoppableMaster> CellState<M> {
-    /// The master and then each server, in rising number, begin again at a moment. Then all messages are dropped, and the next one has the
-    /// number 1. At an error nothing has changed.
+    /// The master and then each server, in rising number, begin again at a moment that an event may have. Then all messages are dropped, and the
+    /// next one has the number 1. At an error nothing has changed.
     ///
     /// - `Clock`: the moment is more than the clock bound behind the greatest one that a node was given.
     pub fn rebase(&mut self, now: Moment) -> Result<(), RebaseFault>

@@ -67,7 +67,7 @@ impl<M: CellMaster> CellState<M> {
         )))
     }
 
-    /// How many messages were sent so far, which is the last one's number.
+    /// How many messages there are, which is the last one's number.
     pub fn message_count(&self) -> u64
         ensures { result ≡ length self.now.sent }
     {

@@ -55,7 +55,7 @@ pub struct Telling<'a> {
 /// Why a command line asks for nothing.
 #[derive(Clone, Copy, Debug, PartialEq, Eq)]
 pub enum CommandFault {
-    /// The words aren't a command line, or a value isn't a decimal number below 2^64 without sign.
+    /// The words aren't a command line, or a number isn't a decimal one below 2^64 without sign.
     Bad,
     /// Memory was refused.
     NoMemory,

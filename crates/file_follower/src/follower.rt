@@ -98,8 +98,8 @@ impl Follower {
         )
     }
 
-    /// Opens the file again, asks for its length, and then reads each chunk below that from its beginning to its end. It misses no record that had
-    /// been answered before, where the file's chunks have 512 bytes, and nobody writes into it or into one that it goes back to by snapshots.
+    /// Opens the file again, asks for its length, and then reads each chunk below that from its beginning to its end. It misses no record that it
+    /// had seen answered, where the file's chunks have 512 bytes, and nobody writes into it or into one that it goes back to by snapshots.
     pub fn read_all<R: Wait + Clock>(
         &mut self,
         rt: &R,

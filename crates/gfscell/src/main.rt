@@ -120,7 +120,7 @@ impl Watcher for ErrorWatcher {
     }
 }
 
-/// Which entries of the journal stay: the last so many, or all where no number is given.
+/// Which entries of the journal stay: the last so many, 1 to 2^32 - 1, or all where no number is given.
 fn retention_of(keep: Option<u64>) -> Retention {
     match keep {
         Some(most) => Retention::Last(narrowed(most)),

@@ -26,10 +26,11 @@ pub struct Ended {
     pub regions: Vec<Vec<Region>>,
 }
 
-/// Closes a cell. Where a path is given the regions of its file are looked up, as the whole history left them; of one that names no file, or while the master is down, there are none.
+/// Closes a cell. Where a path is given the regions of its file are looked up, as the whole history left them; of one that names no file, or while the master is down, there are none. Faults
+/// come only where a path is given.
 ///
 /// - `Start`: clocks were not kept.
-/// - `NoMemory`: memory was refused, or of the history some entries were let go, where a path is given that names a file with a chunk.
+/// - `NoMemory`: memory was refused, or of the history some entries were let go and the file has a chunk.
 pub fn end<R: Threads + Wait + Clock>(
     rt: &R,
     alloc: Global,

@@ -48,8 +48,8 @@ impl Watcher for NoWatcher {
 /// Each line is looked at as it comes, and all of them before the cell is made: behind a bad one nothing is read.
 ///
 /// - `Line`: a line isn't in the language, or names a client that the cell doesn't have.
-/// - `Start`: a setting or a count of nodes is out of its range, or the cell could not be started, or not parked or resumed at a line `reopen`.
-/// - `NoMemory`: memory was refused outside the cell's own steps.
+/// - `Start`: a setting or a count of nodes is out of its range, no thread or no clock was to be had, or the cell could not be parked or resumed at a line `reopen`.
+/// - `NoMemory`: memory was refused outside the cell's own steps, and not in parking or resuming it.
 /// - `Read`, `Write`: the reader or the writer failed.
 pub fn run_live<T: Threads + Wait + Clock + Copy + Send + Sync + 'static, R: Read, W: Write>(
     rt: T,
@@ -195,7 +195,7 @@ fn agree_one(player: &Player, journal: &Journal)
     player.seat.seen();
 }
 
-// The cell and its clients once all lines were played, if none was refused memory. A fault closes the cell.
+// The cell and its clients once all lines were played, if none was refused memory. A fault ends the cell.
 fn play_in<
     T: Threads + Wait + Clock + Copy + Send + Sync + 'static,
     P: Watcher + Send + Drop + 'static,

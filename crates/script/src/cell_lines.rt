@@ -49,7 +49,7 @@ pub enum CellLine {
     Free,
     /// The next message of this matter is delivered twice.
     Twice(Matter),
-    /// What a node sends or is sent is lost, and it isn't ticked.
+    /// What a node sends or is sent, and isn't put aside, is lost, and it isn't ticked.
     Cut(Node),
     /// A cut ends.
     Join(Node),

@@ -14,7 +14,7 @@ use std::io::{self, ErrorKind};
 /// Why a script is not run to its end.
 #[derive(Clone, Copy, Debug, PartialEq, Eq)]
 pub enum ScriptFault {
-    /// The line of this number isn't in the language, or names a node, a file or a chunk that the cell doesn't have, or is a call by a client
+    /// The line of this number isn't in the language, or names a node, a file or a chunk that the cell doesn't show, or is a call by a client
     /// whose last call is open, or is past the greatest number of lines. Lines count from 1.
     Line(u64),
     /// The line of this number needs more than a million rounds of ticks.

@@ -32,7 +32,7 @@ fn text(word: &[u8]) -> Option<&str>
     }
 }
 
-/// The text of a path: any text without a carriage return.
+/// The text of a path: any that is not empty and has no carriage return.
 fn path_text(word: &[u8]) -> Option<&str>
     ensures { option_map (λ t. t.now) result ≡ path_of word.now }
 {

@@ -41,7 +41,7 @@ const MOST_WAITING: usize = 1_024;
 /// Takes lines as they come, has each client's calls made in order on a thread of its own, and prints each answer when it comes. At the end of
 /// input it ends, after the last answer. Of the cell's journal these entries stay.
 ///
-/// - `Start`: a setting or a count of nodes is out of its range, or the cell or a thread could not be started.
+/// - `Start`: a setting or a count of nodes is out of its range, or no thread or no clock was to be had.
 /// - `NoMemory`: memory was refused outside the cell's own steps.
 /// - `Read`, `Write`: the reader or the writer failed. What was asked before the reader failed is answered and printed.
 pub fn run_serve<

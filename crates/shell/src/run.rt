@@ -20,7 +20,7 @@ use std::io::{BufRead, Write};
 /// line is run.
 ///
 /// - `Start`: a setting or a count of nodes is out of its range, or the first names find no room. Nothing was read or printed.
-/// - `Line`: a line isn't in the language, names a node, a file or a chunk that isn't there, is a call by a client whose last
+/// - `Line`: a line isn't in the language, names a node, a file or a chunk that isn't shown, is a call by a client whose last
 ///   call is open, or is past the greatest number of lines.
 /// - `NoEnd`: a line needs too many rounds of ticks.
 /// - `NoMemory`: memory was refused outside the cell's own steps.
@@ -43,7 +43,7 @@ pub fn run_script<R: BufRead, W: Write>(
 /// A cell whose names lie in a region.
 pub type RegionCell = ScriptCell<&'static LocalHeap>;
 
-/// The same with the names in a region of so many bytes, in which nothing else of the cell lies. `Start` too where the cell can't be made in it.
+/// The same with the names in a region of so many bytes, in which nothing else of the cell lies. `Start` too where the cell can't be made.
 pub fn run_script_in_region<R: BufRead, W: Write>(
     alloc: Global,
     bytes: u64,
