@@ -45,7 +45,7 @@ module _ {T : Type 0} where
   abbrev pub items_of : List (Note T) → List T
   items_of log = (written_of log).items
 
-  -- whoever adds or ends has brought home the cell of its turn
+  -- whoever added or ends has brought home the cell of its turn, where the list is open
   abbrev pub Open : List Cell → Written T → Type 0
   Open cs w = (w.begun ≡ true) × (w.over ≡ false) × Home cs w.key
 
@@ -60,7 +60,7 @@ module _ {T : Type 0} where
   Legal cs w [] = Unit {0}
   Legal cs w (n ∷ ns) = May cs w n × Legal cs (after_note w n) ns
 
-  -- the writer's turn is this cell's
+  -- the list is open, and the writer's turn is this cell's
   abbrev pub IsTurn : ℕ → Written T → Type 0
   IsTurn key w = (w.begun ≡ true) × (w.over ≡ false) × (w.key ≡ key)
 

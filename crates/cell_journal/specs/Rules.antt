@@ -94,7 +94,7 @@ Gives s v found w = Gave v w
 abbrev pub Marks : Step (Option Filled) → Me (Option Filled) View → ℕ → Me (Option Filled) View → Type 0
 Marks s v found w = w ≡ v
 
--- The next step of a writer's own node: for some choice it is the step from the state that all steps of the node led to. What it takes was sent in a beginning of the journal.
+-- The next step of a writer's own node, of which more may be written, by the last moment: for some choice it is the step from the state that all steps of the node led to. A message that it takes was sent in a beginning of the journal.
 pub record IsStepOf (v : View) (e : Entry) : Type 0 where
   pub role : v.role ≡ Only e.node
   pub goes_on : is_retired v.of e.node ≡ false

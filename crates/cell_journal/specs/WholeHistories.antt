@@ -28,7 +28,7 @@ steps_of cell n mine = own n cell.base ++ map (raised_entry (length (sent_after 
 abbrev pub all_steps : View → Node → List Entry
 all_steps v n = steps_of v.of n v.mine
 
--- nothing more is written of this node: a client whose seat goes on as another one
+-- nothing more is written of this node: a client as which no seat goes on
 abbrev pub is_retired : Identity → Node → Bool
 is_retired cell (node.Client c) = get_or cell.retired (c.0 - 1) false
 is_retired cell other = false
@@ -42,7 +42,7 @@ pub record AreRestarts (servers : ℕ) (restarts : List Entry) : Type 0 where
   pub nodes : map (λ e. e.node) restarts ≡ node.Master ∷ map the_server (first_numbers servers)
   pub causes : All (λ e. e.cause ≡ Restarts) restarts
 
--- the entries by which a cell's journal begins: none without a base, and else restarts
+-- the entries by which a cell's journal begins: none, without a base, or restarts
 abbrev pub Begins : Identity → List Entry → Type 0
 Begins cell restarts = ((cell.base ≡ []) × (restarts ≡ [])) ⊎ AreRestarts cell.servers restarts
 

@@ -88,7 +88,7 @@ pub record WritesAll (me : Me (Option Filled) View) : Type 0 where
 abbrev pub HasOwn : View → Closed → Type 0
 HasOwn v journal = (n : Node) → Writes v n → own n journal.entries ≡ v.mine
 
--- this cell's journal as it was parked, lawful behind its base, with so many entries of the whole history, and none of a client of which nothing more is written
+-- this cell's journal as it was parked, lawful behind its base, with so many entries of the whole history, and none of its own of a client of which nothing more is written
 pub record IsParkedAt (cell : Identity) (count : ℕ) (journal : Closed) : Type 0 where
   pub cell_is : journal.cell ≡ cell
   pub lawful : IsJournalOf journal.cell journal.entries

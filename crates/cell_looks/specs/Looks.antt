@@ -25,7 +25,7 @@ pub record IsPartial (j : JournalState) : Type 0 where
   pub one : Contains (all_in j) journal
   pub gone : 0 < gone_of journal.cell.retention (length journal.entries)
 
--- what was seen of all steps up to the journal's end, if no entry was let go
+-- what was noted of all steps, without data, up to the journal's end, if no entry was let go
 abbrev pub AreSightsOf : JournalState → Option SeenSoFar → Type 0
 AreSightsOf j None = IsPartial j
 AreSightsOf j (Some s) = s.seen ≡ map blank_seen (noted_in (whole_of j.now))

@@ -60,7 +60,7 @@ IsSeatFault c Many = 64 ≤ c.made
 IsSeatFault c Closed = ⊥
 IsSeatFault c NoMemory = c.made < 64
 
--- nothing was written of this node, and something may be
+-- the base has nothing of this node, and something may be written of it
 abbrev pub IsFresh : Identity → Node → Type 0
 IsFresh cell n = (own n cell.base ≡ []) × (is_retired cell n ≡ false)
 

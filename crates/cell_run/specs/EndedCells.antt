@@ -9,7 +9,7 @@ use Rattle.cell_journal.specs.WholeHistories.{whole_of}
 use Rattle.cell_seats.specs.Journals.{joined, AreBehind}
 use Rattle.cell_run.specs.declared.cell.EndedCell.{EndedCell}
 
--- few clients were made, and none was written of that was not made
+-- few clients were made, and the base has none that was not made
 pub record IsEnded (cell : EndedCell) : Type 0 where
   pub made : cell.made ≤ 64
   pub least : 64 ≤ cell.registry.config.chunk

@@ -17,7 +17,7 @@ use Rattle.running_nodes.specs.Places.{AreNewClients}
 abbrev pub behind_of : Closed → List Bool → Identity
 behind_of journal retired = identity journal.cell.name journal.cell.config journal.cell.servers journal.cell.clients (whole_of journal) retired journal.cell.retention
 
--- what clients of so many new numbers and so many seats need
+-- what clients of numbers after so many and the seats need
 pub record IsRoomFor (config : Config) (made seats : ℕ) (room : ClientRoom) : Type 0 where
   pub boxes : vec_len room.inboxes ≡ 64
   pub clients : AreNewClients config made room.anew.items
@@ -33,7 +33,7 @@ pub record HasRoom (cell : Identity) (p : ParkedState) (room : ResumeRoom) : Typ
   pub policy : policy_in room.control_writer.policy.me.0 ≡ no_policy
   pub restarts : room.control_writer.restarts.me.0 ≡ replicate 66 0
 
--- a registry of no nodes yet, of a cell that goes on behind a parked one, and all that it needs to go on; of its clients and of those of new numbers none is one of which nothing more is written
+-- a registry of no nodes yet, of a cell that goes on behind a parked one, and all that it needs to go on; no client of a new number is one of which nothing more is written
 pub record StandsBehind (p : ParkedState) (registry : NodeRegistry) (room : ResumeRoom) (retired : List Bool) : Type 0 where
   pub first : registry.registered ≡ 0
   pub cell_is : registry.cell ≡ behind_of p.journal retired

@@ -12,7 +12,7 @@ use Rattle.cell_run.specs.declared.start_fault.StartFault.TheVariants as faults
 abbrev pub bad_start : Config → ℕ → Option StartFault
 bad_start config servers = if is_none (first_out_of_range config) then (if is_count servers then None else Some faults.Count) else Some faults.Config
 
--- memory, a thread or the clock was not to be had
+-- no memory, no thread or no steady clock was to be had
 abbrev pub IsOfMachine : StartFault → Type 0
 IsOfMachine fault = (fault ≡ faults.NoMemory) ⊎ ((fault ≡ faults.Thread) ⊎ (fault ≡ faults.Clock))
 

@@ -16,7 +16,7 @@ policy_in words = record { drop_every = slice_index words 0; repeat_every = slic
 abbrev pub raised : List ℕ → ℕ → List ℕ
 raised counts place = slice_set counts place ((slice_index counts place + 1) % 2 ^ 64)
 
--- how often each node was asked to begin again: servers by their numbers, up to 64, and then the master
+-- how often servers, by their numbers, up to 64, and then the master were asked to begin again
 abbrev pub restarted : List ℕ → Node → List ℕ
 restarted counts Master = raised counts 65
 restarted counts (Server id) = if nat_lt id.0 65 then raised counts id.0 else counts

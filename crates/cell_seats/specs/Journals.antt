@@ -20,7 +20,7 @@ journal_state now earlier skip = record { now = now; earlier = earlier; skip = s
 abbrev pub all_in : JournalState → List Closed
 all_in j = j.now ∷ j.earlier
 
--- one after another; there is one at most
+-- one after another
 abbrev pub joined : List JournalState → List Closed
 joined [] = []
 joined (j ∷ rest) = all_in j ++ joined rest
@@ -37,7 +37,7 @@ first_kept j = gone_of j.now.cell.retention (length j.now.entries) - j.skip
 abbrev pub kept_step : JournalState → ℕ → Option Entry
 kept_step j place = if nat_lt place (first_kept j) then None else slice_get (steps_in j) place
 
--- this cell stands behind the last of these journals, and each of them behind the one before it
+-- this cell stands behind the last of these journals, and each of them behind the one before it, all of one name
 abbrev pub AreBehind : Identity → List Closed → Type 0
 AreBehind cell [] = cell.base ≡ []
 AreBehind cell (j ∷ rest) = (cell.base ≡ whole_of j) × (cell.name ≡ j.cell.name) × AreBehind j.cell rest

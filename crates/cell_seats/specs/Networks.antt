@@ -10,7 +10,7 @@ use Rattle.cell_seats.specs.declared.mailboxes.DeliveryOutcome.TheVariants.{Lost
 abbrev pub is_due : ℕ → ℕ → Bool
 is_due every number = not (every == 0) && (number % every == 0)
 
--- messages have numbers in the order in which they come, from 1
+-- messages have numbers in the order in which they come, from 1, modulo 2^64
 abbrev pub next_number : NetworkState → ℕ
 next_number n = (n.count + 1) % 2 ^ 64
 

@@ -37,7 +37,7 @@ pub record IsLedBy (cell : Identity) (n : Node) (history : List Entry) (Stands :
 abbrev pub HasSeenAll : Identity → ℕ → ParkedNodeState → Type 0
 HasSeenAll cell count p = (p.history.name ≡ cell.name) × (length p.history.items ≡ count)
 
--- A seat's client, which was taken out of it: what the seat saw begins the history, which has no step more of the client unless a call of it was refused. Where clocks were kept that one did no more but a call that waits.
+-- A seat's client, which was taken out of it: what the seat saw begins the history, which has no step more of the client unless the seat was lost. Where clocks were kept that one did no more but a call that waits.
 pub record IsClientOf (s : SeatState) (p : ParkedNodeState) : Type 0 where
   pub cell_is : p.cell ≡ s.cell
   pub node_is : p.node ≡ s.node
@@ -56,7 +56,7 @@ pub record IsBehind (v : View) (p : ParkedNodeState) : Type 0 where
   pub servers_are : v.of.servers ≡ p.cell.servers
   pub clients_are : v.of.clients ≡ p.cell.clients
 
--- a cell goes on under this name, behind a lawful history in which clocks were kept
+-- a cell of this name, with settings in their ranges, goes on behind a lawful history in which clocks were kept
 pub record GoesOnBehind (name : Book) (cell : Identity) : Type 0 where
   pub name_is : cell.name ≡ name
   pub lawful : IsHistoryOf cell cell.base

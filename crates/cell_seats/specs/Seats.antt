@@ -42,7 +42,7 @@ said s = visible_of (own s.node s.seen)
 abbrev pub shown : SeatState → List Visible
 shown s = flat_map (λ n. answered_only (visible_of (own n s.seen))) s.earlier ++ visible_of (own s.node s.seen)
 
--- the refusals of the cell itself: there is no clock or clocks were not kept, there is no room in the journal, or no cell any more
+-- the refusals of the cell itself: no clock or clocks not kept, no room or memory for a step, the client down, or no cell any more
 abbrev pub is_the_cells : Refusal → Bool
 is_the_cells ClockBroken = true
 is_the_cells JournalFull = true
@@ -91,7 +91,7 @@ pub record IsAnswered (old new : SeatState) (call : Call) (reply : Answer) : Typ
   pub still_open : new.is_lost ≡ false
   pub earlier : new.earlier ≡ old.earlier
 
--- The cell itself refused the call, and refuses all later ones, by which nothing changes. The client has seen no more than before.
+-- The cell itself refused the call. The client is lost; where it was already, nothing changed. It has seen no more than before.
 pub record IsLost (old new : SeatState) (refusal : Refusal) : Type 0 where
   pub node : new.node ≡ old.node
   pub cell : new.cell ≡ old.cell
@@ -110,7 +110,7 @@ pub data Fails (old new : SeatState) (asked : Call) (refusal : Refusal) : Type 0
   AnswersSo : IsAnswered old new asked (answer.Refused refusal) → Fails old new asked refusal
   Loses : IsLost old new refusal → Fails old new asked refusal
 
--- A seat goes over to its cell that was parked and goes on, with what it saw, and answers again. One whose client saw the whole history goes on as the client that it is, or, where a call of it waits, as one of a new number, whose descriptors are gone; what it shows stays. One that an earlier parking left behind goes on without earlier numbers.
+-- A seat goes over to its cell that was parked and goes on, with what it saw, and answers again. One whose client saw the whole history goes on as the client that it is, or, where a call of it waits, as one of a new number; what it shows stays. One that an earlier parking left behind goes on without earlier numbers.
 pub record GoesOver (cell : Identity) (saw : Option ℕ) (old new : SeatState) : Type 0 where
   pub cell_is : new.cell ≡ cell
   pub name : new.cell.name ≡ old.cell.name
@@ -138,7 +138,7 @@ pub record MovesOver (cell : Identity) (old new : SeatState) : Type 0 where
   pub earlier : new.earlier ≡ old.earlier ++ old.node ∷ []
   pub shows : shown new ≡ shown old
 
--- the refusal with which a call came back that was not done
+-- the refusal with which a call came back that was not done, Unknown for an answer of another kind
 abbrev pub IsRefusal : (Answer → Bool) → Result Answer Refusal → Refusal → Type 0
 IsRefusal is_value (Ok reply) refusal = (is_value reply ≡ false) × (refusal_in reply ≡ refusal)
 IsRefusal is_value (Err own_one) refusal = own_one ≡ refusal

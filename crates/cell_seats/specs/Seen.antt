@@ -42,12 +42,12 @@ of_client client (run.Called who call ∷ rest) = if who == client then Asked ca
 of_client client (run.Answered who reply ∷ rest) = if who == client then Answered reply ∷ of_client client rest else of_client client rest
 of_client client (run.Passed moment ∷ rest) = of_client client rest
 
--- no step of the client went back
+-- the same cell, of which no less was seen
 pub record IsFurther (v w : View) : Type 0 where
   pub of : w.of ≡ v.of
   pub grows : IsPrefix v.seen w.seen
 
--- a history in which clocks were kept was seen whole just after the client's last step
+-- a history in which clocks were kept was seen whole, with all steps of the client
 pub record HasSeen (n : Node) (w : View) (beginning : Listed Entry) (count : ℕ) : Type 0 where
   pub seen : IsSeen w beginning count
   pub lawful : IsJournalOf w.of w.seen
@@ -55,12 +55,12 @@ pub record HasSeen (n : Node) (w : View) (beginning : Listed Entry) (count : ℕ
   pub own_is : w.mine ≡ own n w.seen
   pub leaves : LeaveRetired w.of w.seen
 
--- a step's answer, if it has one, is given with the journal as it was seen then
+-- a step's answer, if it has one, is given with the history as it was seen then
 abbrev pub IsAnsweredCall : Result (Option Answer) Refusal → Listed Entry → ℕ → Option AnsweredCall → Type 0
 IsAnsweredCall answer beginning count None = answer ≡ Ok None
 IsAnsweredCall answer beginning count (Some h) = (answer ≡ Ok (Some h.answer)) × (h.beginning ≡ beginning) × (h.count ≡ count)
 
--- The client was answered, and has seen all the journal up to that; or nothing more is seen of it.
+-- The client was answered, and has seen all the history up to that; or nothing more is seen of it.
 abbrev pub ShowsAnswer : Node → List Visible → View → Option AnsweredCall → Type 0
 ShowsAnswer n before w None = visible_of w.mine ≡ before
 ShowsAnswer n before w (Some h) = (visible_of w.mine ≡ before ++ Answered h.answer ∷ []) × HasSeen n w h.beginning h.count
@@ -78,7 +78,7 @@ abbrev pub Waits : (before after : List Entry) (call : Call) (stands : Bool) →
 Waits before after call true = visible_of after ≡ visible_of before ++ Asked call ∷ []
 Waits before after call false = after ≡ before
 
--- The journal has no answer to a call that the cell itself refused: it was not made, or was and waits; or clocks were not kept.
+-- A call that the cell itself refused was not made, or was and waits for its answer; or clocks were not kept.
 abbrev pub StaysUnanswered : (v : View) (call : Call) (w : View) (fault : CallFault) → Type 0
 StaysUnanswered v call w fault = Waits v.mine w.mine call fault.stands ⊎ AreBroken w fault.refusal
 
@@ -87,7 +87,7 @@ abbrev pub answered_only : List Visible → List Visible
 answered_only (Asked call ∷ Answered reply ∷ rest) = Asked call ∷ Answered reply ∷ answered_only rest
 answered_only other = []
 
--- the clients of these flags, the first of which is that of the number after this one
+-- the clients whose flags are set, the first of which is that of the number after this one
 abbrev pub clients_in : ℕ → List Bool → List Node
 clients_in k [] = []
 clients_in k (flag ∷ rest) = if flag then Client (record { 0 = suc k }) ∷ clients_in (suc k) rest else clients_in (suc k) rest

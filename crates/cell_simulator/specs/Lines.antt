@@ -36,7 +36,7 @@ is_bad m cell (line.Rot server chunk place byte) = not (has_node m cell (node.Se
 is_bad m cell (line.Regions chunk) = is_none (regions_shown m cell chunk)
 is_bad m cell (line.Replicas chunk) = is_none (replicas_shown m cell chunk)
 
--- Which events a line makes. A call makes its own and no other one.
+-- Which events a line makes: of calls only its own, first.
 abbrev pub Makes : {C : Type 0} → Meaning C → Simulated C → CellLine → List Step → Type 0
 Makes m old (line.Call asked) steps = First (call_event asked (record { 0 = old.clock })) is_of_round steps
 Makes m old (line.Start asked) steps = First (call_event asked (record { 0 = old.clock })) is_delivery steps
@@ -48,7 +48,7 @@ Makes m old (line.Fuse n calls torn) steps = Just (event.Fuse n calls torn) step
 Makes m old (line.Rot server chunk place byte) steps = (handle : Handle) × (handle_shown m old.cell chunk ≡ Some handle) × Just (event.Rot server handle place byte) steps
 Makes m old other steps = steps ≡ []
 
--- A line's steps lead from one cell to another. That all messages are dropped is no step. A line that makes no event, but for `rebase`, changes nothing.
+-- A line's steps lead from one cell to another. That all messages are dropped is no step. A line of a kind without steps, but for `rebase`, changes nothing.
 abbrev pub Follows : {C : Type 0} → Meaning C → Simulated C → CellLine → List Step → C → Type 0
 Follows m old (line.Call asked) steps new = Lead m old.cell steps new
 Follows m old (line.Start asked) steps new = Lead m old.cell steps new

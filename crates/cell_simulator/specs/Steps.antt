@@ -67,7 +67,7 @@ pub record Stays {C : Type 0} (m : Meaning C) (old new : C) : Type 0 where
   pub times : ℕ
   pub drops : DropsTimes m times old new
 
--- Steps lead from one cell to another. Between them it may drop all messages.
+-- Steps lead from one cell to another. Around them it may drop all messages.
 abbrev pub Lead : {C : Type 0} → Meaning C → C → List Step → C → Type 0
 Lead m old [] new = Stays m old new
 Lead {C} m old (s ∷ rest) new = (v : C) × Stays m old v × (w : C) × (node_of m v s.event ≡ Some s.node) × m.steps v s.event s.answer w × Lead m w rest new

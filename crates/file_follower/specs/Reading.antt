@@ -30,11 +30,11 @@ pub record IsLater (old new : SeatState) : Type 0 where
 abbrev pub taken_at : ℕ → List ℕ → Taken
 taken_at offset one = record { id = id_of one; offset = offset }
 
--- The record of these bytes, which begin at an offset of the file, that stands at this place, if one does, is among those that were taken.
+-- The record of these bytes, which begin at an offset of the file, that stands at this place, below 2^64 in the file, if one does, is among those that were taken.
 abbrev pub IsTakenAt : List ℕ → ℕ → ℕ → List Taken → Type 0
 IsTakenAt bytes offset place taken = (one : List ℕ) → StandsAt bytes place one → offset + place < 2 ^ 64 → Contains taken (taken_at (offset + place) one)
 
--- Each record that stands in these bytes is.
+-- Each record that stands there in these bytes is.
 abbrev pub AllTaken : List ℕ → ℕ → List Taken → Type 0
 AllTaken bytes offset taken = (place : ℕ) → IsTakenAt bytes offset place taken
 
@@ -56,7 +56,7 @@ pub record HasOpened (old new : SeatState) (path : List ℕ) (fd : Fd) (count : 
   pub measured : IsAnswered between new (call.Length fd) (answer.Length count)
 
 -- In a run of the machine with the calls and answers that the reader saw in the end: a record whose append had been answered when the reader
--- began, in the file that its descriptor is of. The file's chunks have 512 bytes, and nobody writes into it.
+-- began, in the file that its descriptor is of. The file's chunks have 512 bytes, and nobody writes into it, nor into one that it goes back to by snapshots.
 pub record WasAppended (old new : SeatState) (m : Machine) (run : IsRunTo new.cell.config (trace_of new) m) (reader : ℕ) (fd : Fd) (offset : ℕ) (one : List ℕ) : Type 0 where
   pub file : ℕ
   pub reads : IsOf run.0 reader fd file
@@ -68,8 +68,8 @@ pub record WasAppended (old new : SeatState) (m : Machine) (run : IsRunTo new.ce
   pub into : IsOf run.0 client by file
   pub is : IsTrue (is_record one)
 
--- The calls and answers that the reader saw are a run of the machine; and in each such run the reader opened the file, and each record of it
--- that had been answered before is taken, with the offset that was answered.
+-- The calls and answers that the reader saw are a run of the machine; and in each such run the reader opened the file, and each such record
+-- of it is taken, with the offset that was answered.
 pub record MissesNothing (old new : Follower) (path : List ℕ) : Type 0 where
   pub explained : AreExplained new.seat.cell.config new.seat.seen
   pub takes :

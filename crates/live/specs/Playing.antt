@@ -135,7 +135,7 @@ pub record Reopens (cell : Identity) (old new : Player) : Type 0 where
   pub saw : ℕ
   pub over : GoesOver cell (Some saw) old.seat new.seat
 
--- the cell of a script goes on as this one
+-- the settings of a script's cell and its counts of nodes are those of this one
 pub record IsReopened (old new : Identity) : Type 0 where
   pub config_is : new.config ≡ old.config
   pub servers_are : new.servers ≡ old.servers

@@ -1,4 +1,4 @@
--- Whose list of chunks a change of the log changes, of the files that were there before.
+-- Whose list of chunks a change of the log may change, of the files that were there before.
 use Rattle.std.specs.Prelude.{ℕ, List, Option, Some, None}
 use Rattle.std.specs.List.{filter_map}
 use Rattle.std.specs.FinMap as table

@@ -25,7 +25,7 @@ pub record StopsOver {D : Type 0} (may_leave : D → List ℕ → Type 0) (confi
   pub opens : OpensNot (down_over config count log []) moment new_log under_way
   pub leaves : LeavesDecided may_leave left new_log under_way
 
--- The log could not be opened. The disk reads as it did, or as an empty log where none stood; and so does what a stop leaves.
+-- The log was not opened. The disk and what a stop leaves read as before, as a new log where none stood, or as the same log in the other format.
 pub record NotRead {D : Type 0} (seen : D → List ℕ) (may_leave : D → List ℕ → Type 0) (moment_of : D → ℕ) (left_since : D → ℕ → List ℕ → Type 0) (disk left : D) : Type 0 where
   pub reads : IsReopened (seen disk) (seen left)
   pub stops : LeavesOnly moment_of left_since disk left (IsOpening (seen disk) (may_leave disk))

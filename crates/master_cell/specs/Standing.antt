@@ -5,7 +5,7 @@ use Rattle.protocol.specs.Logged.{LogDisk, LogChange}
 use Rattle.protocol.specs.Master.{MasterState, stopped_master}
 use Rattle.master_plan.specs.Plans.{PlanState, master_of, known, resting}
 
--- up, with what it knows, or down, with its settings and its disk alone
+-- up, with what it knows, or down, with its settings, its disk and what is under way
 abbrev pub standing : Bool → LogDisk → List LogChange → Config → ℕ → PlanState → MasterState
 standing true disk under_way config server_count p = record (master_of disk (resting p)) { under_way = under_way }
 standing false disk under_way config server_count p = stopped_master (record (known p) { config = config; server_count = server_count }) disk under_way

@@ -15,7 +15,7 @@ pub record SlotState : Type 0 where
   pub state : MasterState
   pub files : Table (List ℕ)
 
--- The master that is held. Where none is, since it could not be up again, the one that was is down: over its log, or over the log that stood on its disk.
+-- The master that is held. Where none is, since it could not be up again, the one that was is down: over its log, over the log that stood on its disk, or over a new one.
 abbrev pub slot_state : Config → ℕ → Option LoggedMasterState → Option DiskLogState → List DiskLogState → MasterState
 slot_state config count (Some m) log before = m.state
 slot_state config count None (Some l) before = down_over config count l.disk l.under_way

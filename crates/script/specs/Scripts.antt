@@ -21,11 +21,11 @@ Ask clients texts lines = map (asked_on clients) texts ≡ map (λ line. Some li
 abbrev pub AreLines : ℕ → List ℕ → List LiveLine → Type 0
 AreLines clients script lines = Ask clients (lines_in script) lines
 
--- the same, without the empty line behind the last line feed, if there is one
+-- the same, or without a last line that is empty or a comment
 abbrev pub AreReadLines : ℕ → List ℕ → List LiveLine → Type 0
 AreReadLines clients script lines = AreLines clients script lines ⊎ AreLines clients script (lines ++ Nothing ∷ [])
 
--- the line of this number is the first that asks for nothing
+-- the line of this number is the first bad one
 pub record IsFirstBad (clients : ℕ) (texts : List (List ℕ)) (number : ℕ) : Type 0 where
   pub before : List (List ℕ)
   pub lines : List LiveLine
@@ -36,7 +36,7 @@ pub record IsFirstBad (clients : ℕ) (texts : List (List ℕ)) (number : ℕ) :
   pub bad : asked_on clients text ≡ None
   pub number_is : number ≡ length before + 1
 
--- a line of this number that asks for nothing
+-- a bad line of this number, or no memory
 abbrev pub IsBadLine : ℕ → List ℕ → ℕ → ScriptFault → Type 0
 IsBadLine clients text number (fault.Line n) = (n ≡ number) × (asked_on clients text ≡ None)
 IsBadLine clients text number fault.NoMemory = ⊤

@@ -20,7 +20,7 @@ Reads (Err NoMemory) expected = ⊤
 abbrev pub text_of : List ℕ → Option (List ℕ)
 text_of word = if is_utf8 word then Some word else None
 
--- any text without a carriage return
+-- a text that is not empty and has no carriage return
 abbrev pub path_of : List ℕ → Option (List ℕ)
 path_of word = if nat_lt 0 (length word) && not (list_any (λ c. c == 13) word) then text_of word else None
 

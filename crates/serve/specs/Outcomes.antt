@@ -31,7 +31,7 @@ pub record AreServedAnswers (options : Options) (asked : List (List Call)) (answ
   pub clients : (length asked ≡ options.clients) × (length answers ≡ options.clients)
   pub each : (k : ℕ) (calls : List Call) (replies : List Answer) → slice_get asked k ≡ Some calls → slice_get answers k ≡ Some replies → HasAnswers entries (suc k) 0 calls replies
 
--- The answers to these calls were printed as they came, each client's in order.
+-- The answers to these calls were printed, each client's in order, beside lines of room.
 pub record PrintsAnswers (options : Options) (asked : List (List Call)) (before after : Option (List ℕ)) : Type 0 where
   pub printed : List Printed
   pub text : Appends before after (flat_map printed_text printed)
@@ -71,7 +71,7 @@ pub record ServesWith (options : Options) (path : Option Path) (input before aft
   pub regions_are : AreRegionsOf path journal regions
   pub told : Appends middle after (told_regions regions)
 
--- Why it ended before that. At Start nothing was printed, or the answers to each client's first calls were.
+-- Why it ended before that. At Start nothing was printed, or, where a path was given, the answers to each client's first calls were.
 abbrev pub StopsWith : Options → Option Path → Option (List ℕ) → Option (List ℕ) → Option (List ℕ) → ScriptFault → Type 0
 StopsWith options path input before after fault.Start = Keeps before after ⊎ (IsTrue (is_some path) × ServesFirst options input before after)
 StopsWith options path input before after other = Stops options input before after other

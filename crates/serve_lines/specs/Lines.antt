@@ -46,11 +46,11 @@ served_of (cell.Restart node) = Some (Restart node)
 served_of (cell.Call asked) = Some (Asked asked)
 served_of other = None
 
--- a line whose data, if it has some, stand as they are
+-- a line whose data, if it has some, are as in scripts
 abbrev pub plain_line : List ℕ → Option ServedLine
 plain_line text = option_and_then served_of (line_of text)
 
--- digits stand behind `0x`
+-- it begins with `0x`
 abbrev pub has_digits : List ℕ → Bool
 has_digits word = nat_le 2 (length word) && slice_index word 0 == byte "0" && slice_index word 1 == byte "x"
 

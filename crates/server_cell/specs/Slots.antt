@@ -8,13 +8,13 @@ use Rattle.disk_store.specs.Standing.{LeavesHolding}
 use Rattle.protocol.specs.Server.{ServerState, down_server, stopped_server}
 use Rattle.server_handlers.specs.Standing.{HeldServerState}
 
--- The server that is held; where none is, since it could not be opened again, the one that was, which is down over the disk that it had.
+-- The server that is held; where none is, since it could not be opened again, the one that was, which is down over the disk that it had, or over a new one.
 abbrev pub slot_state : Config → ℕ → Option HeldServerState → List HeldServerState → ServerState
 slot_state config id (Some s) before = s.state
 slot_state config id None [] = down_server config id (new_server_disk config.chunk config.block config.slots) []
 slot_state config id None (s ∷ rest) = stopped_server s.state s.state.disk s.state.under_way
 
--- Where no server is held but a disk, a stop leaves of it what the server's disk had.
+-- Where no server is held but a disk, a stop leaves of it what the server's disk had, with what is under way made or not.
 abbrev pub IsDiskLeft : Config → ℕ → Option HeldServerState → List HeldServerState → Option FuseState → Type 0
 IsDiskLeft config id (Some s) before disk = ⊤
 IsDiskLeft config id None before None = ⊤

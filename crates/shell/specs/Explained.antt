@@ -1,4 +1,4 @@
--- What a script's lines come to in the protocol's worlds, and that a run of the relaxed-file machine explains it.
+-- What a script's lines come to in the protocol's worlds, and that a run of the relaxed-file machine explains it where disks were kept.
 use Rattle.std.specs.Prelude.{◌≡◌, ◌⊎◌, ⊤, ℕ, IsTrue, List, [], ◌∷◌, ◌++◌, length, Option}
 use Rattle.std.specs.List.{flat_map}
 use Rattle.messages.specs.declared.message.Message.{Message}

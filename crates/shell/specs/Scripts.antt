@@ -17,7 +17,7 @@ use Rattle.shell.specs.Explained.{AreExplained, AreExplainedUntil}
 abbrev pub at_0 : {C : Type 0} → C → Simulated C
 at_0 cell = record { cell = cell; clock = 0 }
 
--- A script that ran to its end on a new cell: its lines are all in the language, and just what they print was printed. From the new world to the last one, a run of the machine explains them.
+-- A script that ran to its end on a new cell: its lines are all in the language, and just what they print was printed. Where disks were kept, a run of the machine explains them, from the new world to the last one.
 pub record RunsOnNew {C : Type 0} (m : Meaning C) (held : C → HeldCell) (o : Options) (script before after : Option (List ℕ)) : Type 0 where
   pub first : C
   pub is_new : IsNew o (held first)
@@ -27,7 +27,7 @@ pub record RunsOnNew {C : Type 0} (m : Meaning C) (held : C → HeldCell) (o : O
   pub dropped : List Message
   pub explained : AreExplained held (world_of o) runs.runs world dropped
 
--- A script that stopped at this fault on a new cell. A run of the machine explains what is known to have run.
+-- A script that stopped at this fault on a new cell. Where disks were kept, a run of the machine explains what is known to have run.
 pub record StopsOnNew {C : Type 0} (m : Meaning C) (held : C → HeldCell) (o : Options) (script before after : Option (List ℕ)) (f : ScriptFault) : Type 0 where
   pub first : C
   pub is_new : IsNew o (held first)

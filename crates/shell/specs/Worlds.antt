@@ -16,7 +16,7 @@ use Rattle.cell_simulator.specs.Cells.{Meaning}
 abbrev pub Steps : HeldCell → Event → Option Answer → HeldCell → Type 0
 Steps old event answer new = HasEffect old (λ w choice. happens w event choice) answer new
 
--- All messages are dropped, unless the moment is too far behind the greatest one, as no script's clock is: then nothing happens.
+-- All but clients begin again, and all messages are dropped; or nothing happens, where the moment is too far behind the greatest one, as no script's clock is.
 abbrev pub DropsMessages : HeldCell → ℕ → HeldCell → Type 0
 DropsMessages old moment new = Rebases old moment new ⊎ (IsBehind old moment × (new ≡ old))
 
