@@ -9,7 +9,7 @@ use Rattle.store_disk.specs.Places.{disk_size}
 use Rattle.chunk_store.specs.Stores.{StoreState}
 use Rattle.chunk_store.specs.declared.volume.StoreVolume.{StoreVolume}
 
--- Calls may be made of it, whatever its disk's slots hold: the disk is large enough, nothing is under way, and all is on it for good.
+-- Calls may be made of it, whatever its disk's slots hold: the disk is large enough, chunks are whole blocks, nothing is under way, and all is on it for good.
 pub record IsReady {D : Type 0} (seen : D → List ℕ) (may_leave : D → List ℕ → Type 0) (store : StoreVolume D) : Type 0 where
   pub large : disk_size store.layout.chunk store.layout.block store.layout.slots ≤ length (seen store.disk)
   pub whole : store.layout.chunk % store.layout.block ≡ 0

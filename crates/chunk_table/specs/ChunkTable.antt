@@ -9,7 +9,7 @@ use Rattle.std.specs.Coded.{Coded, code_by, coded×, coded_ℕ, coded_list}
 abbrev pub NumberTable : Type 0 → Type 0
 NumberTable X = map.FinMap nat_cmp X
 
--- A chunk: its file's shape, the granted version (0 if none), the issued version, how many files own it, and its last lease, which ends at that moment.
+-- A chunk: its file's shape, the granted version (0 if none), the issued version, how often files list it, and its last lease, which ends at that moment.
 pub record ChunkRow : Type 0 where
   pub shape : Shape
   pub granted : ℕ

@@ -12,7 +12,7 @@ total measure files = sum_by (λ e. measure e.1) (map.entries files)
 abbrev pub times : ℕ → List ℕ → ℕ
 times handle handles = count_by (λ x. x == handle) handles
 
--- how many files own a chunk
+-- how often files list a chunk
 abbrev pub owners : NumberTable (List ℕ) → ℕ → ℕ
 owners files handle = total (times handle) files
 

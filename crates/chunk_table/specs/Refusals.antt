@@ -51,7 +51,7 @@ put_row_refusal_of granted issued (Some row) = if nat_lt issued granted then Som
 abbrev pub put_row_refusal : TableState → ℕ → ℕ → ℕ → Option TableFault
 put_row_refusal s handle granted issued = put_row_refusal_of granted issued (chunk_of s.table handle)
 
--- counters only rise
+-- no counter falls
 abbrev pub counters_refusal : TableState → ℕ → ℕ → Option TableFault
 counters_refusal s next_file next_handle =
     limit_unless (nat_le s.next_file next_file && nat_le next_file counter_limit && nat_le s.next_handle next_handle && nat_le next_handle counter_limit)
@@ -66,7 +66,7 @@ put_file_refusal_of s file handles None =
     if is_given s.next_file file && list_all (is_given s.next_handle) handles
     then limit_unless (nat_le (all_owners s.table.files + length handles) counter_limit) else Some NotGiven
 
--- a file that the table does not have, of chunks whose handles were given out
+-- a file that the table does not have; its number and its chunks' handles were given out
 abbrev pub put_file_refusal : TableState → ℕ → List ℕ → Option TableFault
 put_file_refusal s file handles = put_file_refusal_of s file handles (file_of s.table file)
 

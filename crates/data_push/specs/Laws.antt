@@ -44,7 +44,7 @@ pub record WasLastPut (id : DataId) (bytes : List ℕ) (calls : List BufferCall)
   pub calls_are : calls ≡ before ++ put id bytes ∷ since
   pub left_out : LeavesOut id since
 
--- the buffer is full, id is its oldest, and the call puts other data into it
+-- the buffer is full, id is its oldest, and the call puts data of a new id
 pub record Drops (b : PushBuffer) (id : DataId) (call : BufferCall) : Type 0 where
   pub newer : List (DataId × List ℕ)
   pub oldest : List ℕ

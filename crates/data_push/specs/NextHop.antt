@@ -15,7 +15,7 @@ lowest_of (s ∷ ss) = Some (lower_of s (lowest_of ss))
 abbrev pub next_hop_of : List ServerId → ServerId → Option ServerId
 next_hop_of servers me = lowest_of (filter (λ s. nat_lt me.0 s.0) servers)
 
--- it is listed, it is above me, and no other listed one above me is lower
+-- it is listed, it is above me, and no other listed one above me is lower; None where no listed one is above me
 abbrev pub IsNextHop : List ServerId → ServerId → Option ServerId → Type 0
 IsNextHop servers me None = (s : ServerId) → Contains servers s → s.0 ≤ me.0
 IsNextHop servers me (Some hop) = Contains servers hop × (me.0 < hop.0) × ((s : ServerId) → Contains servers s → me.0 < s.0 → hop.0 ≤ s.0)

@@ -77,7 +77,7 @@ LeftSince disk t = MightHaveLeft (t - disk.forgotten) (λ c. c ≡ first_bytes d
 abbrev pub GoesOn : DiskState → DiskState → Type 0
 GoesOn old new = Elapses (moment_of old) (moment_of new) (LeftSince old) (LeftSince new) (LeftBy new)
 
--- what was before this moment is told no more
+-- what was before this moment may go untold
 abbrev pub BeginsAnew : DiskState → DiskState → Type 0
 BeginsAnew old new = Forgets (moment_of old) (moment_of new) (LeftSince old) (LeftSince new) (LeftBy new)
 

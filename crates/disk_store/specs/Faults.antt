@@ -29,7 +29,7 @@ of_change change.NoRoom = store.NoRoom
 of_change change.Device = store.DiskFailed
 of_change change.NoMemory = store.NoMemory
 
--- `DiskFailed` is answered only where the disk has failed in this call.
+-- `DiskFailed` is answered only where the disk has failed in this call, and `Damaged` never.
 pub record HasCause {T : Type 0} (before now : ℕ) (result : Result T ReplicaStoreFault) : Type 0 where
   pub later : before ≤ now
   pub failed : IsErrOf result store.DiskFailed → before < now

@@ -40,14 +40,14 @@ module _ {X : Type 0} where
   last_start (e ∷ []) = first_byte e.0
   last_start (e ∷ f ∷ es) = last_start (f ∷ es)
 
-  -- names go on alike, with more bytes than a label has room for
+  -- names go on alike, and no label has room for this one and what they share
   pub record HasNoRoom (label : List ℕ) (below : List (List ℕ × X)) : Type 0 where
     pub front : List ℕ
     pub rest : List (List ℕ × X)
     pub alike : below ≡ under front rest
     pub too_long : 24 < length label + length front
 
-  -- a node has a value, two nodes right below it, or one whose label has no room beside its own
+  -- a node has a value, two nodes right below it, or names too long to be told with its label
   abbrev pub IsPacked : List ℕ → Option X → List (List ℕ × X) → Type 0
   IsPacked label (Some v) below = Unit {0}
   IsPacked label None below = first_start below ≡ last_start below → HasNoRoom label below

@@ -4,7 +4,7 @@ use Rattle.label_tree.specs.Fronts.{first_byte}
 use Rattle.label_tree.specs.declared.turn.Turn.{Turn}
 use Rattle.label_tree.specs.declared.turn.Turn.TheVariants.{Before, After, Through, Cut}
 
--- a path shares the first n bytes of a label, which has more, and the next bytes of both differ
+-- a path shares the first n bytes of a label, which has more, and then ends or has another byte
 pub record IsCut (label path : List ℕ) (n : ℕ) : Type 0 where
   pub some : 1 ≤ n
   pub within : n < length label

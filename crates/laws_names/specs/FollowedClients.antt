@@ -21,7 +21,7 @@ use Rattle.laws_names.specs.Alike.{Requests, AreAlike, IsWaiting}
 use Rattle.laws_names.specs.Followed.{IsTold}
 use Rattle.laws_names.specs.NameClients.{with_request, IsUnkept, IsOfOther, StaysTold}
 
--- A call that waits for the master is the one that is open at the machine; for any other call none is.
+-- A name call that waits for the master is the one that is open at the machine; for any other call none is.
 abbrev pub IsBesideAt : Machine → Requests → ℕ → CurrentCall → Stage → Type 0
 IsBesideAt m requests client c AskedNames = (current : OpenCall) × IsWaiting m requests client c.number current × (current.asked.call ≡ c.asked) × IsTrue (is_name_call c.asked)
 IsBesideAt m requests client c other = (m.clients client).open_call ≡ None

@@ -30,7 +30,7 @@ pub record IsAtStep (config : Config) (m : MasterState) (n : Machine) (requests 
   pub timely : IsTimely n m.now
   pub alike : AreAlike m.logged m.snapshots n requests
 
--- A Name that may take effect and a Look are of the client's open call.
+-- Of the client's open call are a Name that may take effect, and a Look of its number.
 abbrev pub IsOfOpenCall : MasterDoing → Machine → Requests → Message → Body → Type 0
 IsOfOpenCall d n requests x (body.Name number deadline c) = IsRequest d n requests (client_number x.sender) number deadline.0 c
 IsOfOpenCall d n requests x (body.Look number c) = IsTrue (is_look c) × ((current : OpenCall) → IsWaiting n requests (client_number x.sender) number current → current.asked.call ≡ c)
@@ -40,7 +40,7 @@ abbrev pub IsInputOfOpenCall : MasterDoing → Machine → Requests → NodeInpu
 IsInputOfOpenCall d n requests (input.Deliver x) = IsOfOpenCall d n requests x x.body
 IsInputOfOpenCall d n requests input.Tick = Unit {0}
 
--- The machine follows a step that goes through: names, files, kept answers and locks are the same again, what is told are outcomes, and no answer is kept but of open requests.
+-- The machine follows a step that goes through: names, files, kept answers and locks are the same again, what is told are outcomes, and new kept answers are to open requests.
 abbrev pub StepsAreFollowed : Type 0
 StepsAreFollowed =
     (config : Config) (servers clients : ℕ) (w : WorldState) → IsReached config servers clients w → IsTrue w.master.up

@@ -45,7 +45,7 @@ IsActionOf m r (FindFull client) = IsRefusal client r
 IsActionOf m r (Expire file moment) = r ≡ log.Expired (file_id file)
 IsActionOf m r other = ⊥
 
--- an action that is logged nowhere: locks that are taken, and what Open and List come to
+-- an action that is logged nowhere: locks that are taken, calls that are found busy, and what Open and List come to
 abbrev pub IsQuiet : Machine → Action → Type 0
 IsQuiet m (Lock client) = Unit {0}
 IsQuiet m (FindBusy client holder) = Unit {0}

@@ -29,7 +29,7 @@ pub record AreUnrefused (names : Names) (snapshots : List PendingSnapshot) : Typ
 abbrev pub HasNoSecondName : Names → Type 0
 HasNoSecondName names = (file : ℕ) (one other : Path) → node_at names one ≡ Some (File file) → node_at names other ≡ Some (File file) → one ≡ other
 
--- Each step of the master leaves them so, whatever call, message or tick it takes.
+-- Where no file has two names, each step of the master leaves them so, whatever call, message or tick it takes.
 abbrev pub StepsLeaveSnapshotsUnrefused : Type 0
 StepsLeaveSnapshotsUnrefused =
     (m : MasterState) (moment : ℕ) (i : NodeInput) (refused : List Bool) → HasNoSecondName m.logged.names → AreUnrefused m.logged.names m.snapshots

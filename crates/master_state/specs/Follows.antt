@@ -29,7 +29,7 @@ grant_follows version (Some row) = (row.issued == version) && nat_lt row.granted
 abbrev pub is_at_index : List ℕ → ℕ → ℕ → Bool
 is_at_index handles index handle = nat_lt index (length handles) && (slice_index handles index == handle)
 
--- The chunk that is copied is still its file's.
+-- The chunk that is copied is still its file's, and the copy is there and nobody's.
 abbrev pub swap_follows : TableState → ℕ → Option Copy → Bool
 swap_follows s handle None = true
 swap_follows s handle (Some c) = is_at_index (handles_of s.table c.file) c.index c.source && is_none (swap_refusal s c.file c.index handle)

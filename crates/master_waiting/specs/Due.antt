@@ -27,7 +27,7 @@ is_ready_at l moment s = list_all (λ handle. row_has_ended moment (chunk_of l.t
 abbrev pub WaitAt : Logged → List PendingSnapshot → ℕ → Type 0
 WaitAt l snapshots moment = list_all (λ s. not (is_ready_at l moment s)) snapshots ≡ true
 
--- Whether no lease that has not ended at a moment ends by a record, as far as is looked: a row that it sets anew has none, and no file's list gets shorter.
+-- Whether no lease that has not ended at a moment ends by a record that moves no name, as far as is looked: a row that it sets anew has none, and no file's list gets shorter.
 abbrev pub leaves_leases : Logged → ℕ → Record → Bool
 leaves_leases l moment (log.Epoch epoch) = true
 leaves_leases l moment (log.Mkdir client n path) = true

@@ -29,7 +29,7 @@ pub fn still_waiting<A: Allocator + Clone>(
     Some(moment)
 }
 
-// Whether no lease that has not ended at this moment ends by a record.
+// Whether no lease that has not ended at this moment ends by a record that moves no name.
 fn leaves_leases<A: Allocator + Clone>(state: &State<A>, moment: u64, entry: &Record) -> bool
     ensures { result ≡ leaves_leases state.now moment entry.now }
 {

@@ -55,7 +55,7 @@ abbrev pub serials_of : Primary → List OrderCall → List ℕ
 serials_of p [] = []
 serials_of p (call ∷ rest) = serials_by p call ++ serials_of (after_call p call) rest
 
--- so many numbers from one on
+-- so many numbers from the first one on
 abbrev pub counted_from : ℕ → ℕ → List ℕ
 counted_from first zero = []
 counted_from first (suc count) = first ∷ counted_from (first + 1) count
@@ -88,7 +88,7 @@ NewAtMostOnce = (p : Primary) (client : ClientId) (seq : ℕ) (calls : List Orde
 abbrev pub KnownIsNeverNew : Type 0
 KnownIsNeverNew = (p : Primary) (client : ClientId) (seq : ℕ) (calls : List OrderCall) → IsSome (known p client seq) → times_new p client seq calls ≡ 0
 
--- the member that acknowledged that serial by this call, after it was given and while the lease counted
+-- the server that acknowledged that serial by this call, after it was given and while the lease counted
 abbrev pub members_by : Primary → ℕ → OrderCall → List ℕ
 members_by p serial (Acknowledge server s now) = if (s == serial) && (nat_le s p.serial && counts (seen_at p now).held) then server ∷ [] else []
 members_by p serial (Attempt client seq place now) = []
@@ -99,7 +99,7 @@ members_by p serial (ExtendLease until now) = []
 members_by p serial Report = []
 members_by p serial EndLease = []
 
--- the members that did so, in order
+-- the servers that did so, in order
 abbrev pub members_of : Primary → ℕ → List OrderCall → List ℕ
 members_of p serial [] = []
 members_of p serial (call ∷ rest) = members_by p serial call ++ members_of (after_call p call) serial rest

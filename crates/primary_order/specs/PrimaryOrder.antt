@@ -139,7 +139,7 @@ abbrev pub refused_by : Primary → Refusal → Option Waiting → Primary
 refused_by p r None = p
 refused_by p r (Some w) = record p { kept = with_standing p.kept w.client.0 w.seq (IsRefused r) }
 
--- A member refused: the refusal is kept until a success of that serial takes its place.
+-- A member refused: the refusal is kept where the attempt is its client's last one.
 abbrev pub refused : Primary → ℕ → Refusal → Primary
 refused p serial r = refused_by p r (map.get p.waiting serial)
 

@@ -83,7 +83,7 @@ acknowledged p server serial =
       waiting = waiting_by p.waiting serial server (map.get p.waiting serial);
     }
 
--- A member refused: the refusal is kept until a success of that serial takes its place.
+-- A member refused: the refusal is kept where the attempt is its client's last one.
 abbrev pub refused_by : SerialOrder → Refusal → Option Waiting → SerialOrder
 refused_by p r None = p
 refused_by p r (Some w) = record p { kept = with_standing p.kept w.client.0 w.seq (IsRefused r) }

@@ -61,7 +61,7 @@ open_call m client = (m.clients client).open_call
 abbrev pub name_step : Machine → ℕ → ℕ → List Action
 name_step m client moment = option_to_list (option_map (λ current. Step client moment (outcome_of m.config m.names current.asked.call)) (open_call m client))
 
--- a snapshot that waits, of another client, under a lock that conflicts
+-- the first snapshot that waits under a lock that conflicts
 abbrev pub holder_of : MasterState → Call → Option PendingSnapshot
 holder_of s c = find (λ pending. conflict c (snapshot_call pending)) s.snapshots
 
@@ -191,7 +191,7 @@ at_seen w spots (Numbered handle version serial id mutation) = option_to_list (o
 at_seen w spots (BecameSettled handle version serial) = option_to_list (option_map (λ s. Settle s.file s.index (place_from version.0 serial.0 (order_of w.observer handle.0) 0)) (table.get spots handle.0))
 at_seen w spots (CopyStarted handle copy) = []
 
--- a server answers a read, or tells a length, of the call that is open
+-- a server answers a read, or tells a length, of the call that is open, under the round that its client noted
 abbrev pub look_of : WorldState → Ghost → Machine → ℕ → ServerState → ℕ → ℕ → Bool → Purpose → Replica → List Action
 look_of w g m server s client handle is_length p r =
     let chosen : List Entry = entries_among (named_in (order_of w.observer handle) (applied_at g server handle)) in

@@ -89,7 +89,7 @@ IsStep m moment outcome current =
     IsTrue (is_name_call current.asked.call) × HasNameStepLeft current × (outcome ≡ outcome_of m.config m.names current.asked.call)
     × (IsFalse (is_refused outcome) → TakesEffect m current.asked.call moment)
 
--- a success of the call in a chunk that the client has a note of
+-- a success of the call in a chunk, in a round up to the client's note of it
 abbrev pub is_noted_success : CallId → ℕ → (Mutation → Bool) → Entry → Bool
 is_noted_success id noted test e = same_call id e.call && e.settled && nat_le e.round noted && test e.mutation
 

@@ -60,13 +60,13 @@ attempt_of other = None
 abbrev pub is_kept_live : WorldState → ℕ → Mutated → LiveAttempt → Bool
 is_kept_live w index a l = (l.index == index) && (l.version.0 == a.version) && nat_le (a.deadline + w.config.skew_ms) l.until.0
 
--- the attempt is of the call that its client waits for, which knows of it
+-- the attempt is of its client's last call, and a client that is up waits for it and knows of it
 abbrev pub IsOfCurrent : WorldState → ℕ → ℕ → Mutated → Purpose → ClientState → Type 0
 IsOfCurrent w client seq a p c =
     (p.call ≡ calls_made w.observer.trace client)
     × (IsTrue c.up → IsSomeAnd c.current (λ current. (attempt_of current.stage ≡ Some seq) ⊎ IsTrue (list_any (is_kept_live w p.index a) current.live)))
 
--- An attempt that asked a primary: it was told that version, and it is over, or its client's open call waits for it.
+-- An attempt that asked a primary: it was told that version, and it is over, or it is of its client's last call.
 pub record IsAttempt (w : WorldState) (g : Ghost) (client seq : ℕ) (a : Mutated) : Type 0 where
   pub told : IsSomeAnd (purpose_of g client seq) (λ p. (p.round ≡ a.version) × (p.try ≤ w.config.attempts))
   pub stands : IsDead w g client seq a ⊎ IsSomeAnd (purpose_of g client seq) (λ p. IsSomeAnd (element_at w.clients (client - 1)) (IsOfCurrent w client seq a p))
@@ -102,7 +102,7 @@ IsOfAttempt g p =
     IsSomeAnd (purpose_of g p.entry.call.client p.seq) (λ q. q.call ≡ p.entry.call.number)
     × IsSomeAnd (mutated_by g p.entry.call.client p.seq) (λ a. (a.version ≡ p.entry.round) × IsPlacedFor a.target p.entry.mutation)
 
--- each attempt has one entry of an order
+-- no attempt has two entries of an order
 abbrev pub AreOnce : List Placed → Type 0
 AreOnce [] = Unit {0}
 AreOnce (p ∷ rest) = IsFalse (list_any (is_entry_of p.entry.call.client p.seq) rest) × AreOnce rest

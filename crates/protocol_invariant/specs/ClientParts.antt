@@ -139,13 +139,13 @@ pub record AreClients (w : WorldState) (m : Machine) (g : Ghost) : Type 0 where
 abbrev pub IsOpenUntaken : Machine → ℕ → ℕ → Call → Type 0
 IsOpenUntaken m client call c = IsSomeAnd (m.clients client).open_call (λ o. (o.number ≡ call) × (o.asked.call ≡ c) × (o.outcomes ≡ []))
 
--- A name call's request: as long as it may be taken, its call is open and took no step, or it was answered.
+-- A name call's request: as long as it may be taken, its call is open and took no step, or it or a later one was answered.
 pub record IsNameRequest (w : WorldState) (m : Machine) (g : Ghost) (client number deadline : ℕ) (c : Call) : Type 0 where
   pub called : IsSomeAnd (table.get g.name_calls client) (λ calls. IsSomeAnd (table.get calls number) (λ call.
       w.observer.greatest < deadline + w.config.skew_ms
       → IsOpenUntaken m client call c ⊎ IsSomeAnd (table.get (logged_of w.master).kept client) (λ k. number ≤ k.number)))
 
--- What a call asks the master for: a part of it, before which all earlier ones are settled; of an append the last chunk, or one past a chunk that is full.
+-- What a call asks the master for: a part of it, of a write one before which all earlier ones are settled; of an append the last chunk, or one past a chunk that is full.
 abbrev pub IsWantedBy : Machine → CallId → ℕ → Wanted → Call → Type 0
 IsWantedBy m id file (wanted.Read index) (call.Read fd offset count) = IsTrue (has_part (chunk_size m file) offset count index)
 IsWantedBy m id file (wanted.Write index) (call.Write fd offset bytes) =

@@ -63,7 +63,7 @@ pub record IsGrantOf (w : WorldState) (row : ChunkRow) (handle version : ℕ) (g
   pub last : version ≡ row.granted → (grant.primary ≡ row.primary) × (grant.members ≡ row.members)
   pub earlier : version < row.granted → IsEnded w handle version grant
   pub bound : grant.until ≤ w.observer.greatest + w.config.lease_ms
-  -- while it may still be taken, the master knows an end that is no earlier
+  -- while it may still be taken, a master that is up knows an end that is no earlier
   pub ends : (IsStaleAt w grant.primary grant.order ⊎ (grant.until ≤ w.observer.greatest)) ⊎ (IsTrue w.master.up → grant.until ≤ row.lease_end)
 
 -- A chunk's row: grants are no later than it says, and where the chunk is shared, under a new number, or its lease has ended at the master, the last one is over.

@@ -21,7 +21,7 @@ use Rattle.protocol_invariant.specs.Versions.{IsClosed, IsNoneGranted, IsVersion
 abbrev pub OrderSays : WorldState → Node → OrderNo → Type 0 → Type 0
 OrderSays w to order P = IsStaleAt w (server_number to) order ⊎ P
 
--- a version that is attempted goes only to its own servers
+-- a version that is attempted goes only to its own servers that are yet to record it
 abbrev pub IsOwnAttempt : WorldState → ℕ → ℕ → ℕ → Type 0
 IsOwnAttempt w handle version server =
     IfSome (table.get w.master.attempts handle) (λ a. a.version ≡ version → IsTrue (has_number a.servers server) × IsFalse (has_number a.recorded server))
@@ -59,7 +59,7 @@ pub record IsExtend (w : WorldState) (g : Ghost) (handle version until server : 
 abbrev pub IsBeforeOrder : OrderNo → OrderNo → Type 0
 IsBeforeOrder a b = (a.epoch < b.epoch) ⊎ ((a.epoch ≡ b.epoch) × (a.count < b.count))
 
--- the Grant of what a Revoke names was sent to the same server under a lower number
+-- what a Revoke names was granted, if at all, to the same server under a lower number
 abbrev pub IsRevoke : Ghost → OrderNo → ℕ → ℕ → ℕ → Type 0
 IsRevoke g order handle version server = IfSome (grant_of g.sent handle version) (λ grant. (grant.primary ≡ server) × IsBeforeOrder grant.order order)
 

@@ -46,7 +46,7 @@ pub record IsImageOf (order : List Placed) (version serial : ℕ) (bytes : List 
   -- the last serial is an entry's, or none was given under this version
   pub last : (serial ≡ 0) ⊎ IsSome (entry_named order version serial)
 
--- that server's replica, while it is at that version, has applied that serial; or the version is closed
+-- that server's replica, while it is at that version, has applied that serial; or its lease is over
 abbrev pub HasApplied : WorldState → Ghost → ℕ → ℕ → ℕ → ℕ → Type 0
 HasApplied w g server handle version serial =
     IsOver w g handle version
@@ -59,7 +59,7 @@ pub record IsWaiting (w : WorldState) (g : Ghost) (handle : ℕ) (p : SerialOrde
   pub within : serial ≤ p.serial
   pub acknowledged : AllByRecursion (λ server. IsTrue (has_number a.members server) ⊎ HasApplied w g server handle p.held.version serial) p.held.members
 
--- A primary whose lease may count: its replica has all entries of its round, the last of which has its last serial.
+-- A primary whose lease may count: its replica has its last serial and all entries of its round, which is the last.
 pub record IsPrimary (w : WorldState) (g : Ghost) (server : ℕ) (s : ServerState) (handle : ℕ) (p : SerialOrder) : Type 0 where
   pub replica : IsSomeAnd (replica_of s.disk handle) (λ r. (r.version ≡ p.held.version) × (r.serial ≡ p.serial))
   pub has_all : AllByRecursion (λ q. (q.entry.round ≤ p.held.version) × (q.entry.round ≡ p.held.version → IsTrue (is_named (applied_at g server handle) q) × (q.serial ≤ p.serial))) (order_of w.observer handle)
@@ -83,7 +83,7 @@ carried_by (mutation.Write offset bytes) = Some bytes
 carried_by (mutation.Append offset bytes) = Some bytes
 carried_by (mutation.Pad offset end) = None
 
--- An entry ends within its chunk; what it puts there, but for a pad, is what was pushed for it.
+-- An entry ends within the largest chunk; what it puts there, but for a pad, is what was pushed for it.
 abbrev pub IsEntry : WorldState → Ghost → Placed → Type 0
 IsEntry w g p =
     (end_of p.entry.mutation ≤ w.config.chunk)

@@ -25,7 +25,7 @@ line_of e = record { handle = record { 0 = e.0 }; version = record { 0 = e.1.ver
 abbrev pub replica_lines : ServerDisk → List ReplicaLine
 replica_lines d = map line_of (entries d.replicas)
 
--- An open store answers `DiskFailed` only where its disk has failed in this call.
+-- No store answers `Damaged`, and an open one `DiskFailed` only where its disk has failed in this call.
 pub record HasCause {T : Type 0} (is_open : Bool) (before now : ℕ) (result : Result T ReplicaStoreFault) : Type 0 where
   pub later : before ≤ now
   pub failed : is_open ≡ true → IsErrOf result DiskFailed → before < now

@@ -66,7 +66,7 @@ current_at s handle row server = if s.is_present server then held_from row.grant
 abbrev pub current_holders : Servers → ℕ → ChunkRow → List HeldAt
 current_holders s handle row = filter_map (current_at s handle row) (first_numbers s.count)
 
--- a version is closed when its lease has ended, or when it was given up
+-- a version is closed where no attempt at it is under way
 abbrev pub is_closed : Servers → ℕ → HeldAt → Bool
 is_closed s handle h = not (s.is_under_way handle h.version)
 

@@ -7,7 +7,7 @@ use Rattle.chunk_table.specs.ChunkTable.{ChunkRow, ChunkTable, TableState, handl
 use Rattle.chunk_table.specs.Refusals.{share_refusal}
 use Rattle.leases.specs.LeaseEnds.{has_ended}
 
--- those of these entries that lie at `from` or below it, moved to `to`
+-- those of these entries that lie at `from` or below it, with `to` in its place
 abbrev pub moved : Path → Path → List (Path × Node) → List (Path × Node)
 moved from to es = map (λ e. (to ++ drop (length from) e.0, e.1)) (filter (λ e. is_at_or_below from e.0) es)
 
@@ -53,7 +53,7 @@ snapshot_of names t from to = snapshot_by t (copied_entries names from to)
 abbrev pub are_paths : List (Path × Node) → Bool
 are_paths copies = list_all (λ e. is_path e.0) copies
 
--- whether a chunk's lease has ended
+-- whether no lease of a chunk runs
 abbrev pub is_closed : ℕ → Option ChunkRow → Bool
 is_closed now None = true
 is_closed now (Some row) = has_ended row now

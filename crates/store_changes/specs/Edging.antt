@@ -9,7 +9,7 @@ edges_around block r offset end_place = record {
   after = drop (end_place - (end_place - 1) / block * block) (block_in block ((end_place - 1) / block) r.bytes);
 }
 
--- nothing where one of these blocks doesn't match
+-- nothing where the range can't be written over
 abbrev pub checked_edges : ℕ → Replica → ℕ → ℕ → Option Edges
 checked_edges block r offset end_place = if is_writable block r offset end_place then Some (edges_around block r offset end_place) else None
 

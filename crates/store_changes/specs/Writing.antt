@@ -34,7 +34,7 @@ ranges_of chunk block r slot handle row offset content =
     then header_range_of chunk block slot handle row ∷ []
     else written_ranges chunk block slot handle row (edges_around block r offset (offset + length content)) offset content
 
--- nothing where a block of which a part would stay doesn't match
+-- nothing where the range can't be written over
 abbrev pub checked_ranges : ℕ → ℕ → Replica → ℕ → ℕ → Row → ℕ → List ℕ → Option (List RedoRange)
 checked_ranges chunk block r slot handle row offset content =
     if is_writable block r offset (offset + length content) then Some (ranges_of chunk block r slot handle row offset content) else None
