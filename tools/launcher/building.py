@@ -31,6 +31,9 @@ class CannotBuild(Exception):
 
 
 def say(text):
+    if sys.stderr is None:
+        # it was closed before this run began
+        return
     print(f'gfscell: {text}', file=sys.stderr, flush=True)
 
 
@@ -61,7 +64,10 @@ def duration(seconds):
 # ---- what stands
 
 def is_newer_below(folder, moment):
+    """Whether something there is newer, but for what an editor leaves: a name that begins with a dot, and maybe a link to nothing."""
     for entry in os.scandir(folder):
+        if entry.name.startswith('.'):
+            continue
         if entry.stat().st_mtime_ns > moment or (entry.is_dir() and is_newer_below(entry.path, moment)):
             return True
     return False

@@ -89,7 +89,7 @@ class Causes:
         name = shown(words[0])
         if name not in ARGUMENTS:
             return f'no call {name}{near(name, ARGUMENTS)}'
-        form = CALLS.get(name, 'PATH')
+        form = 'PATH CHUNK GOAL' if name == 'create' and len(words) > 2 else CALLS.get(name, 'PATH')
         return of_count(name, form, words[1:]) or self.of_arguments(form, words[1:]) or self.of_open(shown(client))
 
     def of_open(self, client):

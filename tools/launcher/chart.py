@@ -20,6 +20,8 @@ class Charted(Simulator):
         super().__init__(cell, lambda text: (row(('answer', text)), out(text)))
         self.row = row
         self.told = 0
+        # how many messages a line `rebase` has dropped: the next one has the number 1
+        self.dropped = 0
         self.delivered = set()
         deliver = cell.deliver
 
@@ -36,7 +38,7 @@ class Charted(Simulator):
         if self.clock != self.told:
             self.told = self.clock
             self.row(('moment', self.clock))
-        self.row(('message', number, message.sender, message.receiver, message.kind, note))
+        self.row(('message', number - self.dropped, message.sender, message.receiver, message.kind, note))
 
     def line(self, text):
         if text and not text.startswith(b'#'):
@@ -65,6 +67,10 @@ class Charted(Simulator):
                 say(f'this line goes on: {(self.clock - begun) // 100:,} rounds so far, of {MOST_ROUNDS:,} at most')
             return goes_on()
         super().rounds_while(going)
+
+    def line_rebase(self):
+        super().line_rebase()
+        self.dropped = len(self.cell.messages) - 1
 
     def line_cut(self, word):
         before = list(self.pending)

@@ -48,7 +48,7 @@ def become(program, words):
 
 def tell_own(before=''):
     """To one who sits at a terminal, what the launcher takes too."""
-    if sys.stderr.isatty():
+    if sys.stderr is not None and sys.stderr.isatty():
         print(before + USAGE, file=sys.stderr)
 
 
@@ -77,13 +77,15 @@ def run_program(words):
         if words in ([], ['help']):
             tell_own('\n' + command_line.program_help())
         return status
+    if is_explained and asked.way == 'serve':
+        return told('bad command line', '--explain is of sim and live', True, 2)
     fault = fault_of(asked)
     if fault:
         return told(fault, command_line.out_of_range(asked.given) if fault == 'cannot start' else asked.file, is_explained)
     program, is_proved = building.program()
     if not is_proved:
         say(building.NOT_PROVED)
-    if is_explained and asked.way != 'serve':
+    if is_explained:
         from explain import run_explained
         return run_explained(program, words, asked)
     return become(program, words)

@@ -24,12 +24,14 @@ class Soak:
         self.program, self.end, self.seed = program, time.monotonic() + 60 * minutes, seed
         self.counts = {}
         self.wrong = []
+        self.works = {}
 
     def ran(self, name, words, output):
         """What a campaign wrote, or None where it found something wrong."""
         command = [sys.executable, '-B', os.path.join(CAMPAIGNS, name), *words]
         with open(output, 'w+', encoding='utf-8') as file:
-            status = subprocess.run(command, stdin=subprocess.DEVNULL, stdout=file, stderr=file, check=False).returncode
+            self.works[name] = subprocess.Popen(command, stdin=subprocess.DEVNULL, stdout=file, stderr=file)
+            status = self.works[name].wait()
             file.seek(0)
             text = file.read()
         if status:
@@ -70,13 +72,24 @@ class Soak:
         wanted = ('scripts', 'lists', 'events', 'restarts', 'stops', 'rots', 'clones', 'snapshots')
         return ', '.join(f'{self.counts.get(name, 0)} {name}' for name in wanted)
 
+    def end_works(self, works):
+        """Campaigns that still go on end with this run."""
+        self.end = 0
+        for work in self.works.values():
+            work.kill()
+        for work in works:
+            work.join(1)
+
     def run(self):
         with tempfile.TemporaryDirectory() as folder:
-            works = [threading.Thread(target=work, args=arguments) for work, arguments in ((self.scripts, (folder,)), (self.lists, (folder,)), (self.tell, ()))]
-            for work in works:
-                work.start()
-            for work in works:
-                work.join()
+            works = [threading.Thread(target=work, args=arguments, daemon=True) for work, arguments in ((self.scripts, (folder,)), (self.lists, (folder,)), (self.tell, ()))]
+            try:
+                for work in works:
+                    work.start()
+                for work in works:
+                    work.join()
+            finally:
+                self.end_works(works[:2])
         for text in self.wrong:
             print(text)
         print(f'soak from seed {self.seed}: {self.shown()}; {len(self.wrong) or "nothing"} wrong', flush=True)

@@ -82,6 +82,11 @@ class Workshop:
         out, errors = ran.communicate('typed\n')
         return ran.returncode, out, errors.splitlines()
 
+    def shell(self, command):
+        """The status and what is printed."""
+        ran = subprocess.run(['sh', '-c', command], cwd=self.top, input='typed\n', stdout=subprocess.PIPE, text=True, check=False)
+        return ran.returncode, ran.stdout
+
     def builds(self):
         try:
             with open(self.at('builds'), encoding='utf-8') as file:
@@ -128,6 +133,7 @@ def unproved(shop, tests):
     tests.has('the first run', first[2], BUILT, LATER, 'building the program, step 1 of 3, reading', NOT_PROVED)
     tests.same('the second run', shop.run('sim', 'script.gfs'), (*UNPROVED, NOTE))
     tests.same('the second run', shop.builds(), 1)
+    tests.same('no standard error', shop.shell('./gfscell sim script.gfs 2>&-'), UNPROVED)
     shop.touch('crates/low/specs/Lib.antt')
     tests.same('a changed definition', (shop.run('sim', 'script.gfs'), shop.builds()), ((*UNPROVED, NOTE), 1))
     for name in ('crates/low/src/lib.rt', 'crates/low/src/new.rt', 'crates.txt'):
@@ -135,6 +141,12 @@ def unproved(shop, tests):
         shop.touch(name) if name != 'crates.txt' else os.utime(shop.at(name))
         shop.run('sim', 'script.gfs')
         tests.same(name, shop.builds(), before + 1)
+    before = shop.builds()
+    os.symlink('nothing', shop.at('crates/low/src/.#lib.rt'))
+    os.utime(shop.at('crates/low/src'), (0, 0))
+    tests.same("an editor's link to nothing", (shop.run('sim', 'script.gfs'), shop.builds()), ((*UNPROVED, NOTE), before))
+    os.remove(shop.at('crates/low/src/.#lib.rt'))
+    os.utime(shop.at('crates/low/src'), (0, 0))
     tests.same('no build for words', (shop.run('--version')[0], shop.run('sim', 'none')[0], shop.run()[0], shop.builds()), (0, 1, 2, 4))
 
 
@@ -200,20 +212,27 @@ def proved(shop, tests):
 
 def explained(shop, tests):
     """The causes that `--explain` tells, below what the program says."""
-    put(shop.at('program'), '#!/bin/sh\necho printed\necho "gfscell: line 2: bad line" >&2\nexit 1\n', 0o755)
+    put(shop.at('program'), '#!/bin/sh\necho printed\nline=2\n[ "$2" != - ] || { read typed; line=1; }\necho "gfscell: line $line: bad line" >&2\nexit 1\n', 0o755)
     put(shop.at('script.gfs'), 'c1 create /f\nc2 list /\n')
     shop.touch('crates/low/src/lib.rt')
     shop.keep()
     bad = ['gfscell: line 2: bad line']
     tests.same('a bad line', shop.run('sim', 'script.gfs'), (1, 'printed\n', bad))
     tests.same('its cause', shop.run('sim', '--explain', 'script.gfs'), (1, 'printed\n', bad + ['gfscell:   c2: the cell has 1 client (--clients)']))
-    tests.same('its cause on a terminal', shop.run('sim', '-', '--explain'), (1, 'printed\n', bad + ['gfscell:   no line begins with typed']))
+    tests.same('its cause on a terminal', shop.run('sim', '-', '--explain'), (1, 'printed\n', ['gfscell: line 1: bad line', 'gfscell:   no line begins with typed']))
+    tests.same('a script that is not read twice', shop.run('sim', '/dev/stdin', '--explain'), (1, 'printed\n', bad))
+    tests.same('a region for the names', shop.run('sim', 'script.gfs', '--names-heap', '99999', '--explain'), (1, 'printed\n', bad))
+    tests.same('a served cell', shop.run('serve', '--explain'), (2, '', ['gfscell: bad command line', 'gfscell:   --explain is of sim and live']))
     tests.same('a live script', shop.run('live', 'script.gfs', '--explain'), (1, 'printed\n', bad))
     words = ['gfscell: bad command line', 'gfscell:   no option --chunks; did you mean --chunk?']
     tests.same('wrong words', shop.run('sim', 'script.gfs', '--chunks', '3', '--explain'), (2, '', words))
     tests.same('a file of that name', shop.run('sim', '--', '--explain'), (1, '', ['gfscell: cannot read']))
     settings = ['gfscell: cannot start', 'gfscell:   --chunk: 64 to 67108864, a multiple of 16']
     tests.same('a setting', shop.run('sim', '-', '--chunk', '3', '--explain'), (1, '', settings))
+    put(shop.at('program'), '#!/bin/sh\nkill -9 $$\n', 0o755)
+    shop.touch('crates/low/src/lib.rt')
+    shop.keep()
+    tests.same('a signal', shop.run('sim', 'script.gfs', '--explain'), (137, '', []))
 
 
 def by_link(shop, tests):

@@ -28,7 +28,8 @@ CAUSES = {
     b'regions /f 1': '/f has no chunk 1', b'c1 append 1 hello world': 'append takes FD DATA, 2 words, and here are 3',
     b'C1 mkdir /a': 'no line begins with C1; did you mean c1?',
     b'c01 mkdir /a': 'c01: nodes count from 1, and a zero does not lead', b'fuse master 1 Old': 'T: Old is neither old, new, nor a number up to 255',
-    b'rot c1 /f 0 0 1': 'c1: a server has to stand here', b'append 1 x': 'append is a call, and a client makes it: c1 append', b'c1': 'c1: a call is missing'}
+    b'rot c1 /f 0 0 1': 'c1: a server has to stand here', b'append 1 x': 'append is a call, and a client makes it: c1 append', b'c1': 'c1: a call is missing',
+    b'c1 create /g 64k 3': 'CHUNK: 64k is no decimal number below 2^64', b'c1 create /g 64': 'create takes PATH CHUNK GOAL, 3 words, and here are 2'}
 
 
 def shown(script, given, program, wanted=PLAIN):
@@ -209,11 +210,22 @@ def svg(program):
     return 1, [] if is_whole and is_short else [f'a chart as a picture: {len(texts)} texts of {len(shows.rows)} rows, {notes}, {cut}']
 
 
+def rebased(program):
+    """Behind a line `rebase` a chart's messages are counted from 1."""
+    shows = Show(PLAIN._replace(svg='-'), {'chunk': 64}, io.BytesIO(), program)
+    numbers = []
+    for line in (b'c1 mkdir /a', b'rebase', b'c1 mkdir /b'):
+        before = len(shows.rows)
+        shows.line(line)
+        numbers.append([row[1] for row in shows.rows[before:] if row[0] == 'message'])
+    return 1, [] if numbers[0] and numbers[0] == numbers[2] and not numbers[1] else [f'messages behind a rebase: {numbers}']
+
+
 def faults():
     """How many things were tested, and what is wrong."""
     from translate import Program
     program = Program()
-    parts = [part(program) for part in (rows, examples, side_by_side, talking, as_a_user, causes, charts, svg, pages, commands)]
+    parts = [part(program) for part in (rows, examples, side_by_side, talking, as_a_user, causes, charts, svg, rebased, pages, commands)]
     return sum(count for count, _ in parts), [fault for _, part in parts for fault in part]
 
 

@@ -2,6 +2,7 @@
 import contextlib
 import io
 import os
+import subprocess
 import tempfile
 
 import soak
@@ -28,6 +29,14 @@ def soaked(folder, is_wrong):
     return status, out.getvalue().splitlines(), ran.counts
 
 
+def is_ended():
+    """Whether a campaign that goes on ends with its run."""
+    ran = soak.Soak('program', 1, 7)
+    ran.works['lists'] = subprocess.Popen(['sleep', '60'])
+    ran.end_works([])
+    return ran.works['lists'].wait(10) != 0 and not ran.goes_on()
+
+
 def faults():
     """How many things were tested, and what is wrong."""
     wrong = [f'soak {words}: {soak.minutes_of(list(words))}' for words, minutes in WORDS.items() if soak.minutes_of(list(words)) != minutes]
@@ -40,4 +49,6 @@ def faults():
         status, lines, _ = soaked(folder, True)
         if status != 1 or 'a script prints otherwise' not in lines or not lines[-1].endswith('; 1 wrong'):
             wrong.append(f'a soak that finds something: {status}, {lines}')
-    return len(WORDS) + 2, wrong
+    if not is_ended():
+        wrong.append('a campaign goes on')
+    return len(WORDS) + 3, wrong

@@ -44,6 +44,38 @@ fn a_client_goes_on(rt: HostRuntime) -> Result<(), Fail> {
     Ok(())
 }
 
+/// In each of so many stretches so many calls of three steps each are made: a journal has room for those of three stretches, and for ticks beside them.
+const STRETCHES: usize = 10;
+
+const CALLS: usize = 300;
+
+const JOURNAL: u32 = 3_000;
+
+#[test]
+fn a_line_reopen_empties_the_journal(rt: HostRuntime) -> Result<(), Fail> {
+    let alloc = rt.alloc();
+    let mut text = String::new(alloc);
+    for _ in 0..STRETCHES {
+        write!(text, "{CALLS} c1 mkdir /d\nreopen\n")?;
+    }
+    let mut script = text.as_bytes();
+    let mut out = Vec::new(alloc);
+    assert_eq!(rt;
+        run_live(rt, alloc, &with_journal(1, JOURNAL), &mut script, &mut out),
+        Ok(())
+    );
+    let told = str::from_utf8(out.as_slice())?;
+    let mut there: usize = 0;
+    for line in told.lines() {
+        if line == "c1 refused 3 Exists" {
+            there = there.wrapping_add(1);
+        }
+    }
+    // All calls but the first one.
+    assert!(rt; there.wrapping_add(1) == STRETCHES.wrapping_mul(CALLS));
+    Ok(())
+}
+
 /// The four producers append once in so many parkings, and a fifth client reads all in the end.
 fn script_of_parks(alloc: Global) -> Result<String, Fail> {
     let mut text = String::new(alloc);

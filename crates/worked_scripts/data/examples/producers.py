@@ -170,6 +170,7 @@ class Reader:
     def __init__(self, client, path):
         self.client, self.path = client, path
         self.taken, self.chunks = {}, []
+        self.fault = None
 
     def look(self, is_whole):
         """Opens the file again and asks for its length, and reads on in each chunk below it; each chunk from its beginning, where it is to miss nothing."""
@@ -208,23 +209,32 @@ def look_until_served(reader, is_whole):
                 raise
 
 
+def slots_for(records):
+    """Room at each server for the chunks of all records, each twice, and for 32 more. In a full cell an append is refused 16 for ever."""
+    return min(65536, 32 + 2 * PRODUCERS * records * 1024 // CHUNK)
+
+
 def run(program, options, records, restarts):
-    cell = Cell(program, ['--chunk', str(CHUNK), '--block', '1024', *options], PRODUCERS + 1)
+    slots = [] if '--slots' in options else ['--slots', str(slots_for(records))]
+    cell = Cell(program, ['--chunk', str(CHUNK), '--block', '1024', *slots, *options], PRODUCERS + 1)
     reader = Reader(Client(cell, PRODUCERS + 1), FILE)
     reader.client.create(FILE)
     producers = [Producer(cell, number, records) for number in range(1, PRODUCERS + 1)]
     for producer in producers:
         producer.start()
-    looks = 0
-    while any(producer.is_alive() for producer in producers):
-        if restarts:
-            cell.send(f'restart {NODES[looks % len(NODES)]}')
-        look_until_served(reader, is_whole=False)
-        looks += 1
+    looks, followed = 0, set()
+    try:
+        while any(producer.is_alive() for producer in producers):
+            if restarts:
+                cell.send(f'restart {NODES[looks % len(NODES)]}')
+            look_until_served(reader, is_whole=False)
+            looks += 1
+        followed = ids_of(reader)
+        look_until_served(reader, is_whole=True)
+    except (Refused, EOFError) as fault:
+        reader.fault = fault
     for producer in producers:
         producer.join()
-    followed = ids_of(reader)
-    look_until_served(reader, is_whole=True)
     status = cell.close()
     answered = {name: offset for producer in producers for name, offset in producer.answered.items()}
     return status, answered, followed, looks, reader, producers
@@ -253,11 +263,13 @@ def main(words):
     for producer in producers:
         if producer.fault is not None:
             print(f'producer {producer.number}: {type(producer.fault).__name__} {producer.fault}')
+    if reader.fault is not None:
+        print(f'reader: {type(reader.fault).__name__} {reader.fault}')
     has, missed = ids_of(reader), sorted(set(answered.items()) - set(reader.taken))
     print(f'{len(answered)} records answered at {len(set(answered.values()))} offsets, {sum(producer.tried_again for producer in producers)} appends tried again')
     print(f'the reader has {len(answered) - len(missed)} of them where they were answered, {len(followed)} of all while it followed, in {looks} looks; '
           f'{len(reader.taken) - len(has)} stood twice, and {len(has - set(answered))} are of appends that failed')
-    return 1 if status or missed or any(producer.fault for producer in producers) else 0
+    return 1 if status or missed or reader.fault or any(producer.fault for producer in producers) else 0
 
 
 if __name__ == '__main__':
