@@ -78,13 +78,6 @@ impl<N: Stepper + Drop> Slot<N> {
         }
     }
 
-    /// The node, while it is there. Its own steps led to the state in which it is.
-    pub fn node(&self) -> Option<&N>
-        ensures { IfSome result (λ n. IsLedTo self.now.view self.now.node (N.stands n.now)) }
-    {
-        self.node.as_ref()
-    }
-
     /// Looks at its cell's whole history, which stays as it is. None: the journal is gone.
     pub fn look<R: Wait>(&mut self, rt: &R) -> Option<HistoryLook>
         ensures node { self.new.node ≡ self.old.node }
