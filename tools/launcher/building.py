@@ -180,11 +180,15 @@ def need_kit():
         raise CannotBuild("the kit's command rt is not on this machine. ./gfscell show FILE runs a script without it, by the definitions")
 
 
+def tell_of_look(work):
+    say(f'looking whether the program was proved on this machine from just this text: {duration(work.seconds())} so far, of a minute or less')
+
+
 def take_kept():
     """The proved program, where `rt ci` built it from just this text in any checkout of this machine."""
     with marked(PROVED_MARK):
-        words = [sys.executable, '-B', os.path.join(WORKSHOP, 'kept'), '--program', 'gfscell']
-        if subprocess.run(words, stdin=subprocess.DEVNULL, stdout=subprocess.DEVNULL, stderr=subprocess.DEVNULL, check=False).returncode:
+        work = Work([sys.executable, '-B', os.path.join(WORKSHOP, 'kept'), '--program', 'gfscell'], os.devnull)
+        if work.ended(tell_of_look):
             raise CannotBuild('no checkout has proved this text')
 
 
