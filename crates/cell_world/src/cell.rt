@@ -16,7 +16,7 @@ use crate::record::CellRecord;
 use crate::servers::{
     is_server_up, server_fuses, server_place, server_restarts, server_rots, server_steps,
 };
-use client_calls::client::Client;
+use client::client::Client;
 use gfs_types::answer::Answer;
 use gfs_types::call::Call;
 use gfs_types::config::Config;

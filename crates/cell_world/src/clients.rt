@@ -12,8 +12,7 @@ ghost use Rattle.cell_world.specs.Steps.{StepsAt, ClientStepsSo, ClientCallsSo, 
 
 use crate::numbered::place_of;
 use crate::record::CellRecord;
-use client::step::step;
-use client_calls::client::Client;
+use client::client::Client;
 use gfs_types::answer::Answer;
 use gfs_types::call::Call;
 use gfs_types::ids::{ClientId, Moment};
@@ -88,7 +87,7 @@ pub(crate) fn client_calls(
         stop(&mut clients[place]);
         return None;
     }
-    let StepOut { sent, answer, .. } = clients[place].take_call(now, call);
+    let StepOut { sent, answer, .. } = clients[place].call(now, call);
     kept.takes(sent, SeenList::empty(alloc));
     answer
 }
@@ -101,7 +100,7 @@ fn steps_on(client: &mut Client, now: Moment, message: Option<&Message>) -> Step
     let Ok(input) = copied(alloc, message) else {
         return lost(alloc, give_up(client));
     };
-    step(client, now, &input)
+    client.step(now, input)
 }
 
 // A step is lost for want of memory, where one is taken. Whether one was.

@@ -7,7 +7,7 @@ ghost use Rattle.cell_world.specs.Steps.{IsUpAt};
 use crate::cell::CellState;
 use crate::clients::client_place;
 use crate::master::CellMaster;
-use client_calls::client::Client;
+use client::client::Client;
 use gfs_types::ids::ClientId;
 
 impl<M: CellMaster> CellState<M> {

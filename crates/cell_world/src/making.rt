@@ -13,7 +13,7 @@ ghost use Rattle.cell_world.specs.Held.{IsHeldAs};
 use crate::cell::CellState;
 use crate::master::CellMaster;
 use crate::record::CellRecord;
-use client_calls::client::Client;
+use client::client::Client;
 use gfs_types::config::Config;
 use gfs_types::ids::{ClientId, Moment};
 use gfs_types::no_memory::NoMemory;

@@ -69,7 +69,7 @@ impl<D: Disk> Store<D> {
     /// Opens a store, for chunks of whole blocks. A disk whose head is closed is formatted, and holds no replicas.
     ///
     /// An error hands the disk back. `Damaged`: the disk is another layout's. `NoMemory`: an allocator refused what the call needs. `Device`: the disk failed in this call.
-    pub fn open(disk: D, alloc: Global, layout: Layout) -> Result<Store<D>, (D, OpenFault)>
+    pub fn open(alloc: Global, disk: D, layout: Layout) -> Result<Store<D>, (D, OpenFault)>
         requires whole { layout.chunk % layout.block ≡ 0 }
         ensures open { IfOk result (λ store. (d : ServerDisk) → HoldsReplicas layout.chunk layout.block layout.slots (D.seen disk) d → IsOpen D.seen D.may_leave store d) }
         ensures is_open { IfOk result (λ store. store.is_open ≡ true) }

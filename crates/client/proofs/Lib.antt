@@ -1,2 +1,5 @@
+pub mod Attempts
+pub mod Appends
+pub mod Outcomes
 pub mod Held
 pub mod Steps

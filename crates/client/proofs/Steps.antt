@@ -10,9 +10,9 @@ use Rattle.protocol.specs.Client.{ClientState, ClientDoing, client_begins, stopp
 use Rattle.protocol.specs.ClientStep.{takes_at, ticks_at, client_does, client_goes, client_ends, client_step, may_step}
 use Rattle.protocol.specs.Conforms.{ClientSteps}
 use Rattle.client_calls.specs.declared.effects.ClientEffects.{ClientEffects}
-use Rattle.client_calls.specs.Doing.{doing}
+use Rattle.client.specs.Doing.{doing}
 use Rattle.client.specs.Takes.{holding}
-use Rattle.client_calls.proofs.Steps.{out_of, gave}
+use Rattle.client.proofs.Outcomes.{out_of, gave}
 
 held_again : (s rest : ClientState) (c : CurrentCall) → rest ≡ record s { current = None } → s.current ≡ Some c → client_begins s ≡ holding rest c
 held_again s rest c is at = ap (λ (o : Option CurrentCall). client_begins (record s { current = o })) at ∙ sym (ap (λ (r : ClientState). holding r c) is)

@@ -1,2 +1,5 @@
+pub mod Doing
+pub mod Attempts
+pub mod Calls
 pub mod Takes
 pub mod Ticks

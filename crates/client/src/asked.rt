@@ -4,9 +4,9 @@ ghost use Rattle.std.specs.Prelude.{◌≡◌, suc, IfOk};
 ghost use Rattle.relaxed_file.specs.Parts.{has_part};
 ghost use Rattle.protocol.specs.ClientAttempts.{is_append, has_next_part, begins_next_part};
 ghost use Rattle.protocol.specs.Client.{client_begins};
-ghost use Rattle.client_calls.specs.Doing.{doing};
+ghost use Rattle.client.specs.Doing.{doing};
 
-use client_calls::client::Client;
+use crate::client::Client;
 use client_calls::effects::ClientEffects;
 use client_calls::parts::has_part;
 use client_calls::sums::sum;

@@ -3,12 +3,12 @@
 ghost use Rattle.std.specs.Prelude.{◌≡◌, [], false, None, IfOk};
 ghost use Rattle.protocol.specs.Client.{client_begins};
 ghost use Rattle.protocol.specs.ClientTakes.{gets, takes_wait, told_none, told_location, told, takes_told};
-ghost use Rattle.client_calls.specs.Doing.{doing};
+ghost use Rattle.client.specs.Doing.{doing};
 ghost use Rattle.client.specs.Takes.{holding, waits_to_ask};
 
+use crate::client::Client;
 use crate::read::gets;
 use bytes::Bytes;
-use client_calls::client::Client;
 use client_calls::effects::ClientEffects;
 use client_state::call::{CurrentCall, Stage};
 use gfs_types::answer::Answer;

@@ -3,10 +3,10 @@
 ghost use Rattle.std.specs.Prelude.{◌≡◌, IfOk};
 ghost use Rattle.protocol.specs.Client.{client_begins};
 ghost use Rattle.protocol.specs.ClientTakes.{takes_reply, takes_named};
-ghost use Rattle.client_calls.specs.Doing.{doing};
+ghost use Rattle.client.specs.Doing.{doing};
 ghost use Rattle.client.specs.Takes.{holding};
 
-use client_calls::client::Client;
+use crate::client::Client;
 use client_calls::effects::ClientEffects;
 use client_state::call::{CurrentCall, Stage};
 use gfs_types::no_memory::NoMemory;

@@ -3,11 +3,11 @@
 ghost use Rattle.std.specs.Prelude.{◌≡◌, IfOk};
 ghost use Rattle.protocol.specs.Client.{client_begins};
 ghost use Rattle.protocol.specs.ClientTakes.{takes_pushed, less_live, succeeds, takes_done};
-ghost use Rattle.client_calls.specs.Doing.{doing};
+ghost use Rattle.client.specs.Doing.{doing};
 ghost use Rattle.client.specs.Takes.{holding};
 
 use crate::asked::{begins_next_part, has_next_part, is_append};
-use client_calls::client::Client;
+use crate::client::Client;
 use client_calls::effects::ClientEffects;
 use client_calls::live::less_live;
 use client_calls::parts::place_in_file;

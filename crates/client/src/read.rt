@@ -3,13 +3,13 @@
 ghost use Rattle.std.specs.Prelude.{◌≡◌, Some, IfOk};
 ghost use Rattle.protocol.specs.Client.{client_begins};
 ghost use Rattle.protocol.specs.ClientTakes.{gets, takes_bytes, takes_len_is};
-ghost use Rattle.client_calls.specs.Doing.{doing};
+ghost use Rattle.client.specs.Doing.{doing};
 ghost use Rattle.client.specs.Takes.{holding, with_found, answers_read};
 
 use crate::asked::{begins_next_part, has_next_part};
+use crate::client::Client;
 use bytes::Bytes;
 use client_calls::asked::{is_length, is_mutation, read_count};
-use client_calls::client::Client;
 use client_calls::effects::ClientEffects;
 use client_calls::parts::place_in_file;
 use client_state::call::{CurrentCall, Stage};

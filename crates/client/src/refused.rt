@@ -3,12 +3,12 @@
 ghost use Rattle.std.specs.Prelude.{◌≡◌, IfOk};
 ghost use Rattle.protocol.specs.Client.{client_begins};
 ghost use Rattle.protocol.specs.ClientTakes.{master_refuses, stays_live, finds_full, primary_refuses, takes_refused};
-ghost use Rattle.client_calls.specs.Doing.{doing};
+ghost use Rattle.client.specs.Doing.{doing};
 ghost use Rattle.client.specs.Takes.{holding, server_refuses};
 
 use crate::asked::is_append;
+use crate::client::Client;
 use crate::placed::with_less_live;
-use client_calls::client::Client;
 use client_calls::effects::ClientEffects;
 use client_calls::sums::sum;
 use client_state::call::{CurrentCall, LiveAttempt, Stage, ToldChunk};

@@ -4,12 +4,12 @@ ghost use Rattle.std.specs.Prelude.{◌≡◌, [], None, IfOk};
 ghost use Rattle.protocol.specs.Client.{client_begins};
 ghost use Rattle.protocol.specs.ClientStep.{takes_at, client_does, client_goes};
 ghost use Rattle.protocol.specs.Conforms.{ClientSteps};
-ghost use Rattle.client_calls.specs.Doing.{doing};
+ghost use Rattle.client.specs.Doing.{doing};
 ghost use Rattle.client.specs.Takes.{holding};
 
+use crate::client::Client;
 use crate::takes::takes;
 use crate::ticks::{completes_again, ticks_at};
-use client_calls::client::Client;
 use client_calls::effects::ClientEffects;
 use client_state::call::{CurrentCall, Stage};
 use gfs_types::ids::Moment;
@@ -18,22 +18,34 @@ use messages::event::{NodeInput, StepOut};
 use messages::message::Message;
 use messages::message_lists::MessageList;
 
-/// A step on a message or on a tick. One that is down does nothing, and so does one with a counter at its limit. For want of
-/// memory it goes down.
-#[tactic(auto, using(crate::proofs::Steps::step_did, crate::proofs::Steps::step_lost, crate::proofs::Steps::step_not_taken))]
-pub fn step(client: &mut Client, now: Moment, input: &NodeInput) -> StepOut
-    ensures { ClientSteps client.old now.0 input.now result client.new }
-{
-    if !client.may_step() {
-        return empty_output(client, false);
+/// What a client takes a step on.
+pub type ClientIn = NodeInput;
+
+impl Client {
+    /// A step on a message or on a tick. One that is down does nothing, and so does one with a counter at its limit. For want of
+    /// memory it goes down.
+    pub fn step(&mut self, now: Moment, input: ClientIn) -> StepOut
+        ensures { ClientSteps self.old now.0 input result self.new }
+    {
+        self.take_step(now, &input)
     }
-    let config = client.config();
-    let id = client.id();
-    let Ok(effects) = try_step(client, now, input) else {
-        client.stops(config, id);
-        return empty_output(client, true);
-    };
-    effects.into_out()
+
+    /// The same; its caller keeps the input.
+    #[tactic(auto, using(crate::proofs::Steps::step_did, crate::proofs::Steps::step_lost, crate::proofs::Steps::step_not_taken))]
+    pub fn take_step(&mut self, now: Moment, input: &ClientIn) -> StepOut
+        ensures { ClientSteps self.old now.0 input.now result self.new }
+    {
+        if !self.may_step() {
+            return empty_output(self, false);
+        }
+        let config = self.config();
+        let id = self.id();
+        let Ok(effects) = try_step(self, now, input) else {
+            self.stops(config, id);
+            return empty_output(self, true);
+        };
+        effects.into_out()
+    }
 }
 
 fn empty_output(client: &Client, down: bool) -> StepOut

@@ -2,15 +2,15 @@
 
 ghost use Rattle.std.specs.Prelude.{◌≡◌, IfOk};
 ghost use Rattle.protocol.specs.ClientTakes.{client_takes};
-ghost use Rattle.client_calls.specs.Doing.{doing};
+ghost use Rattle.client.specs.Doing.{doing};
 ghost use Rattle.client.specs.Takes.{holding};
 
+use crate::client::Client;
 use crate::located::{takes_told, takes_wait};
 use crate::named::takes_named;
 use crate::placed::{takes_done, takes_pushed};
 use crate::read::{takes_bytes, takes_len_is};
 use crate::refused::takes_refused;
-use client_calls::client::Client;
 use client_calls::effects::ClientEffects;
 use client_state::call::CurrentCall;
 use gfs_types::no_memory::NoMemory;

@@ -3,12 +3,12 @@
 ghost use Rattle.std.specs.Prelude.{◌≡◌, IfOk};
 ghost use Rattle.protocol.specs.Client.{client_begins};
 ghost use Rattle.protocol.specs.ClientStep.{ticks_names, ends_unanswered, ticks_at};
-ghost use Rattle.client_calls.specs.Doing.{doing};
+ghost use Rattle.client.specs.Doing.{doing};
 ghost use Rattle.client.specs.Takes.{holding};
 ghost use Rattle.client.specs.Ticks.{ticks_told, ticks_untold, completes_again};
 
-use client_calls::client::Client;
-use client_calls::client_attempts::ended;
+use crate::client::Client;
+use crate::client_attempts::ended;
 use client_calls::effects::ClientEffects;
 use client_state::call::{CurrentCall, Stage, ToldChunk};
 use gfs_types::answer::Answer;

@@ -131,7 +131,7 @@ impl<D: Disk> DiskStore<D> {
         ensures undamaged { disk_size layout.chunk layout.block layout.slots ≤ length (D.seen disk)
             → (is_head_open (D.seen disk) ≡ true → IsHeadOf layout.chunk layout.block layout.slots (D.seen disk)) → IfErr result (λ e. e.1 ≡ faults.Damaged → ⊥) }
     {
-        match Store::open(disk, alloc, layout) {
+        match Store::open(alloc, disk, layout) {
             Ok(store) => known_or_disk(alloc, store),
             Err((disk, fault)) => Err((disk, fault_of_opening(fault))),
         }

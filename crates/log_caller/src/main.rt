@@ -40,7 +40,7 @@ fn write<D: Disk + Drop>(disk: D, alloc: Global) -> (D, Result<(), LogFault>) {
     if disk.size() != SIZE {
         return (disk, Err(LogFault::Damaged));
     }
-    match Log::open(disk, alloc) {
+    match Log::open(alloc, disk) {
         Ok((mut log, entries)) => {
             drop(entries);
             let written = append_both(&mut log, alloc);
@@ -55,7 +55,7 @@ fn count<D: Disk + Drop>(disk: D, alloc: Global) -> Result<usize, LogFault> {
     if disk.size() != SIZE {
         return Err(LogFault::Damaged);
     }
-    match Log::open(disk, alloc) {
+    match Log::open(alloc, disk) {
         Ok((_, entries)) => Ok(entries.len()),
         Err((_, fault)) => Err(fault),
     }

@@ -89,7 +89,7 @@ impl<A: Allocator + Clone, D: Disk + Drop> Master<A, D> {
         ensures device { IfErr result (λ e. e.1 ≡ opening_faults.Down causes.Device → D.failed disk < D.failed e.0) }
         ensures room { IfErr result (λ e. e.1 ≡ opening_faults.Down causes.NoRoom → LacksRoom config servers (D.seen disk) now.0) }
     {
-        let log = match DiskLog::open(disk, alloc) {
+        let log = match DiskLog::open(alloc, disk) {
             Ok(log) => log,
             Err((disk, fault)) => return Err((disk, OpeningFault::Log(fault))),
         };

@@ -159,7 +159,7 @@ fn awaited_in<A: Allocator + Clone>(
     let Some(index) = last_leased(plan, file) else {
         return Ok(None);
     };
-    match Path::parse(path, plan.alloc()) {
+    match Path::parse(plan.alloc(), path) {
         Ok(path) => Ok(Some(Awaited { path, index })),
         Err(_) => Err(PlanFault::NoMemory),
     }

@@ -134,7 +134,7 @@ impl<A: Allocator + Clone> State<A> {
             return Ok(());
         };
         let text = hidden_name(self.alloc, moment, id)?;
-        let Ok(hidden) = Path::parse(&text, self.alloc) else {
+        let Ok(hidden) = Path::parse(self.alloc, &text) else {
             return Err(NoMemory);
         };
         self.names.remove(path);
@@ -148,7 +148,7 @@ pub fn path_of(alloc: Global, text: &Text) -> Result<Path, ReplayFault>
     ensures grammar { IfOk result (λ _. IsTrue (is_path text.now)) }
     ensures damaged { IsErrOf result Damaged → IsFalse (is_path text.now) }
 {
-    match Path::parse(text.as_str(), alloc) {
+    match Path::parse(alloc, text.as_str()) {
         Ok(path) => Ok(path),
         Err(PathFault::BadPath) => Err(ReplayFault::Damaged),
         Err(PathFault::NoMemory) => Err(ReplayFault::NoMemory),

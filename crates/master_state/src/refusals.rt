@@ -194,7 +194,7 @@ impl<A: Allocator + Clone> State<A> {
     pub fn has_parent(&self, path: &Path) -> Result<bool, NoMemory>
         ensures { IfOk result (λ is_there. is_there ≡ is_dir self.now.names (parent path.now)) }
     {
-        let Ok(parent) = Path::parse(parts::parent(path.as_str()), self.alloc) else {
+        let Ok(parent) = Path::parse(self.alloc, parts::parent(path.as_str())) else {
             return Err(NoMemory);
         };
         Ok(self.is_dir(&parent))
@@ -216,7 +216,7 @@ pub fn parsed(alloc: Global, text: &Text) -> Result<Option<Path>, NoMemory>
     ensures path { IfOk result (λ p. IfSome p (λ x. x ≡ text.now)) }
     ensures grammar { IfOk result (λ p. is_some p ≡ is_path text.now) }
 {
-    match Path::parse(text.as_str(), alloc) {
+    match Path::parse(alloc, text.as_str()) {
         Ok(path) => Ok(Some(path)),
         Err(PathFault::BadPath) => Ok(None),
         Err(PathFault::NoMemory) => Err(NoMemory),

@@ -19,7 +19,7 @@ impl<A: Allocator + Clone> State<A> {
     pub fn has_room(&mut self, path: &Text) -> Result<bool, NoMemory>
         ensures { self.new ≡ self.old }
     {
-        match Path::parse(path.as_str(), self.alloc) {
+        match Path::parse(self.alloc, path.as_str()) {
             Ok(path) => Ok(self.has_room_at(&path)),
             Err(PathFault::BadPath) => Ok(false),
             Err(PathFault::NoMemory) => Err(NoMemory),

@@ -199,7 +199,7 @@ fn put_directory<A: Allocator + Clone>(
 fn path(alloc: Global, text: &str) -> Result<Path, NoMemory>
     ensures { IfOk result (λ p. p ≡ text.now) }
 {
-    match Path::parse(text, alloc) {
+    match Path::parse(alloc, text) {
         Ok(path) => Ok(path),
         Err(_) => Err(NoMemory),
     }

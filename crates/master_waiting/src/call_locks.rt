@@ -44,7 +44,7 @@ fn read_above(alloc: Global, locks: &mut Locks, path: &str) -> Result<(), NoMemo
 fn read(alloc: Global, locks: &mut Locks, path: &str) -> Result<(), NoMemory>
     ensures { OnOk result (locks.new.items ≡ locks.old.items ++ reading path.now ∷ []) }
 {
-    match Path::parse(path, alloc) {
+    match Path::parse(alloc, path) {
         Ok(path) => {
             locks.push((path, Mode::Read))?;
             Ok(())
@@ -118,7 +118,7 @@ fn lock_text(alloc: Global, locks: &mut Locks, text: &Text, mode: Mode) -> Resul
     ensures path { IfOk result (λ b. b ≡ is_path text.now) }
     ensures locks { IfOk result (λ b. b ≡ true → locks.new.items ≡ locks.old.items ++ locks_on mode text.now) }
 {
-    match Path::parse(text.as_str(), alloc) {
+    match Path::parse(alloc, text.as_str()) {
         Ok(path) => {
             lock(alloc, locks, &path, mode)?;
             Ok(true)

@@ -158,7 +158,7 @@ impl WaitingSnapshots {
         if self.as_slice().len() <= FEW {
             return Ok(is_source(self.as_slice(), text));
         }
-        match Path::parse(text, self.alloc) {
+        match Path::parse(self.alloc, text) {
             Ok(path) => {
                 if !self.are_locked(&path, Mode::Read)? {
                     return Ok(false);
@@ -178,7 +178,7 @@ impl WaitingSnapshots {
         if self.is_empty() {
             return Ok(false);
         }
-        let Ok(trash) = Path::parse("/.gone", self.alloc) else {
+        let Ok(trash) = Path::parse(self.alloc, "/.gone") else {
             return Err(NoMemory);
         };
         if !self.are_locked(&trash, Mode::Write)? {

@@ -84,10 +84,10 @@ fn puts_directory<A: Allocator + Clone>(names: &mut Namespace<A>, path: &Path) -
 pub fn have_room<A: Allocator + Clone>(alloc: Global, names: &A) -> Result<bool, StartFault>
     ensures fault { IfErr result IsOfMemory }
 {
-    let Ok(root) = Path::parse("/", alloc) else {
+    let Ok(root) = Path::parse(alloc, "/") else {
         return Err(StartFault::NoMemory);
     };
-    let Ok(gone) = Path::parse("/.gone", alloc) else {
+    let Ok(gone) = Path::parse(alloc, "/.gone") else {
         return Err(StartFault::NoMemory);
     };
     let Ok(copy) = names.clone() else {

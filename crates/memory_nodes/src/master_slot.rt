@@ -104,7 +104,7 @@ fn new_log(alloc: Global, log_bytes: u64) -> Result<WorldLog, StartFault>
     let Ok(disk) = MemDisk::new(alloc, log_bytes as usize) else {
         return Err(StartFault::NoMemory);
     };
-    let Ok(log) = DiskLog::new(FuseDisk::new(disk), alloc) else {
+    let Ok(log) = DiskLog::new(alloc, FuseDisk::new(disk)) else {
         return Err(StartFault::NoMemory);
     };
     Ok(log)
@@ -239,7 +239,7 @@ impl<A: Allocator + Clone> RestartedMaster for MasterSlot<A> {
             self.disk = Some(disk);
             return down_output(self.alloc);
         }
-        let log = match DiskLog::open(disk, self.alloc) {
+        let log = match DiskLog::open(self.alloc, disk) {
             Ok(log) => log,
             Err((disk, _fault)) => {
                 self.disk = Some(disk);

@@ -58,7 +58,7 @@ impl<D: Disk> Log<D> {
     /// Opens the log on a disk, with its last checkpoint's items and the records appended after it. A disk whose head is closed is formatted, and holds an empty log; a log of format 1 gets format 2.
     ///
     /// An error hands the disk back. `Damaged`: what stands on the disk is no log. `NoMemory`: an allocator refused what the call needs. `Device`: the disk failed in this call.
-    pub fn open(disk: D, alloc: Global) -> Result<(Log<D>, Vec<Record>), (D, LogFault)>
+    pub fn open(alloc: Global, disk: D) -> Result<(Log<D>, Vec<Record>), (D, LogFault)>
         requires large { 4096 ≤ length (D.seen disk) }
         requires small { length (D.seen disk) ≤ 1073741824 }
         ensures open { IfOk result (λ x. x.0.is_open ≡ true) }
@@ -76,7 +76,7 @@ impl<D: Disk> Log<D> {
         ensures any_moment_of_error { IfErr result (λ e. LeavesOnly D.moment D.left_since disk e.0 (IsOpening (D.seen disk) (D.may_leave disk))) }
         ensures cause { IfErr result (λ e. e.1 ≡ faults.Device → D.failed disk < D.failed e.0) }
     {
-        let (log, walk) = Log::open_with_walk(disk, alloc)?;
+        let (log, walk) = Log::open_with_walk(alloc, disk)?;
         match collect(walk, &log.items, &log.records, alloc) {
             Ok(entries) => Ok((log, entries)),
             Err(fault) => Err((log.into_disk(), fault)),
@@ -85,8 +85,8 @@ impl<D: Disk> Log<D> {
 
     /// The same with a walk through the items and records, where there are any, which has one in memory at a time.
     pub fn open_with_walk(
-        mut disk: D,
         alloc: Global,
+        mut disk: D,
     ) -> Result<(Log<D>, Option<Walk>), (D, LogFault)>
         requires large { 4096 ≤ length (D.seen disk) }
         requires small { length (D.seen disk) ≤ 1073741824 }

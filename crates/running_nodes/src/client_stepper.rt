@@ -10,8 +10,7 @@ ghost use Rattle.running_nodes.specs.Standing.{ClientStands, IsCopiedOrStopped};
 
 use cell_journal::journal_entry::StepCause;
 use cell_seats::stepper::{NodeStep, Stepper};
-use client::step::step;
-use client_calls::client::Client;
+use client::client::Client;
 use gfs_types::answer::Answer;
 use gfs_types::call::Call;
 use gfs_types::config::Config;
@@ -75,7 +74,7 @@ fn takes(client: &mut Client, now: Moment, input: &NodeInput) -> NodeStep
 {
     let config = client.config();
     let id = client.id();
-    let out = step(client, now, input);
+    let out = client.take_step(now, input);
     with_copy(client, config, id, out)
 }
 

@@ -7,7 +7,7 @@ use crate::client_stepper::ClientNode;
 use cell_journal::journal_entry::StepCause;
 use cell_seats::seat::Seat;
 use cell_seats::stepper::{NodeStep, Stepper};
-use client_calls::client::Client;
+use client::client::Client;
 use gfs_types::call::Call;
 use gfs_types::config::Config;
 use gfs_types::ids::{ClientId, Moment};

@@ -57,7 +57,7 @@ pub fn read_full_path(alloc: Global, word: &[u8]) -> Result<Path, LineFault>
     ensures { Reads result (full_path_of word.now) }
 {
     match path_text(word) {
-        Some(text) => Ok(Path::parse(text, alloc)?),
+        Some(text) => Ok(Path::parse(alloc, text)?),
         None => Err(LineFault::Bad),
     }
 }

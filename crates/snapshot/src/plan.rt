@@ -93,7 +93,7 @@ fn with_paths(
     let mut copies = Vec::new(alloc);
     for name in names {
         let (text, node) = name;
-        let path = Path::parse(text.as_str(), alloc)?;
+        let path = Path::parse(alloc, text.as_str())?;
         push(&mut copies, path, node)?;
     }
     Ok(copies)

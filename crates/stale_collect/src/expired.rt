@@ -31,7 +31,7 @@ pub fn expired<A: Allocator + Clone>(
 fn trash(alloc: Global) -> Result<Path, NoMemory>
     ensures { IfOk result (λ path. path ≡ trash) }
 {
-    Path::parse("/.gone", alloc).map_err(|_| NoMemory)
+    Path::parse(alloc, "/.gone").map_err(|_| NoMemory)
 }
 
 fn old_files(

@@ -28,7 +28,7 @@ fn open<D: Disk + Drop>(disk: D, alloc: Global, layout: Layout) -> Result<Store<
     ensures is_open { IfOk result (λ store. store.is_open ≡ true) }
     ensures layout { IfOk result (λ store. store.layout ≡ layout) }
 {
-    match Store::open(disk, alloc, layout) {
+    match Store::open(alloc, disk, layout) {
         Ok(store) => Ok(store),
         Err((_, fault)) => Err(Error::from(fault)),
     }

@@ -81,7 +81,7 @@ fn if_more(walk: Walk, has_more: bool) -> Option<Walk>
 impl<D: Disk> DiskLog<D> {
     /// Opens the log that stands on a disk; a disk whose head is closed holds an empty one. An error hands the disk back, which then reads as
     /// it did, or as an empty log where none stood, or, of a log of format 1, with the same items and records in either format.
-    pub fn open(disk: D, alloc: Global) -> Result<DiskLog<D>, (D, OperationLogFault)>
+    pub fn open(alloc: Global, disk: D) -> Result<DiskLog<D>, (D, OperationLogFault)>
         requires { IsDiskSize (length (D.seen disk)) }
         ensures opened { IfOk result (λ l. IsLogOf l.disk.items l.disk.records (D.seen disk)) }
         ensures decided { IfOk result (λ l. l.under_way ≡ []) }
@@ -95,7 +95,7 @@ impl<D: Disk> DiskLog<D> {
         ensures cause { IfErr result (λ e. e.1 ≡ faults.Device → D.failed disk < D.failed e.0) }
     {
         let log_bytes = disk.size() as u64;
-        match Log::open_with_walk(disk, alloc) {
+        match Log::open_with_walk(alloc, disk) {
             Ok((log, walk)) => Ok(DiskLog::of_opened(log, walk, log_bytes, alloc)),
             Err((disk, fault)) => Err((disk, fault_of(fault))),
         }
@@ -126,7 +126,7 @@ impl<D: Disk> DiskLog<D> {
     }
 
     /// A new log on a disk that holds none, or an empty one. An error hands the disk back.
-    pub fn new(disk: D, alloc: Global) -> Result<DiskLog<D>, (D, OperationLogFault)>
+    pub fn new(alloc: Global, disk: D) -> Result<DiskLog<D>, (D, OperationLogFault)>
         requires { IsDiskSize (length (D.seen disk)) }
         ensures new { IfOk result (λ l. l.disk ≡ new_log) }
         ensures decided { IfOk result (λ l. l.under_way ≡ []) }
@@ -134,7 +134,7 @@ impl<D: Disk> DiskLog<D> {
         ensures open { IfOk result (λ l. l.is_open ≡ true) }
         ensures cause { IfErr result (λ e. e.1 ≡ faults.Device → D.failed disk < D.failed e.0) }
     {
-        let opened = DiskLog::open(disk, alloc)?;
+        let opened = DiskLog::open(alloc, disk)?;
         if opened.log.item_count() > 0 || opened.log.record_count() > 0 {
             return Err((opened.into_disk(), OperationLogFault::Damaged));
         }

@@ -4,6 +4,8 @@
 #[cfg(test)]
 mod chunk;
 #[cfg(test)]
+mod client_alone;
+#[cfg(test)]
 mod counts;
 #[cfg(test)]
 mod failing;

@@ -85,7 +85,7 @@ fn determined_to(alloc: Global, looks: &Looks<'_>, file: FileId, index: u64) -> 
 }
 
 fn file_of(alloc: Global, looks: &Looks<'_>) -> Option<FileId> {
-    let path = Path::parse("/log", alloc).ok()?;
+    let path = Path::parse(alloc, "/log").ok()?;
     looks.file(&path)
 }
 

@@ -146,7 +146,7 @@ fn served_and_looked_at<R: Threads + Wait + Clock + Copy + Send + 'static>(
     lines: &'static [u8],
     out: &mut Vec<u8>,
 ) -> Result<Result<(), ScriptFault>, Fail> {
-    let Ok(path) = Path::parse("/f", alloc) else {
+    let Ok(path) = Path::parse(alloc, "/f") else {
         return Err(Fail::new("no path"));
     };
     let mut options = one_server(1);

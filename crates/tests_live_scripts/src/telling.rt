@@ -19,7 +19,7 @@ impl Watcher for NoWatcher {
 #[test]
 fn regions_and_calls_are_told(rt: HostRuntime) -> Result<(), Fail> {
     let alloc = rt.alloc();
-    let Ok(path) = Path::parse("/f", alloc) else {
+    let Ok(path) = Path::parse(alloc, "/f") else {
         return Err(Fail::new("no path"));
     };
     let mut script = b"c1 create /f\nc1 open /f\n10 c1 append 1 a*8\n".as_slice();

@@ -64,9 +64,9 @@ fn conflicts_with_writer(table: &LockTable, directory: Path) -> bool {
 #[test]
 fn two_creations_in_a_directory(rt: HostRuntime) -> Result<(), Fail> {
     let alloc = rt.alloc();
-    let directory = Path::parse("/d", alloc)?;
-    let a = Path::parse("/d/a", alloc)?;
-    let b = Path::parse("/d/b", alloc)?;
+    let directory = Path::parse(alloc, "/d")?;
+    let a = Path::parse(alloc, "/d/a")?;
+    let b = Path::parse(alloc, "/d/b")?;
     let mut table = LockTable::new(alloc);
     let faults = creations(alloc, &mut table, &directory, &a, &b);
     let conflicts = conflicts_with_writer(&table, directory);
@@ -94,8 +94,8 @@ fn conflicts_after(
 #[test]
 fn what_one_gives_back_another_holds(rt: HostRuntime) -> Result<(), Fail> {
     let alloc = rt.alloc();
-    let reader = [(Path::parse("/d", alloc)?, Mode::Read)];
-    let writer = [(Path::parse("/d", alloc)?, Mode::Write)];
+    let reader = [(Path::parse(alloc, "/d")?, Mode::Read)];
+    let writer = [(Path::parse(alloc, "/d")?, Mode::Write)];
     let mut table = LockTable::new(alloc);
     let alone = conflicts_after(&mut table, &reader, &writer);
     let kept = fault_of(table.try_take(&reader));
@@ -111,8 +111,8 @@ fn what_one_gives_back_another_holds(rt: HostRuntime) -> Result<(), Fail> {
 
 // Two names, the first of them to be written.
 fn two_names(alloc: Global, first: &str, second: &str) -> Result<[(Path, Mode); 2], PathFault> {
-    let first = Path::parse(first, alloc)?;
-    let second = Path::parse(second, alloc)?;
+    let first = Path::parse(alloc, first)?;
+    let second = Path::parse(alloc, second)?;
     Ok([(first, Mode::Write), (second, Mode::Read)])
 }
 

@@ -59,7 +59,7 @@ fn put(
     path: &str,
     node: NameNode,
 ) -> Result<(), CellFault> {
-    let path = Path::parse(path, alloc)?;
+    let path = Path::parse(alloc, path)?;
     match names.insert(&path, node) {
         Ok(()) => Ok(()),
         Err(_) => Err(CellFault::NoMemory),
@@ -106,7 +106,7 @@ fn kind_at(
     names: &Namespace<Global>,
     path: &str,
 ) -> Result<Option<NameKind>, CellFault> {
-    let path = Path::parse(path, alloc)?;
+    let path = Path::parse(alloc, path)?;
     Ok(match names.get(&path) {
         Some(node) => Some(node.kind()),
         None => None,
@@ -135,8 +135,8 @@ fn commit_twice(
     names: &mut Namespace<Global>,
     table: &mut Table,
 ) -> Result<(Outcome, Outcome, usize), CellFault> {
-    let from = Path::parse("/d", alloc)?;
-    let to = Path::parse("/e", alloc)?;
+    let from = Path::parse(alloc, "/d")?;
+    let to = Path::parse(alloc, "/e")?;
     let found = plan(alloc, names, table, &from, &to)?;
     let before = commit(&found, names, table, Moment(99));
     let after = commit(&found, names, table, Moment(100));

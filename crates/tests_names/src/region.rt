@@ -86,7 +86,7 @@ fn put_in_both<A: Allocator + Clone>(
     text: &str,
     value: u64,
 ) -> Result<Option<bool>, Fail> {
-    let path = Path::parse(text, alloc)?;
+    let path = Path::parse(alloc, text)?;
     let was_there = plain.contains_key(text);
     let is_put = put_in_trie(trie, &path, value, was_there);
     if is_put == Some(true) {
@@ -102,7 +102,7 @@ fn is_removed_alike<A: Allocator + Clone>(
     plain: &mut BTreeMap<String, u64>,
     text: &str,
 ) -> Result<bool, Fail> {
-    let path = Path::parse(text, alloc)?;
+    let path = Path::parse(alloc, text)?;
     Ok(trie.remove(&path) == plain.remove(text))
 }
 
@@ -122,8 +122,8 @@ fn copy_in_trie<A: Allocator + Clone>(
     from: &str,
     to: &str,
 ) -> Result<Copied, PathFault> {
-    let from = Path::parse(from, alloc)?;
-    let to = Path::parse(to, alloc)?;
+    let from = Path::parse(alloc, from)?;
+    let to = Path::parse(alloc, to)?;
     if trie.has_at_or_below(&to) {
         return Ok(Copied::No);
     }
@@ -477,7 +477,7 @@ fn fill(alloc: Global, trie: &mut Trie<u64, &LocalHeap>) -> Result<bool, Fail> {
     let mut is_copied = false;
     for number in 0..1_000u64 {
         let text = format!(in alloc; "/d{}/f{}", number % 10, number)?;
-        let path = Path::parse(text.as_str(), alloc)?;
+        let path = Path::parse(alloc, text.as_str())?;
         if trie.insert(&path, number).is_err() {
             break;
         }
@@ -501,7 +501,7 @@ fn all_names(alloc: Global, trie: &Trie<u64, &LocalHeap>) -> Result<Vec<Text>, F
 fn take_all(alloc: Global, trie: &mut Trie<u64, &LocalHeap>) -> Result<bool, Fail> {
     let mut all = true;
     for name in &all_names(alloc, trie)? {
-        let path = Path::parse(name.as_str(), alloc)?;
+        let path = Path::parse(alloc, name.as_str())?;
         all = trie.remove(&path).is_some() && all;
     }
     Ok(all)

@@ -39,7 +39,7 @@ fn put<A: Allocator + Clone>(
     text: &str,
     value: u64,
 ) -> Result<bool, Fail> {
-    let path = Path::parse(text, alloc)?;
+    let path = Path::parse(alloc, text)?;
     Ok(trie.insert(&path, value).is_ok())
 }
 
@@ -48,7 +48,7 @@ fn at<A: Allocator + Clone>(
     trie: &Trie<u64, A>,
     text: &str,
 ) -> Result<Option<u64>, Fail> {
-    let path = Path::parse(text, alloc)?;
+    let path = Path::parse(alloc, text)?;
     Ok(trie.get(&path).copied())
 }
 
@@ -62,7 +62,7 @@ fn one_file(alloc: Global, path: &Path) -> Result<Trie<u64, Global>, Fail> {
 
 #[test]
 fn a_value_is_changed(rt: HostRuntime) -> Result<(), Fail> {
-    let path = Path::parse("/a", rt.alloc())?;
+    let path = Path::parse(rt.alloc(), "/a")?;
     let mut trie = one_file(rt.alloc(), &path)?;
     if trie.insert(&path, 50).is_err() {
         return Err(Fail::new("memory was refused"));
@@ -98,13 +98,13 @@ fn is_removed_alike(
     number: u64,
 ) -> Result<bool, Fail> {
     let text = file_text(alloc, number)?;
-    let path = Path::parse(text.as_str(), alloc)?;
+    let path = Path::parse(alloc, text.as_str())?;
     Ok(trie.remove(&path) == map.remove(text.as_str()))
 }
 
 // What stands right below a directory, by the map's calls.
 fn children_line(alloc: Global, trie: &Trie<u64, Global>, text: &str) -> Result<String, Fail> {
-    let path = Path::parse(text, alloc)?;
+    let path = Path::parse(alloc, text)?;
     let mut line = String::new(alloc);
     for child in &trie.children(alloc, &path)? {
         let entry = format!(in alloc; "{}={} ", child.name(), child.value())?;
@@ -133,7 +133,7 @@ fn has_alike(
     map: &BTreeMap<String, u64>,
     text: &str,
 ) -> Result<bool, Fail> {
-    let path = Path::parse(text, alloc)?;
+    let path = Path::parse(alloc, text)?;
     let front = format!(in alloc; "{text}/")?;
     let (mut is_there, mut has_below) = (false, false);
     for name in map.keys() {
@@ -266,8 +266,8 @@ fn names_there<A: Allocator + Clone>(
 }
 
 fn copied<A: Allocator + Clone>(alloc: Global, trie: &mut Trie<u64, A>) -> Result<bool, Fail> {
-    let from = Path::parse("/d", alloc)?;
-    let to = Path::parse("/e", alloc)?;
+    let from = Path::parse(alloc, "/d")?;
+    let to = Path::parse(alloc, "/e")?;
     if trie.has_at_or_below(&to) {
         return Err(Fail::new("something stands there"));
     }
@@ -336,12 +336,12 @@ fn refused_memory_leaves_the_map(rt: HostRuntime) -> Result<(), Fail> {
 fn three_names(alloc: Global) -> Result<(Trie<u64, Global>, Path), PathFault> {
     let mut trie = Trie::new(alloc)?;
     for (text, value) in [("/b", 2), ("/a", 1), ("/a/c", 3)] {
-        let path = Path::parse(text, alloc)?;
+        let path = Path::parse(alloc, text)?;
         if trie.insert(&path, value).is_err() {
             return Err(PathFault::NoMemory);
         }
     }
-    Ok((trie, Path::parse("/", alloc)?))
+    Ok((trie, Path::parse(alloc, "/")?))
 }
 
 // The values right below a directory that has two.

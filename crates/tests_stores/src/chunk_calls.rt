@@ -57,7 +57,7 @@ pub(crate) fn open_new<D: Disk>(disk: D, alloc: Global) -> Result<Store<D>, (D, 
     requires { is_head_open (D.seen disk) ≡ false }
     ensures { IfOk result (λ store. IsUsable store) }
 {
-    match Store::open(disk, alloc, layout()) {
+    match Store::open(alloc, disk, layout()) {
         Ok(store) => Ok(store),
         Err(error) => Err(error),
     }
@@ -190,7 +190,7 @@ fn with_bytes<D: Disk>(
 
 /// Opens a store, lists its replicas, and reads its disk.
 pub(crate) fn listed<D: Disk + Drop>(disk: D, alloc: Global) -> (D, Result<Listing, OpenFault>) {
-    match Store::open(disk, alloc, layout()) {
+    match Store::open(alloc, disk, layout()) {
         Ok(store) => {
             let listing = list_replicas(&store, alloc);
             let mut disk = store.into_disk();

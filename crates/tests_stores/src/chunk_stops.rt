@@ -169,7 +169,7 @@ fn keep_order(
     let layout = store.layout();
     let _is_kept = store.set_order(alloc, order).is_ok();
     let disk = StopPlan::new().restart(store.into_disk());
-    Store::open(disk, alloc, layout)
+    Store::open(alloc, disk, layout)
 }
 
 // The number of the last order, where the disk stops after so many calls.

@@ -52,7 +52,7 @@ pub(crate) fn append<D: Disk + Drop>(disk: D, alloc: Global, record: &Record) ->
     if disk.size() != SIZE || !is_writable(record) || is_item(record) {
         return (disk, failed(LogFault::Damaged));
     }
-    match Log::open(disk, alloc) {
+    match Log::open(alloc, disk) {
         Ok((mut log, entries)) => {
             let found = entries.len();
             drop(entries);
@@ -72,7 +72,7 @@ pub(crate) fn is_closed_by_device<D: Disk + Drop>(
     if disk.size() != SIZE || !is_writable(record) || is_item(record) {
         return (disk, false);
     }
-    match Log::open(disk, alloc) {
+    match Log::open(alloc, disk) {
         Ok((mut log, entries)) => {
             drop(entries);
             log.arm(0);

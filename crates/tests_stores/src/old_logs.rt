@@ -164,7 +164,7 @@ fn find<D: Disk + Drop>(
     if disk.size() != SIZE {
         return (disk, Err(LogFault::Damaged));
     }
-    match Log::open(disk, alloc) {
+    match Log::open(alloc, disk) {
         Ok((log, entries)) => {
             let is_there = log.item_count() == items && are_entries(alloc, &entries, wanted);
             drop(entries);
@@ -179,7 +179,7 @@ fn shrink(disk: MemDisk, alloc: Global) -> (MemDisk, bool) {
     if disk.size() != SIZE {
         return (disk, false);
     }
-    match Log::open(disk, alloc) {
+    match Log::open(alloc, disk) {
         Ok((mut log, entries)) => {
             drop(entries);
             let is_written = match only(alloc, counters(3)) {

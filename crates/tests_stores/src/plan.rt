@@ -184,7 +184,7 @@ pub(crate) fn run<D: Disk + Drop>(disk: D, alloc: Global, plan: &StopPlan) -> (D
     if disk.size() != SIZE {
         return (disk, failed_at(0, LogFault::Damaged));
     }
-    match Log::open(disk, alloc) {
+    match Log::open(alloc, disk) {
         Ok((mut log, entries)) => {
             drop(entries);
             let made = change_all(&mut log, alloc, plan);
@@ -212,7 +212,7 @@ pub(crate) fn find<D: Disk + Drop>(
     if disk.size() != SIZE {
         return (disk, Err(LogFault::Damaged));
     }
-    match Log::open(disk, alloc) {
+    match Log::open(alloc, disk) {
         Ok((log, entries)) => {
             let found = place_of_entries(plan, &entries, log.item_count());
             drop(entries);

@@ -85,7 +85,7 @@ pub(crate) fn new_log(alloc: Global) -> Option<TestLog>
         drop(disk);
         return None;
     }
-    DiskLog::new(disk, alloc).ok()
+    DiskLog::new(alloc, disk).ok()
 }
 
 fn is_kept_in_new_log(alloc: Global, record: &Record, calls: u64, torn: Torn) -> bool {

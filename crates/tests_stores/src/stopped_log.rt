@@ -21,7 +21,7 @@ pub(crate) fn open_after(
     if size < 4_096 || size > 1_073_741_824 {
         return Err(disk);
     }
-    match DiskLog::open(disk, alloc) {
+    match DiskLog::open(alloc, disk) {
         Ok(log) => Ok(log),
         Err((disk, _fault)) => Err(disk),
     }

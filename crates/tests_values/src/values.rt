@@ -12,14 +12,14 @@ use std::test::Fail;
 
 /// Whether the text is a path, and stays as it is.
 fn is_path(alloc: Global, text: &str) -> bool {
-    match Path::parse(text, alloc) {
+    match Path::parse(alloc, text) {
         Ok(path) => path.as_str() == text,
         Err(_) => false,
     }
 }
 
 fn is_bad_path(alloc: Global, text: &str) -> bool {
-    matches!(Path::parse(text, alloc), Err(PathFault::BadPath))
+    matches!(Path::parse(alloc, text), Err(PathFault::BadPath))
 }
 
 #[test]
@@ -36,8 +36,8 @@ fn a_path_is_parsed_exactly_in_the_grammar(rt: HostRuntime) {
 
 #[test]
 fn a_path_is_copied(rt: HostRuntime) -> Result<(), Fail> {
-    Path::parse("/a", rt.alloc())?.copy(rt.alloc())?;
-    Path::parse("/a", rt.alloc())?.to_text(rt.alloc())?;
+    Path::parse(rt.alloc(), "/a")?.copy(rt.alloc())?;
+    Path::parse(rt.alloc(), "/a")?.to_text(rt.alloc())?;
     Ok(())
 }
 
@@ -187,7 +187,7 @@ fn printed_faults(rt: HostRuntime) -> Result<(), Fail> {
 
 #[test]
 fn a_printed_path(rt: HostRuntime) -> Result<(), Fail> {
-    let text = format!(in rt.alloc(); "{}", Path::parse("/a/b", rt.alloc())?)?;
+    let text = format!(in rt.alloc(); "{}", Path::parse(rt.alloc(), "/a/b")?)?;
     assert!(rt; text.as_str() == "/a/b");
     Ok(())
 }

@@ -23,14 +23,15 @@ returns-then-is_err c =
 pub returns : goal.returns
 returns c =
     let s : ClientState = c.index_mut-2.result.now in
+    let is_there = at c.args.clients.now.items c.args.place s c.requires.place c.index_mut-2.ensures.value in
     record {
       old = s;
-      new = c.take_call-sent.new.self;
-      out = c.take_call-sent.result;
+      new = c.call-sent.new.self;
+      out = c.call-sent.result;
       seen = [];
-      is_there = at c.args.clients.now.items c.args.place s c.requires.place c.index_mut-2.ensures.value;
-      steps = record { calls = c.take_call-sent.ensures; unseen = refl };
+      is_there = is_there;
+      steps = record { calls = c.call-sent.ensures.taken (c.requires.may s is_there); unseen = refl };
       nodes_are = refl;
-      recorded = recorded_so c.args.kept.now c.reserve.new.self c.takes.new.self c.take_call-sent.result [] c.reserve.ensures.sent c.reserve.ensures.seen c.takes.ensures.sent
+      recorded = recorded_so c.args.kept.now c.reserve.new.self c.takes.new.self c.call-sent.result [] c.reserve.ensures.sent c.reserve.ensures.seen c.takes.ensures.sent
           (c.takes.ensures.seen ∙ ap (λ xs. c.reserve.new.self.sights.seen ++ map blank_seen xs) c.empty.ensures);
     }

@@ -11,4 +11,4 @@ returns-in_default c =
     client_gave_up c.args.client.now c.give_up.new.client c.args.now.0 (input_of (option_copied c.args.message)) c.give_up.result c.lost.result c.give_up.ensures.down c.lost.ensures c.give_up.ensures.client
 
 pub returns : goal.returns
-returns c = subst (λ (i : NodeInput). ClientSteps c.args.client.now c.args.now.0 i c.step.result c.step.new.client) c.in-Ok.ensures c.step.ensures
+returns c = subst (λ (i : NodeInput). ClientSteps c.args.client.now c.args.now.0 i c.step.result c.step.new.self) c.in-Ok.ensures c.step.ensures

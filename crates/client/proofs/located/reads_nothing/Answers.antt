@@ -2,7 +2,7 @@ use Rattle.std.proofs.Common.{◌≡◌, ℕ, List, [], false, None, IfOk, ◌�
 use Rattle.client_state.specs.declared.call.CurrentCall.{CurrentCall}
 use Rattle.protocol.specs.Client.{ClientState, ClientDoing, client_begins}
 use Rattle.protocol.specs.ClientTakes.{gets}
-use Rattle.client_calls.specs.Doing.{doing}
+use Rattle.client.specs.Doing.{doing}
 use Rattle.client.proofs.Held.{gets_held}
 use Rattle.client.proofs.located.reads_nothing.Goals as goal
 

@@ -1,6 +1,6 @@
 use Rattle.std.proofs.Common.{◌≡◌, IfOk, sym, subst, ◌∙◌}
 use Rattle.protocol.specs.Client.{ClientDoing}
-use Rattle.client_calls.specs.Doing.{doing}
+use Rattle.client.specs.Doing.{doing}
 use Rattle.client.specs.Takes.{holding}
 use Rattle.client.proofs.Held.{bytes_taken}
 use Rattle.client.proofs.read.takes_bytes.Goals as goal

@@ -1,6 +1,6 @@
 use Rattle.std.proofs.Common.{◌≡◌, IfOk, sym, subst, ◌∙◌}
 use Rattle.protocol.specs.Client.{ClientDoing}
-use Rattle.client_calls.specs.Doing.{doing}
+use Rattle.client.specs.Doing.{doing}
 use Rattle.client.proofs.Steps.{does_deliver, does_tick}
 use Rattle.client.proofs.step.take_input.Goals as goal
 

@@ -2,7 +2,7 @@ use Rattle.std.proofs.Common.{◌≡◌, IfOk, ap, sym, subst}
 use Rattle.client_state.specs.declared.call.Stage.{Stage}
 use Rattle.protocol.specs.Client.{ClientDoing}
 use Rattle.protocol.specs.ClientStep.{ticks_at}
-use Rattle.client_calls.specs.Doing.{doing}
+use Rattle.client.specs.Doing.{doing}
 use Rattle.client.specs.Takes.{holding}
 use Rattle.client.proofs.ticks.ticks_at.Goals as goal
 

@@ -8,10 +8,10 @@ ghost use Rattle.protocol.specs.ClientStep.{may_call, may_step, has_room_to_coun
 ghost use Rattle.protocol.specs.Conforms.{ClientCalls};
 ghost use Rattle.protocol.specs.Seen.{no_output};
 
-use crate::effects::ClientEffects;
-use crate::locations::Locations;
-use crate::open_files::OpenFiles;
-use crate::sent::Sent;
+use client_calls::effects::ClientEffects;
+use client_calls::locations::Locations;
+use client_calls::open_files::OpenFiles;
+use client_calls::sent::Sent;
 use client_state::call::CurrentCall;
 use client_state::kept::{Cached, Place};
 use gfs_types::answer::Answer;

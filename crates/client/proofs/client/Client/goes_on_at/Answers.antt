@@ -1,8 +1,8 @@
 use Rattle.std.proofs.Common.{◌∙◌, ap, sym}
 use Rattle.protocol.specs.Client.{client_begins}
-use Rattle.client_calls.specs.Attempts.{follows}
-use Rattle.client_calls.proofs.Attempts.{goes_as_planned}
-use Rattle.client_calls.proofs.client.Client.goes_on_at.Goals as goal
+use Rattle.client.specs.Attempts.{follows}
+use Rattle.client.proofs.Attempts.{goes_as_planned}
+use Rattle.client.proofs.client.Client.goes_on_at.Goals as goal
 
 pub returns : goal.returns
 returns c =

@@ -3,8 +3,8 @@ use Rattle.gfs_types.specs.declared.answer.Answer.TheVariants as answer
 use Rattle.gfs_types.specs.declared.refusal.Refusal.TheVariants.{NoMemory}
 use Rattle.protocol.specs.Client.{ClientState, client_begins, answers}
 use Rattle.protocol.specs.ClientStep.{calls}
-use Rattle.client_calls.proofs.Steps.{call_did, call_without_memory}
-use Rattle.client_calls.proofs.client.Client.take_call.Goals as goal
+use Rattle.client.proofs.Outcomes.{call_did, call_without_memory}
+use Rattle.client.proofs.client.Client.take_call.Goals as goal
 
 pub returns-in_default : goal.returns-in_default
 returns-in_default c =

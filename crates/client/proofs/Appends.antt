@@ -25,10 +25,10 @@ use Rattle.protocol.specs.ClientCache.{last_opened_of, fresh_one, cached}
 use Rattle.protocol.specs.ClientFiles.{with_last_append, with_append_of, last_append}
 use Rattle.protocol.specs.ClientAttempts.{bytes_to_send, chunk_of, chunk_to_find, is_length, is_mutation, push_planned, push_planned_to, read_body, read_count, read_start, will_do}
 use Rattle.protocol.specs.ClientStep.{new_call}
-use Rattle.client_calls.specs.Calls.{appends}
+use Rattle.client.specs.Calls.{appends}
 use Rattle.client_calls.specs.declared.attempt.Attempt.{Attempt}
-use Rattle.client_calls.specs.Attempts.{asking, told_as, next_read, planned_at, with_kept, attempt_at, before_attempt, planned_attempt, begun}
-use Rattle.client_calls.proofs.Attempts.{attempts_begun}
+use Rattle.client.specs.Attempts.{asking, told_as, next_read, planned_at, with_kept, attempt_at, before_attempt, planned_attempt, begun}
+use Rattle.client.proofs.Attempts.{attempts_begun}
 
 opened_stays : (files : Table OpenFile) (file : ℕ) (index : Option ℕ) (f : Option OpenFile) → table.get files file ≡ f → (other : ℕ)
     → last_opened_of (table.get (with_append_of files file index f) other) ≡ last_opened_of (table.get files other)

@@ -4,17 +4,17 @@ ghost use Rattle.std.specs.Prelude.{◌≡◌, ◌<◌, suc, IfOk, None};
 ghost use Rattle.std.specs.Option.{option_copied};
 ghost use Rattle.protocol.specs.Client.{file_chunk, from_client};
 ghost use Rattle.protocol.specs.ClientAttempts.{ask_planned, read_body, read_planned, again_planned, push_planned, push_planned_to, mutate_planned, name_planned, chunk_of, will_do};
-ghost use Rattle.client_calls.specs.Attempts.{next_read, planned_at, asking, with_kept, attempt_at, before_attempt, planned_attempt};
+ghost use Rattle.client.specs.Attempts.{next_read, planned_at, asking, with_kept, attempt_at, before_attempt, planned_attempt};
 
-use crate::asked::{
+use crate::client::Client;
+use client_calls::asked::{
     bytes_to_send, chunk_to_find, first_hop, hops_after, is_length, is_look, is_mutation,
     read_count, read_start, target_of, wanted_by,
 };
-use crate::attempt::Attempt;
-use crate::client::Client;
-use crate::plan::CallPlan;
-use crate::sent::Sent;
-use crate::sums::sum;
+use client_calls::attempt::Attempt;
+use client_calls::plan::CallPlan;
+use client_calls::sent::Sent;
+use client_calls::sums::sum;
 use client_state::call::{CurrentCall, Stage, ToldChunk};
 use client_state::kept::{Cached, Place};
 use gfs_types::ids::{ClientId, DataId, Moment, Node, ServerId};

@@ -6,12 +6,12 @@ ghost use Rattle.protocol.specs.ClientCache.{with_location};
 ghost use Rattle.protocol.specs.ClientFiles.{with_last_append};
 ghost use Rattle.protocol.specs.ClientAttempts.{forgets};
 ghost use Rattle.protocol.specs.ClientTakes.{is_own_data, opens};
-ghost use Rattle.client_calls.specs.Doing.{doing};
+ghost use Rattle.client.specs.Doing.{doing};
 
 use crate::client::Client;
-use crate::effects::ClientEffects;
-use crate::sent::Sent;
-use crate::sums::sum;
+use client_calls::effects::ClientEffects;
+use client_calls::sent::Sent;
+use client_calls::sums::sum;
 use client_state::call::{CurrentCall, ToldChunk};
 use client_state::kept::{Cached, Place};
 use gfs_types::answer::Answer;

@@ -10,7 +10,7 @@ use Rattle.protocol.specs.Client.{ClientState, ClientDoing, Plan, committed}
 use Rattle.protocol.specs.ClientCache.{cached}
 use Rattle.protocol.specs.ClientAttempts.{is_mutation, chunk_of, push_planned, will_do, chunk_to_find, reads_next, goes_on_at, begins_with, begins_at, attempts, asks}
 use Rattle.client_calls.specs.declared.attempt.Attempt.{Attempt}
-use Rattle.client_calls.specs.Attempts.{next_read, planned_at, follows, asking, told_as, with_kept, attempt_at, before_attempt, planned_attempt, after_look, begun}
+use Rattle.client.specs.Attempts.{next_read, planned_at, follows, asking, told_as, with_kept, attempt_at, before_attempt, planned_attempt, after_look, begun}
 
 pub next_reads : (d : ClientDoing) (c : CurrentCall) (chunk : ToldChunk) (hs : List Holder) → reads_next d c chunk hs ≡ follows d c (next_read d.client c chunk hs)
 next_reads d c chunk [] = refl

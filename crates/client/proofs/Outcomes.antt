@@ -10,7 +10,7 @@ use Rattle.protocol.specs.Client.{ClientState, ClientDoing, client_begins, answe
 use Rattle.protocol.specs.ClientStep.{client_at, client_call_goes, client_ends}
 use Rattle.protocol.specs.Conforms.{Gives, ClientCalls}
 use Rattle.client_calls.specs.declared.effects.ClientEffects.{ClientEffects}
-use Rattle.client_calls.specs.Doing.{doing}
+use Rattle.client.specs.Doing.{doing}
 
 choice_of : Ending → List Bool → Choice
 choice_of ending refused = record { ending = ending; order = []; refused = refused; decided = [] }

@@ -3,9 +3,9 @@ use Rattle.client_state.specs.declared.call.CurrentCall.{CurrentCall}
 use Rattle.protocol.specs.Client.{ClientState, client_begins}
 use Rattle.protocol.specs.ClientFiles.{last_append}
 use Rattle.protocol.specs.ClientStep.{new_call}
-use Rattle.client_calls.specs.Attempts.{begun, planned_attempt}
-use Rattle.client_calls.proofs.Appends.{appends_begun}
-use Rattle.client_calls.proofs.client.Client.appends.Goals as goal
+use Rattle.client.specs.Attempts.{begun, planned_attempt}
+use Rattle.client.proofs.Appends.{appends_begun}
+use Rattle.client.proofs.client.Client.appends.Goals as goal
 
 pub returns-clause-ok : goal.returns-clause-ok
 returns-clause-ok c =

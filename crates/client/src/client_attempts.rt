@@ -3,17 +3,17 @@
 ghost use Rattle.std.specs.Prelude.{◌≡◌, IfOk, OnErr};
 ghost use Rattle.protocol.specs.Client.{client_begins, with_current, answers, committed};
 ghost use Rattle.protocol.specs.ClientAttempts.{completes, last_refusal, gives_up, ended, ends_refused, asks, asks_anew, reads_next, goes_on_at, attempts, attempts_names};
-ghost use Rattle.client_calls.specs.Doing.{doing};
-ghost use Rattle.client_calls.specs.Attempts.{follows, begun};
+ghost use Rattle.client.specs.Doing.{doing};
+ghost use Rattle.client.specs.Attempts.{follows, begun};
 
-use crate::asked::is_mutation;
-use crate::attempt::Attempt;
 use crate::client::Client;
-use crate::effects::ClientEffects;
-use crate::live::is_any_live;
-use crate::plan::CallPlan;
-use crate::sent::Sent;
-use crate::sums::sum;
+use client_calls::asked::is_mutation;
+use client_calls::attempt::Attempt;
+use client_calls::effects::ClientEffects;
+use client_calls::live::is_any_live;
+use client_calls::plan::CallPlan;
+use client_calls::sent::Sent;
+use client_calls::sums::sum;
 use client_state::call::{CurrentCall, Stage, ToldChunk};
 use gfs_types::answer::Answer;
 use gfs_types::ids::Moment;

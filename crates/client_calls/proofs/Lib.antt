@@ -1,3 +1,0 @@
-pub mod Attempts
-pub mod Appends
-pub mod Steps

@@ -1,3 +1,0 @@
-pub mod Doing
-pub mod Attempts
-pub mod Calls
