@@ -135,7 +135,8 @@ class Simulator:
                 return
             self.clock += 100
             self.tick_round()
-        raise NoEnd()
+        if goes_on():
+            raise NoEnd()
 
     def node(self, word):
         name = word.decode('ascii', 'replace')
