@@ -222,7 +222,7 @@ class AnswerFacts:
             raise Broken(f'client {client}: a {call.call[0]} is answered without its settled entry')
 
     def check_bytes(self, call, answer):
-        """Each part of a read is of a selection, up to the round that it names or a later one, that leaves out nothing that was settled as the call was made."""
+        """Each part of a read is of a selection, up to the round that it names or a later one, that leaves out nothing up to that round that was settled as the call was made."""
         size = self.facts.size_of(call.file)
         begin, count = call.call[2:4]
         place = begin

@@ -1,4 +1,4 @@
-"""What the tools know of the definitions' state: names of crates, files, definitions and fields. `simulate.py` and the judges name some fields too.
+"""What the tools know of the definitions' state: names of crates, files, definitions and fields. `simulate.py`, `statements.py`, the judges and others name some fields too.
 
 Numbers that are ids may be wrapped in a record (`ServerId`) or not; `number` takes both.
 """

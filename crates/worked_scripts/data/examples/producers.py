@@ -1,10 +1,10 @@
 #!/usr/bin/env python3
 """A client of `gfscell serve` in another language: four producers append records to one file, and a reader follows it by the recipe of docs/TRUST.md.
 
-    examples/producers.py [--records N] [--restarts] [--program PROGRAM] [options of serve]
+    examples/producers.py [--records N] [--restarts] [--program PROGRAM] [options of serve but --clients, --chunk and --block]
 
 The program is ./gfscell of this repository, or PROGRAM. Each producer appends N records (100). With --restarts the master and the servers begin again in turn meanwhile. At the end it prints how many records were answered, how many of them the reader
-has, and how many it took twice or from appends that failed. The exit status is 0 where all producers came to their end, the program ended with 0, and the
+has, and how many it took twice or from appends that failed. The exit status is 0 where all producers and the reader came to their end, the program ended with 0, and the
 reader has each record that was answered, at the offset that was answered."""
 import collections
 import os
@@ -135,7 +135,7 @@ def records_in(data):
 # ---- a producer
 
 class Producer(threading.Thread):
-    """Appends its records. One that nobody could serve it appends once more, with the same id."""
+    """Appends its records. One that nobody could serve it appends again, with the same id."""
 
     def __init__(self, cell, number, records):
         super().__init__()
