@@ -181,7 +181,7 @@ def need_kit():
 
 
 def tell_of_look(work):
-    say(f'looking whether the program was proved on this machine from just this text: {duration(work.seconds())} so far, of a minute or less')
+    say(f'looking whether the program was proved on this machine from just this text: {duration(work.seconds())} so far, of a minute or two')
 
 
 def take_kept():
