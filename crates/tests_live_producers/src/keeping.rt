@@ -3,7 +3,7 @@
 use crate::appends::produced;
 use crate::cells::small;
 use cell_run::Retention;
-use cell_run::cell::{Cell, ClientSeat};
+use cell_run::cell::{Cell, Seat};
 use cell_seats::gate::{Gate, Kind, OpenGate};
 use cell_seats::mailboxes::Policy;
 use gfs_types::config::Config;
@@ -80,7 +80,7 @@ fn a_cell_runs_past_its_journal(rt: HostRuntime) -> Result<(), Fail> {
     Ok(())
 }
 
-fn is_listed<R: Wait + Clock>(rt: &R, alloc: Global, seat: &mut ClientSeat) -> bool {
+fn is_listed<R: Wait + Clock>(rt: &R, alloc: Global, seat: &mut Seat) -> bool {
     match Text::from_str("/", alloc) {
         Ok(path) => seat.list(rt, path).is_ok(),
         Err(_) => false,
@@ -101,7 +101,7 @@ fn a_message_that_comes_too_late_is_lost(rt: HostRuntime) -> Result<(), Fail> {
     };
     let retention = Retention::Last(FEW);
     let mut cell = Cell::start_retaining(rt, alloc, config, 1, retention, gate)?;
-    let mut seat: ClientSeat = cell.client()?;
+    let mut seat: Seat = cell.client()?;
     // While the master is held up there are ticks of the client and the server; a later attempt is answered.
     let is_answered = is_listed(&rt, alloc, &mut seat);
     let lost = cell.lost();
