@@ -43,7 +43,7 @@ use gfs_types::ids::{Node, ServerId};
 use gfs_types::no_memory::NoMemory;
 use running_nodes::client_places::client_places;
 use running_nodes::parked_seat::ParkedSeat;
-use running_nodes::running_client::ClientSeat;
+use running_nodes::running_client::Seat;
 use running_nodes::seating::{Seating, seat_all};
 use std::mem;
 use std::sync::atomic::{AtomicU64, Ordering};
@@ -305,7 +305,7 @@ impl Behind {
         rt: &R,
         ticker: Ticker,
         threads: Vec<Thread>,
-    ) -> (Cell, Vec<ClientSeat>)
+    ) -> (Cell, Vec<Seat>)
         requires { StandsBehind self.parts self.registry self.room self.retired }
         ensures { IsResumed self.parts result.0 result.1.items }
     {
@@ -411,7 +411,7 @@ fn seats_over<R: Wait + Clock>(
     retired: [bool; 64],
     parked: Vec<ParkedSeat>,
     room: ClientRoom,
-) -> (Vec<ClientSeat>, Vec<Receiver<MailboxItem>>)
+) -> (Vec<Seat>, Vec<Receiver<MailboxItem>>)
     requires registered { registry.old.registered ≡ registry.old.servers + 1 }
     requires cell { registry.old.cell ≡ behind_of kept.now.journal.now retired }
     requires settings { (registry.old.config ≡ kept.now.journal.now.cell.config) × (kept.now.journal.now.cell.clients ≡ 64) }

@@ -38,13 +38,12 @@ use cell_seats::journal::Journal;
 use cell_seats::mailboxes::{Input, MailboxItem, MailboxSenders, Mailboxes, Policy};
 use cell_seats::node_lock::NodeLock;
 use cell_seats::node_registry::NodeRegistry;
-use cell_seats::seat::Seat;
 use cell_seats::shared_state::{CLOSING, ENDED, MOST_CLIENTS, SharedState};
 use cell_seats::stepper::Stepper;
 use crossbeam_channel::{Receiver, Sender, unbounded};
 use gfs_types::config::Config;
 use gfs_types::ids::{ClientId, Node, ServerId};
-pub use running_nodes::running_client::ClientSeat;
+pub use running_nodes::running_client::Seat;
 use running_nodes::running_server::RunningServer;
 use std::alloc::Global;
 use std::marker::Model;
@@ -178,7 +177,7 @@ impl Cell {
     ///
     /// - `Many`: as many as there may be were made. So it is always then, and never before.
     /// - `NoMemory`: memory was refused.
-    pub fn client(&mut self) -> Result<ClientSeat, SeatFault>
+    pub fn client(&mut self) -> Result<Seat, SeatFault>
         ensures ok { OnOk result ((self.old.made < 64) × (self.new ≡ more self.old)) }
         ensures err { OnErr result (self.new ≡ self.old) }
         ensures seat { IfOk result (λ s. IsNewSeat self.old s) }

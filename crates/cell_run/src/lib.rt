@@ -18,7 +18,7 @@ pub mod watch;
 
 // What a program that runs a cell names.
 pub use bytes::Bytes;
-pub use cell::{Cell, ClientSeat};
+pub use cell::{Cell, Seat};
 pub use cell_journal::Retention;
 pub use cell_journal::journal_entry::{JournalEntry, StepCause};
 pub use cell_nodes::node_slots::{MasterSlot, ServerSlot};

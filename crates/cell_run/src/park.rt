@@ -26,7 +26,7 @@ use cell_seats::journal::Journal;
 use cell_seats::parked_node::ParkedNode;
 use gfs_types::config::Config;
 use running_nodes::parked_seat::ParkedSeat;
-use running_nodes::running_client::ClientSeat;
+use running_nodes::running_client::Seat;
 use running_nodes::running_server::RunningServer;
 use std::alloc::{AllocError, Global};
 use std::sync::Wait;
@@ -38,7 +38,7 @@ use std::time::{Clock, Duration};
 struct ParkRoom {
     servers: Vec<ParkedNode<RunningServer>>,
     seats: Vec<ParkedSeat>,
-    back: Vec<ClientSeat>,
+    back: Vec<Seat>,
 }
 
 impl Cell {
@@ -50,7 +50,7 @@ impl Cell {
     pub fn park<R: Threads + Wait + Clock>(
         self,
         rt: &R,
-        seats: Vec<ClientSeat>,
+        seats: Vec<Seat>,
     ) -> Result<Parked, ParkFault>
         requires { All (λ s. s.cell.name ≡ self.of.name) seats.items }
         ensures parked { IfOk result (IsParked self.of self.made seats.items) }
@@ -88,9 +88,9 @@ fn park_in<R: Wait + Clock>(
     rt: &R,
     locks: NodeLocks,
     cell: EndedCell,
-    seats: Vec<ClientSeat>,
+    seats: Vec<Seat>,
     room: ParkRoom,
-) -> Result<Parked, (Journal, Vec<ClientSeat>)>
+) -> Result<Parked, (Journal, Vec<Seat>)>
     requires locks { locks ≡ names_of cell.registry.writer.me.0.of cell.registry.servers }
     requires ended { IsEnded cell }
     requires named { All (λ s. s.cell.name ≡ cell.registry.writer.me.0.of.name) seats.items }
@@ -109,14 +109,14 @@ struct TakenNodes {
     nodes: ParkedNodes,
     seats: Vec<ParkedSeat>,
     count: usize,
-    back: Vec<ClientSeat>,
+    back: Vec<Seat>,
 }
 
 // Takes the nodes out of their locks, and the clients out of their seats. Each saw as much as the master.
 fn take_nodes<R: Wait + Clock>(
     rt: &R,
     locks: NodeLocks,
-    seats: Vec<ClientSeat>,
+    seats: Vec<Seat>,
     room: ParkRoom,
 ) -> TakenNodes
     requires none { (room.servers.items ≡ []) × (room.seats.items ≡ []) × (room.back.items ≡ []) }
@@ -149,7 +149,7 @@ fn park_cell<R: Wait + Clock>(
     rt: &R,
     cell: EndedCell,
     taken: TakenNodes,
-) -> Result<Parked, (Journal, Vec<ClientSeat>)>
+) -> Result<Parked, (Journal, Vec<Seat>)>
     requires ended { IsEnded cell }
     requires names { map name_of taken.nodes ≡ names_of cell.registry.writer.me.0.of cell.registry.servers }
     requires seen { All (λ p. HasSeenAll p.cell taken.count p) taken.nodes }
@@ -302,7 +302,7 @@ fn parts_of(
 // Parks each seat, in their order.
 fn park_seats<R: Wait>(
     rt: &R,
-    seats: Vec<ClientSeat>,
+    seats: Vec<Seat>,
     count: usize,
     room: Vec<ParkedSeat>,
 ) -> Vec<ParkedSeat>
@@ -319,7 +319,7 @@ fn park_seats<R: Wait>(
 }
 
 // The seats themselves, in their order.
-fn seats_of(parked: Vec<ParkedSeat>, room: Vec<ClientSeat>) -> Vec<ClientSeat>
+fn seats_of(parked: Vec<ParkedSeat>, room: Vec<Seat>) -> Vec<Seat>
     requires none { room.items ≡ [] }
     requires room { length parked.items ≤ vec_capacity room }
     ensures { result.items ≡ map (λ p. p.seat) parked.items }

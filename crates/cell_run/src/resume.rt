@@ -13,7 +13,7 @@ use crate::resume_room::ThreadRoom;
 use crate::start_fault::StartFault;
 use cell_seats::gate::Gate;
 use cell_seats::shared_state::MOST_CLIENTS;
-use running_nodes::running_client::ClientSeat;
+use running_nodes::running_client::Seat;
 use std::sync::Wait;
 use std::thread::Threads;
 use std::time::{Clock, Duration};
@@ -29,7 +29,7 @@ impl Parked {
     pub fn resume<
         R: Threads + Wait + Clock + Copy + Send + 'static,
         G: Gate + Clone + Send + Drop + 'static,
-    >(self, rt: R, gate: G) -> Result<(Cell, Vec<ClientSeat>), (Parked, StartFault)>
+    >(self, rt: R, gate: G) -> Result<(Cell, Vec<Seat>), (Parked, StartFault)>
         ensures resumed { IfOk result (λ r. IsResumed self r.0 r.1.items) }
         ensures fault { IfErr result (λ f. f.0 ≡ self) }
         ensures why { IfErr result (λ f. IsResumeFault self f.1) }
@@ -45,7 +45,7 @@ impl Parked {
 fn go_behind<
     R: Threads + Wait + Clock + Copy + Send + 'static,
     G: Gate + Clone + Send + Drop + 'static,
->(rt: R, parked: Parked, gate: G) -> Result<(Cell, Vec<ClientSeat>), (Parked, StartFault)>
+>(rt: R, parked: Parked, gate: G) -> Result<(Cell, Vec<Seat>), (Parked, StartFault)>
     requires few { parked.made + count_anew parked.seats ≤ 64 }
     ensures resumed { IfOk result (λ r. IsResumed parked r.0 r.1.items) }
     ensures fault { IfErr result (λ f. f.0 ≡ parked) }
@@ -66,7 +66,7 @@ fn go_on_threads<
     behind: Behind,
     room: ThreadRoom,
     gate: G,
-) -> Result<(Cell, Vec<ClientSeat>), (Parked, StartFault)>
+) -> Result<(Cell, Vec<Seat>), (Parked, StartFault)>
     requires stands { StandsBehind behind.parts behind.registry behind.room behind.retired }
     ensures resumed { IfOk result (λ r. IsResumed behind.parts r.0 r.1.items) }
     ensures fault { IfErr result (λ f. f.0 ≡ behind.parts) }

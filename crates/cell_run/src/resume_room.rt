@@ -20,7 +20,7 @@ use gfs_types::config::Config;
 use gfs_types::ids::ClientId;
 use gfs_types::no_memory::NoMemory;
 use running_nodes::client_places::ClientPlace;
-use running_nodes::running_client::{ClientSeat, RunningClient};
+use running_nodes::running_client::{RunningClient, Seat};
 use std::alloc::Global;
 
 /// What is made for a cell before any part of the parked one is taken: its locks, in which no node lies yet, what its clients need, and room
@@ -40,7 +40,7 @@ pub struct ClientRoom {
     pub anew: Vec<Option<RunningClient>>,
     pub inboxes: Vec<Receiver<MailboxItem>>,
     pub places: Vec<Option<ClientPlace>>,
-    pub seats: Vec<ClientSeat>,
+    pub seats: Vec<Seat>,
 }
 
 /// What the threads of the nodes are made of.

@@ -6,7 +6,7 @@ mod one_client;
 
 use crate::one_client::reads_its_record;
 use anyhow::Result;
-use cell_run::{Answer, Bytes, Cell, ClientSeat, Config, Journal, OpenGate, Text};
+use cell_run::{Answer, Bytes, Cell, Config, Journal, OpenGate, Seat, Text};
 use std::alloc::Global;
 use std::sync::Wait;
 use std::thread;
@@ -19,7 +19,7 @@ const RECORDS: usize = 100;
 /// A client that appends records of one letter, and the offsets at which they were answered to stand.
 #[derive(Drop)]
 struct Producer {
-    seat: ClientSeat,
+    seat: Seat,
     letter: u8,
     offsets: Vec<u64>,
     outcome: Result<()>,
@@ -46,7 +46,7 @@ impl Producer {
         &self,
         rt: &R,
         alloc: Global,
-        reader: &mut ClientSeat,
+        reader: &mut Seat,
     ) -> Result<bool> {
         let fd = reader.open(rt, Text::from_str("/log", alloc)?)?;
         for offset in self.offsets.as_slice() {

@@ -5,7 +5,7 @@ ghost use mathlib.Core.List.{IsPrefix};
 ghost use Rattle.file_follower.specs.Reading.{HasOpened, HasRead, IsLater, MissesNothing};
 
 use crate::taken::{Taken, take_all};
-use cell_run::{ClientSeat, Fd, Refusal, Text};
+use cell_run::{Fd, Refusal, Seat, Text};
 use std::alloc::Global;
 use std::sync::Wait;
 use std::time::Clock;
@@ -23,7 +23,7 @@ pub struct ChunkState {
 /// A client that reads a file, and what it keeps of it: of each chunk its state, and the records that it took.
 #[derive(Drop)]
 pub struct Follower {
-    pub seat: ClientSeat,
+    pub seat: Seat,
     pub chunks: Vec<ChunkState>,
     pub taken: Vec<Taken>,
 }

@@ -16,7 +16,7 @@ use crate::follower::CHUNK;
 use crate::stretch::{PATH, Reading, read_on, run_stretch};
 use crate::trial_fault::TrialFault;
 use anyhow::Result;
-use cell_run::{Cell, ClientSeat, Config, OpenGate, ParkFault, Policy, Refusal, Text};
+use cell_run::{Cell, Config, OpenGate, ParkFault, Policy, Refusal, Seat, Text};
 use std::alloc::Global;
 use std::sync::Wait;
 use std::thread::Threads;
@@ -58,7 +58,7 @@ fn start<R: Threads + Wait + Clock + Copy + Send + 'static>(
     Ok(cell)
 }
 
-fn make_file<R: Wait + Clock>(rt: &R, alloc: Global, seat: &mut ClientSeat) -> Result<(), Refusal> {
+fn make_file<R: Wait + Clock>(rt: &R, alloc: Global, seat: &mut Seat) -> Result<(), Refusal> {
     let Ok(name) = Text::from_str(PATH, alloc) else {
         return Err(Refusal::NoMemory);
     };

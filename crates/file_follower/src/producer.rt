@@ -2,7 +2,7 @@
 
 use crate::record::encode;
 use crate::taken::Taken;
-use cell_run::{Bytes, ClientSeat, Fd, Refusal, Text};
+use cell_run::{Bytes, Fd, Refusal, Seat, Text};
 use std::alloc::Global;
 use std::sync::Wait;
 use std::thread;
@@ -17,7 +17,7 @@ pub const MOST_TRIES: u32 = 1_000;
 /// A client that appends records, with the id of its next one, those that were answered, and what came of its last calls.
 #[derive(Drop)]
 pub struct Producer {
-    pub seat: ClientSeat,
+    pub seat: Seat,
     pub next: u32,
     pub answered: Vec<Taken>,
     pub outcome: Result<(), Refusal>,

@@ -3,7 +3,7 @@
 ghost use Rattle.std.specs.Prelude.{◌≡◌, ◌∷◌, [], replicate, OnOk};
 ghost use Rattle.live.specs.Playing.{calls_on, IsSamePlayer, PlaysOn, Plays};
 
-use cell_run::cell::ClientSeat;
+use cell_run::cell::Seat;
 use gfs_types::answer::Answer;
 use gfs_types::call::Call;
 use gfs_types::ids::ClientId;
@@ -17,7 +17,7 @@ use std::time::Clock;
 #[derive(Drop)]
 pub struct Player {
     pub id: ClientId,
-    pub seat: ClientSeat,
+    pub seat: Seat,
     pub answers: Vec<Answer>,
     pub lacked_memory: bool,
 }

@@ -6,7 +6,7 @@ ghost use Rattle.live.specs.Faults.{IsOfRun};
 ghost use Rattle.live.specs.Playing.{AllReopen, IsReopened, rest_of, seated};
 
 use crate::play::Player;
-use cell_run::cell::{Cell, ClientSeat};
+use cell_run::cell::{Cell, Seat};
 use cell_run::park_fault::ParkFault;
 use cell_run::parked::Parked;
 use cell_seats::gate::OpenGate;
@@ -31,7 +31,7 @@ pub struct Unseated {
 #[derive(Drop)]
 struct HandedIn {
     rests: Vec<Unseated>,
-    seats: Vec<ClientSeat>,
+    seats: Vec<Seat>,
     room: Vec<Player>,
 }
 
@@ -63,7 +63,7 @@ pub fn reopen<T: Threads + Wait + Clock + Copy + Send + 'static>(
 fn park<T: Threads + Wait + Clock>(
     rt: &T,
     cell: Cell,
-    seats: Vec<ClientSeat>,
+    seats: Vec<Seat>,
 ) -> Result<Parked, ScriptFault>
     requires { All (λ s. s.cell.name ≡ cell.of.name) seats.items }
     ensures parked { IfOk result (λ p. IsParked cell.of cell.made seats.items p) }
@@ -116,7 +116,7 @@ fn hand_in(alloc: Global, players: Vec<Player>) -> Result<HandedIn, NoMemory>
 }
 
 // Each client at the seat of its place.
-fn join(rests: Vec<Unseated>, seats: Vec<ClientSeat>, room: Vec<Player>) -> Vec<Player>
+fn join(rests: Vec<Unseated>, seats: Vec<Seat>, room: Vec<Player>) -> Vec<Player>
     requires none { room.items ≡ [] }
     requires count { length seats.items ≡ length rests.items }
     requires room { length rests.items ≤ vec_capacity room }

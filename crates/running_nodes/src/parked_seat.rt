@@ -5,7 +5,7 @@ ghost use Rattle.std.specs.Option.{option_map};
 ghost use Rattle.cell_seats.specs.ParkedNodes.{IsClientOf};
 ghost use Rattle.running_nodes.specs.ParkedSeats.{goes_anew};
 
-use crate::running_client::{ClientSeat, RunningClient};
+use crate::running_client::{RunningClient, Seat};
 use cell_seats::parked_node::ParkedNode;
 use gfs_types::ids::Node;
 use std::marker::Model;
@@ -13,7 +13,7 @@ use std::sync::Wait;
 
 /// A seat, and its client, which was taken out of it. An earlier parking to which the seat was not handed in left none.
 pub struct ParkedSeat {
-    seat: ClientSeat,
+    seat: Seat,
     client: Option<ParkedNode<RunningClient>>,
 }
 
@@ -42,7 +42,7 @@ impl Model for ParkedSeat {
 
 impl ParkedSeat {
     /// Parks a seat, whose client, if it is there, saw a history of so many entries.
-    pub fn of<R: Wait>(rt: &R, seat: ClientSeat, count: usize) -> ParkedSeat
+    pub fn of<R: Wait>(rt: &R, seat: Seat, count: usize) -> ParkedSeat
         ensures seat { result.seat ≡ seat }
         ensures saw { IfSome result.saw (λ k. k ≡ count) }
     {
@@ -52,7 +52,7 @@ impl ParkedSeat {
     }
 
     /// The seat itself.
-    pub fn into_seat(self) -> ClientSeat
+    pub fn into_seat(self) -> Seat
         ensures { result ≡ self.seat }
     {
         let Self {
@@ -63,7 +63,7 @@ impl ParkedSeat {
     }
 
     /// Its parts.
-    pub fn into_parts(self) -> (ClientSeat, Option<ParkedNode<RunningClient>>)
+    pub fn into_parts(self) -> (Seat, Option<ParkedNode<RunningClient>>)
         ensures seat { result.0 ≡ self.seat }
         ensures saw { self.saw ≡ option_map (λ c. length c.history.items) result.1 }
         ensures client { IfSome result.1 (IsClientOf result.0) }

@@ -5,7 +5,6 @@ ghost use Rattle.protocol.specs.Client.{new_client};
 
 use crate::client_stepper::ClientNode;
 use cell_journal::journal_entry::StepCause;
-use cell_seats::seat::Seat;
 use cell_seats::stepper::{NodeStep, Stepper};
 use client::client::Client;
 use gfs_types::call::Call;
@@ -15,7 +14,7 @@ use gfs_types::no_memory::NoMemory;
 use std::alloc::Global;
 
 /// A client of a running cell, as its caller has it.
-pub type ClientSeat = Seat<RunningClient>;
+pub type Seat = cell_seats::seat::Seat<RunningClient>;
 
 /// A client of a running cell. Its drop stands here, once, so that no crate above proves those of all that a client owns.
 pub struct RunningClient {

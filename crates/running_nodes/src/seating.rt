@@ -12,7 +12,7 @@ ghost use Rattle.running_nodes.specs.Places.{IsPlaceOf, IsLeftOf};
 
 use crate::client_places::ClientPlace;
 use crate::parked_seat::ParkedSeat;
-use crate::running_client::{ClientSeat, RunningClient};
+use crate::running_client::{RunningClient, Seat};
 use cell_journal::identity::CellIdentity;
 use cell_journal::meet;
 use cell_seats::mailboxes::MailboxItem;
@@ -47,8 +47,8 @@ pub fn seat_all<R: Wait + Clock>(
     rt: &R,
     seating: &mut Seating,
     parked: Vec<ParkedSeat>,
-    room: Vec<ClientSeat>,
-) -> Vec<ClientSeat>
+    room: Vec<Seat>,
+) -> Vec<Seat>
     requires ready { IsReady seating.old }
     requires seats { All (IsSeatOf seating.old.cell (length seating.old.cell.base)) parked.items }
     requires none { room.items ≡ [] }
@@ -63,7 +63,7 @@ pub fn seat_all<R: Wait + Clock>(
 }
 
 // A seat goes over: with its client, or, where an earlier parking left it behind, as one of a new number.
-fn seat_one<R: Wait + Clock>(rt: &R, seating: &mut Seating, parked: ParkedSeat) -> ClientSeat
+fn seat_one<R: Wait + Clock>(rt: &R, seating: &mut Seating, parked: ParkedSeat) -> Seat
     requires ready { IsReady seating.old }
     requires seat { IsSeatOf seating.old.cell (length seating.old.cell.base) parked }
     ensures ready { IsReady seating.new }
@@ -81,9 +81,9 @@ fn seat_one<R: Wait + Clock>(rt: &R, seating: &mut Seating, parked: ParkedSeat) 
 fn go_over<R: Wait + Clock>(
     rt: &R,
     seating: &mut Seating,
-    seat: ClientSeat,
+    seat: Seat,
     client: ParkedNode<RunningClient>,
-) -> ClientSeat
+) -> Seat
     requires ready { IsReady seating.old }
     requires client { IsClientOf seat client }
     requires named { seat.cell.name ≡ seating.old.cell.name }
@@ -106,9 +106,9 @@ fn go_over<R: Wait + Clock>(
 fn stay<R: Wait + Clock>(
     rt: &R,
     seating: &mut Seating,
-    seat: ClientSeat,
+    seat: Seat,
     client: ParkedNode<RunningClient>,
-) -> ClientSeat
+) -> Seat
     requires ready { IsReady seating.old }
     requires client { IsClientOf seat client }
     requires named { seat.cell.name ≡ seating.old.cell.name }
@@ -138,9 +138,9 @@ fn stay<R: Wait + Clock>(
 fn move_on<R: Wait + Clock>(
     rt: &R,
     seating: &mut Seating,
-    seat: ClientSeat,
+    seat: Seat,
     client: ParkedNode<RunningClient>,
-) -> ClientSeat
+) -> Seat
     requires ready { IsReady seating.old }
     requires client { IsClientOf seat client }
     requires named { seat.cell.name ≡ seating.old.cell.name }
@@ -160,7 +160,7 @@ fn move_on<R: Wait + Clock>(
 }
 
 // An earlier parking left the seat behind, so that it goes on as a client of a new number.
-fn start_anew<R: Wait + Clock>(rt: &R, seating: &mut Seating, seat: ClientSeat) -> ClientSeat
+fn start_anew<R: Wait + Clock>(rt: &R, seating: &mut Seating, seat: Seat) -> Seat
     requires ready { IsReady seating.old }
     requires named { seat.cell.name ≡ seating.old.cell.name }
     ensures ready { IsReady seating.new }

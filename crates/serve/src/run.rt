@@ -15,7 +15,7 @@ use crate::reading::{LineFaults, Receivers};
 use crate::served_client::ServedClient;
 use crate::served_messages::{Asked, AskedCall, Serving, Told};
 use cell_journal::Retention;
-use cell_run::cell::{Cell, ClientSeat, StartFault};
+use cell_run::cell::{Cell, Seat, StartFault};
 use cell_seats::gate::OpenGate;
 use cell_seats::journal::Journal;
 use cell_seats::shared_state::MOST_CLIENTS;
@@ -291,7 +291,7 @@ fn start_client<S: Serving + Send + 'static, T: Threads + Wait + Clock + Copy + 
 }
 
 // A client that made no call yet, and of which nothing was printed.
-fn new_client<S: Serving>(id: ClientId, seat: ClientSeat) -> (ServedClient<S>, PrintedAnswers<S>)
+fn new_client<S: Serving>(id: ClientId, seat: Seat) -> (ServedClient<S>, PrintedAnswers<S>)
     requires { IsUnused S.of id.0 seat }
     ensures client { result.1.client ≡ id.0 }
     ensures new { result.1.answers ≡ [] }

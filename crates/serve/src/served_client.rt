@@ -3,7 +3,7 @@
 ghost use Rattle.serve.specs.Messages.{IsMade};
 
 use crate::served_messages::{AskedCall, Reply, Serving, Told};
-use cell_run::cell::ClientSeat;
+use cell_run::cell::Seat;
 use crossbeam_channel::{Receiver, Sender};
 use gfs_types::answer::Answer;
 use gfs_types::call::Call;
@@ -16,7 +16,7 @@ use std::time::Clock;
 #[derive(Drop)]
 pub struct ServedClient<S: Serving> {
     pub id: ClientId,
-    pub seat: ClientSeat,
+    pub seat: Seat,
     pub made: u64,
     pub of: PhantomData<S>,
 }
@@ -92,7 +92,7 @@ impl<S: Serving> ServedClient<S> {
 }
 
 // Makes a call.
-fn make<R: Wait + Clock>(rt: &R, seat: &mut ClientSeat, call: Call) -> Made
+fn make<R: Wait + Clock>(rt: &R, seat: &mut Seat, call: Call) -> Made
     ensures { IsMade seat.old seat.new call result.answer result.is_lost }
 {
     match seat.call(rt, call) {

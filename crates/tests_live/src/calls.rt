@@ -2,7 +2,7 @@
 
 use crate::cells::small;
 use bytes::Bytes;
-use cell_run::cell::{Cell, ClientSeat};
+use cell_run::cell::{Cell, Seat};
 use cell_run::laws::meet;
 use cell_seats::gate::OpenGate;
 use gfs_types::lists::Text;
@@ -20,11 +20,7 @@ fn text(alloc: Global, path: &str) -> Result<Text, Refusal> {
 }
 
 // A file in a directory is written, measured and closed.
-fn write_file<R: Wait + Clock>(
-    rt: &R,
-    alloc: Global,
-    seat: &mut ClientSeat,
-) -> Result<u64, Refusal> {
+fn write_file<R: Wait + Clock>(rt: &R, alloc: Global, seat: &mut Seat) -> Result<u64, Refusal> {
     seat.mkdir(rt, text(alloc, "/d")?)?;
     seat.create(rt, text(alloc, "/d/f")?, None)?;
     let fd = seat.open(rt, text(alloc, "/d/f")?)?;
@@ -35,11 +31,7 @@ fn write_file<R: Wait + Clock>(
 }
 
 // It is copied, leaves its directory, which goes then, and goes itself. Gives how many names `/` has in the end.
-fn move_file<R: Wait + Clock>(
-    rt: &R,
-    alloc: Global,
-    seat: &mut ClientSeat,
-) -> Result<usize, Refusal> {
+fn move_file<R: Wait + Clock>(rt: &R, alloc: Global, seat: &mut Seat) -> Result<usize, Refusal> {
     seat.snapshot(rt, text(alloc, "/d/f")?, text(alloc, "/g")?)?;
     seat.rename(rt, text(alloc, "/d/f")?, text(alloc, "/f")?)?;
     seat.rmdir(rt, text(alloc, "/d")?)?;

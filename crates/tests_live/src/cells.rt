@@ -2,7 +2,7 @@
 
 ghost use Rattle.std.specs.Prelude.{◌≡◌};
 
-use cell_run::cell::{Cell, ClientSeat};
+use cell_run::cell::{Cell, Seat};
 use gfs_types::answer::Answer;
 use gfs_types::call::Call;
 use gfs_types::config::Config;
@@ -67,7 +67,7 @@ impl<R: Clock> Clock for OddClock<R> {
 pub fn mkdir<R: Wait + Clock>(
     rt: &R,
     alloc: Global,
-    seat: &mut ClientSeat,
+    seat: &mut Seat,
     name: &str,
 ) -> Result<(), Refusal>
     ensures { seat.new.cell ≡ seat.old.cell }

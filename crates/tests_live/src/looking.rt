@@ -3,7 +3,7 @@
 use crate::cells::{hasty, small};
 use bytes::Bytes;
 use cell_looks::{LookFault, Looks, regions_of_chunk};
-use cell_run::cell::{Cell, ClientSeat};
+use cell_run::cell::{Cell, Seat};
 use cell_run::{Parked, Retention};
 use cell_seats::gate::OpenGate;
 use cell_seats::journal::Journal;
@@ -32,7 +32,7 @@ struct Shown {
     replicas: usize,
 }
 
-fn append_records<R: Wait + Clock>(rt: &R, alloc: Global, seat: &mut ClientSeat) -> Option<()> {
+fn append_records<R: Wait + Clock>(rt: &R, alloc: Global, seat: &mut Seat) -> Option<()> {
     let path = Text::from_str("/log", alloc).ok()?;
     let fd = seat.open(rt, path).ok()?;
     for _ in 0..RECORDS {

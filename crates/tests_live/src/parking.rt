@@ -4,7 +4,7 @@ ghost use Rattle.std.specs.Prelude.{◌≡◌};
 
 use crate::cells::{OddClock, mkdir, small, waiting_call};
 use cell_run::ParkFault;
-use cell_run::cell::{Cell, ClientSeat};
+use cell_run::cell::{Cell, Seat};
 use cell_seats::gate::OpenGate;
 use cell_seats::mailboxes::Policy;
 use std::alloc::Global;
@@ -28,7 +28,7 @@ enum Outcome {
 }
 
 // Makes each of the directories, and tells how many were made.
-fn mkdir_all<R: Wait + Clock>(rt: &R, alloc: Global, seat: &mut ClientSeat) -> u64
+fn mkdir_all<R: Wait + Clock>(rt: &R, alloc: Global, seat: &mut Seat) -> u64
     ensures { seat.new.cell ≡ seat.old.cell }
 {
     let mut made: u64 = 0;
@@ -42,12 +42,7 @@ fn mkdir_all<R: Wait + Clock>(rt: &R, alloc: Global, seat: &mut ClientSeat) -> u
 
 // Parks a cell with one of its seats.
 #[tactic(auto, using(crate::proofs::Parkings::one_named))]
-fn park_with<R: Threads + Wait + Clock>(
-    rt: &R,
-    alloc: Global,
-    cell: Cell,
-    seat: ClientSeat,
-) -> Outcome
+fn park_with<R: Threads + Wait + Clock>(rt: &R, alloc: Global, cell: Cell, seat: Seat) -> Outcome
     requires { seat.cell ≡ cell.of }
 {
     let mut seats = Vec::new(alloc);
@@ -67,7 +62,7 @@ fn called_again<R: Threads + Wait + Clock>(
     rt: &R,
     alloc: Global,
     cell: Cell,
-    mut seats: Vec<ClientSeat>,
+    mut seats: Vec<Seat>,
 ) -> Outcome {
     let called = match seats.pop() {
         Some(mut seat) => mkdir(rt, alloc, &mut seat, "/again").is_ok(),

@@ -2,7 +2,7 @@
 
 use crate::cells::{OddClock, hasty, mkdir, small, waiting_call};
 use bytes::Bytes;
-use cell_run::cell::{Cell, ClientSeat};
+use cell_run::cell::{Cell, Seat};
 use cell_seats::gate::OpenGate;
 use cell_seats::mailboxes::Policy;
 use gfs_types::config::Config;
@@ -125,7 +125,7 @@ fn closing_ends_calls(rt: HostRuntime) -> Result<(), Fail> {
 fn append_to_new<R: Wait + Clock>(
     rt: &R,
     alloc: Global,
-    seat: &mut ClientSeat,
+    seat: &mut Seat,
     name: &str,
 ) -> Result<u64, Refusal> {
     let Ok(path) = Text::from_str(name, alloc) else {

@@ -7,7 +7,7 @@ use crate::cells::{OddClock, mkdir, small};
 use cell_journal::closed_history::ClosedHistory;
 use cell_journal::journal_entry::StepCause;
 use cell_run::ParkFault;
-use cell_run::cell::{Cell, ClientSeat, StartFault};
+use cell_run::cell::{Cell, Seat, StartFault};
 use cell_run::parked::Parked;
 use cell_seats::gate::OpenGate;
 use gfs_types::config::Config;
@@ -36,7 +36,7 @@ const LEAST_ROOM: u64 = 40;
 #[derive(Drop)]
 struct Seated {
     cell: Cell,
-    seat: ClientSeat,
+    seat: Seat,
     ghost of: { seat.cell.name ≡ cell.of.name },
 }
 
@@ -52,7 +52,7 @@ fn new_seated<R: Threads + Wait + Clock>(rt: &R, cell: Cell) -> Option<Seated> {
 }
 
 // A list of one seat. Where memory is refused it is asked for once more.
-fn one(alloc: Global, seat: ClientSeat) -> Option<Vec<ClientSeat>>
+fn one(alloc: Global, seat: Seat) -> Option<Vec<Seat>>
     ensures { IfSome result (λ l. l.items ≡ seat ∷ []) }
 {
     match Vec::from_array(alloc, [seat]) {
@@ -101,7 +101,7 @@ fn resume<R: Threads + Wait + Clock + Copy + Send + 'static>(
 }
 
 // The cell with the last of its seats.
-fn first_seated(cell: Cell, seats: Vec<ClientSeat>) -> Option<Seated>
+fn first_seated(cell: Cell, seats: Vec<Seat>) -> Option<Seated>
     requires { All (λ s. s.cell.name ≡ cell.of.name) seats.items }
 {
     let mut seats = seats;

@@ -2,7 +2,7 @@
 
 use crate::cells::{small, wait_for};
 use crate::producers::{Found, append, create, look, open};
-use cell_run::cell::{Cell, ClientSeat};
+use cell_run::cell::{Cell, Seat};
 use cell_seats::gate::{Gate, Kind};
 use gfs_types::ids::{Node, ServerId};
 use script::kinds::Kind as MessageKind;
@@ -53,7 +53,7 @@ impl<R: Clock + Copy + Drop> Gate for ReadGate<R> {
 }
 
 // Makes a file with one record, and tells whether it did.
-fn fill<R: Wait + Clock>(rt: &R, alloc: Global, seat: &mut ClientSeat, name: &str) -> bool {
+fn fill<R: Wait + Clock>(rt: &R, alloc: Global, seat: &mut Seat, name: &str) -> bool {
     if !create(rt, alloc, seat, name) {
         return false;
     }
@@ -63,7 +63,7 @@ fn fill<R: Wait + Clock>(rt: &R, alloc: Global, seat: &mut ClientSeat, name: &st
     }
 }
 
-fn reads<R: Wait + Clock>(rt: &R, alloc: Global, seat: &mut ClientSeat, name: &str) -> bool {
+fn reads<R: Wait + Clock>(rt: &R, alloc: Global, seat: &mut Seat, name: &str) -> bool {
     match open(rt, alloc, seat, name) {
         Some(fd) => look(rt, seat, fd, 0, &RECORD) == Found::Same,
         None => false,
@@ -73,7 +73,7 @@ fn reads<R: Wait + Clock>(rt: &R, alloc: Global, seat: &mut ClientSeat, name: &s
 /// A client, and whether it read what it had to.
 #[derive(Drop)]
 struct Reader {
-    seat: ClientSeat,
+    seat: Seat,
     has_read: bool,
 }
 

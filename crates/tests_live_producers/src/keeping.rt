@@ -3,7 +3,7 @@
 use crate::appends::produced;
 use crate::cells::small;
 use cell_run::Retention;
-use cell_run::cell::{Cell, ClientSeat};
+use cell_run::cell::{Cell, Seat};
 use cell_seats::gate::{Gate, Kind, OpenGate};
 use cell_seats::mailboxes::Policy;
 use gfs_types::config::Config;
@@ -80,7 +80,7 @@ fn a_cell_runs_past_its_journal(rt: HostRuntime) -> Result<(), Fail> {
     Ok(())
 }
 
-fn is_listed<R: Wait + Clock>(rt: &R, alloc: Global, seat: &mut ClientSeat) -> bool {
+fn is_listed<R: Wait + Clock>(rt: &R, alloc: Global, seat: &mut Seat) -> bool {
     match Text::from_str("/", alloc) {
         Ok(path) => seat.list(rt, path).is_ok(),
         Err(_) => false,
@@ -101,7 +101,7 @@ fn a_message_that_comes_too_late_is_lost(rt: HostRuntime) -> Result<(), Fail> {
     };
     let retention = Retention::Last(FEW);
     let mut cell = Cell::start_retaining(rt, alloc, config, 1, retention, gate)?;
-    let mut seat: ClientSeat = cell.client()?;
+    let mut seat: Seat = cell.client()?;
     // While the master is held up there are ticks of the client and the server; a later attempt is answered.
     let is_answered = is_listed(&rt, alloc, &mut seat);
     let lost = cell.lost();
@@ -112,9 +112,12 @@ fn a_message_that_comes_too_late_is_lost(rt: HostRuntime) -> Result<(), Fail> {
     Ok(())
 }
 
-#[test]
-fn clients_outlast_lost_messages(rt: HostRuntime) -> Result<(), Fail> {
-    let alloc = rt.alloc();
+/// In how many cells a message is waited for that comes too late: how threads take turns is not the test's to say.
+const MOST_CELLS: u32 = 20;
+
+/// How often a message came too late in a cell of whose journal three entries stay, while four producers append; none where a call was refused since its client
+/// was gone.
+fn lost_messages(rt: HostRuntime, alloc: Global) -> Result<Option<u64>, Fail> {
     let config = Config {
         attempt_ms: 100,
         attempts: 10,
@@ -125,8 +128,21 @@ fn clients_outlast_lost_messages(rt: HostRuntime) -> Result<(), Fail> {
     let count = produced(&rt, alloc, &mut cell, Policy::NONE, (4, 5));
     let lost = cell.lost();
     drop(cell.close(&rt));
+    Ok(if count.is_some() { Some(lost) } else { None })
+}
+
+#[test]
+fn clients_outlast_lost_messages(rt: HostRuntime) -> Result<(), Fail> {
+    let mut lost: u64 = 0;
+    for _ in 0..MOST_CELLS {
+        let Some(count) = lost_messages(rt, rt.alloc())? else {
+            return Err(Fail::new("a client was gone"));
+        };
+        lost = count;
+        if lost > 0 {
+            break;
+        }
+    }
     assert!(rt; lost > 0);
-    // No call was refused since its client was gone.
-    assert!(rt; count.is_some());
     Ok(())
 }

@@ -1,7 +1,7 @@
 //! Producers, which append records to one file, and a reader of these.
 
 use bytes::Bytes;
-use cell_run::cell::{Cell, ClientSeat};
+use cell_run::cell::{Cell, Seat};
 use gfs_types::ids::Fd;
 use gfs_types::lists::Text;
 use gfs_types::refusal::Refusal;
@@ -37,7 +37,7 @@ pub enum Found {
 /// for another reason than that nobody could serve.
 #[derive(Drop)]
 pub struct Producer {
-    pub seat: ClientSeat,
+    pub seat: Seat,
     pub next: u64,
     pub stored: Vec<Stored>,
     pub is_strange: bool,
@@ -64,18 +64,13 @@ impl Producer {
 }
 
 /// Opens a file.
-pub fn open<R: Wait + Clock>(
-    rt: &R,
-    alloc: Global,
-    seat: &mut ClientSeat,
-    name: &str,
-) -> Option<Fd> {
+pub fn open<R: Wait + Clock>(rt: &R, alloc: Global, seat: &mut Seat, name: &str) -> Option<Fd> {
     let path = Text::from_str(name, alloc).ok()?;
     seat.open(rt, path).ok()
 }
 
 /// Makes a file, and tells whether it did.
-pub fn create<R: Wait + Clock>(rt: &R, alloc: Global, seat: &mut ClientSeat, name: &str) -> bool {
+pub fn create<R: Wait + Clock>(rt: &R, alloc: Global, seat: &mut Seat, name: &str) -> bool {
     match Text::from_str(name, alloc) {
         Ok(path) => seat.create(rt, path, None).is_ok(),
         Err(_) => false,
@@ -86,7 +81,7 @@ pub fn create<R: Wait + Clock>(rt: &R, alloc: Global, seat: &mut ClientSeat, nam
 pub fn append<R: Wait + Clock>(
     rt: &R,
     alloc: Global,
-    seat: &mut ClientSeat,
+    seat: &mut Seat,
     fd: Fd,
     record: &[u8],
 ) -> Result<u64, Refusal> {
@@ -97,13 +92,7 @@ pub fn append<R: Wait + Clock>(
 }
 
 /// Looks for a record of eight bytes.
-pub fn look<R: Wait + Clock>(
-    rt: &R,
-    seat: &mut ClientSeat,
-    fd: Fd,
-    offset: u64,
-    record: &[u8],
-) -> Found {
+pub fn look<R: Wait + Clock>(rt: &R, seat: &mut Seat, fd: Fd, offset: u64, record: &[u8]) -> Found {
     match seat.read(rt, fd, offset, 8) {
         Ok((bytes, rounds)) => {
             let is_same = bytes.as_slice() == record;
@@ -125,7 +114,7 @@ pub fn producers_of<R: Wait + Clock>(
     rt: &R,
     alloc: Global,
     cell: &mut Cell,
-    reader: &mut ClientSeat,
+    reader: &mut Seat,
     count: u64,
 ) -> Option<Vec<Producer>> {
     if !create(rt, alloc, reader, "/log") {
@@ -167,7 +156,7 @@ pub fn produce_all<R: Threads + Wait + Clock + Sync>(
 pub fn count_kept<R: Wait + Clock>(
     rt: &R,
     alloc: Global,
-    reader: &mut ClientSeat,
+    reader: &mut Seat,
     producers: &[Producer],
 ) -> Option<usize> {
     let answered = count_answered(alloc, producers)?;
@@ -202,7 +191,7 @@ fn count_answered(alloc: Global, producers: &[Producer]) -> Option<usize> {
 fn are_read_back<R: Wait + Clock>(
     rt: &R,
     alloc: Global,
-    reader: &mut ClientSeat,
+    reader: &mut Seat,
     producers: &[Producer],
 ) -> bool {
     let Some(fd) = open(rt, alloc, reader, "/log") else {
@@ -219,7 +208,7 @@ fn are_read_back<R: Wait + Clock>(
 }
 
 // A master that began again knows of no replica until servers report, so that a read may be refused at first.
-fn is_read_back<R: Wait + Clock>(rt: &R, reader: &mut ClientSeat, fd: Fd, stored: Stored) -> bool {
+fn is_read_back<R: Wait + Clock>(rt: &R, reader: &mut Seat, fd: Fd, stored: Stored) -> bool {
     for _ in 0..MOST_LOOKS {
         match look(rt, reader, fd, stored.offset, &stored.number.to_be_bytes()) {
             Found::Same => return true,

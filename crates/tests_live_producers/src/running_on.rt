@@ -4,7 +4,7 @@
 use crate::cells::hasty;
 use crate::producers::{Producer, count_kept, create, produce_all, producers_of};
 use cell_run::Retention;
-use cell_run::cell::{Cell, ClientSeat};
+use cell_run::cell::{Cell, Seat};
 use cell_seats::gate::OpenGate;
 use cell_seats::mailboxes::Policy;
 use gfs_types::config::Config;
@@ -120,7 +120,7 @@ fn produce_meanwhile<R: Threads + Wait + Clock + Sync>(
 }
 
 // The file is deleted, and there is a new one of its name.
-fn begin_next_file<R: Wait + Clock>(rt: &R, alloc: Global, seat: &mut ClientSeat) -> bool {
+fn begin_next_file<R: Wait + Clock>(rt: &R, alloc: Global, seat: &mut Seat) -> bool {
     let Ok(path) = Text::from_str("/log", alloc) else {
         return false;
     };
@@ -146,8 +146,8 @@ fn fill_with<R: Threads + Wait + Clock + Sync>(
     alloc: Global,
     cell: &mut Cell,
     producers: &mut [Producer],
-    one: &mut ClientSeat,
-    other: &mut ClientSeat,
+    one: &mut Seat,
+    other: &mut Seat,
 ) -> Option<Totals> {
     let mut restarts = Restarts {
         random: 62,
