@@ -1,4 +1,4 @@
-"""The worked rows of crates/worked_scripts/data: a script with what it has to print."""
+"""The worked rows of rows/: a script with what it has to print."""
 import difflib
 import os
 
@@ -9,7 +9,7 @@ ROOT = os.path.dirname(os.path.dirname(os.path.dirname(os.path.abspath(__file__)
 # Of servers, and of clients.
 MAX_NODES = 64
 
-WORKED = os.path.join(ROOT, 'crates', 'worked_scripts', 'data')
+WORKED = os.path.join(ROOT, 'rows')
 
 
 def row_named(name):
@@ -25,15 +25,20 @@ def rows_of(path):
     return text.split(b'====\n') if path.endswith('.rows') else [text]
 
 
-def parts_of(row):
-    """A row's options, script and expected lines."""
-    script, expected = row.split(b'\n----\n')
+def options_of(script):
+    """The options in a script's comments, as `lease_ms`."""
     options = {}
     for line in script.split(b'\n'):
         if line.startswith(b'# --'):
             words = line[2:].decode().split(' ')
             options.update((name[2:].replace('-', '_'), int(value)) for name, value in zip(words[::2], words[1::2]))
-    return options, script, expected.decode().splitlines()
+    return options
+
+
+def parts_of(row):
+    """A row's options, script and expected lines."""
+    script, expected = row.split(b'\n----\n')
+    return options_of(script), script, expected.decode().splitlines()
 
 
 class Stopped:

@@ -1,0 +1,112 @@
+"""Tests: scripts on a cell whose nodes run on threads, by `live`."""
+import collections
+import os
+import tempfile
+import threading
+
+from running import Ended, differs, words_of
+
+# Small slots, where no attempt is over soon.
+CELL = {'servers': 3, 'goal': 3, 'slots': 64, 'block': 16, 'attempt_ms': 60_000}
+# The script of docs/SCRIPT.md.
+TWO_CLIENTS = 'c1 create /f\nbarrier\nc1 open /f\nc2 open /f\nbarrier\n2 c1 append 1 a*8\n2 c2 append 1 b*8\nbarrier\nc1 length 1\n'
+# For how long a bad line is waited for that has to be told at once, in seconds.
+AT_ONCE = 20
+
+
+def play(program, script, words=(), **settings):
+    return program.run(['live', '-', *words_of({**CELL, **settings}), *words], script.encode())
+
+
+def two_clients_append(program):
+    ran = play(program, '# two clients append to one file\n' + TWO_CLIENTS, clients=2, chunk=64)
+    lines = ran.printed.decode().splitlines()
+    at = [line for line in lines if ' at ' in line]
+    others = [line for line in lines if ' at ' not in line]
+    return [*differs('status and fault', (ran.status, ran.told), (0, b'')),
+            *differs('clients', [line.split(' ')[0] for line in lines], ['c1'] * 5 + ['c2'] * 3),
+            *differs('offsets', sorted(int(line.split(' ')[2]) for line in at), [0, 8, 16, 24]),
+            *differs('the rest', others, ['c1 done', 'c1 fd 1', 'c1 length 32', 'c2 fd 1'])]
+
+
+def no_bad_script_is_run(program):
+    bad = [('c1 create /f\n\nc3 create /g\n', 3), ('wait 3\n', 1), ('c1 mkdir /d\nbarrier \n', 2), ('2  c1 mkdir /d', 1), ('barrier\n-1 c1 mkdir /d\n', 2),
+           ('2 barrier', 1)]
+    for script, number in bad:
+        yield from differs(script, play(program, script, clients=2, chunk=64), (1, b'', b'gfscell: line %d: bad line\n' % number))
+    yield from differs('65 clients', play(program, '', clients=65, chunk=64), (1, b'', b'gfscell: cannot start\n'))
+
+
+def fault_of_endless(program, first, again):
+    """What a program says of a script that has no end."""
+    with Ended(program.begin(['live', '-', *words_of({**CELL, 'clients': 2, 'chunk': 64})]), AT_ONCE) as process:
+        def give():
+            try:
+                process.stdin.write(first)
+                while True:
+                    process.stdin.write(again)
+            except OSError:
+                pass  # it has ended
+        giving = threading.Thread(target=give)
+        giving.start()
+        told = process.stderr.read()
+        printed = process.stdout.read()
+        process.wait()
+        giving.join()
+    return printed, told
+
+
+def a_bad_line_of_an_endless_script_is_told(program):
+    for first, again, number in ((b'barrier\nwait 3\n', b'\n' * 4096, 2), (b'', b'#' * 4096, 1)):
+        yield from differs(first + again[:1], fault_of_endless(program, first, again), (b'', b'gfscell: line %d: bad line\n' % number))
+
+
+def a_client_goes_on(program):
+    ran = play(program, 'c1 create /f\nc1 open /f\nreopen\n2 c1 append 1 a*8\nreopen\nreopen\nc1 length 1\n', clients=1, chunk=4096, journal=100_000)
+    return differs('it', ran, (0, b'c1 done\nc1 fd 1\nc1 at 0\nc1 at 8\nc1 length 16\n', b''))
+
+
+def a_line_reopen_empties_the_journal(program):
+    """A call takes three steps: the journal has room for those of three stretches of 300 calls, and for ticks beside them, and ten are run."""
+    ran = play(program, '300 c1 mkdir /d\nreopen\n' * 10, clients=1, chunk=4096, journal=3_000)
+    return differs('answers', (ran.status, collections.Counter(ran.printed.splitlines()), ran.told), (0, {b'c1 done': 1, b'c1 refused 3 Exists': 2_999}, b''))
+
+
+def a_thousand_parks_with_four_producers(program):
+    """Between each 50 of a thousand parkings in a row each of four producers appends a record, which a fifth client reads where it was answered to stand: more
+    than half of its 20, since a record that all attempts don't place is refused."""
+    producers = range(1, 5)
+    append = ''.join(f'c{client} append 1 {client}*8\n' for client in producers)
+    opened = ''.join(f'c{client} open /log\n' for client in range(1, 6))
+    script = f'c5 create /log\nbarrier\n{opened}' + (append + 'reopen\n' * 50) * 20 + 'c5 read 1 0 4096\n'
+    ran = play(program, script, clients=5, chunk=4096, journal=100_000)
+    lines = ran.printed.decode().splitlines()
+    read = next((bytes.fromhex(line.split(' ')[3]) for line in lines if line.startswith('c5 bytes ')), b'')
+    yield from differs('status and fault', (ran.status, ran.told), (0, b''))
+    for client in producers:
+        offsets = [int(line.split(' ')[2]) for line in lines if line.startswith(f'c{client} at ')]
+        missed = [offset for offset in offsets if read[offset:offset + 8] != b'%d' % client * 8]
+        yield from differs(f'records of c{client} that are not read', missed, [])
+        if len(offsets) <= 10:
+            yield f'c{client}: {len(offsets)} of 20 records are answered'
+
+
+def regions_and_calls_are_told(program):
+    with tempfile.TemporaryDirectory() as folder:
+        to = os.path.join(folder, 'history')
+        ran = play(program, 'c1 create /f\nc1 open /f\n10 c1 append 1 a*8\n', ['--regions', '/f', '--history', to], clients=1, chunk=64)
+        with open(to, 'rb') as file:
+            history = file.read()
+    calls = [line.split(b' ', 1)[1] for line in history.splitlines()]
+    offsets = range(0, 80, 8)
+    yield from differs('what is printed', ran, (0, b'c1 done\nc1 fd 1\n' + b''.join(b'c1 at %d\n' % offset for offset in offsets)
+                                                + b'regions 0-64 determined\nregions 0-16 determined\n', b''))
+    made = [(b'create /f', b'done'), (b'open /f', b'fd 1'), *((b'append 1 0x6161616161616161', b'at %d' % offset) for offset in offsets)]
+    yield from differs('calls and answers', calls, [line for call, answer in made for line in (b'c1 ' + call, b'c1 -> ' + answer)])
+
+
+def tests():
+    """Each test's name, and what it is."""
+    return [(test.__name__, test) for test in (
+        two_clients_append, no_bad_script_is_run, a_bad_line_of_an_endless_script_is_told, a_client_goes_on, a_line_reopen_empties_the_journal,
+        a_thousand_parks_with_four_producers, regions_and_calls_are_told)]
