@@ -6,3 +6,4 @@ pub mod Servers
 pub mod Worlds
 pub mod Told
 pub mod FileRegions
+pub mod PrintedHistories

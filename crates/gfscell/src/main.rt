@@ -7,12 +7,12 @@ ghost use Rattle.gfscell.specs.Faults.{fault_text};
 ghost use Rattle.gfscell.specs.Status.{status_of};
 ghost use Rattle.gfscell.specs.declared.ProgramFault.TheVariants as faults;
 
+use cell_looks::{HistoryFault, print_history};
 use cell_run::{Progress, Retention, Watcher};
 use cell_seats::journal::Journal;
 use command_line::command::{CommandFault, Request, Telling, parse};
 use command_line::narrowed::narrowed;
 use gfs_types::path::Path;
-use history_lines::{HistoryFault, print_history};
 use live::run::run_live_with;
 use script::fault::LineFault;
 use script::options::Options;

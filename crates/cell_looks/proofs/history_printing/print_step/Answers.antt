@@ -2,8 +2,8 @@ use Rattle.std.proofs.lemmas.Result.{on_ok_weaker}
 use Rattle.std.proofs.Common.{ap}
 use Rattle.gfs_types.specs.declared.ids.Node.TheVariants.{Client}
 use Rattle.messages.specs.declared.event.StepOut.{StepOut}
-use Rattle.history_lines.proofs.Printed.{both_printed}
-use Rattle.history_lines.proofs.printing.print_step.Goals as goal
+use Rattle.cell_looks.proofs.PrintedHistories.{both_printed}
+use Rattle.cell_looks.proofs.history_printing.print_step.Goals as goal
 
 pub returns-clause-printed : goal.returns-clause-printed
 returns-clause-printed g c =

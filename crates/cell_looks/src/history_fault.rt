@@ -1,7 +1,7 @@
 //! Why a history is not printed to its end.
 
 ghost use Rattle.std.specs.Prelude.{◌≡◌, ◌≢◌};
-ghost use Rattle.history_lines.specs.declared.history_fault.HistoryFault.TheVariants.{NoMemory as OutOfMemory};
+ghost use Rattle.cell_looks.specs.declared.history_fault.HistoryFault.TheVariants.{NoMemory as OutOfMemory};
 
 use gfs_types::no_memory::NoMemory;
 use std::io::{self, ErrorKind};

@@ -2,18 +2,18 @@
 
 ghost use Rattle.std.specs.Prelude.{◌≡◌, ◌≢◌, ◌++◌, ◌∷◌, [], false, IfErr, IfSome, IfNone, OnOk, length, ◌<◌};
 ghost use Rattle.std.specs.Io.KnownBytes.{Appends};
-ghost use Rattle.history_lines.specs.declared.history_fault.HistoryFault.TheVariants.{Partial};
+ghost use Rattle.cell_looks.specs.declared.history_fault.HistoryFault.TheVariants.{Partial};
 ghost use Rattle.cell_journal.specs.Entries.{cause_of};
 ghost use Rattle.cell_journal.specs.Retained.{gone_of};
 ghost use Rattle.cell_journal.specs.WholeHistories.{whole_of};
 ghost use Rattle.cell_looks.specs.Noted.{is_client};
 ghost use Rattle.gfs_types.specs.declared.ids.Node.TheVariants.{Client};
-ghost use Rattle.history_lines.specs.HistoryLines.{asked_by, answered_by, entry_lines, history_lines, IsHistoryFault};
+ghost use Rattle.cell_looks.specs.HistoryLines.{asked_by, answered_by, entry_lines, history_lines, IsHistoryFault};
 
 use crate::history_fault::HistoryFault;
 use cell_journal::closed_history::ClosedHistory;
 use cell_journal::journal_entry::{JournalEntry, StepCause};
-use cell_looks::journals::journals_of;
+use crate::journals::journals_of;
 use cell_seats::journal::Journal;
 use gfs_types::answer::Answer;
 use gfs_types::ids::{ClientId, Moment, Node};
@@ -89,7 +89,7 @@ fn print_step<W: Write>(
     print_answer(moment, client, &entry.out().answer, writer)
 }
 
-#[tactic(auto, using(crate::proofs::Printed::appends_none))]
+#[tactic(auto, using(crate::proofs::PrintedHistories::appends_none))]
 fn print_call<W: Write>(
     moment: Moment,
     client: ClientId,
@@ -112,7 +112,7 @@ fn print_call<W: Write>(
     }
 }
 
-#[tactic(auto, using(crate::proofs::Printed::appends_none))]
+#[tactic(auto, using(crate::proofs::PrintedHistories::appends_none))]
 fn print_answer<W: Write>(
     moment: Moment,
     client: ClientId,

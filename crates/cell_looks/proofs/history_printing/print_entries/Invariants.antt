@@ -1,7 +1,7 @@
 use Rattle.std.proofs.Common.{take}
 use Rattle.std.specs.Io.KnownBytes.{Appends}
-use Rattle.history_lines.specs.HistoryLines.{history_lines}
-use Rattle.history_lines.proofs.printing.print_entries.Given as goal
+use Rattle.cell_looks.specs.HistoryLines.{history_lines}
+use Rattle.cell_looks.proofs.history_printing.print_entries.Given as goal
 
 -- the lines of so many entries were printed
 abbrev pub invariant-loop-place : goal.invariant-loop-place

@@ -5,11 +5,11 @@ use Rattle.cell_journal.specs.Identity.{Closed}
 use Rattle.cell_journal.specs.WholeHistories.{whole_of}
 use Rattle.cell_seats.specs.Journals.{all_in}
 use Rattle.cell_looks.proofs.Handing.{handed_on}
-use Rattle.history_lines.specs.declared.history_fault.HistoryFault.TheVariants.{NoMemory}
+use Rattle.cell_looks.specs.declared.history_fault.HistoryFault.TheVariants.{NoMemory}
 use Rattle.cell_looks.proofs.Behind.{each_of, popped_one, popped_are}
-use Rattle.history_lines.specs.HistoryLines.{history_lines}
-use Rattle.history_lines.proofs.Printed.{none_printed, one_printed, whole_printed, fault_of_one}
-use Rattle.history_lines.proofs.printing.print_history.Goals as goal
+use Rattle.cell_looks.specs.HistoryLines.{history_lines}
+use Rattle.cell_looks.proofs.PrintedHistories.{none_printed, one_printed, whole_printed, fault_of_one}
+use Rattle.cell_looks.proofs.history_printing.print_history.Goals as goal
 
 pub loop-earliest-init : goal.loop-earliest-init
 loop-earliest-init g c = record {

@@ -2,9 +2,9 @@ use Rattle.std.proofs.Common.{length, map}
 use Rattle.std.specs.Prelude.{All, Contains}
 use Rattle.cell_journal.specs.WholeHistories.{whole_of}
 use Rattle.cell_seats.specs.Journals.{all_in}
-use Rattle.history_lines.specs.HistoryLines.{history_lines}
-use Rattle.history_lines.proofs.Printed.{IsPrintedUpTo}
-use Rattle.history_lines.proofs.printing.print_history.Given as goal
+use Rattle.cell_looks.specs.HistoryLines.{history_lines}
+use Rattle.cell_looks.proofs.PrintedHistories.{IsPrintedUpTo}
+use Rattle.cell_looks.proofs.history_printing.print_history.Given as goal
 
 -- what is left completes what was printed
 abbrev pub invariant-loop-earliest : goal.invariant-loop-earliest

@@ -1,7 +1,7 @@
 use Rattle.std.proofs.Common.{sym, ap, ◌∙◌}
 use Rattle.cell_looks.specs.Noted.{is_client}
-use Rattle.history_lines.proofs.Printed.{none_of_it}
-use Rattle.history_lines.proofs.printing.print_entry.Goals as goal
+use Rattle.cell_looks.proofs.PrintedHistories.{none_of_it}
+use Rattle.cell_looks.proofs.history_printing.print_entry.Goals as goal
 
 pub print_step-requires : goal.print_step-requires
 print_step-requires g c = sym c.node.ensures ∙ c.in-Some.ensures.some

@@ -8,8 +8,8 @@ use Rattle.protocol_journal.specs.Journal.{StepCause, Calls, Entry}
 use Rattle.cell_seats.specs.Journals.{JournalState}
 use Rattle.script.specs.CallLines.{asked_line, answered_line}
 use Rattle.cell_looks.specs.Looks.{IsPartial}
-use Rattle.history_lines.specs.declared.history_fault.HistoryFault.{HistoryFault}
-use Rattle.history_lines.specs.declared.history_fault.HistoryFault.TheVariants as fault
+use Rattle.cell_looks.specs.declared.history_fault.HistoryFault.{HistoryFault}
+use Rattle.cell_looks.specs.declared.history_fault.HistoryFault.TheVariants as fault
 
 -- what a client called with this step
 abbrev pub asked_by : ℕ → Node → StepCause → List ℕ

@@ -14,9 +14,9 @@ use Rattle.cell_journal.specs.WholeHistories.{whole_of}
 use Rattle.cell_seats.specs.Journals.{JournalState, all_in, AreBehind}
 use Rattle.cell_looks.specs.Noted.{is_client}
 use Rattle.cell_looks.proofs.Behind.{behind, behind_whole, taken}
-use Rattle.history_lines.specs.declared.history_fault.HistoryFault.{HistoryFault}
-use Rattle.history_lines.specs.declared.history_fault.HistoryFault.TheVariants as fault
-use Rattle.history_lines.specs.HistoryLines.{asked_by, answered_by, entry_lines, history_lines, IsHistoryFault}
+use Rattle.cell_looks.specs.declared.history_fault.HistoryFault.{HistoryFault}
+use Rattle.cell_looks.specs.declared.history_fault.HistoryFault.TheVariants as fault
+use Rattle.cell_looks.specs.HistoryLines.{asked_by, answered_by, entry_lines, history_lines, IsHistoryFault}
 
 pub appends_none : (known : Option (List ℕ)) → Appends known known []
 appends_none None = tt
