@@ -7,3 +7,6 @@ pub mod Worlds
 pub mod Told
 pub mod FileRegions
 pub mod PrintedHistories
+pub mod EndedWorlds
+pub mod Appending
+pub mod Calls

@@ -13,20 +13,11 @@ use Rattle.cell_journal.specs.Retained.{gone_of}
 use Rattle.cell_journal.specs.WholeHistories.{whole_of}
 use Rattle.cell_seats.specs.Journals.{JournalState, all_in, AreBehind}
 use Rattle.cell_looks.specs.Noted.{is_client}
+use Rattle.cell_looks.proofs.Appending.{appends_none, appends_twice, take_all}
 use Rattle.cell_looks.proofs.Behind.{behind, behind_whole, taken}
 use Rattle.cell_looks.specs.declared.history_fault.HistoryFault.{HistoryFault}
 use Rattle.cell_looks.specs.declared.history_fault.HistoryFault.TheVariants as fault
 use Rattle.cell_looks.specs.HistoryLines.{asked_by, answered_by, entry_lines, history_lines, IsHistoryFault}
-
-pub appends_none : (known : Option (List ℕ)) → Appends known known []
-appends_none None = tt
-appends_none (Some xs) = sym (append-nil xs)
-
-appends_twice : (a b c : Option (List ℕ)) (xs ys : List ℕ) → Appends a b xs → Appends b c ys → Appends a c (xs ++ ys)
-appends_twice None b c xs ys p q = tt
-appends_twice (Some x) None c xs ys p q = absurd p
-appends_twice (Some x) (Some y) None xs ys p q = absurd q
-appends_twice (Some x) (Some y) (Some z) xs ys p q = q ∙ (ap (λ (l : List ℕ). l ++ ys) p ∙ append_assoc x xs ys)
 
 -- of one entry
 
@@ -57,12 +48,6 @@ take_at : (es : List Entry) (k : ℕ) (e : Entry) → slice_get es k ≡ Some e 
 take_at [] k e h = absurd (let none : None ≡ Some e = h in cc)
 take_at (x ∷ es) zero e h = ap (λ (y : Entry). y ∷ []) (let same : Some x ≡ Some e = h in cc)
 take_at (x ∷ es) (suc k) e h = ap (λ (l : List Entry). x ∷ l) (take_at es k e h)
-
-take_all : (es : List Entry) (k : ℕ) → length es ≤ k → take k es ≡ es
-take_all [] zero h = refl
-take_all [] (suc k) h = refl
-take_all (x ∷ es) zero h = absurd (omega (arith, h))
-take_all (x ∷ es) (suc k) h = ap (λ (l : List Entry). x ∷ l) (take_all es k (omega (arith, h)))
 
 -- one entry more
 pub next_printed : (a b c : Option (List ℕ)) (es : List Entry) (k : ℕ) (e : Entry) → slice_get es k ≡ Some e → Appends a b (history_lines (take k es)) → Appends b c (entry_lines e) → Appends a c (history_lines (take (k + 1) es))

@@ -11,9 +11,9 @@ ghost use Rattle.gfs_types.specs.declared.ids.Node.TheVariants.{Client};
 ghost use Rattle.cell_looks.specs.HistoryLines.{asked_by, answered_by, entry_lines, history_lines, IsHistoryFault};
 
 use crate::history_fault::HistoryFault;
+use crate::journals::journals_of;
 use cell_journal::closed_history::ClosedHistory;
 use cell_journal::journal_entry::{JournalEntry, StepCause};
-use crate::journals::journals_of;
 use cell_seats::journal::Journal;
 use gfs_types::answer::Answer;
 use gfs_types::ids::{ClientId, Moment, Node};
@@ -89,7 +89,7 @@ fn print_step<W: Write>(
     print_answer(moment, client, &entry.out().answer, writer)
 }
 
-#[tactic(auto, using(crate::proofs::PrintedHistories::appends_none))]
+#[tactic(auto, using(crate::proofs::Appending::appends_none))]
 fn print_call<W: Write>(
     moment: Moment,
     client: ClientId,
@@ -112,7 +112,7 @@ fn print_call<W: Write>(
     }
 }
 
-#[tactic(auto, using(crate::proofs::PrintedHistories::appends_none))]
+#[tactic(auto, using(crate::proofs::Appending::appends_none))]
 fn print_answer<W: Write>(
     moment: Moment,
     client: ClientId,

@@ -1,7 +1,7 @@
-//! What can be looked up in a parked cell: the file of a name, the replicas of a chunk, and its regions; and it prints what the clients of a
-//! cell called and were answered, in its history's order.
+//! What is told of a parked or closed cell: the file of a name, the replicas of a chunk, its regions, and what all clients called and were answered.
 #![tactic(auto)]
 
+pub mod ending;
 pub mod history_fault;
 pub mod history_printing;
 mod history_sights;
@@ -9,6 +9,7 @@ pub mod journals;
 pub mod look_fault;
 pub mod looks;
 mod parked_servers;
+pub mod printing;
 
 pub use history_fault::HistoryFault;
 pub use history_printing::print_history;

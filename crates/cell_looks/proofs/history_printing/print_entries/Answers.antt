@@ -3,7 +3,8 @@ use Rattle.std.specs.Option.{option_copied}
 use Rattle.cell_journal.proofs.Retained.{entry_is}
 use Rattle.cell_looks.proofs.Handing.{handed_on}
 use Rattle.cell_looks.proofs.Noted.{was_gone}
-use Rattle.cell_looks.proofs.PrintedHistories.{appends_none, next_printed, all_printed}
+use Rattle.cell_looks.proofs.Appending.{appends_none}
+use Rattle.cell_looks.proofs.PrintedHistories.{next_printed, all_printed}
 use Rattle.cell_looks.proofs.history_printing.print_entries.Goals as goal
 
 pub loop-place-init : goal.loop-place-init

@@ -1,8 +1,8 @@
 use Rattle.std.proofs.Common.{map, ap, refl, true}
 use Rattle.std.specs.Prelude.{IsTrue}
 use Rattle.std.proofs.lemmas.Result.{IfErr-weaker}
-use Rattle.live.specs.Faults.{IsOfRun}
-use Rattle.live.proofs.ending.end.Goals as goal
+use Rattle.cell_looks.specs.RunFaults.{IsOfRun}
+use Rattle.cell_looks.proofs.ending.end.Goals as goal
 
 pub returns-in-Some-clause-regions : goal.returns-in-Some-clause-regions
 returns-in-Some-clause-regions g c = rw c.in-Some.is c.end_looked.ensures.regions

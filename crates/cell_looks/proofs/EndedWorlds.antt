@@ -10,7 +10,7 @@ use Rattle.protocol.specs.World.{WorldState}
 use Rattle.cell_journal.specs.Identity.{Closed, closed}
 use Rattle.cell_looks.specs.Looks.{LooksState}
 use Rattle.cell_looks.specs.ParkedWorlds.{IsWorldOf, file_regions}
-use Rattle.live.specs.Live.{IsHistoryWorld, regions_named}
+use Rattle.cell_looks.specs.EndedWorlds.{IsHistoryWorld, regions_named}
 
 -- a world of a parked cell is one to which its history led
 history_world : (p : LooksState) (w : WorldState) → IsWorldOf p w → IsHistoryWorld p.journal.now w

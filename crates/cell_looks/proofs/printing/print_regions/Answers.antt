@@ -2,9 +2,9 @@ use Rattle.std.proofs.Common.{List, ℕ, Vec, Global, sym, subst}
 use Rattle.std.specs.Io.KnownBytes.{Appends}
 use Rattle.std.proofs.lemmas.List.Folds.{flat_map-map}
 use Rattle.relaxed_file.specs.declared.region.Region.{Region}
-use Rattle.live.specs.Live.{told_chunk}
-use Rattle.live.proofs.Telling.{appends_none, lines_next, lines_all}
-use Rattle.live.proofs.printing.print_regions.Goals as goal
+use Rattle.cell_looks.specs.ToldLines.{told_chunk}
+use Rattle.cell_looks.proofs.Appending.{appends_none, lines_next, lines_all}
+use Rattle.cell_looks.proofs.printing.print_regions.Goals as goal
 
 pub loop-before-init : goal.loop-before-init
 loop-before-init g c = appends_none _

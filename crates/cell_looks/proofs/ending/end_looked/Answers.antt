@@ -1,7 +1,7 @@
 use Rattle.std.proofs.Common.{ap, ◌∙◌}
 use Rattle.cell_journal.specs.Identity.{Closed}
-use Rattle.live.proofs.EndedWorlds.{still_world}
-use Rattle.live.proofs.ending.end_looked.Goals as goal
+use Rattle.cell_looks.proofs.EndedWorlds.{still_world}
+use Rattle.cell_looks.proofs.ending.end_looked.Goals as goal
 
 pub returns-in-Ok-clause-cell : goal.returns-in-Ok-clause-cell
 returns-in-Ok-clause-cell g c = ap (λ (j : Closed). j.cell) c.close-journal.ensures ∙ c.in_ok-parked.ensures.cell

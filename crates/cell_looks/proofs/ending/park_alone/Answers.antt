@@ -2,7 +2,7 @@ use Rattle.std.proofs.Common.{◌≡◌, sym, subst}
 use Rattle.std.specs.Prelude.{All}
 use Rattle.std.proofs.lemmas.List.Elements.{All-nil}
 use Rattle.cell_seats.specs.Seats.{SeatState}
-use Rattle.live.proofs.ending.park_alone.Goals as goal
+use Rattle.cell_looks.proofs.ending.park_alone.Goals as goal
 
 pub park-requires : goal.park-requires
 park-requires g c =

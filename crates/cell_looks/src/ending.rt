@@ -3,10 +3,11 @@
 ghost use Rattle.std.specs.Prelude.{◌≡◌, true, map, is_some, IfOk, IfErr, IsTrue};
 ghost use Rattle.std.specs.Option.{option_copied};
 ghost use Rattle.protocol.specs.World.{WorldState};
-ghost use Rattle.live.specs.Faults.{IsOfRun};
-ghost use Rattle.live.specs.Live.{AreRegionsOf, IsHistoryWorld, regions_named};
+ghost use Rattle.cell_looks.specs.RunFaults.{IsOfRun};
+ghost use Rattle.cell_looks.specs.EndedWorlds.{AreRegionsOf, IsHistoryWorld, regions_named};
 
-use cell_looks::{LookFault, Looks};
+use crate::look_fault::LookFault;
+use crate::looks::Looks;
 use cell_run::cell::Cell;
 use cell_run::park_fault::ParkFault;
 use cell_run::parked::Parked;

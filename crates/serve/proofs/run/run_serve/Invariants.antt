@@ -1,4 +1,4 @@
-use Rattle.serve.proofs.run.run_serve_with.Given as goal
+use Rattle.serve.proofs.run.run_serve.Given as goal
 
 -- what is served: this input, so many clients, and this cell
 abbrev pub ghosts-serve : goal.ghosts-serve

@@ -1,8 +1,8 @@
 use Rattle.std.proofs.Common.{take}
 use Rattle.std.specs.List.{flat_map}
 use Rattle.std.specs.Io.KnownBytes.{Appends}
-use Rattle.live.specs.Live.{told_chunk}
-use Rattle.live.proofs.printing.print_regions.Given as goal
+use Rattle.cell_looks.specs.ToldLines.{told_chunk}
+use Rattle.cell_looks.proofs.printing.print_regions.Given as goal
 
 -- what was printed so far
 abbrev pub invariant-loop-before : goal.invariant-loop-before

@@ -1,7 +1,7 @@
 use Rattle.std.proofs.Common.{map, ap}
 use Rattle.std.proofs.lemmas.Result.{IfOk-weaker}
-use Rattle.live.proofs.EndedWorlds.{told_file, told_none}
-use Rattle.live.proofs.ending.regions_of_file.Goals as goal
+use Rattle.cell_looks.proofs.EndedWorlds.{told_file, told_none}
+use Rattle.cell_looks.proofs.ending.regions_of_file.Goals as goal
 
 pub returns-in-Some : goal.returns-in-Some
 returns-in-Some c =
