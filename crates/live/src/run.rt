@@ -10,11 +10,12 @@ ghost use Rattle.cell_looks.specs.RunFaults.{IsOfRun};
 ghost use Rattle.live.specs.Playing.{IsNewPlayer, IsPlayed, IsReopened, Plays, AllPlay, AllReopen, Each};
 ghost use Rattle.script.specs.LiveLines.{is_barrier, is_reopen};
 
-use crate::ending::{Ended, end};
 use crate::play::Player;
-use crate::printing::{print_all, print_regions};
+use crate::printing::print_all;
 use crate::reopen::reopen;
 use cell_journal::Retention;
+use cell_looks::ending::{Ended, end};
+use cell_looks::printing::print_regions;
 use cell_run::cell::{Cell, StartFault};
 use cell_run::watch::{Watch, Watcher};
 use cell_seats::gate::OpenGate;
