@@ -20,7 +20,6 @@ use cell_run::cell::{Cell, StartFault};
 use cell_run::watch::{Watch, Watcher};
 use cell_seats::gate::OpenGate;
 use cell_seats::journal::{Journal, agree};
-use cell_seats::shared_state::Progress;
 use gfs_types::ids::ClientId;
 use gfs_types::no_memory::NoMemory;
 use gfs_types::path::Path;
