@@ -6,3 +6,7 @@ pub mod Servers
 pub mod Worlds
 pub mod Told
 pub mod FileRegions
+pub mod PrintedHistories
+pub mod EndedWorlds
+pub mod Appending
+pub mod Calls

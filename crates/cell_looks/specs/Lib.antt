@@ -1,4 +1,9 @@
 pub mod Noted
 pub mod Looks
 pub mod ParkedWorlds
+pub mod EndedWorlds
 pub mod Faults
+pub mod RunFaults
+pub mod HistoryLines
+pub mod ToldLines
+pub mod ClientAnswers

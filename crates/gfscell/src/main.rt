@@ -7,19 +7,19 @@ ghost use Rattle.gfscell.specs.Faults.{fault_text};
 ghost use Rattle.gfscell.specs.Status.{status_of};
 ghost use Rattle.gfscell.specs.declared.ProgramFault.TheVariants as faults;
 
+use cell_looks::{HistoryFault, print_history};
 use cell_run::{Progress, Retention, Watcher};
 use cell_seats::journal::Journal;
 use command_line::command::{CommandFault, Request, Telling, parse};
 use command_line::narrowed::narrowed;
 use gfs_types::path::Path;
-use history_lines::{HistoryFault, print_history};
-use live::run::run_live_with;
+use live::run::run_live;
 use script::fault::LineFault;
 use script::options::Options;
 use script::script_fault::ScriptFault;
 use script::words::read_full_path;
 use serve::reading::LineFaults;
-use serve::run::run_serve_with;
+use serve::run::run_serve;
 use shell::run::{run_script, run_script_in_region};
 use std::alloc::Global;
 use std::error::Error;
@@ -170,7 +170,7 @@ fn play<T: Threads + Wait + Clock + Copy + Send + Sync + 'static, S: Read + Drop
     } else {
         None
     };
-    let journal = run_live_with(
+    let journal = run_live(
         threads,
         alloc,
         options,
@@ -238,7 +238,7 @@ fn serve<T: Threads + Wait + Clock + Copy + Send + 'static>(
     let reader = BufReader::new(alloc, rt.stdin()).map_err(|e| ScriptFault::of_read(&e))?;
     let mut writer = BufWriter::new(alloc, io::writer(rt)).map_err(|e| ScriptFault::of_write(&e))?;
     let faults = ErrorFaults { rt: *rt };
-    run_serve_with(
+    run_serve(
         threads,
         alloc,
         options,

@@ -2,4 +2,3 @@ pub mod Players
 pub mod Playing
 pub mod Running
 pub mod Telling
-pub mod EndedWorlds

@@ -38,8 +38,10 @@ use Rattle.cell_run.specs.Cells.{IsCellOf}
 use Rattle.live.specs.declared.play.Player.{Player}
 use Rattle.live.specs.declared.reopen.Unseated.{Unseated}
 use Rattle.live.specs.Live.{HasSeenPart, AreAnswersIn}
-use Rattle.live.specs.Playing.{calls_on, calls_of, reopens_in, first_number, AreAnswered, HasPlayed, IsSamePlayer, HasMade, PlaysOn, Plays, IsNewPlayer, HasCalled, IsPlayed, Reopens, AllReopen, IsReopened, rest_of, player_of, seated, Each, AllPlay}
-use Rattle.live.proofs.Playing.{nothing_played, answered_one_more, refused_more, reopened, played_more, played_whole, replicate_one_more, calls_append}
+use Rattle.cell_looks.specs.ClientAnswers.{calls_on, calls_of, first_number, AreAnswered}
+use Rattle.live.specs.Playing.{reopens_in, HasPlayed, IsSamePlayer, HasMade, PlaysOn, Plays, IsNewPlayer, HasCalled, IsPlayed, Reopens, AllReopen, IsReopened, rest_of, player_of, seated, Each, AllPlay}
+use Rattle.cell_looks.proofs.Calls.{replicate_one_more, calls_append}
+use Rattle.live.proofs.Playing.{nothing_played, answered_one_more, refused_more, reopened, played_more, played_whole}
 
 -- places of a list
 

@@ -1,6 +1,6 @@
 -- What a client was answered goes on with each call.
-use Rattle.std.proofs.Common.{◌≡◌, ℕ, zero, suc, ◌+◌, ◌≤◌, Bool, true, false, List, [], ◌∷◌, ◌++◌, length, refl, sym, ap, ◌∙◌, append_assoc, arith}
-use Rattle.std.specs.Prelude.{IsTrue, replicate, All}
+use Rattle.std.proofs.Common.{◌≡◌, ℕ, suc, ◌+◌, ◌≤◌, Bool, true, false, List, [], ◌∷◌, ◌++◌, length, refl, sym, ap, ◌∙◌, append_assoc, arith}
+use Rattle.std.specs.Prelude.{IsTrue, All}
 use Rattle.std.specs.List.{flat_map}
 use Rattle.std.proofs.lemmas.List.Elements.{All-nil, All-push}
 use Rattle.std.proofs.lemmas.List.{append-nil}
@@ -8,10 +8,10 @@ use Rattle.gfs_types.specs.declared.answer.Answer.{Answer}
 use Rattle.gfs_types.specs.declared.answer.Answer.TheVariants as answer
 use Rattle.gfs_types.specs.declared.call.Call.{Call}
 use Rattle.gfs_types.specs.declared.refusal.Refusal.{Refusal}
-use Rattle.script.specs.declared.live_lines.LiveLine.{LiveLine}
 use Rattle.cell_seats.specs.Seen.{Visible, Asked, Answered}
 use Rattle.cell_seats.specs.Seats.{is_the_cells}
-use Rattle.live.specs.Playing.{calls_on, calls_of, shown_as, AreOfTheCell, Stretch, calls_in, replies_in, heard_in, IsStretch, AreAnswered, HasPlayed}
+use Rattle.cell_looks.specs.ClientAnswers.{shown_as, AreOfTheCell, Stretch, calls_in, replies_in, heard_in, IsStretch, AreAnswered}
+use Rattle.live.specs.Playing.{HasPlayed}
 
 none_is : {X : Type 0} (xs : List X) → length xs ≡ 0 → xs ≡ []
 none_is [] h = refl
@@ -165,14 +165,3 @@ played_whole seen was reopens calls replies h = record {
   replies_are = ended replies_in h.before h.last replies h.replies_are;
   shows = ended heard_in h.before h.last seen h.shows;
 }
-
-replicate_suc : {X : Type 0} (n : ℕ) (x : X) → replicate (suc n) x ≡ replicate n x ++ x ∷ []
-replicate_suc zero x = refl
-replicate_suc (suc n) x = ap (λ l. x ∷ l) (replicate_suc n x)
-
-pub replicate_one_more : {X : Type 0} (n : ℕ) (x : X) → replicate (n + 1) x ≡ replicate n x ++ x ∷ []
-replicate_one_more n x = let next : n + 1 ≡ suc n = omega arith in ap (λ (m : ℕ). replicate m x) next ∙ replicate_suc n x
-
-pub calls_append : (n : ℕ) (xs ys : List LiveLine) → calls_of n (xs ++ ys) ≡ calls_of n xs ++ calls_of n ys
-calls_append n [] ys = refl
-calls_append n (x ∷ xs) ys = ap (λ l. calls_on n x ++ l) (calls_append n xs ys) ∙ sym (append_assoc (calls_on n x) (calls_of n xs) (calls_of n ys))

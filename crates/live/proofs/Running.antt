@@ -1,8 +1,7 @@
 -- What was read is played, and what was answered is printed.
-use Rattle.std.proofs.Common.{◌≡◌, ◌⊎◌, ℕ, suc, ◌+◌, List, [], ◌∷◌, ◌++◌, ⊎_elim, Option, Some, None, map, refl, sym, ap, subst, ◌∙◌}
+use Rattle.std.proofs.Common.{◌≡◌, ◌⊎◌, ℕ, suc, ◌+◌, List, [], ◌∷◌, ◌++◌, ⊎_elim, Option, Some, None, map, refl, sym, ap, subst}
 use Rattle.std.specs.Prelude.{IfSome, if◌then◌else◌}
 use Rattle.std.specs.Io.KnownBytes.{Appends, Keeps}
-use Rattle.std.proofs.lemmas.List.{append-nil}
 use Rattle.gfs_types.specs.declared.answer.Answer.{Answer}
 use Rattle.gfs_types.specs.declared.call.Call.{Call}
 use Rattle.gfs_types.specs.Paths.{Path}
@@ -17,11 +16,14 @@ use Rattle.script.specs.ScriptFaults.{IsOfWrite}
 use Rattle.script.specs.declared.options.Options.{Options}
 use Rattle.script.proofs.Bytes.{keeps_all}
 use Rattle.live.specs.declared.play.Player.{Player}
-use Rattle.live.specs.Faults.{IsOfRun}
-use Rattle.live.specs.Live.{IsScript, HasAnswers, AreAnswersIn, AreRegionsOf, Prints, PrintsWith, Stops, told_from, told_regions}
-use Rattle.live.proofs.Telling.{appends_twice}
+use Rattle.cell_looks.specs.RunFaults.{IsOfRun}
+use Rattle.cell_looks.specs.ClientAnswers.{HasAnswers, calls_on, calls_of}
+use Rattle.cell_looks.specs.EndedWorlds.{AreRegionsOf}
+use Rattle.cell_looks.specs.ToldLines.{told_regions}
+use Rattle.live.specs.Live.{IsScript, AreAnswersIn, PrintsWith, Stops, told_from}
+use Rattle.cell_looks.proofs.Appending.{appends_twice}
 use Rattle.script.specs.LiveLines.{is_reopen}
-use Rattle.live.specs.Playing.{calls_on, calls_of, reopens_in}
+use Rattle.live.specs.Playing.{reopens_in}
 
 -- an empty line more makes no call
 no_more_calls : (client : ℕ) (lines : List LiveLine) → calls_of client lines ≡ calls_of client (lines ++ Nothing ∷ [])
@@ -85,16 +87,6 @@ prints_with options path journal script before middle after lines played players
     (subst (λ (l : List LiveLine). AreAnswersIn options l journal (map (λ (p : Player). p.answers.items) players)) all answered) found
     (subst (λ (l : List Player). Appends before middle (told_from 1 (map (λ (p : Player). p.answers.items) l))) these told)
     (subst (λ (l : List (List Region)). Appends middle after (told_regions l)) those more) script are
-
--- answers alone
-pub prints_alone : (options : Options) (journal : Closed) (script before after : Option (List ℕ)) → PrintsWith options None journal script before after → Prints options script before after
-prints_alone options journal script before after p = record {
-  lines = p.lines;
-  lines_are = p.lines_are;
-  answers = p.answers;
-  answered = p.answered.0;
-  printed = subst (λ (l : List ℕ). Appends before after l) (ap (λ (rs : List (List Region)). told_from 1 p.answers ++ told_regions rs) p.regions_are ∙ append-nil (told_from 1 p.answers)) p.printed;
-}
 
 -- a script that is not read to its end
 pub stops_reading : (clients : ℕ) (script known : Option (List ℕ)) (f : ScriptFault) → HasFault clients script f → Stops clients script known known f

@@ -1,70 +1,17 @@
 -- A client of a script: the calls that it makes, and what it is answered.
-use Rattle.std.specs.Prelude.{◌≡◌, ⊤, ℕ, suc, ◌+◌, ◌≤◌, ◌==◌, Bool, false, if◌then◌else◌, List, [], ◌∷◌, ◌++◌, length, replicate, slice_get, Some, IsTrue, All}
+use Rattle.std.specs.Prelude.{◌≡◌, ⊤, ℕ, suc, ◌+◌, ◌≤◌, Bool, false, if◌then◌else◌, List, [], ◌∷◌, ◌++◌, length, slice_get, Some, All}
 use Rattle.std.specs.List.{flat_map}
 use Rattle.gfs_types.specs.declared.answer.Answer.{Answer}
-use Rattle.gfs_types.specs.declared.answer.Answer.TheVariants as answer
 use Rattle.gfs_types.specs.declared.call.Call.{Call}
 use Rattle.gfs_types.specs.declared.ids.Node.TheVariants.{Client}
 use Rattle.script.specs.declared.live_lines.LiveLine.{LiveLine}
-use Rattle.script.specs.declared.live_lines.LiveLine.TheVariants as lines
 use Rattle.script.specs.LiveLines.{is_reopen}
-use Rattle.gfs_types.specs.declared.ids.Node.{Node}
 use Rattle.cell_journal.specs.Identity.{Identity}
-use Rattle.cell_seats.specs.Seen.{Visible, Asked, Answered}
-use Rattle.cell_seats.specs.Seats.{SeatState, seat_state, is_the_cells, shown, GoesOver}
+use Rattle.cell_seats.specs.Seen.{Visible}
+use Rattle.cell_seats.specs.Seats.{SeatState, seat_state, shown, GoesOver}
+use Rattle.cell_looks.specs.ClientAnswers.{calls_of, Stretch, calls_in, replies_in, heard_in, IsStretch, first_number}
 use Rattle.live.specs.declared.play.Player.{Player}
 use Rattle.live.specs.declared.reopen.Unseated.{Unseated}
-
--- the calls of the client of this number, in order
-abbrev pub calls_on : ℕ → LiveLine → List Call
-calls_on client (lines.Calls times asked) = if asked.client.0 == client then replicate times asked.call else []
-calls_on client other = []
-
-abbrev pub calls_of : ℕ → List LiveLine → List Call
-calls_of client [] = []
-calls_of client (line ∷ rest) = calls_on client line ++ calls_of client rest
-
--- calls with their answers, one after another, as a journal shows them
-abbrev pub shown_as : List Call → List Answer → List Visible
-shown_as (call ∷ calls) (reply ∷ replies) = Asked call ∷ Answered reply ∷ shown_as calls replies
-shown_as calls replies = []
-
--- refusals of the cell itself
-abbrev pub AreOfTheCell : List Answer → Type 0
-AreOfTheCell [] = ⊤
-AreOfTheCell (answer.Refused refusal ∷ rest) = IsTrue (is_the_cells refusal) × AreOfTheCell rest
-AreOfTheCell (other ∷ rest) = ⊥
-
--- a client's calls between two lines at which its cell is parked: those that were answered, and those that the cell itself refused
-pub record Stretch : Type 0 where
-  pub heard : List Call
-  pub answers : List Answer
-  pub refused : List Call
-  pub refusals : List Answer
-
-abbrev pub calls_in : Stretch → List Call
-calls_in s = s.heard ++ s.refused
-
-abbrev pub replies_in : Stretch → List Answer
-replies_in s = s.answers ++ s.refusals
-
-abbrev pub heard_in : Stretch → List Visible
-heard_in s = shown_as s.heard s.answers
-
--- each call has its answer, and once the cell itself refused one, all later ones have refusals of the cell
-pub record IsStretch (s : Stretch) : Type 0 where
-  pub each : length s.answers ≡ length s.heard
-  pub all : length s.refusals ≡ length s.refused
-  pub of_the_cell : AreOfTheCell s.refusals
-
--- These calls were answered so, in one stretch more at most than the cell was parked. Of each stretch the journal shows the first calls.
-pub record AreAnswered (shown : List Visible) (reopens : ℕ) (calls : List Call) (replies : List Answer) : Type 0 where
-  pub stretches : List Stretch
-  pub count : length stretches ≤ suc reopens
-  pub are : All IsStretch stretches
-  pub calls_are : calls ≡ flat_map calls_in stretches
-  pub replies_are : replies ≡ flat_map replies_in stretches
-  pub shows : shown ≡ flat_map heard_in stretches
 
 -- the last stretch goes on, while the cell itself refused no call of it
 pub record HasPlayed (shown : List Visible) (is_lost : Bool) (reopens : ℕ) (calls : List Call) (replies : List Answer) : Type 0 where
@@ -109,11 +56,6 @@ pub record IsNewPlayer (cell : Identity) (client : ℕ) (p : Player) : Type 0 wh
 abbrev pub reopens_in : List LiveLine → ℕ
 reopens_in [] = 0
 reopens_in (line ∷ rest) = (if is_reopen line then 1 else 0) + reopens_in rest
-
--- the first of the numbers that a client had
-abbrev pub first_number : List Node → Node → Node
-first_number [] now = now
-first_number (n ∷ rest) now = n
 
 -- a client of this number that made these calls, if it lacked no memory, while the cell was parked so often
 pub record HasCalled (cell : Identity) (reopens : ℕ) (calls : List Call) (client : ℕ) (p : Player) : Type 0 where

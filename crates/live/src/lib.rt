@@ -1,7 +1,6 @@
 //! Runs scripts of calls on a running cell, each client's calls on a thread of its own.
 #![tactic(auto)]
 
-pub mod ending;
 mod play;
 pub mod printing;
 mod reopen;

@@ -1,7 +1,8 @@
 //! A client of a script, which makes its calls one after another.
 
 ghost use Rattle.std.specs.Prelude.{◌≡◌, ◌∷◌, [], replicate, OnOk};
-ghost use Rattle.live.specs.Playing.{calls_on, IsSamePlayer, PlaysOn, Plays};
+ghost use Rattle.cell_looks.specs.ClientAnswers.{calls_on};
+ghost use Rattle.live.specs.Playing.{IsSamePlayer, PlaysOn, Plays};
 
 use cell_run::cell::Seat;
 use gfs_types::answer::Answer;

@@ -2,7 +2,7 @@
 
 ghost use Rattle.std.specs.Prelude.{◌≡◌, ℕ, ◌≤◌, [], IfOk, IfErr, IsSome, Some, All, length, slice_get, map, vec_capacity};
 ghost use Rattle.cell_run.specs.Parked.{IsParked};
-ghost use Rattle.live.specs.Faults.{IsOfRun};
+ghost use Rattle.cell_looks.specs.RunFaults.{IsOfRun};
 ghost use Rattle.live.specs.Playing.{AllReopen, IsReopened, rest_of, seated};
 
 use crate::play::Player;

@@ -1,24 +1,25 @@
 //! Runs a script on a running cell.
 
-ghost use Rattle.std.specs.Prelude.{ℕ, ◌≡◌, ◌+◌, ◌≤◌, ◌<◌, IfOk, IfErr, IfSome, OnOk, Some, length, slice_get, map, true, false};
+ghost use Rattle.std.specs.Prelude.{ℕ, ◌≡◌, ◌+◌, ◌≤◌, ◌<◌, IfOk, IfErr, IfSome, Some, length, slice_get, map, true, false};
 ghost use Rattle.cell_journal.specs.WholeHistories.{whole_of};
 ghost use Rattle.cell_run.specs.Cells.{IsNewCell};
 ghost use Rattle.std.specs.Option.{option_copied};
-ghost use Rattle.live.specs.Live.{IsScript, HasSeenPart, AreAnswersIn, AreRegionsOf, Prints, PrintsWith, Stops};
-ghost use Rattle.live.specs.Faults.{IsOfRun};
+ghost use Rattle.cell_looks.specs.EndedWorlds.{AreRegionsOf};
+ghost use Rattle.live.specs.Live.{IsScript, HasSeenPart, AreAnswersIn, PrintsWith, Stops};
+ghost use Rattle.cell_looks.specs.RunFaults.{IsOfRun};
 ghost use Rattle.live.specs.Playing.{IsNewPlayer, IsPlayed, IsReopened, Plays, AllPlay, AllReopen, Each};
 ghost use Rattle.script.specs.LiveLines.{is_barrier, is_reopen};
 
-use crate::ending::{Ended, end};
 use crate::play::Player;
-use crate::printing::{print_all, print_regions};
+use crate::printing::print_all;
 use crate::reopen::reopen;
 use cell_journal::Retention;
+use cell_looks::ending::{Ended, end};
+use cell_looks::printing::print_regions;
 use cell_run::cell::{Cell, StartFault};
 use cell_run::watch::{Watch, Watcher};
 use cell_seats::gate::OpenGate;
 use cell_seats::journal::{Journal, agree};
-use cell_seats::shared_state::Progress;
 use gfs_types::ids::ClientId;
 use gfs_types::no_memory::NoMemory;
 use gfs_types::path::Path;
@@ -36,54 +37,18 @@ use std::time::Clock;
 /// The clients that a cell may have.
 const MOST_CLIENTS: u64 = 64;
 
-/// Is told nothing.
-#[derive(Drop)]
-struct NoWatcher;
-
-impl Watcher for NoWatcher {
-    fn tell(&self, _progress: Progress) {}
-}
-
-/// Runs a script on a new cell, each client's calls in order on a thread of its own, and prints all answers at the end, by client.
-/// Each line is looked at as it comes, and all of them before the cell is made: behind a bad one nothing is read.
+/// Runs a script on a new cell of whose journal these entries stay, each client's calls in order on a thread of its own, and prints all answers at the
+/// end, by client. Each line is looked at as it comes, and all of them before the cell is made: behind a bad one nothing is read. Where a path is given, a
+/// line for each chunk of its file is printed behind all answers, with the chunk's regions at the end. A watcher, if there is one, is told once a second
+/// how far the cell is, until all calls were answered; without memory or a thread for it the script runs all the same. Gives the cell's journal.
 ///
 /// - `Line`: a line isn't in the language, or names a client that the cell doesn't have.
-/// - `Start`: a setting or a count of nodes is out of its range, no thread or no clock was to be had, or the cell could not be parked or resumed at a line `reopen`.
-/// - `NoMemory`: memory was refused outside the cell's own steps, and not in parking or resuming it.
+/// - `Start`: a setting or a count of nodes is out of its range, no thread or no clock was to be had, the cell could not be parked or resumed at a line
+///   `reopen`, or a path is given and clocks were not kept.
+/// - `NoMemory`: memory was refused outside the cell's own steps, and not in parking or resuming it; or a path is given that names a file with a chunk, and
+///   entries were let go.
 /// - `Read`, `Write`: the reader or the writer failed.
-pub fn run_live<T: Threads + Wait + Clock + Copy + Send + Sync + 'static, R: Read, W: Write>(
-    rt: T,
-    alloc: Global,
-    options: &Options,
-    reader: &mut R,
-    writer: &mut W,
-) -> Result<(), ScriptFault>
-    ensures script { OnOk result (IfSome (R.remaining reader.old) (IsScript options.now.clients)) }
-    ensures prints { OnOk result (Prints options.now (R.remaining reader.old) (W.contents writer.old) (W.contents writer.new)) }
-    ensures stops { IfErr result (Stops options.now.clients (R.remaining reader.old) (W.contents writer.old) (W.contents writer.new)) }
-{
-    match run_live_with(
-        rt,
-        alloc,
-        options,
-        Retention::Whole,
-        None,
-        None::<NoWatcher>,
-        reader,
-        writer,
-    ) {
-        Ok(_journal) => Ok(()),
-        Err(fault) => Err(fault),
-    }
-}
-
-/// The same on a cell of whose journal these entries stay. Where a path is given, a line for each chunk of its file is printed behind all answers, with
-/// the chunk's regions at the end. A watcher, if there is one, is told once a second how far the cell is, until all calls were answered; without memory
-/// or a thread for it the script runs all the same. Gives the cell's journal.
-///
-/// - `Start`: also where a path is given and clocks were not kept.
-/// - `NoMemory`: also where a path is given that names a file with a chunk, and entries were let go.
-pub fn run_live_with<
+pub fn run_live<
     T: Threads + Wait + Clock + Copy + Send + Sync + 'static,
     P: Watcher + Send + Drop + 'static,
     R: Read,

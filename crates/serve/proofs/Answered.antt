@@ -15,7 +15,7 @@ use Rattle.cell_journal.specs.Log.{Listed, listed}
 use Rattle.cell_journal.specs.WholeHistories.{IsHistoryOf}
 use Rattle.cell_seats.specs.Seats.{SeatState, IsAnswered, IsLost}
 use Rattle.cell_seats.specs.Seen.{Visible, Asked, Answered, visible_of}
-use Rattle.live.specs.Playing.{shown_as}
+use Rattle.cell_looks.specs.ClientAnswers.{shown_as}
 use Rattle.serve.specs.Messages.{Service, IsAsked, AreFirstCalls, IsSeenOf, HasAnswers, IsServed, IsReply, IsMade, calls_for}
 
 pub longer : {X : Type 0} (xs : List X) (x : X) → length (xs ++ x ∷ []) ≡ suc (length xs)

@@ -12,8 +12,7 @@ use Rattle.cell_journal.specs.Identity.{Closed}
 use Rattle.cell_journal.specs.WholeHistories.{whole_of}
 use Rattle.cell_run.specs.Cells.{IsCellOf}
 use Rattle.script.specs.declared.options.Options.{Options}
-use Rattle.live.specs.Live.{HasAnswers}
-use Rattle.live.specs.Playing.{Stretch, IsStretch, heard_in}
+use Rattle.cell_looks.specs.ClientAnswers.{HasAnswers, Stretch, IsStretch, heard_in}
 use Rattle.serve.specs.Served.{answers_to, calls_served}
 use Rattle.serve.specs.Messages.{Service, IsPrinted, AreCounts, calls_for}
 use Rattle.serve.specs.Outcomes.{AreServedAnswers, PrintsAnswers, Serves, ServesFirst}

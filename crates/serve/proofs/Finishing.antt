@@ -1,9 +1,7 @@
 -- What serving comes to, once all threads have ended, or where it was not begun.
-use Rattle.std.proofs.Common.{◌≡◌, ◌<◌, ◌++◌, ℕ, true, false, List, inl, inr, ⊎_elim, length, Option, None, sym, ap, subst, ◌∙◌}
+use Rattle.std.proofs.Common.{◌≡◌, ◌<◌, ℕ, List, inl, inr, ⊎_elim, length, Option, sym, subst, ◌∙◌}
 use Rattle.std.specs.Prelude.{Result, OnOk, IfSome, IsTrue, is_some}
 use Rattle.std.specs.Io.KnownBytes.{Appends}
-use Rattle.std.specs.List.{flat_map}
-use Rattle.std.proofs.lemmas.List.{append-nil}
 use Rattle.std.proofs.lemmas.Result.{on_ok_weaker}
 use Rattle.gfs_types.specs.Paths.{Path}
 use Rattle.relaxed_file.specs.declared.region.Region.{Region}
@@ -15,12 +13,12 @@ use Rattle.script.specs.ScriptFaults.{IsOfWrite}
 use Rattle.script.specs.declared.options.Options.{Options}
 use Rattle.script.specs.declared.script_fault.ScriptFault.{ScriptFault}
 use Rattle.script.specs.declared.script_fault.ScriptFault.TheVariants as fault
-use Rattle.live.specs.Faults.{IsOfRun}
-use Rattle.live.specs.Live.{AreRegionsOf, told_regions}
-use Rattle.live.proofs.Telling.{appends_twice}
-use Rattle.serve.specs.Served.{calls_served, printed_text}
+use Rattle.cell_looks.specs.RunFaults.{IsOfRun}
+use Rattle.cell_looks.specs.EndedWorlds.{AreRegionsOf}
+use Rattle.cell_looks.specs.ToldLines.{told_regions}
+use Rattle.serve.specs.Served.{calls_served}
 use Rattle.serve.specs.Messages.{Service, AreAsked, AreCounts, IsOfReading}
-use Rattle.serve.specs.Outcomes.{Serves, ServesWith, Stops, StopsWith}
+use Rattle.serve.specs.Outcomes.{ServesWith, StopsWith}
 use Rattle.serve.specs.Printing.{Stand, AreInOrder, AreNew, AllBegin, AllPrinted, PrintsOn, AreComparable, AreAllPrinted, AreAllDone}
 use Rattle.serve.proofs.Ending.{serves_in, serves_first}
 use Rattle.serve.proofs.Prints.{order_kept}
@@ -38,33 +36,6 @@ stops_writing options path input before after f of = ⊎_elim
     (λ (is : f ≡ fault.NoMemory). subst (λ (g : ScriptFault). StopsWith options path input before after g) (sym is) tt)
     (λ (is : f ≡ fault.Write). subst (λ (g : ScriptFault). StopsWith options path input before after g) (sym is) tt)
     of
-
--- no regions were asked for
-pub serves_alone : (options : Options) (input before after : Option (List ℕ)) → ServesWith options None input before after → Serves options input before after
-serves_alone options input before after with_none =
-    let s = with_none.serves in
-    let p = s.prints in
-    let answers = flat_map printed_text p.printed in
-    let text = appends_twice before with_none.middle after answers (told_regions with_none.regions) p.text with_none.told in
-    record {
-      asked = s.asked;
-      all = s.all;
-      prints = record {
-        printed = p.printed;
-        text = subst (Appends before after) (ap (λ (rs : List (List Region)). answers ++ told_regions rs) with_none.regions_are ∙ append-nil answers) text;
-        answers = p.answers;
-        answered = p.answered;
-        each = p.each;
-      };
-    }
-
-pub stops_alone : (options : Options) (input before after : Option (List ℕ)) (f : ScriptFault) → StopsWith options None input before after f → Stops options input before after f
-stops_alone options input before after (fault.Line number) stops = stops
-stops_alone options input before after (fault.NoEnd number) stops = stops
-stops_alone options input before after fault.Start stops = ⊎_elim (λ keeps. keeps) (λ wanted. absurd (let both : true ≡ false = sym wanted.0 in cc)) stops
-stops_alone options input before after fault.NoMemory stops = stops
-stops_alone options input before after fault.Read stops = stops
-stops_alone options input before after fault.Write stops = stops
 
 -- as many answers were printed as the lines have calls
 pub all_done : (s : Service) (outcome : Result (Unit {0}) ScriptFault) (counts : List ℕ) (ends : List Stand) → AreAsked s outcome counts → AreAllPrinted counts ends → OnOk outcome (AreAllDone s ends)

@@ -16,7 +16,7 @@ use Rattle.script.specs.declared.script_fault.ScriptFault.{ScriptFault}
 use Rattle.script.specs.declared.script_fault.ScriptFault.TheVariants as fault
 use Rattle.serve_lines.specs.declared.lines.ServedLine.{ServedLine}
 use Rattle.serve_lines.specs.declared.lines.ServedLine.TheVariants as served
-use Rattle.live.specs.Playing.{calls_of}
+use Rattle.cell_looks.specs.ClientAnswers.{calls_of}
 use Rattle.serve.specs.Served.{call_in}
 use Rattle.serve.specs.Messages.{Service, IsAsked, AreNext, AreTaken, IsOfReading}
 use Rattle.serve.proofs.Places.{set_here, set_there}

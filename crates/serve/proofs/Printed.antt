@@ -18,7 +18,7 @@ use Rattle.cell_journal.specs.Log.{Listed}
 use Rattle.cell_journal.specs.WholeHistories.{whole_of}
 use Rattle.cell_seats.specs.Seats.{is_the_cells}
 use Rattle.cell_seats.specs.Seen.{Visible, Asked, Answered, asked_in, answered_in, visible_of}
-use Rattle.live.specs.Playing.{shown_as, AreOfTheCell}
+use Rattle.cell_looks.specs.ClientAnswers.{shown_as, AreOfTheCell}
 use Rattle.serve.specs.Messages.{Service, Replied, AreFirstCalls, HasAnswers, IsReply, IsPrinted}
 use Rattle.serve.specs.Printing.{Stand, IsNextOf}
 use Rattle.serve.proofs.Answered.{first_more, longer}

@@ -9,8 +9,8 @@ use Rattle.std.proofs.lemmas.List.{append-nil, length-set}
 use Rattle.std.proofs.lemmas.Option.{slice_get_within, get_or_from_slice_get}
 use mathlib.Core.List.{IsPrefix}
 use Rattle.gfs_types.specs.declared.answer.Answer.{Answer}
-use Rattle.live.specs.Live.{told_line}
-use Rattle.live.proofs.Telling.{appends_twice}
+use Rattle.cell_looks.specs.ToldLines.{told_line}
+use Rattle.cell_looks.proofs.Appending.{appends_twice}
 use Rattle.serve.specs.Served.{Printed, Answers, Room, answers_to, printed_text, room_line}
 use Rattle.serve.specs.Printing.{Stand, AreInOrder, GoesOn, PrintsOn}
 use Rattle.serve.proofs.Places.{there, read_at, set_here, set_there}

@@ -10,8 +10,8 @@ use Rattle.serve_lines.specs.Input.{ReadsWholeLine}
 use Rattle.serve_lines.specs.Lines.{served_line_of}
 use Rattle.serve_lines.proofs.WholeLines.{kept_asks}
 use Rattle.serve_lines.specs.declared.lines.ServedLine.{ServedLine}
-use Rattle.live.specs.Playing.{calls_of}
-use Rattle.live.proofs.Playing.{calls_append}
+use Rattle.cell_looks.specs.ClientAnswers.{calls_of}
+use Rattle.cell_looks.proofs.Calls.{calls_append}
 use Rattle.serve.specs.Served.{call_in, calls_in, calls_served}
 use Rattle.serve.specs.Messages.{Service, AreNext, AreTaken, AreCounts, HaveAsked, calls_for}
 

@@ -16,7 +16,7 @@ use Rattle.cell_journal.specs.WholeHistories.{IsHistoryOf}
 use Rattle.cell_journal.specs.declared.retention.Retention.TheVariants.{Whole}
 use Rattle.cell_seats.specs.Seats.{SeatState, seat_state, IsAnswered, IsLost, is_the_cells}
 use Rattle.cell_seats.specs.Seen.{visible_of}
-use Rattle.live.specs.Playing.{calls_of, shown_as, AreOfTheCell}
+use Rattle.cell_looks.specs.ClientAnswers.{calls_of, shown_as, AreOfTheCell}
 use Rattle.script.specs.Reading.{Leaves}
 use Rattle.script.specs.declared.live_lines.LiveLine.{LiveLine}
 use Rattle.script.specs.declared.script_fault.ScriptFault.{ScriptFault}

@@ -16,7 +16,9 @@ use Rattle.cell_run.specs.Cells.{IsCellOf}
 use Rattle.script.specs.declared.options.Options.{Options}
 use Rattle.script.specs.declared.script_fault.ScriptFault.{ScriptFault}
 use Rattle.script.specs.declared.script_fault.ScriptFault.TheVariants as fault
-use Rattle.live.specs.Live.{HasAnswers, AreRegionsOf, told_regions}
+use Rattle.cell_looks.specs.ClientAnswers.{HasAnswers}
+use Rattle.cell_looks.specs.EndedWorlds.{AreRegionsOf}
+use Rattle.cell_looks.specs.ToldLines.{told_regions}
 use Rattle.serve.specs.Served.{Printed, answers_to, printed_text}
 use Rattle.serve.specs.Messages.{calls_for}
 

@@ -9,7 +9,7 @@ use Rattle.script.specs.Reading.{lines_in}
 use Rattle.serve_lines.specs.Lines.{served_line_of}
 use Rattle.serve_lines.specs.declared.lines.ServedLine.{ServedLine}
 use Rattle.serve_lines.specs.declared.lines.ServedLine.TheVariants.{Call as Asked}
-use Rattle.live.specs.Live.{told_line}
+use Rattle.cell_looks.specs.ToldLines.{told_line}
 
 -- a call by one of the first so many clients
 abbrev pub call_in : ℕ → Option ServedLine → List LiveLine

@@ -1,11 +1,11 @@
 //! Prints what is told, as it comes.
 
-ghost use Rattle.std.specs.Prelude.{◌≡◌, ◌≤◌, ◌++◌, ◌∷◌, [], List, Some, OnOk, IfErr, IfSome, length, true};
+ghost use Rattle.std.specs.Prelude.{◌≡◌, ◌≤◌, ◌++◌, ◌∷◌, [], List, Some, OnOk, IfErr, length, true};
 ghost use Rattle.std.specs.Io.KnownBytes.{Appends, Keeps};
 ghost use mathlib.Core.List.{IsPrefix};
 ghost use Rattle.cell_journal.specs.WholeHistories.{whole_of};
 ghost use Rattle.script.specs.ScriptFaults.{IsOfWrite};
-ghost use Rattle.live.specs.Live.{told_line};
+ghost use Rattle.cell_looks.specs.ToldLines.{told_line};
 ghost use Rattle.serve.specs.Served.{room_line};
 ghost use Rattle.serve.specs.Printing.{Stand, AreInOrder, PrintsOn, IsNextOf, IsPrintedOf};
 
@@ -14,6 +14,7 @@ use crate::served_messages::{Reply, Serving, Told};
 use cell_journal::closed_history::agree;
 use cell_journal::raised_entry::RaisedEntry;
 use cell_journal::{Beginning, meet};
+use cell_looks::printing::{flush, print_line};
 use cell_run::cell::Cell;
 use cell_seats::journal::Journal;
 use crossbeam_channel::Receiver;
@@ -91,13 +92,6 @@ fn next_told<S: Serving, R: Wait, W: Write>(
     }
     flush(writer)?;
     Ok(told.recv(rt).ok())
-}
-
-fn flush<W: Write>(writer: &mut W) -> Result<(), ScriptFault>
-    ensures keeps { OnOk result (Keeps (W.contents writer.old) (W.contents writer.new)) }
-    ensures fault { IfErr result IsOfWrite }
-{
-    writer.flush().map_err(|e| ScriptFault::of_write(&e))
 }
 
 // Does what is told.
@@ -267,11 +261,4 @@ fn print_answer<S: Serving, W: Write>(reply: &Reply<S>, writer: &mut W) -> Resul
         answer: &reply.answer,
     };
     print_line(&line, writer)
-}
-
-fn print_line<L: fmt::Display, W: Write>(line: &L, writer: &mut W) -> Result<(), ScriptFault>
-    ensures printed { OnOk result (IfSome (L.output line.now) (λ text. Appends (W.contents writer.old) (W.contents writer.new) (text ++ 10 ∷ []))) }
-    ensures fault { IfErr result IsOfWrite }
-{
-    writeln!(writer, "{line}").map_err(|e| ScriptFault::of_write(&e))
 }

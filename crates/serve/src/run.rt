@@ -5,9 +5,9 @@ ghost use Rattle.std.specs.Option.{option_copied};
 ghost use Rattle.cell_journal.specs.WholeHistories.{whole_of};
 ghost use Rattle.cell_run.specs.Cells.{IsCellOf, IsNewCell};
 ghost use Rattle.script.specs.ScriptFaults.{IsOfWrite};
-ghost use Rattle.live.specs.Faults.{IsOfRun};
+ghost use Rattle.cell_looks.specs.RunFaults.{IsOfRun};
 ghost use Rattle.serve.specs.Messages.{HaveAsked, IsOfReading, IsUnused};
-ghost use Rattle.serve.specs.Outcomes.{Serves, ServesWith, Stops, StopsWith};
+ghost use Rattle.serve.specs.Outcomes.{ServesWith, StopsWith};
 ghost use Rattle.serve.specs.Printing.{AllBegin, AllPrinted, AreAllDone, AreAllPrinted, AreComparable, AreInOrder, AreNew, MeetsEach, PrintsOn};
 
 use crate::printing::{PrintedAnswers, print_all};
@@ -15,6 +15,8 @@ use crate::reading::{LineFaults, Receivers};
 use crate::served_client::ServedClient;
 use crate::served_messages::{Asked, AskedCall, Serving, Told};
 use cell_journal::Retention;
+use cell_looks::ending::end;
+use cell_looks::printing::print_regions;
 use cell_run::cell::{Cell, Seat, StartFault};
 use cell_seats::gate::OpenGate;
 use cell_seats::journal::Journal;
@@ -23,8 +25,6 @@ use crossbeam_channel::{Receiver, Sender, bounded};
 use gfs_types::ghost_list::GhostList;
 use gfs_types::ids::ClientId;
 use gfs_types::path::Path;
-use live::ending::end;
-use live::printing::print_regions;
 use script::options::Options;
 use script::script_fault::ScriptFault;
 use std::alloc::Global;
@@ -39,36 +39,13 @@ use std::time::Clock;
 const MOST_WAITING: usize = 1_024;
 
 /// Takes lines as they come, has each client's calls made in order on a thread of its own, and prints each answer when it comes. At the end of
-/// input it ends, after the last answer. Of the cell's journal these entries stay.
+/// input it ends, after the last answer. Of the cell's journal these entries stay. Where a path is given, a line for each chunk of its file is printed
+/// behind all answers, with the chunk's regions at the end.
 ///
-/// - `Start`: a setting or a count of nodes is out of its range, or no thread or no clock was to be had.
-/// - `NoMemory`: memory was refused outside the cell's own steps.
+/// - `Start`: a setting or a count of nodes is out of its range, no thread or no clock was to be had, or a path is given and clocks were not kept.
+/// - `NoMemory`: memory was refused outside the cell's own steps; or a path is given that names a file with a chunk, and entries were let go.
 /// - `Read`, `Write`: the reader or the writer failed. What was asked before the reader failed is answered and printed.
 pub fn run_serve<
-    T: Threads + Wait + Clock + Copy + Send + 'static,
-    R: Read + Send + Drop + 'static,
-    W: Write,
-    F: LineFaults + Send + Drop + 'static,
->(
-    rt: T,
-    alloc: Global,
-    options: &Options,
-    retention: Retention,
-    reader: R,
-    writer: &mut W,
-    faults: F,
-) -> Result<(), ScriptFault>
-    ensures serves { OnOk result (Serves options.now (R.remaining reader) (W.contents writer.old) (W.contents writer.new)) }
-    ensures stops { IfErr result (Stops options.now (R.remaining reader) (W.contents writer.old) (W.contents writer.new)) }
-{
-    run_serve_with(rt, alloc, options, retention, None, reader, writer, faults)
-}
-
-/// The same. Where a path is given, a line for each chunk of its file is printed behind all answers, with the chunk's regions at the end.
-///
-/// - `Start`: also where a path is given and clocks were not kept.
-/// - `NoMemory`: also where a path is given that names a file with a chunk, and entries were let go.
-pub fn run_serve_with<
     T: Threads + Wait + Clock + Copy + Send + 'static,
     R: Read + Send + Drop + 'static,
     W: Write,

@@ -2,7 +2,7 @@
 
 use crate::cells::{hasty, small};
 use bytes::Bytes;
-use cell_looks::{LookFault, Looks, regions_of_chunk};
+use cell_looks::{LookFault, Looks, print_history, regions_of_chunk};
 use cell_run::cell::{Cell, Seat};
 use cell_run::{Parked, Retention};
 use cell_seats::gate::OpenGate;
@@ -10,7 +10,6 @@ use cell_seats::journal::Journal;
 use gfs_types::ids::{FileId, Handle};
 use gfs_types::lists::Text;
 use gfs_types::path::Path;
-use history_lines::print_history;
 use relaxed_file::region::Region;
 use std::alloc::Global;
 use std::str;

@@ -3,7 +3,8 @@ use Rattle.std.specs.Io.KnownBytes.{Appends}
 use Rattle.gfs_types.specs.declared.answer.Answer.{Answer}
 use Rattle.live.specs.Live.{told_by}
 use Rattle.live.specs.declared.play.Player.{Player}
-use Rattle.live.proofs.Telling.{appends_none, from_next, from_all}
+use Rattle.cell_looks.proofs.Appending.{appends_none}
+use Rattle.live.proofs.Telling.{from_next, from_all}
 use Rattle.live.proofs.printing.print_all.Goals as goal
 
 pub loop-before-init : goal.loop-before-init

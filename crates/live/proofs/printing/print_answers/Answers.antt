@@ -1,4 +1,5 @@
-use Rattle.live.proofs.Telling.{appends_none, told_next, told_all}
+use Rattle.cell_looks.proofs.Appending.{appends_none}
+use Rattle.live.proofs.Telling.{told_next, told_all}
 use Rattle.live.proofs.printing.print_answers.Goals as goal
 
 pub loop-before-init : goal.loop-before-init

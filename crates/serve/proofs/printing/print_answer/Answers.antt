@@ -1,7 +1,7 @@
 use Rattle.std.proofs.Common.{subst}
 use Rattle.std.specs.Prelude.{OnOk}
 use Rattle.std.specs.Io.KnownBytes.{Appends}
-use Rattle.live.specs.Live.{told_line}
+use Rattle.cell_looks.specs.ToldLines.{told_line}
 use Rattle.serve.specs.Messages.{Replied}
 use Rattle.serve.proofs.printing.print_answer.Goals as goal
 

@@ -1,15 +1,10 @@
-use Rattle.std.proofs.lemmas.Result.{on_ok_weaker, IfErr-weaker}
-use Rattle.serve.proofs.Finishing.{serves_alone, stops_alone}
+use Rattle.std.specs.Option.{option_copied}
+use Rattle.script.proofs.ReadPlans.{handed_on}
+use Rattle.serve.proofs.Finishing.{stops_starting}
 use Rattle.serve.proofs.run.run_serve.Goals as goal
 
-pub returns-clause-serves : goal.returns-clause-serves
-returns-clause-serves g c =
-    let before = g.W.Write.contents c.args.writer.now in
-    let after = g.W.Write.contents c.run_serve_with.new.writer in
-    on_ok_weaker c.run_serve_with.result (serves_alone c.args.options.now (g.R.Read.remaining c.args.reader) before after) c.run_serve_with.ensures.serves
-
-pub returns-clause-stops : goal.returns-clause-stops
-returns-clause-stops g c =
-    let before = g.W.Write.contents c.args.writer.now in
-    let after = g.W.Write.contents c.run_serve_with.new.writer in
-    IfErr-weaker c.run_serve_with.result _ _ (stops_alone c.args.options.now (g.R.Read.remaining c.args.reader) before after) c.run_serve_with.ensures.stops
+pub returns-in_err-cell-clause-stops : goal.returns-in_err-cell-clause-stops
+returns-in_err-cell-clause-stops g c =
+    let at = g.W.Write.contents c.args.writer.now in
+    handed_on c.from_residual.result _ c.in_err-cell.field-0.0 c.from_residual.ensures.1
+    (stops_starting c.args.options.now (option_copied c.args.path) (g.R.Read.remaining c.args.reader) at c.in_err-cell.field-0.0 c.in_err-cell.ensures.fault)

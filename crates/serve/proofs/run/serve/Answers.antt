@@ -6,7 +6,7 @@ use Rattle.relaxed_file.specs.declared.region.Region.{Region}
 use Rattle.cell_journal.specs.WholeHistories.{whole_of}
 use Rattle.cell_run.specs.Cells.{IsCellOf}
 use Rattle.script.proofs.ReadPlans.{handed_on}
-use Rattle.live.specs.Live.{told_regions}
+use Rattle.cell_looks.specs.ToldLines.{told_regions}
 use Rattle.serve.specs.Printing.{AllBegin, AllPrinted, AreComparable, AreAllDone}
 use Rattle.serve.proofs.Finishing.{stops_starting, stops_writing, ends_well, stopped, stopped_unlooked}
 use Rattle.serve.proofs.Taken.{none_asked}

@@ -1,5 +1,5 @@
 use Rattle.std.proofs.Common.{◌≡◌, List, ℕ, ◌∷◌, ◌++◌, [], replicate, sym, ap, subst, ◌∙◌, arith}
-use Rattle.live.proofs.Playing.{replicate_one_more}
+use Rattle.cell_looks.proofs.Calls.{replicate_one_more}
 use Rattle.serve.proofs.run.zeros.Goals as goal
 
 pub loop-made-preserved : goal.loop-made-preserved

@@ -1,9 +1,0 @@
-use Rattle.std.proofs.Common.{take}
-use Rattle.std.specs.List.{flat_map}
-use Rattle.std.specs.Io.KnownBytes.{Appends}
-use Rattle.live.specs.Live.{told_chunk}
-use Rattle.live.proofs.printing.print_regions.Given as goal
-
--- what was printed so far
-abbrev pub invariant-loop-before : goal.invariant-loop-before
-invariant-loop-before g l = Appends (g.W.Write.contents l.fn.writer) (g.W.Write.contents l.writer) (flat_map (λ v. told_chunk v.items) (take l.before l.fn.chunks))
