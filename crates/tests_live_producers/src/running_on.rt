@@ -179,20 +179,18 @@ fn fill_in_turn<R: Threads + Wait + Clock + Sync>(
     cell: &mut Cell,
 ) -> Option<Totals> {
     let mut one = cell.client().ok()?;
-    let mut other = cell.client().ok()?;
     let mut producers = producers_of(rt, alloc, cell, &mut one, 4)?;
-    let totals = fill_with(
-        rt,
-        alloc,
-        cell,
-        producers.as_mut_slice(),
-        &mut one,
-        &mut other,
-    );
-    drop(producers);
-    drop(one);
-    drop(other);
-    totals
+    match cell.client() {
+        Ok(mut other) => fill_with(
+            rt,
+            alloc,
+            cell,
+            producers.as_mut_slice(),
+            &mut one,
+            &mut other,
+        ),
+        Err(_) => None,
+    }
 }
 
 #[test]
@@ -209,12 +207,14 @@ fn files_are_filled_in_turn_while_nodes_begin_again(rt: HostRuntime) -> Result<(
     cell.net(FAULTS);
     let totals = fill_in_turn(&rt, alloc, &mut cell);
     let journal = cell.close(&rt);
+    let first = journal.first();
+    drop(journal);
     let Some(Totals { answered, restarts }) = totals else {
         return Err(Fail::new("a record was not read back"));
     };
     // Most of the 320.
     assert!(rt; answered > 160);
     assert!(rt; restarts > 0);
-    assert!(rt; journal.first() > 0);
+    assert!(rt; first > 0);
     Ok(())
 }
