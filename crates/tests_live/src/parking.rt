@@ -108,13 +108,13 @@ fn a_cell_of_odd_clocks_is_closed(rt: HostRuntime) -> Result<(), Fail> {
 fn a_seat_that_is_kept_back_is_refused(rt: HostRuntime) -> Result<(), Fail> {
     let alloc = rt.alloc();
     let mut cell = Cell::start(rt, alloc, small(), 3, OpenGate)?;
-    let seat = cell.client()?;
     cell.net(Policy {
         drop_every: 1,
         ..Policy::NONE
     });
     let waiting = waiting_call(rt, alloc, &mut cell);
     thread::sleep(&rt, Duration::from_millis(300));
+    let seat = cell.client()?;
     let outcome = park_with(&rt, alloc, cell, seat);
     let is_refused = match waiting {
         Some(thread) => thread.join(&rt),
