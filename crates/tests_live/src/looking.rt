@@ -39,10 +39,9 @@ struct Shown {
 /// where a record stands.
 #[derive(Clone, Copy)]
 struct Told {
-    first: Shown,
-    second: Shown,
-    lines: usize,
-    appended: usize,
+    first: Option<Shown>,
+    second: Option<Shown>,
+    lines: Option<(usize, usize)>,
 }
 
 // Makes the file where there is none, opens it and appends a record so often.
@@ -155,26 +154,25 @@ fn told_twice<R: Threads + Wait + Clock + Copy + Send + 'static>(
     let cell = Cell::start(rt, alloc, small(), 3, OpenGate).ok()?;
     let parked = parked_behind(&rt, alloc, cell, true, (RECORD, RECORDS))?;
     let first = look_at(alloc, &parked);
-    let Ok((cell, _none)) = parked.resume(rt, OpenGate) else {
+    let Ok((cell, none)) = parked.resume(rt, OpenGate) else {
         return None;
     };
+    drop(none);
     let parked = parked_behind(&rt, alloc, cell, false, (RECORD, RECORDS))?;
-    let second = look_at(alloc, &parked);
-    let counts = line_counts(alloc, parked.journal());
-    drop(parked);
-    let (lines, appended) = counts?;
     Some(Told {
-        first: first?,
-        second: second?,
-        lines,
-        appended,
+        first,
+        second: look_at(alloc, &parked),
+        lines: line_counts(alloc, parked.journal()),
     })
 }
 
 #[test]
 fn records_are_determined(rt: HostRuntime) -> Result<(), Fail> {
-    let Some(Told { first, second, .. }) = told_twice(rt, rt.alloc()) else {
-        return Err(Fail::new("not parked, or nothing is shown"));
+    let Some(told) = told_twice(rt, rt.alloc()) else {
+        return Err(Fail::new("not parked"));
+    };
+    let (Some(first), Some(second)) = (told.first, told.second) else {
+        return Err(Fail::new("nothing is shown"));
     };
     assert!(rt; first.first == 64);
     assert!(rt; first.second == 16);
@@ -190,18 +188,21 @@ fn records_are_determined(rt: HostRuntime) -> Result<(), Fail> {
 #[test]
 fn calls_of_both_journals_are_written(rt: HostRuntime) -> Result<(), Fail> {
     let Some(told) = told_twice(rt, rt.alloc()) else {
-        return Err(Fail::new("not parked, or nothing is written"));
+        return Err(Fail::new("not parked"));
+    };
+    let Some((lines, appended)) = told.lines else {
+        return Err(Fail::new("nothing is written"));
     };
     // A create, and an open and the records of two clients, each with its answer.
-    assert_eq!(rt; told.lines, 2 * (1 + 2 * (1 + RECORDS)));
-    assert_eq!(rt; told.appended, 2 * RECORDS);
+    assert_eq!(rt; lines, 2 * (1 + 2 * (1 + RECORDS)));
+    assert_eq!(rt; appended, 2 * RECORDS);
     Ok(())
 }
 
 // Why neither the regions of a file's first chunk are told nor those of all its chunks.
 fn faults_of(alloc: Global, parked: &Parked) -> Option<(LookFault, LookFault)> {
     let looks = Looks::at(alloc, parked).ok()?;
-    let faults = match file_of(alloc, &looks) {
+    let (one, all) = match file_of(alloc, &looks) {
         Some(file) => (
             looks.regions(alloc, file, 0).err(),
             looks.all_regions(alloc, file).err(),
@@ -209,7 +210,7 @@ fn faults_of(alloc: Global, parked: &Parked) -> Option<(LookFault, LookFault)> {
         None => (None, None),
     };
     drop(looks);
-    Some((faults.0?, faults.1?))
+    Some((one?, all?))
 }
 
 // Why none are told of a cell of so many servers whose last entries stay, behind such records.

@@ -93,13 +93,12 @@ fn park_again<R: Threads + Wait + Clock>(rt: &R, fault: ParkFault) -> Option<Par
     }
 }
 
-// A new cell of so many servers that is parked with its first seat.
+// A new cell of one server that is parked with its first seat.
 fn new_parked<R: Threads + Wait + Clock + Copy + Send + 'static>(
     rt: R,
     alloc: Global,
-    servers: u16,
 ) -> Option<Parked> {
-    park(&rt, alloc, new_seated(rt, alloc, small(), servers)?)
+    park(&rt, alloc, new_seated(rt, alloc, small(), 1)?)
 }
 
 // A parked cell goes on with its seat.
@@ -202,7 +201,10 @@ fn answers<R: Threads + Wait + Clock + Copy + Send + 'static>(
 fn stays_parked<
     R: Threads + Wait + Clock + Copy + Send + 'static,
     S: Threads + Wait + Clock + Copy + Send + 'static,
->(one: R, other: S, alloc: Global, parked: Parked) -> bool {
+>(one: R, other: S, alloc: Global, parked: Option<Parked>) -> bool {
+    let Some(parked) = parked else {
+        return false;
+    };
     let Err((parked, fault)) = parked.resume(one, OpenGate) else {
         return false;
     };
@@ -216,11 +218,8 @@ fn a_clock_that_cannot_be_read_leaves_a_parked_cell(rt: HostRuntime) {
         rt,
         is_broken: true,
     };
-    let is_well = match new_parked(rt, rt.alloc(), 1) {
-        Some(parked) => stays_parked(broken, rt, rt.alloc(), parked),
-        None => false,
-    };
-    assert!(rt; is_well);
+    let parked = new_parked(rt, rt.alloc());
+    assert!(rt; stays_parked(broken, rt, rt.alloc(), parked));
 }
 
 // A new cell that is parked, goes on by another clock, takes a step and is parked again.
@@ -228,7 +227,7 @@ fn parked_by<
     R: Threads + Wait + Clock + Copy + Send + 'static,
     S: Threads + Wait + Clock + Copy + Send + 'static,
 >(rt: R, other: S, alloc: Global) -> Option<Parked> {
-    let mut seated = resume(other, new_parked(rt, alloc, 1)?)?;
+    let mut seated = resume(other, new_parked(rt, alloc)?)?;
     mkdir(&other, alloc, &mut seated.seat, "/a").ok()?;
     park(&other, alloc, seated)
 }
@@ -236,16 +235,12 @@ fn parked_by<
 // By the true clock, once the cell took a step by one that is ahead by an hour, and after that by the latter.
 #[test]
 fn a_clock_that_went_back_leaves_a_parked_cell(rt: HostRuntime) {
-    let alloc = rt.alloc();
     let ahead = OddClock {
         rt,
         is_broken: false,
     };
-    let is_well = match parked_by(rt, ahead, alloc) {
-        Some(parked) => stays_parked(rt, ahead, alloc, parked),
-        None => false,
-    };
-    assert!(rt; is_well);
+    let parked = parked_by(rt, ahead, rt.alloc());
+    assert!(rt; stays_parked(rt, ahead, rt.alloc(), parked));
 }
 
 fn is_restart(cause: &StepCause) -> bool {
