@@ -240,6 +240,6 @@ fn where_entries_were_let_go_no_regions_are_told(rt: HostRuntime) {
         attempt_ms: 2_000,
         ..small()
     };
-    let faults = faults_behind(rt, rt.alloc(), config, (1, 48), (b"a", 12));
+    let faults = faults_behind(rt, rt.alloc(), config, (1, 48), (b"a".as_slice(), 12));
     assert!(rt; faults == Some((LookFault::Partial, LookFault::Partial)));
 }
