@@ -18,14 +18,14 @@ use std::time::{Clock, Duration};
 fn full_calls<R: Wait + Clock>(rt: &R, alloc: Global, cell: &mut Cell) -> Option<u64> {
     let mut seat = cell.client().ok()?;
     let mut full: u64 = 0;
+    let mut are_in_turn = true;
     for _ in 0..100 {
         match mkdir(rt, alloc, &mut seat, "/d") {
             Err(Refusal::JournalFull) => full = full.wrapping_add(1),
-            _ if full > 0 => return None,
-            _ => {}
+            _ => are_in_turn &= full == 0,
         }
     }
-    Some(full)
+    if are_in_turn { Some(full) } else { None }
 }
 
 #[test]

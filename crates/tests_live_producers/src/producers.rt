@@ -166,11 +166,15 @@ pub fn count_kept<R: Wait + Clock>(
     producers: &[Producer],
 ) -> Option<usize> {
     let answered = count_answered(alloc, producers)?;
-    if are_read_back(rt, alloc, reader, producers) {
-        Some(answered)
-    } else {
-        None
+    let fd = open(rt, alloc, reader, "/log")?;
+    for producer in producers {
+        for stored in producer.stored.as_slice() {
+            if !is_read_back(rt, reader, fd, *stored) {
+                return None;
+            }
+        }
     }
+    Some(answered)
 }
 
 // How many records were answered; none where two have one offset, a call was refused for another reason than that nobody could serve, or memory is refused.
@@ -190,26 +194,6 @@ fn count_answered(alloc: Global, producers: &[Producer]) -> Option<usize> {
     } else {
         None
     }
-}
-
-// Whether each record that was answered is read back at its offset.
-fn are_read_back<R: Wait + Clock>(
-    rt: &R,
-    alloc: Global,
-    reader: &mut Seat,
-    producers: &[Producer],
-) -> bool {
-    let Some(fd) = open(rt, alloc, reader, "/log") else {
-        return false;
-    };
-    for producer in producers {
-        for stored in producer.stored.as_slice() {
-            if !is_read_back(rt, reader, fd, *stored) {
-                return false;
-            }
-        }
-    }
-    true
 }
 
 // A master that began again knows of no replica until servers report, so that a read may be refused at first.

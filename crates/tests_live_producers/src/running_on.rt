@@ -119,19 +119,20 @@ fn produce_meanwhile<R: Threads + Wait + Clock + Sync>(
     restarts
 }
 
-// The file is deleted, and there is a new one of its name.
-fn begin_next_file<R: Wait + Clock>(rt: &R, alloc: Global, seat: &mut Seat) -> bool {
+// The file is deleted, and there is a new one of its name, which what was answered doesn't concern.
+fn begin_next_file<R: Wait + Clock>(
+    rt: &R,
+    alloc: Global,
+    seat: &mut Seat,
+    producers: &mut [Producer],
+) -> bool {
+    for place in 0..producers.len() {
+        producers[place].stored.clear();
+    }
     let Ok(path) = Text::from_str("/log", alloc) else {
         return false;
     };
     seat.delete(rt, path).is_ok() && create(rt, alloc, seat, "/log")
-}
-
-// What was answered doesn't concern the next file.
-fn forget(producers: &mut [Producer]) {
-    for place in 0..producers.len() {
-        producers[place].stored.clear();
-    }
 }
 
 /// How many records were answered, and how many restarts there were.
@@ -161,8 +162,7 @@ fn fill_with<R: Threads + Wait + Clock + Sync>(
             return None;
         }
         answered = answered.wrapping_add(count);
-        forget(producers);
-        if !begin_next_file(rt, alloc, one) {
+        if !begin_next_file(rt, alloc, one, producers) {
             return None;
         }
     }
