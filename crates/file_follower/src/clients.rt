@@ -23,6 +23,13 @@ pub struct Counts {
 }
 
 impl Counts {
+    pub const NONE: Counts = Counts {
+        stretch: 0,
+        answered: 0,
+        followed: 0,
+        taken: 0,
+    };
+
     /// These counts, where none is missing, and most records of the stretch were taken while it followed.
     pub fn checked(self) -> Result<Counts, TrialFault> {
         let late = self.answered.saturating_sub(self.followed);

@@ -22,7 +22,7 @@ use std::sync::Wait;
 use std::thread::Threads;
 use std::time::Clock;
 
-const STRETCHES: u32 = 3;
+const STRETCHES: usize = 3;
 
 /// The clock bounds of the trials, in milliseconds: where clocks were not kept, there is one more, with the next of them.
 const CLOCK_BOUNDS: [u64; 3] = [1_000, 2_000, 3_000];
@@ -47,15 +47,6 @@ fn settings(skew_ms: u64) -> Config {
         log_bytes: 262_144,
         ..Config::default()
     }
-}
-
-fn start<R: Threads + Wait + Clock + Copy + Send + 'static>(
-    rt: R,
-    alloc: Global,
-    skew_ms: u64,
-) -> Result<Cell> {
-    let cell = Cell::start(rt, alloc, settings(skew_ms), 3, OpenGate)?;
-    Ok(cell)
 }
 
 fn make_file<R: Wait + Clock>(rt: &R, alloc: Global, seat: &mut Seat) -> Result<(), Refusal> {
@@ -91,7 +82,7 @@ fn count_taken<R: Wait + Clock>(
     counts.checked()
 }
 
-// A stretch with new seats, and behind it what of the records was taken.
+// A stretch with new seats, of which the first one makes the file, and behind it what of the records was taken.
 fn measure_stretch<R: Threads + Wait + Clock + Sync>(
     rt: &R,
     alloc: Global,
@@ -104,6 +95,9 @@ fn measure_stretch<R: Threads + Wait + Clock + Sync>(
         clients.producers.as_mut_slice(),
         &mut clients.follower,
     )?;
+    if stretch == 1 {
+        make_file(rt, alloc, &mut clients.follower.seat)?;
+    }
     cell.net(FAULTS);
     run_stretch(
         rt,
@@ -130,37 +124,35 @@ fn reopen<R: Threads + Wait + Clock + Copy + Send + 'static>(
     };
     match parked.resume(rt, OpenGate) {
         Ok((cell, _seats)) => Ok(cell),
-        Err((_, fault)) => Err(TrialFault::Failed(fault.into())),
+        Err((_, fault)) => Err(fault.into()),
     }
 }
 
-// Closes the cell of a trial that is given up.
-fn give_up<R: Threads + Wait + Clock>(rt: &R, cell: Cell, fault: TrialFault) -> TrialFault {
-    let _journal = cell.close(rt);
-    fault
-}
-
-// All stretches, with one cell.
+// All stretches, with one cell, which is closed then.
 fn run_stretches<R: Threads + Wait + Clock + Copy + Send + Sync + 'static>(
     rt: R,
     alloc: Global,
     cell: Cell,
     clients: &mut Clients,
-    found: &mut Vec<Counts>,
-) -> Result<Cell, TrialFault> {
+) -> Result<[Counts; STRETCHES], TrialFault> {
     let mut cell = cell;
-    for stretch in 1..=STRETCHES {
+    let mut found = [Counts::NONE; STRETCHES];
+    for place in 0..STRETCHES {
+        let stretch = (place as u32).wrapping_add(1);
         match measure_stretch(&rt, alloc, &mut cell, clients, stretch) {
-            Ok(counts) => {
-                if found.push(counts).is_err() {
-                    return Err(Refusal::NoMemory.into());
-                }
+            Ok(counts) => found[place] = counts,
+            Err(fault) => {
+                drop(cell.close(&rt));
+                return Err(fault);
             }
-            Err(fault) => return Err(give_up(&rt, cell, fault)),
         }
         cell = reopen(rt, alloc, cell)?;
     }
-    Ok(cell)
+    if cell.close(&rt).are_clocks_kept() {
+        Ok(found)
+    } else {
+        Err(TrialFault::ClockBroken)
+    }
 }
 
 // A trial, with this clock bound. What owns clients or a cell has few ways out: a drop at the end of a scope is proved anew at each place.
@@ -168,27 +160,17 @@ fn run_trial<R: Threads + Wait + Clock + Copy + Send + Sync + 'static>(
     rt: R,
     alloc: Global,
     skew_ms: u64,
-) -> Result<Vec<Counts>, TrialFault> {
-    let mut cell = start(rt, alloc, skew_ms)?;
+) -> Result<[Counts; STRETCHES], TrialFault> {
+    let mut cell = Cell::start(rt, alloc, settings(skew_ms), 3, OpenGate)?;
     let mut clients = Clients::new(alloc, &mut cell)?;
-    if let Err(refusal) = make_file(&rt, alloc, &mut clients.follower.seat) {
-        return Err(give_up(&rt, cell, refusal.into()));
-    }
-    let mut found = Vec::new(alloc);
-    let ended = run_stretches(rt, alloc, cell, &mut clients, &mut found);
-    drop(clients);
-    let cell = ended?;
-    if !cell.close(&rt).are_clocks_kept() {
-        return Err(TrialFault::ClockBroken);
-    }
-    Ok(found)
+    run_stretches(rt, alloc, cell, &mut clients)
 }
 
 fn main(rt: HostRuntime) -> Result<()> {
     for skew_ms in CLOCK_BOUNDS {
         match run_trial(rt, rt.alloc(), skew_ms) {
             Ok(found) => {
-                for counts in found.as_slice() {
+                for counts in found {
                     println!(rt; "{counts}")?;
                 }
                 return Ok(());

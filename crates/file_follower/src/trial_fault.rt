@@ -1,7 +1,7 @@
 //! Why a trial was given up.
 
 use anyhow::Error;
-use cell_run::Refusal;
+use cell_run::{Refusal, StartFault};
 
 /// Why a trial was given up.
 #[derive(Drop)]
@@ -17,6 +17,12 @@ impl From<Refusal> for TrialFault {
             Refusal::ClockBroken => TrialFault::ClockBroken,
             _ => TrialFault::Failed(refusal.into()),
         }
+    }
+}
+
+impl From<StartFault> for TrialFault {
+    fn from(fault: StartFault) -> TrialFault {
+        TrialFault::Failed(fault.into())
     }
 }
 

@@ -1,23 +1,14 @@
 //! Each call of a client, by its seat's own method.
 
-use crate::cells::small;
+use crate::cells::{small, text};
 use bytes::Bytes;
 use cell_run::cell::{Cell, Seat};
-use cell_run::laws::meet;
 use cell_seats::gate::OpenGate;
-use gfs_types::lists::Text;
 use gfs_types::refusal::Refusal;
 use std::alloc::Global;
 use std::sync::Wait;
 use std::test::*;
 use std::time::Clock;
-
-fn text(alloc: Global, path: &str) -> Result<Text, Refusal> {
-    match Text::from_str(path, alloc) {
-        Ok(path) => Ok(path),
-        Err(_) => Err(Refusal::NoMemory),
-    }
-}
 
 // A file in a directory is written, measured and closed.
 fn write_file<R: Wait + Clock>(rt: &R, alloc: Global, seat: &mut Seat) -> Result<u64, Refusal> {
@@ -45,11 +36,8 @@ fn each_call_has_its_method(rt: HostRuntime) -> Result<(), Fail> {
     let alloc = rt.alloc();
     let mut cell = Cell::start(rt, alloc, small(), 3, OpenGate)?;
     let mut seat = cell.client()?;
-    let other = cell.client()?;
-    meet(&seat, &other);
     let written = write_file(&rt, alloc, &mut seat);
     let names = move_file(&rt, alloc, &mut seat);
-    drop(other);
     drop(cell.close(&rt));
     assert!(rt; written == Ok(8));
     // The copy, and `/.gone`.

@@ -63,6 +63,14 @@ impl<R: Clock> Clock for OddClock<R> {
     }
 }
 
+/// A path as calls take it.
+pub fn text(alloc: Global, path: &str) -> Result<Text, Refusal> {
+    match Text::from_str(path, alloc) {
+        Ok(path) => Ok(path),
+        Err(_) => Err(Refusal::NoMemory),
+    }
+}
+
 /// Makes a directory.
 pub fn mkdir<R: Wait + Clock>(
     rt: &R,
@@ -72,14 +80,11 @@ pub fn mkdir<R: Wait + Clock>(
 ) -> Result<(), Refusal>
     ensures { seat.new.cell ≡ seat.old.cell }
 {
-    match Text::from_str(name, alloc) {
-        Ok(path) => match seat.call(rt, Call::Mkdir(path)) {
-            Ok(Answer::Done) => Ok(()),
-            Ok(Answer::Refused(refusal)) => Err(refusal),
-            Ok(_) => Err(Refusal::Unknown),
-            Err(refusal) => Err(refusal),
-        },
-        Err(_) => Err(Refusal::NoMemory),
+    match seat.call(rt, Call::Mkdir(text(alloc, name)?)) {
+        Ok(Answer::Done) => Ok(()),
+        Ok(Answer::Refused(refusal)) => Err(refusal),
+        Ok(_) => Err(Refusal::Unknown),
+        Err(refusal) => Err(refusal),
     }
 }
 

@@ -1,15 +1,16 @@
 //! What a parked cell tells of bytes.
 
-use crate::cells::{hasty, small};
+use crate::cells::{hasty, small, text};
 use bytes::Bytes;
 use cell_looks::{LookFault, Looks, print_history, regions_of_chunk};
 use cell_run::cell::{Cell, Seat};
 use cell_run::{Parked, Retention};
 use cell_seats::gate::OpenGate;
 use cell_seats::journal::Journal;
+use gfs_types::config::Config;
 use gfs_types::ids::{FileId, Handle};
-use gfs_types::lists::Text;
 use gfs_types::path::Path;
+use gfs_types::refusal::Refusal;
 use relaxed_file::region::Region;
 use std::alloc::Global;
 use std::str;
@@ -18,7 +19,9 @@ use std::test::*;
 use std::thread::Threads;
 use std::time::Clock;
 
-/// How many records of eight bytes a client appends, of which eight fill a chunk.
+/// What a client appends before its cell is parked: a record of eight bytes, of which eight fill a chunk, so often.
+const RECORD: &[u8] = b"a record";
+
 const RECORDS: usize = 10;
 
 /// Up to where the first chunk and the second one are determined, the first one also by its handle and the journal alone, and how many replicas of it are
@@ -31,33 +34,48 @@ struct Shown {
     replicas: usize,
 }
 
-fn append_records<R: Wait + Clock>(rt: &R, alloc: Global, seat: &mut Seat) -> Option<()> {
-    let path = Text::from_str("/log", alloc).ok()?;
-    let fd = seat.open(rt, path).ok()?;
-    for _ in 0..RECORDS {
-        seat.append(rt, fd, Bytes::from_static(b"a record")).ok()?;
+/// What is shown of a cell when it is parked first, and when it is parked again, and how many lines its history has then, and how many of these tell
+/// where a record stands.
+#[derive(Clone, Copy)]
+struct Told {
+    first: Option<Shown>,
+    second: Option<Shown>,
+    lines: Option<(usize, usize)>,
+}
+
+// Makes the file where there is none, opens it and appends a record so often.
+fn append_records<R: Wait + Clock>(
+    rt: &R,
+    alloc: Global,
+    seat: &mut Seat,
+    is_new: bool,
+    (record, count): (&'static [u8], usize),
+) -> Result<(), Refusal> {
+    if is_new {
+        seat.create(rt, text(alloc, "/f")?, None)?;
     }
-    Some(())
+    let fd = seat.open(rt, text(alloc, "/f")?)?;
+    for _ in 0..count {
+        seat.append(rt, fd, Bytes::from_static(record))?;
+    }
+    Ok(())
 }
 
-// A new client of the cell appends its records. What owns a seat, a cell or looks has few ways out: a drop at the end of a scope is proved anew at each
+// A cell that is parked behind a new client's records. What owns a seat, a cell or looks has few ways out: a drop at the end of a scope is proved anew at each
 // place.
-fn append_all<R: Wait + Clock>(rt: &R, alloc: Global, cell: &mut Cell) -> Option<()> {
-    let Ok(mut seat) = cell.client() else {
-        return None;
-    };
-    let done = append_records(rt, alloc, &mut seat);
+#[tactic(auto, using(crate::proofs::Parkings::none_named))]
+fn parked_behind<R: Threads + Wait + Clock>(
+    rt: &R,
+    alloc: Global,
+    mut cell: Cell,
+    is_new: bool,
+    records: (&'static [u8], usize),
+) -> Option<Parked> {
+    let mut seat = cell.client().ok()?;
+    let outcome = append_records(rt, alloc, &mut seat, is_new, records);
     drop(seat);
-    done
-}
-
-// Makes the file.
-fn create<R: Wait + Clock>(rt: &R, alloc: Global, cell: &mut Cell) -> Option<()> {
-    let Ok(mut seat) = cell.client() else {
-        return None;
-    };
-    let path = Text::from_str("/log", alloc).ok()?;
-    seat.create(rt, path, None).ok()
+    outcome.ok()?;
+    cell.park(rt, Vec::new(alloc)).ok()
 }
 
 // The end of a region at a chunk's beginning whose bytes are all determined.
@@ -84,7 +102,7 @@ fn determined_to(alloc: Global, looks: &Looks<'_>, file: FileId, index: u64) -> 
 }
 
 fn file_of(alloc: Global, looks: &Looks<'_>) -> Option<FileId> {
-    let path = Path::parse(alloc, "/log").ok()?;
+    let path = Path::parse(alloc, "/f").ok()?;
     looks.file(&path)
 }
 
@@ -118,47 +136,41 @@ fn look_at(alloc: Global, parked: &Parked) -> Option<Shown> {
     shown
 }
 
-#[tactic(auto, using(crate::proofs::Parkings::none_named))]
-fn park<R: Threads + Wait + Clock>(rt: &R, alloc: Global, cell: Cell) -> Option<Parked> {
-    cell.park(rt, Vec::new(alloc)).ok()
+// How many lines the calls and answers of a history take, and how many of these tell where a record stands.
+fn line_counts(alloc: Global, journal: &Journal) -> Option<(usize, usize)> {
+    let mut out = Vec::new(alloc);
+    print_history(alloc, journal, &mut out).ok()?;
+    let text = str::from_utf8(out.as_slice()).ok()?;
+    let appended = text.lines().filter(|line| line.contains(" -> at "));
+    Some((text.lines().count(), appended.count()))
 }
 
-// A cell that is parked behind a client's records.
-fn parked_behind_records<R: Threads + Wait + Clock>(
-    rt: &R,
-    alloc: Global,
-    cell: Cell,
-) -> Option<Parked> {
-    let mut cell = cell;
-    append_all(rt, alloc, &mut cell)?;
-    park(rt, alloc, cell)
-}
-
-// A cell that was parked twice, each time behind a client's records, and what was shown when it was parked first.
-fn parked_twice<R: Threads + Wait + Clock + Copy + Send + 'static>(
+// What is told of a cell that is parked twice, each time behind a client's records.
+fn told_twice<R: Threads + Wait + Clock + Copy + Send + 'static>(
     rt: R,
     alloc: Global,
-    cell: Cell,
-) -> Option<(Shown, Parked)> {
-    let mut cell = cell;
-    create(&rt, alloc, &mut cell)?;
-    let parked = parked_behind_records(&rt, alloc, cell)?;
-    let shown = look_at(alloc, &parked);
-    let Ok((cell, _none)) = parked.resume(rt, OpenGate) else {
+) -> Option<Told> {
+    let cell = Cell::start(rt, alloc, small(), 3, OpenGate).ok()?;
+    let parked = parked_behind(&rt, alloc, cell, true, (RECORD, RECORDS))?;
+    let first = look_at(alloc, &parked);
+    let Ok((cell, none)) = parked.resume(rt, OpenGate) else {
         return None;
     };
-    let parked = parked_behind_records(&rt, alloc, cell)?;
-    Some((shown?, parked))
+    drop(none);
+    let parked = parked_behind(&rt, alloc, cell, false, (RECORD, RECORDS))?;
+    Some(Told {
+        first,
+        second: look_at(alloc, &parked),
+        lines: line_counts(alloc, parked.journal()),
+    })
 }
 
 #[test]
 fn records_are_determined(rt: HostRuntime) -> Result<(), Fail> {
-    let alloc = rt.alloc();
-    let cell = Cell::start(rt, alloc, small(), 3, OpenGate)?;
-    let Some((first, parked)) = parked_twice(rt, alloc, cell) else {
+    let Some(told) = told_twice(rt, rt.alloc()) else {
         return Err(Fail::new("not parked"));
     };
-    let Some(second) = look_at(alloc, &parked) else {
+    let (Some(first), Some(second)) = (told.first, told.second) else {
         return Err(Fail::new("nothing is shown"));
     };
     assert!(rt; first.first == 64);
@@ -174,43 +186,59 @@ fn records_are_determined(rt: HostRuntime) -> Result<(), Fail> {
 
 #[test]
 fn calls_of_both_journals_are_written(rt: HostRuntime) -> Result<(), Fail> {
-    let alloc = rt.alloc();
-    let cell = Cell::start(rt, alloc, small(), 3, OpenGate)?;
-    let Some((_, parked)) = parked_twice(rt, alloc, cell) else {
+    let Some(told) = told_twice(rt, rt.alloc()) else {
         return Err(Fail::new("not parked"));
     };
-    let mut out = Vec::new(alloc);
-    assert!(rt; print_history(alloc, parked.journal(), &mut out).is_ok());
-    let text = str::from_utf8(out.as_slice())?;
+    let Some((lines, appended)) = told.lines else {
+        return Err(Fail::new("nothing is written"));
+    };
     // A create, and an open and the records of two clients, each with its answer.
-    assert_eq!(rt; text.lines().count(), 2 * (1 + 2 * (1 + RECORDS)));
-    let appended = text.lines().filter(|line| line.contains(" -> at "));
-    assert_eq!(rt; appended.count(), 2 * RECORDS);
+    assert_eq!(rt; lines, 2 * (1 + 2 * (1 + RECORDS)));
+    assert_eq!(rt; appended, 2 * RECORDS);
     Ok(())
 }
 
-// Why the regions of a file that was let go in part are not told.
-fn fault_of(alloc: Global, parked: &Parked) -> Option<LookFault> {
+// Why neither the regions of a file's first chunk are told nor those of all its chunks.
+fn faults_of(alloc: Global, parked: &Parked) -> Option<(LookFault, LookFault)> {
     let looks = Looks::at(alloc, parked).ok()?;
-    let fault = match file_of(alloc, &looks) {
-        Some(file) => looks.regions(alloc, file, 0).err(),
-        None => None,
+    let (one, all) = match file_of(alloc, &looks) {
+        Some(file) => (
+            looks.regions(alloc, file, 0).err(),
+            looks.all_regions(alloc, file).err(),
+        ),
+        None => (None, None),
     };
     drop(looks);
-    fault
+    Some((one?, all?))
+}
+
+// Why none are told of a cell of so many servers whose last entries stay, behind such records.
+fn faults_behind<R: Threads + Wait + Clock + Copy + Send + 'static>(
+    rt: R,
+    alloc: Global,
+    config: Config,
+    (servers, kept): (u16, u32),
+    records: (&'static [u8], usize),
+) -> Option<(LookFault, LookFault)> {
+    let retention = Retention::Last(kept);
+    let cell = Cell::start_retaining(rt, alloc, config, servers, retention, OpenGate).ok()?;
+    let parked = parked_behind(&rt, alloc, cell, true, records)?;
+    faults_of(alloc, &parked)
 }
 
 #[test]
-fn a_part_of_a_history_tells_no_regions(rt: HostRuntime) -> Result<(), Fail> {
-    let alloc = rt.alloc();
-    let retention = Retention::Last(40);
-    let mut cell = Cell::start_retaining(rt, alloc, hasty(), 3, retention, OpenGate)?;
-    if create(&rt, alloc, &mut cell).is_none() {
-        return Err(Fail::new("no file"));
-    }
-    let Some(parked) = parked_behind_records(&rt, alloc, cell) else {
-        return Err(Fail::new("no records, or not parked"));
+fn a_part_of_a_history_tells_no_regions(rt: HostRuntime) {
+    let faults = faults_behind(rt, rt.alloc(), hasty(), (3, 40), (RECORD, RECORDS));
+    assert!(rt; faults == Some((LookFault::Partial, LookFault::Partial)));
+}
+
+#[test]
+fn where_entries_were_let_go_no_regions_are_told(rt: HostRuntime) {
+    let config = Config {
+        goal: 1,
+        attempt_ms: 2_000,
+        ..small()
     };
-    assert!(rt; fault_of(alloc, &parked) == Some(LookFault::Partial));
-    Ok(())
+    let faults = faults_behind(rt, rt.alloc(), config, (1, 48), (b"a".as_slice(), 12));
+    assert!(rt; faults == Some((LookFault::Partial, LookFault::Partial)));
 }

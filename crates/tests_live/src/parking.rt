@@ -17,7 +17,7 @@ use std::time::{Clock, Duration};
 const NAMES: [&str; 5] = ["/a", "/b", "/c", "/d", "/e"];
 
 /// What came of parking a cell.
-#[derive(Clone, Copy, PartialEq, Eq)]
+#[derive(Clone, Copy)]
 enum Outcome {
     /// With so many steps in its journal.
     Parked(usize),
@@ -40,7 +40,7 @@ fn mkdir_all<R: Wait + Clock>(rt: &R, alloc: Global, seat: &mut Seat) -> u64
     made
 }
 
-// Parks a cell with one of its seats.
+// Parks a cell with one of its seats. Where memory is refused a call is made on the cell that came back.
 #[tactic(auto, using(crate::proofs::Parkings::one_named))]
 fn park_with<R: Threads + Wait + Clock>(rt: &R, alloc: Global, cell: Cell, seat: Seat) -> Outcome
     requires { seat.cell ≡ cell.of }
@@ -52,112 +52,75 @@ fn park_with<R: Threads + Wait + Clock>(rt: &R, alloc: Global, cell: Cell, seat:
     }
     match cell.park(rt, seats) {
         Ok(parked) => Outcome::Parked(parked.journal().len()),
-        Err(ParkFault::NoMemory(cell, seats)) => called_again(rt, alloc, cell, seats),
+        Err(ParkFault::NoMemory(cell, mut seats)) => {
+            let called = match seats.pop() {
+                Some(mut seat) => mkdir(rt, alloc, &mut seat, "/again").is_ok(),
+                None => false,
+            };
+            drop(cell.close(rt));
+            Outcome::RunsOn(called)
+        }
         Err(ParkFault::Clock(journal, seats)) => Outcome::Closed(journal.len(), seats.len()),
     }
-}
-
-// What comes of a call on a cell that was not parked.
-fn called_again<R: Threads + Wait + Clock>(
-    rt: &R,
-    alloc: Global,
-    cell: Cell,
-    mut seats: Vec<Seat>,
-) -> Outcome {
-    let called = match seats.pop() {
-        Some(mut seat) => mkdir(rt, alloc, &mut seat, "/again").is_ok(),
-        None => false,
-    };
-    drop(cell.close(rt));
-    Outcome::RunsOn(called)
-}
-
-// What comes of parking a new cell with a client that made directories, and how much that client had seen.
-fn park_after_calls<R: Threads + Wait + Clock>(
-    rt: &R,
-    alloc: Global,
-    mut cell: Cell,
-) -> Option<(u64, Outcome)> {
-    let Ok(mut seat) = cell.client() else {
-        drop(cell.close(rt));
-        return None;
-    };
-    mkdir_all(rt, alloc, &mut seat);
-    let seen = seat.seen();
-    Some((seen, park_with(rt, alloc, cell, seat)))
 }
 
 // With an allocation refused the cell may run on, and answers as before.
 #[test]
 fn a_parked_cell_has_its_journal(rt: HostRuntime) -> Result<(), Fail> {
     let alloc = rt.alloc();
-    let cell = Cell::start(rt, alloc, small(), 3, OpenGate)?;
-    let is_well = match park_after_calls(&rt, alloc, cell) {
-        Some((seen, Outcome::Parked(count))) => seen > 0 && seen <= count as u64,
-        Some((_, outcome)) => outcome == Outcome::RunsOn(true),
-        None => false,
+    let mut cell = Cell::start(rt, alloc, small(), 3, OpenGate)?;
+    let mut seat = cell.client()?;
+    mkdir_all(&rt, alloc, &mut seat);
+    let seen = seat.seen();
+    let is_well = match park_with(&rt, alloc, cell, seat) {
+        Outcome::Parked(count) => seen > 0 && seen <= count as u64,
+        Outcome::RunsOn(called) => called,
+        Outcome::Closed(_, _) => false,
     };
     assert!(rt; is_well);
     Ok(())
 }
 
-// Parks a cell of whose clients one called by a clock that is ahead by an hour.
-fn park_by_odd_clock<R: Threads + Wait + Clock + Copy>(
-    rt: &R,
-    alloc: Global,
-    mut cell: Cell,
-) -> Option<Outcome> {
-    let (Ok(mut seat), Ok(mut odd)) = (cell.client(), cell.client()) else {
-        drop(cell.close(rt));
-        return None;
-    };
-    let clock = OddClock {
-        rt: *rt,
-        is_broken: false,
-    };
-    let _refused = mkdir(&clock, alloc, &mut odd, "/a");
-    let _refused = mkdir(rt, alloc, &mut seat, "/b");
-    Some(park_with(rt, alloc, cell, seat))
-}
-
+// Of whose clients one called by a clock that is ahead by an hour.
 #[test]
 fn a_cell_of_odd_clocks_is_closed(rt: HostRuntime) -> Result<(), Fail> {
     let alloc = rt.alloc();
-    let cell = Cell::start(rt, alloc, small(), 1, OpenGate)?;
-    let is_closed = match park_by_odd_clock(&rt, alloc, cell) {
-        Some(Outcome::Closed(count, seats)) => count > 0 && seats == 1,
+    let mut cell = Cell::start(rt, alloc, small(), 1, OpenGate)?;
+    let (Ok(mut seat), Ok(mut odd)) = (cell.client(), cell.client()) else {
+        return Err(Fail::new("no client"));
+    };
+    let clock = OddClock {
+        rt,
+        is_broken: false,
+    };
+    let _refused = mkdir(&clock, alloc, &mut odd, "/a");
+    let _refused = mkdir(&rt, alloc, &mut seat, "/b");
+    let is_closed = match park_with(&rt, alloc, cell, seat) {
+        Outcome::Closed(count, seats) => count > 0 && seats == 1,
         _ => false,
     };
     assert!(rt; is_closed);
     Ok(())
 }
 
-// Parks a cell while a client whose seat is not handed in waits for an answer. Tells whether that was refused.
-fn park_beside_a_call<R: Threads + Wait + Clock + Copy + Send + 'static>(
-    rt: R,
-    alloc: Global,
-    mut cell: Cell,
-) -> Option<(bool, Outcome)> {
+// It is parked while a client whose seat is not handed in waits for an answer, since all messages are lost.
+#[test]
+fn a_seat_that_is_kept_back_is_refused(rt: HostRuntime) -> Result<(), Fail> {
+    let alloc = rt.alloc();
+    let mut cell = Cell::start(rt, alloc, small(), 3, OpenGate)?;
     cell.net(Policy {
         drop_every: 1,
         ..Policy::NONE
     });
     let waiting = waiting_call(rt, alloc, &mut cell);
     thread::sleep(&rt, Duration::from_millis(300));
-    let seat = cell.client().ok()?;
+    let seat = cell.client()?;
     let outcome = park_with(&rt, alloc, cell, seat);
-    let is_refused = waiting?.join(&rt);
-    Some((is_refused, outcome))
-}
-
-#[test]
-fn a_seat_that_is_kept_back_is_refused(rt: HostRuntime) -> Result<(), Fail> {
-    let alloc = rt.alloc();
-    let cell = Cell::start(rt, alloc, small(), 3, OpenGate)?;
-    let is_well = match park_beside_a_call(rt, alloc, cell) {
-        Some((is_refused, Outcome::Parked(_))) => is_refused,
-        _ => false,
+    let is_refused = match waiting {
+        Some(thread) => thread.join(&rt),
+        None => false,
     };
-    assert!(rt; is_well);
+    assert!(rt; is_refused);
+    assert!(rt; matches!(outcome, Outcome::Parked(_)));
     Ok(())
 }

@@ -1,12 +1,12 @@
 //! What a running cell itself refuses.
 
-use crate::cells::{OddClock, hasty, mkdir, small, waiting_call};
+use crate::cells::{OddClock, hasty, mkdir, small, text, waiting_call};
 use bytes::Bytes;
 use cell_run::cell::{Cell, Seat};
+use cell_run::laws::meet;
 use cell_seats::gate::OpenGate;
 use cell_seats::mailboxes::Policy;
 use gfs_types::config::Config;
-use gfs_types::lists::Text;
 use gfs_types::refusal::Refusal;
 use std::alloc::Global;
 use std::sync::Wait;
@@ -18,14 +18,14 @@ use std::time::{Clock, Duration};
 fn full_calls<R: Wait + Clock>(rt: &R, alloc: Global, cell: &mut Cell) -> Option<u64> {
     let mut seat = cell.client().ok()?;
     let mut full: u64 = 0;
+    let mut are_in_turn = true;
     for _ in 0..100 {
         match mkdir(rt, alloc, &mut seat, "/d") {
             Err(Refusal::JournalFull) => full = full.wrapping_add(1),
-            _ if full > 0 => return None,
-            _ => {}
+            _ => are_in_turn &= full == 0,
         }
     }
-    Some(full)
+    if are_in_turn { Some(full) } else { None }
 }
 
 #[test]
@@ -59,6 +59,7 @@ fn are_refused<R: Wait + Clock + Copy>(
     let Ok(mut other) = cell.client() else {
         return false;
     };
+    meet(&odd, &other);
     let clock = OddClock { rt: *rt, is_broken };
     let before = mkdir(rt, alloc, &mut other, "/d");
     let first = mkdir(&clock, alloc, &mut odd, "/e");
@@ -128,14 +129,8 @@ fn append_to_new<R: Wait + Clock>(
     seat: &mut Seat,
     name: &str,
 ) -> Result<u64, Refusal> {
-    let Ok(path) = Text::from_str(name, alloc) else {
-        return Err(Refusal::NoMemory);
-    };
-    let Ok(again) = Text::from_str(name, alloc) else {
-        return Err(Refusal::NoMemory);
-    };
-    seat.create(rt, path, None)?;
-    let fd = seat.open(rt, again)?;
+    seat.create(rt, text(alloc, name)?, None)?;
+    let fd = seat.open(rt, text(alloc, name)?)?;
     seat.append(rt, fd, Bytes::from_static(b"a record"))
 }
 

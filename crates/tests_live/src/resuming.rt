@@ -3,7 +3,7 @@
 ghost use Rattle.std.specs.Prelude.{◌≡◌, ◌∷◌, [], All, IfSome};
 ghost use Rattle.tests_live.specs.ParkFaults.{KeepsName};
 
-use crate::cells::{OddClock, mkdir, small};
+use crate::cells::{OddClock, mkdir, small, text};
 use cell_journal::closed_history::ClosedHistory;
 use cell_journal::journal_entry::StepCause;
 use cell_run::ParkFault;
@@ -12,7 +12,6 @@ use cell_run::parked::Parked;
 use cell_seats::gate::OpenGate;
 use gfs_types::config::Config;
 use gfs_types::ids::{Node, ServerId};
-use gfs_types::lists::Text;
 use gfs_types::refusal::Refusal;
 use std::alloc::Global;
 use std::sync::Wait;
@@ -40,11 +39,16 @@ struct Seated {
     ghost of: { seat.cell.name ≡ cell.of.name },
 }
 
-// A new cell's first seat.
-fn new_seated<R: Threads + Wait + Clock>(rt: &R, cell: Cell) -> Option<Seated> {
-    let mut cell = cell;
+// A new cell of so many servers, with its first seat.
+fn new_seated<R: Threads + Wait + Clock + Copy + Send + 'static>(
+    rt: R,
+    alloc: Global,
+    config: Config,
+    servers: u16,
+) -> Option<Seated> {
+    let mut cell = Cell::start(rt, alloc, config, servers, OpenGate).ok()?;
     let Ok(seat) = cell.client() else {
-        drop(cell.close(rt));
+        drop(cell.close(&rt));
         return None;
     };
     let seated = Seated { cell, seat };
@@ -89,14 +93,22 @@ fn park_again<R: Threads + Wait + Clock>(rt: &R, fault: ParkFault) -> Option<Par
     }
 }
 
+// A new cell of one server that is parked with its first seat.
+fn new_parked<R: Threads + Wait + Clock + Copy + Send + 'static>(
+    rt: R,
+    alloc: Global,
+) -> Option<Parked> {
+    park(&rt, alloc, new_seated(rt, alloc, small(), 1)?)
+}
+
 // A parked cell goes on with its seat.
 fn resume<R: Threads + Wait + Clock + Copy + Send + 'static>(
     rt: R,
     parked: Parked,
-) -> Result<Seated, StartFault> {
+) -> Option<Seated> {
     match parked.resume(rt, OpenGate) {
-        Ok((cell, seats)) => first_seated(cell, seats).ok_or(StartFault::Count),
-        Err((_, fault)) => Err(fault),
+        Ok((cell, seats)) => first_seated(cell, seats),
+        Err(_) => None,
     }
 }
 
@@ -112,6 +124,15 @@ fn first_seated(cell: Cell, seats: Vec<Seat>) -> Option<Seated>
     Some(seated)
 }
 
+// The cell is parked with its seat, and goes on.
+fn go_on<R: Threads + Wait + Clock + Copy + Send + 'static>(
+    rt: R,
+    alloc: Global,
+    seated: Seated,
+) -> Option<Seated> {
+    resume(rt, park(&rt, alloc, seated)?)
+}
+
 // Makes the directory, by a client of a new number where the journal was full, and tells whether it is there.
 fn made<R: Threads + Wait + Clock + Copy + Send + 'static>(
     rt: R,
@@ -121,124 +142,105 @@ fn made<R: Threads + Wait + Clock + Copy + Send + 'static>(
 ) -> Option<Seated> {
     let mut seated = seated;
     if seated.cell.room() < LEAST_ROOM {
-        seated = resume(rt, park(&rt, alloc, seated)?).ok()?;
+        seated = go_on(rt, alloc, seated)?;
     }
-    match mkdir(&rt, alloc, &mut seated.seat, name) {
-        Ok(()) => return Some(seated),
-        Err(Refusal::JournalFull) => {}
-        Err(_) => return None,
+    let mut outcome = mkdir(&rt, alloc, &mut seated.seat, name);
+    if outcome == Err(Refusal::JournalFull) {
+        seated = go_on(rt, alloc, seated)?;
+        outcome = match mkdir(&rt, alloc, &mut seated.seat, name) {
+            Err(Refusal::Exists) => Ok(()),
+            again => again,
+        };
     }
-    seated = resume(rt, park(&rt, alloc, seated)?).ok()?;
-    match mkdir(&rt, alloc, &mut seated.seat, name) {
-        Ok(()) | Err(Refusal::Exists) => Some(seated),
-        Err(_) => None,
-    }
+    if outcome.is_ok() { Some(seated) } else { None }
 }
 
-// How many directories are there after all were made, and whether the journal stands behind another.
+// How many names `/` has after all directories were made, if that is told, and whether the journal stands behind another.
 fn make_all<R: Threads + Wait + Clock + Copy + Send + 'static>(
     rt: R,
     alloc: Global,
-    seated: Seated,
-) -> Option<(usize, bool)> {
-    let mut seated = seated;
+    config: Config,
+) -> Option<(Option<usize>, bool)> {
+    let root = text(alloc, "/").ok()?;
+    let mut seated = new_seated(rt, alloc, config, 3)?;
     for name in NAMES {
         seated = made(rt, alloc, seated, name)?;
     }
     let Seated { cell, mut seat } = seated;
-    let root = Text::from_str("/", alloc).ok()?;
     let listed = seat.list(&rt, root).ok().map(|names| names.len());
     let journal = cell.close(&rt);
-    Some((listed?, journal.base().is_some()))
+    Some((listed, journal.base().is_some()))
 }
 
 #[test]
-fn a_full_journal_is_gone_past(rt: HostRuntime) -> Result<(), Fail> {
-    let alloc = rt.alloc();
+fn a_full_journal_is_gone_past(rt: HostRuntime) {
     let config = Config {
         journal: 64,
         ..small()
     };
-    let cell = Cell::start(rt, alloc, config, 3, OpenGate)?;
-    let Some(seated) = new_seated(&rt, cell) else {
-        return Err(Fail::new("no client"));
-    };
-    let made = make_all(rt, alloc, seated);
     // Beside the ten stands `/.gone`.
-    assert!(rt; made == Some((11, true)));
-    Ok(())
+    assert!(rt; make_all(rt, rt.alloc(), config) == Some((Some(11), true)));
 }
 
-// What comes of going on by a clock that can't be read, and after that by the true one.
-fn resume_by_odd_clock<R: Threads + Wait + Clock + Copy + Send + 'static>(
+// Whether a parked cell goes on, and answers.
+fn answers<R: Threads + Wait + Clock + Copy + Send + 'static>(
     rt: R,
+    alloc: Global,
     parked: Parked,
-) -> Option<bool> {
+) -> bool {
+    let Some(seated) = resume(rt, parked) else {
+        return false;
+    };
+    let Seated { cell, mut seat } = seated;
+    let is_made = mkdir(&rt, alloc, &mut seat, "/last").is_ok();
+    drop(cell.close(&rt));
+    is_made
+}
+
+// Whether a parked cell doesn't go on by one clock, since it isn't kept, and then does by the other, and answers.
+fn stays_parked<
+    R: Threads + Wait + Clock + Copy + Send + 'static,
+    S: Threads + Wait + Clock + Copy + Send + 'static,
+>(one: R, other: S, alloc: Global, parked: Option<Parked>) -> bool {
+    let Some(parked) = parked else {
+        return false;
+    };
+    let Err((parked, fault)) = parked.resume(one, OpenGate) else {
+        return false;
+    };
+    let is_answered = answers(other, alloc, parked);
+    is_answered && fault == StartFault::Clock
+}
+
+#[test]
+fn a_clock_that_cannot_be_read_leaves_a_parked_cell(rt: HostRuntime) {
     let broken = OddClock {
         rt,
         is_broken: true,
     };
-    let Err((parked, fault)) = parked.resume(broken, OpenGate) else {
-        return None;
-    };
-    let seated = resume(rt, parked).ok()?;
-    let Seated { cell, seat } = seated;
-    drop(seat);
-    drop(cell.close(&rt));
-    Some(fault == StartFault::Clock)
+    let parked = new_parked(rt, rt.alloc());
+    assert!(rt; stays_parked(broken, rt, rt.alloc(), parked));
 }
 
+// A new cell that is parked, goes on by another clock, takes a step and is parked again.
+fn parked_by<
+    R: Threads + Wait + Clock + Copy + Send + 'static,
+    S: Threads + Wait + Clock + Copy + Send + 'static,
+>(rt: R, other: S, alloc: Global) -> Option<Parked> {
+    let mut seated = resume(other, new_parked(rt, alloc)?)?;
+    mkdir(&other, alloc, &mut seated.seat, "/a").ok()?;
+    park(&other, alloc, seated)
+}
+
+// By the true clock, once the cell took a step by one that is ahead by an hour, and after that by the latter.
 #[test]
-fn a_clock_that_cannot_be_read_leaves_a_parked_cell(rt: HostRuntime) -> Result<(), Fail> {
-    let alloc = rt.alloc();
-    let cell = Cell::start(rt, alloc, small(), 1, OpenGate)?;
-    let Some(seated) = new_seated(&rt, cell) else {
-        return Err(Fail::new("no client"));
-    };
-    let outcome = match park(&rt, alloc, seated) {
-        Some(parked) => resume_by_odd_clock(rt, parked),
-        None => None,
-    };
-    assert!(rt; outcome == Some(true));
-    Ok(())
-}
-
-// What comes of going on by the true clock, once the cell took a step by one that is ahead by an hour, and after that by the latter.
-fn resume_by_earlier_clock<R: Threads + Wait + Clock + Copy + Send + 'static>(
-    rt: R,
-    alloc: Global,
-    parked: Parked,
-) -> Option<bool> {
+fn a_clock_that_went_back_leaves_a_parked_cell(rt: HostRuntime) {
     let ahead = OddClock {
         rt,
         is_broken: false,
     };
-    let mut seated = resume(ahead, parked).ok()?;
-    mkdir(&ahead, alloc, &mut seated.seat, "/a").ok()?;
-    let parked = park(&ahead, alloc, seated)?;
-    let Err((parked, fault)) = parked.resume(rt, OpenGate) else {
-        return None;
-    };
-    let seated = resume(ahead, parked).ok()?;
-    let Seated { cell, seat } = seated;
-    drop(seat);
-    drop(cell.close(&ahead));
-    Some(fault == StartFault::Clock)
-}
-
-#[test]
-fn a_clock_that_went_back_leaves_a_parked_cell(rt: HostRuntime) -> Result<(), Fail> {
-    let alloc = rt.alloc();
-    let cell = Cell::start(rt, alloc, small(), 1, OpenGate)?;
-    let Some(seated) = new_seated(&rt, cell) else {
-        return Err(Fail::new("no client"));
-    };
-    let outcome = match park(&rt, alloc, seated) {
-        Some(parked) => resume_by_earlier_clock(rt, alloc, parked),
-        None => None,
-    };
-    assert!(rt; outcome == Some(true));
-    Ok(())
+    let parked = parked_by(rt, ahead, rt.alloc());
+    assert!(rt; stays_parked(rt, ahead, rt.alloc(), parked));
 }
 
 fn is_restart(cause: &StepCause) -> bool {
@@ -277,26 +279,28 @@ fn count_restarts(history: &ClosedHistory) -> usize {
 
 #[test]
 fn nodes_begin_again_first_behind_a_parking(rt: HostRuntime) -> Result<(), Fail> {
-    let alloc = rt.alloc();
-    let cell = Cell::start(rt, alloc, small(), 2, OpenGate)?;
-    let Some(seated) = new_seated(&rt, cell) else {
-        return Err(Fail::new("no client"));
+    let Some(seated) = new_seated(rt, rt.alloc(), small(), 2) else {
+        return Err(Fail::new("no cell, or no client"));
     };
-    let Some(parked) = park(&rt, alloc, seated) else {
-        return Err(Fail::new("not parked"));
+    let Some(seated) = go_on(rt, rt.alloc(), seated) else {
+        return Err(Fail::new("not parked, or not resumed"));
     };
-    let Seated { mut cell, mut seat } = resume(rt, parked)?;
+    let Seated { mut cell, mut seat } = seated;
     // No node has these numbers, so that none begins again.
     cell.restart(&rt, Node::Server(ServerId(0)));
     cell.restart(&rt, Node::Server(ServerId(65)));
-    let is_made = mkdir(&rt, alloc, &mut seat, "/a").is_ok();
+    let is_made = mkdir(&rt, rt.alloc(), &mut seat, "/a").is_ok();
     let journal = cell.close(&rt);
-    assert!(rt; is_made);
     let history = journal.history();
-    assert!(rt; begins_with_restarts(history));
-    assert!(rt; count_restarts(history) == NODES.len());
+    let begins = begins_with_restarts(history);
+    let restarts = count_restarts(history);
+    let (steps, all) = (journal.len(), history.len());
+    drop(journal);
+    assert!(rt; is_made);
+    assert!(rt; begins);
+    assert!(rt; restarts == NODES.len());
     // The journal's own steps stand behind these.
-    assert!(rt; journal.len().saturating_add(NODES.len()) == history.len());
+    assert!(rt; steps.saturating_add(NODES.len()) == all);
     Ok(())
 }
 
@@ -332,9 +336,8 @@ fn leave_behind<R: Threads + Wait + Clock + Copy + Send + 'static>(
 fn run_out<R: Threads + Wait + Clock + Copy + Send + 'static>(
     rt: R,
     alloc: Global,
-    seated: Seated,
 ) -> Option<bool> {
-    let mut seated = seated;
+    let mut seated = new_seated(rt, alloc, small(), 1)?;
     make_clients(&mut seated.cell);
     let seated = leave_behind(rt, alloc, seated)?;
     let parked = park(&rt, alloc, seated)?;
@@ -345,30 +348,8 @@ fn run_out<R: Threads + Wait + Clock + Copy + Send + 'static>(
 }
 
 #[test]
-fn numbers_of_clients_run_out(rt: HostRuntime) -> Result<(), Fail> {
-    let alloc = rt.alloc();
-    let cell = Cell::start(rt, alloc, small(), 1, OpenGate)?;
-    let Some(seated) = new_seated(&rt, cell) else {
-        return Err(Fail::new("no client"));
-    };
-    let outcome = run_out(rt, alloc, seated);
-    assert!(rt; outcome == Some(true));
-    Ok(())
-}
-
-// Whether a parked cell that was given back with a fault goes on, and answers.
-fn goes_on_again<R: Threads + Wait + Clock + Copy + Send + 'static>(
-    rt: R,
-    alloc: Global,
-    parked: Parked,
-) -> bool {
-    let Ok(seated) = resume(rt, parked) else {
-        return false;
-    };
-    let Seated { cell, mut seat } = seated;
-    let is_made = mkdir(&rt, alloc, &mut seat, "/a").is_ok();
-    drop(cell.close(&rt));
-    is_made
+fn numbers_of_clients_run_out(rt: HostRuntime) {
+    assert!(rt; run_out(rt, rt.alloc()) == Some(true));
 }
 
 // Whether the cell is parked and goes on, where a refused one of both is tried again.
@@ -385,21 +366,16 @@ fn goes_on<R: Threads + Wait + Clock + Copy + Send + 'static>(
             drop(cell.close(&rt));
             true
         }
-        Err((parked, _)) => goes_on_again(rt, alloc, parked),
+        Err((parked, _)) => answers(rt, alloc, parked),
     }
 }
 
 #[test]
-fn a_refused_parking_loses_nothing(rt: HostRuntime) -> Result<(), Fail> {
-    let alloc = rt.alloc();
+fn a_refused_parking_loses_nothing(rt: HostRuntime) {
     // Where there is no cell, or no client of it, nothing is to be parked.
-    let Ok(cell) = Cell::start(rt, alloc, small(), 1, OpenGate) else {
-        return Ok(());
+    let goes_on = match new_seated(rt, rt.alloc(), small(), 1) {
+        Some(seated) => goes_on(rt, rt.alloc(), seated),
+        None => true,
     };
-    let Some(seated) = new_seated(&rt, cell) else {
-        return Ok(());
-    };
-    let goes_on = goes_on(rt, alloc, seated);
     assert!(rt; goes_on);
-    Ok(())
 }

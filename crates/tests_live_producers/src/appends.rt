@@ -2,7 +2,7 @@
 
 use crate::cells::{StoppingClock, hasty, small};
 use crate::producers::{Producer, append, count_kept, open, produce_all, producers_of};
-use cell_run::cell::Cell;
+use cell_run::cell::{Cell, Seat};
 use cell_seats::gate::OpenGate;
 use cell_seats::mailboxes::Policy;
 use gfs_types::config::Config;
@@ -86,18 +86,14 @@ fn losses_and_repeats_in_five_attempts(rt: HostRuntime) {
     assert!(rt; count > Some(0));
 }
 
-// A client appends by a clock that can't be read any more after so many readings, and then its seat is dropped. Tells whether the call has no
-// answer.
+// A client appends by a clock that can't be read any more after so many readings. Tells whether the call has no answer.
 fn leaves<R: Wait + Clock + Copy + Drop>(
     rt: &R,
     alloc: Global,
-    cell: &mut Cell,
+    seat: &mut Seat,
     readings: u64,
 ) -> bool {
-    let Ok(mut seat) = cell.client() else {
-        return false;
-    };
-    let Some(fd) = open(rt, alloc, &mut seat, "/log") else {
+    let Some(fd) = open(rt, alloc, seat, "/log") else {
         return false;
     };
     let clock = StoppingClock {
@@ -105,15 +101,16 @@ fn leaves<R: Wait + Clock + Copy + Drop>(
         most: readings,
         readings: AtomicU64::new(0),
     };
-    append(&clock, alloc, &mut seat, fd, b"a record") == Err(Refusal::ClockBroken)
+    append(&clock, alloc, seat, fd, b"a record") == Err(Refusal::ClockBroken)
 }
 
-// How many clients left in a call.
+// How many clients left in a call, behind which their seats were dropped.
 fn leave_in_turn<R: Wait + Clock + Copy + Drop>(rt: &R, alloc: Global, cell: &mut Cell) -> u64 {
     let mut count: u64 = 0;
     for readings in 1..=LEAVING {
-        if leaves(rt, alloc, cell, readings) {
-            count = count.wrapping_add(1);
+        if let Ok(mut seat) = cell.client() {
+            let has_left = leaves(rt, alloc, &mut seat, readings);
+            count = count.wrapping_add(u64::from(has_left));
         }
     }
     count

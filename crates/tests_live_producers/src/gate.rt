@@ -65,7 +65,7 @@ fn fill<R: Wait + Clock>(rt: &R, alloc: Global, seat: &mut Seat, name: &str) -> 
 
 fn reads<R: Wait + Clock>(rt: &R, alloc: Global, seat: &mut Seat, name: &str) -> bool {
     match open(rt, alloc, seat, name) {
-        Some(fd) => look(rt, seat, fd, 0, &RECORD) == Found::Same,
+        Some(fd) => matches!(look(rt, seat, fd, 0, &RECORD), Found::Same),
         None => false,
     }
 }
@@ -91,41 +91,34 @@ impl Reader {
     }
 }
 
-// Two readers, and a file on each server.
-fn new_readers<R: Wait + Clock>(rt: &R, alloc: Global, cell: &mut Cell) -> Option<Vec<Reader>> {
-    let mut seat = cell.client().ok()?;
-    let are_full = fill(rt, alloc, &mut seat, "/a") && fill(rt, alloc, &mut seat, "/b");
-    drop(seat);
-    if !are_full {
-        return None;
-    }
-    let mut all = Vec::new(alloc);
-    for _ in 0..2 {
-        let reader = Reader {
-            seat: cell.client().ok()?,
-            has_read: false,
-        };
-        all.push(reader).ok()?;
-    }
-    Some(all)
-}
-
+// Whether two readers read, of a file on each server.
 fn both_read<R: Threads + Wait + Clock + Sync>(
     rt: &R,
     alloc: Global,
     cell: &mut Cell,
     signals: &Signals,
 ) -> bool {
-    let Some(mut readers) = new_readers(rt, alloc, cell) else {
-        return false;
+    let are_full = match cell.client() {
+        Ok(mut seat) => fill(rt, alloc, &mut seat, "/a") && fill(rt, alloc, &mut seat, "/b"),
+        Err(_) => false,
     };
+    if !are_full {
+        return false;
+    }
+    let mut readers = Vec::new(alloc);
+    for _ in 0..2 {
+        if let Ok(seat) = cell.client() {
+            let has_read = false;
+            let _pushed = readers.push(Reader { seat, has_read }).is_ok();
+        }
+    }
     thread::for_each_mut(
         rt,
         readers.as_mut_slice(),
         2,
         &|place, reader| reader.read(rt, alloc, place, signals),
     );
-    readers.iter().all(|reader| reader.has_read)
+    readers.len() == 2 && readers.iter().all(|reader| reader.has_read)
 }
 
 #[test]

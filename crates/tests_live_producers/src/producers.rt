@@ -25,7 +25,7 @@ pub struct Stored {
 }
 
 /// What a read shows of a record.
-#[derive(Clone, Copy, PartialEq, Eq)]
+#[derive(Clone, Copy)]
 pub enum Found {
     Same,
     Otherwise,
@@ -122,15 +122,21 @@ pub fn producers_of<R: Wait + Clock>(
     }
     let mut all = Vec::new(alloc);
     for number in 0..count {
-        let producer = Producer {
-            seat: cell.client().ok()?,
-            next: number.wrapping_mul(100_000),
-            stored: Vec::new(alloc),
-            is_strange: false,
-        };
-        all.push(producer).ok()?;
+        if let Ok(seat) = cell.client() {
+            let producer = Producer {
+                seat,
+                next: number.wrapping_mul(100_000),
+                stored: Vec::new(alloc),
+                is_strange: false,
+            };
+            let _pushed = all.push(producer).is_ok();
+        }
     }
-    Some(all)
+    if all.len() as u64 == count {
+        Some(all)
+    } else {
+        None
+    }
 }
 
 /// All producers append at the same time, each on a thread of its own.
@@ -160,51 +166,34 @@ pub fn count_kept<R: Wait + Clock>(
     producers: &[Producer],
 ) -> Option<usize> {
     let answered = count_answered(alloc, producers)?;
-    if are_read_back(rt, alloc, reader, producers) {
-        Some(answered)
-    } else {
-        None
+    let fd = open(rt, alloc, reader, "/log")?;
+    for producer in producers {
+        for stored in producer.stored.as_slice() {
+            if !is_read_back(rt, reader, fd, *stored) {
+                return None;
+            }
+        }
     }
+    Some(answered)
 }
 
 // How many records were answered; none where two have one offset, a call was refused for another reason than that nobody could serve, or memory is refused.
 fn count_answered(alloc: Global, producers: &[Producer]) -> Option<usize> {
     let mut offsets = BTreeMap::new(alloc);
     let mut count: usize = 0;
+    let mut is_strange = false;
     for producer in producers {
-        if producer.is_strange {
-            return None;
-        }
+        is_strange |= producer.is_strange;
         for stored in producer.stored.as_slice() {
-            offsets.insert(stored.offset, ()).ok()?;
+            is_strange |= offsets.insert(stored.offset, ()).is_err();
             count = count.wrapping_add(1);
         }
     }
-    if offsets.len() == count {
+    if offsets.len() == count && !is_strange {
         Some(count)
     } else {
         None
     }
-}
-
-// Whether each record that was answered is read back at its offset.
-fn are_read_back<R: Wait + Clock>(
-    rt: &R,
-    alloc: Global,
-    reader: &mut Seat,
-    producers: &[Producer],
-) -> bool {
-    let Some(fd) = open(rt, alloc, reader, "/log") else {
-        return false;
-    };
-    for producer in producers {
-        for stored in producer.stored.as_slice() {
-            if !is_read_back(rt, reader, fd, *stored) {
-                return false;
-            }
-        }
-    }
-    true
 }
 
 // A master that began again knows of no replica until servers report, so that a read may be refused at first.

@@ -119,19 +119,20 @@ fn produce_meanwhile<R: Threads + Wait + Clock + Sync>(
     restarts
 }
 
-// The file is deleted, and there is a new one of its name.
-fn begin_next_file<R: Wait + Clock>(rt: &R, alloc: Global, seat: &mut Seat) -> bool {
+// The file is deleted, and there is a new one of its name, which what was answered doesn't concern.
+fn begin_next_file<R: Wait + Clock>(
+    rt: &R,
+    alloc: Global,
+    seat: &mut Seat,
+    producers: &mut [Producer],
+) -> bool {
+    for place in 0..producers.len() {
+        producers[place].stored.clear();
+    }
     let Ok(path) = Text::from_str("/log", alloc) else {
         return false;
     };
     seat.delete(rt, path).is_ok() && create(rt, alloc, seat, "/log")
-}
-
-// What was answered doesn't concern the next file.
-fn forget(producers: &mut [Producer]) {
-    for place in 0..producers.len() {
-        producers[place].stored.clear();
-    }
 }
 
 /// How many records were answered, and how many restarts there were.
@@ -161,8 +162,7 @@ fn fill_with<R: Threads + Wait + Clock + Sync>(
             return None;
         }
         answered = answered.wrapping_add(count);
-        forget(producers);
-        if !begin_next_file(rt, alloc, one) {
+        if !begin_next_file(rt, alloc, one, producers) {
             return None;
         }
     }
@@ -179,20 +179,18 @@ fn fill_in_turn<R: Threads + Wait + Clock + Sync>(
     cell: &mut Cell,
 ) -> Option<Totals> {
     let mut one = cell.client().ok()?;
-    let mut other = cell.client().ok()?;
     let mut producers = producers_of(rt, alloc, cell, &mut one, 4)?;
-    let totals = fill_with(
-        rt,
-        alloc,
-        cell,
-        producers.as_mut_slice(),
-        &mut one,
-        &mut other,
-    );
-    drop(producers);
-    drop(one);
-    drop(other);
-    totals
+    match cell.client() {
+        Ok(mut other) => fill_with(
+            rt,
+            alloc,
+            cell,
+            producers.as_mut_slice(),
+            &mut one,
+            &mut other,
+        ),
+        Err(_) => None,
+    }
 }
 
 #[test]
@@ -209,12 +207,14 @@ fn files_are_filled_in_turn_while_nodes_begin_again(rt: HostRuntime) -> Result<(
     cell.net(FAULTS);
     let totals = fill_in_turn(&rt, alloc, &mut cell);
     let journal = cell.close(&rt);
+    let first = journal.first();
+    drop(journal);
     let Some(Totals { answered, restarts }) = totals else {
         return Err(Fail::new("a record was not read back"));
     };
     // Most of the 320.
     assert!(rt; answered > 160);
     assert!(rt; restarts > 0);
-    assert!(rt; journal.first() > 0);
+    assert!(rt; first > 0);
     Ok(())
 }

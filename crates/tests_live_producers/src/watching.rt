@@ -7,11 +7,9 @@ use cell_run::watch::Watcher;
 use cell_seats::gate::OpenGate;
 use cell_seats::shared_state::Progress;
 use gfs_types::config::Config;
-use std::alloc::Global;
+use std::sync::Arc;
 use std::sync::atomic::{AtomicU64, Ordering};
-use std::sync::{Arc, Wait};
 use std::test::*;
-use std::time::Clock;
 
 /// How many entries the cell's journal may have.
 const JOURNAL: u32 = 1_000;
@@ -44,13 +42,6 @@ impl Watcher for NotingWatcher {
     }
 }
 
-fn makes_a_file<R: Wait + Clock>(rt: &R, alloc: Global, cell: &mut Cell) -> bool {
-    match cell.client() {
-        Ok(mut seat) => create(rt, alloc, &mut seat, "/a"),
-        Err(_) => false,
-    }
-}
-
 #[test]
 fn a_watcher_is_told_how_far_a_cell_is(rt: HostRuntime) -> Result<(), Fail> {
     let alloc = rt.alloc();
@@ -68,7 +59,10 @@ fn a_watcher_is_told_how_far_a_cell_is(rt: HostRuntime) -> Result<(), Fail> {
         ..small(1)
     };
     let mut cell = Cell::start(rt, alloc, config, 1, OpenGate)?;
-    let is_made = makes_a_file(&rt, alloc, &mut cell);
+    let is_made = match cell.client() {
+        Ok(mut seat) => create(&rt, alloc, &mut seat, "/a"),
+        Err(_) => false,
+    };
     let watch = cell.watch(rt, watcher);
     wait_for(&rt, &notes.told, 1);
     if let Some(watch) = watch {
