@@ -272,18 +272,22 @@ impl Watched {
         Ok(are_found)
     }
 
+    fn is_placed(&self, place: usize, bytes: &[u8]) -> bool {
+        match self.placed.get(place) {
+            Some(placed) => placed.record.as_slice() == bytes,
+            None => false,
+        }
+    }
+
     fn finds(&mut self, client: ClientId, fd: Fd, place: usize) -> Result<bool, NoMemory> {
         let read = match self.placed.get(place) {
             Some(placed) => Call::Read(fd, placed.offset, placed.record.len() as u64),
             None => return Ok(false),
         };
-        let answer = self.ask(client, read)?;
-        Ok(match (&answer, self.placed.get(place)) {
-            (Some(Answer::Bytes { bytes, .. }), Some(placed)) => {
-                bytes.as_slice() == placed.record.as_slice()
-            }
-            _ => false,
-        })
+        match self.ask(client, read)? {
+            Some(Answer::Bytes { bytes, .. }) => Ok(self.is_placed(place, bytes.as_slice())),
+            _ => Ok(false),
+        }
     }
 
     /// Whether a client that opens the file anew reads each record where it was answered to stand: the reader, or the writer where the

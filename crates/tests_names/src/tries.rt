@@ -203,32 +203,23 @@ fn lists_alike(
     Ok(line.as_str() == searched.as_str())
 }
 
-// Whether both say the same of one of a hundred directories, or of `/d100`, which isn't there.
-fn says_alike_of_directory(
-    alloc: Global,
-    trie: &Trie<u64, Global>,
-    map: &BTreeMap<String, u64>,
-    number: u64,
-) -> Result<bool, Fail> {
-    let text = format!(in alloc; "/d{number}")?;
-    Ok(lists_alike(alloc, trie, map, text.as_str())? && has_alike(alloc, trie, map, text.as_str())?)
-}
-
-// And of a file.
+// Whether both say the same of one of a hundred directories, or of `/d100`, which isn't there, and of a file.
 fn says_alike(
     alloc: Global,
     trie: &Trie<u64, Global>,
     map: &BTreeMap<String, u64>,
     number: u64,
 ) -> Result<bool, Fail> {
+    let text = format!(in alloc; "/d{number}")?;
     let file = file_text(alloc, number.saturating_mul(99))?;
     Ok(
-        says_alike_of_directory(alloc, trie, map, number)?
+        lists_alike(alloc, trie, map, text.as_str())?
+            && has_alike(alloc, trie, map, text.as_str())?
             && has_alike(alloc, trie, map, file.as_str())?,
     )
 }
 
-// The first of the directories of which they don't.
+// The first of the directories of which they say something else.
 fn first_said_otherwise(
     alloc: Global,
     trie: &Trie<u64, Global>,
@@ -359,21 +350,14 @@ fn grown_anew(alloc: Global, heap: &LocalHeap) -> Result<Option<Grown>, Fail> {
     grown
 }
 
-// And in a new heap of so many bytes.
-fn grown_within(alloc: Global, size: usize) -> Result<Option<Grown>, Fail> {
-    let heap = LocalHeap::new(alloc, size)?;
-    let grown = grown_anew(alloc, &heap);
-    drop(heap);
-    grown
-}
-
 // Heaps that grow by the least block, so that each allocation in turn is the first to be refused: those of eight names, and those of a copy of seven.
 #[test]
 fn refused_memory_leaves_the_map(rt: HostRuntime) -> Result<(), Fail> {
     let alloc = rt.alloc();
     let (mut met, mut refused_copies, mut copies) = ([false; 9], 0u64, 0u64);
     for size in 1..200 {
-        let grown = grown_within(alloc, size * 16)?;
+        let heap = LocalHeap::new(alloc, size * 16)?;
+        let grown = grown_anew(alloc, &heap)?;
         assert!(rt; grown.is_some(), "heap {size}");
         if let Some(grown) = grown {
             met[grown.names.min(8)] = true;

@@ -136,12 +136,12 @@ fn image(
 
 fn written(disk: MemDisk, image: &[u8]) -> Option<MemDisk> {
     let mut disk = disk;
-    if image.len() > disk.size() {
-        return None;
+    let has_room = image.len() <= disk.size();
+    if has_room && disk.write_at(0, image).is_ok() && disk.sync().is_ok() {
+        return Some(disk);
     }
-    disk.write_at(0, image).ok()?;
-    disk.sync().ok()?;
-    Some(disk)
+    drop(disk);
+    None
 }
 
 fn disk_with(alloc: Global, second: u8, items: &[&[u8]], records: &[&[u8]]) -> Option<MemDisk> {

@@ -74,7 +74,8 @@ fn write_given<W: Display>(text: &mut Vec<u8>, name: &str, given: &Option<W>) ->
 
 /// The settings that aren't the defaults.
 fn write_settings(text: &mut Vec<u8>, options: &Options) -> io::Result<()> {
-    for (setting, number) in SETTINGS.lines().zip(numbers(options).as_slice()) {
+    let numbers = numbers(options);
+    for (setting, number) in SETTINGS.lines().zip(numbers.as_slice()) {
         let (name, default) = setting.split_once(' ').unwrap_or_default();
         if default.parse::<u64>().ok() != Some(*number) {
             write_given(text, name, &Some(*number))?;
