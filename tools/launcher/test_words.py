@@ -22,65 +22,53 @@ MORE_BAD = [
 MORE_SHOWN = {'sim --servers x --help': 'sim', 'sim a b --help': None, 'live -h': 'live', 'serve -h': 'serve', 'serve --help a': 'serve', 'live a.live -hx': 'live', '-hV': '', 'sim --servers=9 -h': 'sim'}
 
 
-def settings(text):
-    """The settings that a test names, as ("lease-ms", 5_000)."""
-    found = re.findall(r'\("([a-z-]+)", ([\d_]+)\)', text.replace('u64::MAX', str((1 << 64) - 1)))
-    return {name.replace('-', '_'): int(value.replace('_', '')) for name, value in found}
+def table(name):
+    """The lines of a table of those tests."""
+    text = re.search(rf'const {name}: &str =\s*"(.*?)";', command_line.text_of(TESTS), re.S)[1]
+    return re.sub(r'\\\n *', '', text).replace('\\n', '\n').splitlines()
 
 
-def expected_in(table):
-    """Each command line of a table of those tests, with what is asked for there."""
-    source = command_line.text_of(TESTS)
-    body = re.search(rf'const {table}: [^=]*= \[(.*?)\n\];', source, re.S)[1] + '\n'
-    return re.findall(r'"(gfscell[^"]*)",\s*Command::(\w+)(?:\((.*?)\)),?\s*\)?,?\n|"(gfscell[^"]*)",\s*Command::(Nothing)', body, re.S)
+def settings_told(given):
+    """The settings that aren't the defaults, each with its value, in the order of the tests."""
+    servers, clients, others = command_line.settings_of(given)
+    found = {'servers': servers, 'clients': clients, **others}
+    for row in table('SETTINGS'):
+        name, default = row.split(' ')
+        value = found.get(name.replace('-', '_'), int(default))
+        if value != int(default):
+            yield name, value
 
 
 def asked_by(line):
-    """What the launcher makes of a command line, in the words of those tables."""
+    """What the launcher makes of a command line, in the words of those tables; it passes over whether progress is told."""
     try:
         asked = command_line.parse(line.split(' ')[1:])
     except command_line.Bad:
-        return ('Nothing',)
+        return 'nothing'
     except command_line.Shown as shown:
-        return ('Shows', str(shown))
-    if asked.words and asked.way == 'live':
-        return ('Told', asked.file, asked.words)
-    given = dict(asked.given)
-    number = given.pop('names_heap' if asked.way == 'sim' else 'keep', None)
-    servers, clients, others = command_line.settings_of(given)
-    found = {'servers': servers, 'clients': clients, **others}
-    return (asked.way.capitalize(), asked.file, number, {name: value for name, value in found.items() if name in given or name == 'block'}, asked.words.get('regions'))
+        return f'shows {shown}'
+    numbers = [(name, asked.given[name.replace('-', '_')]) for name in ('names-heap', 'keep') if name.replace('-', '_') in asked.given]
+    file = [] if asked.file is None else [asked.file]
+    return ' '.join([asked.way, *file, *(f'{name} {value}' for name, value in [*numbers, *asked.words.items(), *settings_told(asked.given)])])
 
 
-def is_wanted(found, kind, text):
-    if kind == 'Nothing' or found[0] != kind:
-        return found[0] == kind
-    if kind == 'Shows':
-        return re.match(r'"(.*)"', text)[1] in found[1]
-    if kind == 'Told':
-        file, regions, history = re.match(r'"(.*?)", (?:None|Some\("(.*?)"\)), (?:None|Some\("(.*?)"\)?)', text).groups()
-        return found[1:] == (file, {name: word for name, word in (('regions', regions), ('history', history)) if word is not None})
-    file = None if kind == 'Serve' else re.match(r'"(.*?)"', text)[1]
-    number = re.search(r'Some\(([\d_]+)\)', text)
-    path = re.search(r'Some\("(.*?)"\)', text)
-    wanted = settings(text)
-    if 'chunk' in wanted and 'block' not in wanted:
-        # the tests leave out what is the default
-        wanted['block'] = 65536
-    return found[1] == file and found[2] == (int(number[1].replace('_', '')) if number else None) and found[3:] == (wanted, path and path[1])
+def is_wanted(found, wanted):
+    if wanted.startswith('shows ') and found.startswith('shows '):
+        return wanted.removeprefix('shows ') in found.removeprefix('shows ')
+    return found == wanted.replace(' progress', '')
 
 
 def tables():
     """How many command lines there are in the tables, and those that are taken otherwise."""
     count, faults = 0, []
-    for table, least in (('LINES', 21), ('REFUSED', 44), ('SHOWN', 8)):
-        rows = [(row[0] or row[3], row[1] or row[4], row[2]) for row in expected_in(table)]
+    for name, least in (('LINES', 21), ('REFUSED', 44), ('SHOWN', 8)):
+        rows = [row.partition(' -> ') for row in table(name)]
         if len(rows) != least:
-            faults.append(f'{table} of {TESTS}: {len(rows)} command lines are read')
-        for line, kind, text in rows:
+            faults.append(f'{name} of {TESTS}: {len(rows)} command lines are read')
+        for line, _, wanted in rows:
             count += 1
-            if not is_wanted(asked_by(line), kind, text):
-                faults.append(f'{line}: taken as {asked_by(line)[:3]}, and {kind} {text} is wanted')
+            if not is_wanted(asked_by(line), wanted or 'nothing'):
+                faults.append(f'{line}: taken as {asked_by(line)}, and {wanted or "nothing"} is wanted')
     return count, faults
 
 
@@ -88,12 +76,12 @@ def shown_kinds():
     count, faults = 0, []
     for line, way in MORE_SHOWN.items():
         count += 1
-        wanted = ('Nothing',) if way is None else ('Shows', command_line.subcommand_help(way) if way else command_line.program_help())
+        wanted = 'nothing' if way is None else 'shows ' + (command_line.subcommand_help(way) if way else command_line.program_help())
         if asked_by('gfscell ' + line) != wanted:
             faults.append(f'{line}: something else is asked for')
     for line in MORE_BAD:
         count += 1
-        if asked_by('gfscell ' + line) != ('Nothing',):
+        if asked_by('gfscell ' + line) != 'nothing':
             faults.append(f'{line}: not refused')
     return count, faults
 

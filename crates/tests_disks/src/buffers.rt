@@ -105,14 +105,19 @@ fn is_hop(received: Result<Option<ServerId>, (DataId, Bytes)>, server: ServerId)
     }
 }
 
+// Whether a server passes data on to the next one, and keeps them.
+fn keeps_received(buffer: &mut Buffer) -> bool {
+    let rest = [ServerId(3), ServerId(2)];
+    let hop = receive(buffer, id(1, 1), data("one"), &rest, ServerId(1));
+    is_hop(hop, ServerId(2)) && has(buffer, id(1, 1), "one")
+}
+
 #[test]
 fn received_data_are_kept_and_passed_on(rt: HostRuntime) -> Result<(), Fail> {
     let mut buffer = Buffer::new(rt.alloc(), 2)?;
-    let rest = [ServerId(3), ServerId(2)];
-    let hop = receive(&mut buffer, id(1, 1), data("one"), &rest, ServerId(1));
-    assert!(rt; is_hop(hop, ServerId(2)));
-    assert!(rt; has(&buffer, id(1, 1), "one"));
+    let are_kept = keeps_received(&mut buffer);
     drop(buffer);
+    assert!(rt; are_kept);
     Ok(())
 }
 
@@ -228,25 +233,29 @@ fn refused_in(heap: &LocalHeap) -> Result<u64, AllocError> {
     Ok(if is_kept { refused } else { 0 })
 }
 
+// The same in a new heap of so many bytes; None where there is no room for the buffer. It is 0 as well where the heap isn't empty then.
+fn refused_within(alloc: Global, size: usize) -> Result<Option<u64>, AllocError> {
+    let heap = LocalHeap::new(alloc, size)?;
+    let refused = refused_in(&heap).ok();
+    let is_empty = heap.used() == 0;
+    drop(heap);
+    Ok(if is_empty { refused } else { Some(0) })
+}
+
 // Heaps that grow by the least block, so that each allocation in turn is the first to be refused: the buffer's own, and those of eight data.
 #[test]
 fn refused_memory_leaves_what_was_there(rt: HostRuntime) -> Result<(), Fail> {
     let (mut no_buffer, mut met) = (false, [false; 9]);
     for size in 1..120 {
-        let heap = LocalHeap::new(rt.alloc(), size * 16)?;
-        match refused_in(&heap) {
-            Ok(refused) => {
+        match refused_within(rt.alloc(), size * 16)? {
+            Some(refused) => {
                 assert!(rt; refused > 0, "heap {size}");
                 met[refused.saturating_sub(1).min(8) as usize] = true;
             }
-            Err(_) => {
-                assert!(rt; heap.used() == 0);
-                no_buffer = true;
-            }
+            None => no_buffer = true,
         }
     }
-    assert!(rt; no_buffer);
-    assert!(rt; met == [true; 9]);
+    assert!(rt; no_buffer && met == [true; 9]);
     Ok(())
 }
 

@@ -1,6 +1,8 @@
 //! Bytes of a disk, by hand.
 
+use bytes::Bytes;
 use gfs_types::ids::{Handle, OrderNo, Serial, Version};
+use std::alloc::{AllocError, Global};
 use std::test::Fail;
 use store_disk::{
     HashedBlock, SlotHeader, blocks_match, digests_of_blocks, read_header, read_order, write_head,
@@ -47,32 +49,46 @@ const OTHERS: [u8; 32] = [
     0x63, 0x78, 0x7a, 0x07, 0xe5, 0x8c, 0x6c, 0xe1, 0xed, 0xf2, 0xf9, 0x7c, 0x91, 0x6e, 0xd6, 0xdc,
 ];
 
-#[test]
-fn a_digest_for_each_block(rt: HostRuntime) -> Result<(), Fail> {
-    let alloc = rt.alloc();
+// Whether two blocks have these digests, whether the same blocks match them, and whether others do.
+fn digests_met(alloc: Global) -> Result<[bool; 3], AllocError> {
     let mut hashed = HashedBlock::new(alloc);
     let digests = digests_of_blocks(alloc, &mut hashed, 3, 2, b"abcabc")?;
-    assert!(rt; digests.as_slice() == TWO_DIGESTS.as_slice());
-    assert!(rt; blocks_match(alloc, &mut hashed, 3, 2, b"abcabc", &digests)?);
-    assert!(rt; !blocks_match(alloc, &mut hashed, 3, 2, b"abcabd", &digests)?);
-    Ok(())
+    let are_these = digests.as_slice() == TWO_DIGESTS.as_slice();
+    let same = blocks_match(alloc, &mut hashed, 3, 2, b"abcabc", &digests);
+    let others = blocks_match(alloc, &mut hashed, 3, 2, b"abcabd", &digests);
+    drop(digests);
+    drop(hashed);
+    Ok([are_these, same?, others?])
 }
 
 #[test]
-fn a_block_that_was_hashed_last(rt: HostRuntime) -> Result<(), Fail> {
-    let mut hashed = HashedBlock::new(rt.alloc());
-    let first = &TWO_DIGESTS[..32];
-    for (block, digest) in [
-        (b"abc", first),
-        (b"abc", first),
-        (b"abd", OTHER_DIGEST.as_slice()),
-        (b"abc", first),
-        (b"abd", OTHER_DIGEST.as_slice()),
-        (b"abd", OTHER_DIGEST.as_slice()),
-    ] {
-        assert!(rt; hashed.digest_of(block).as_slice() == digest);
-    }
+fn a_digest_for_each_block(rt: HostRuntime) -> Result<(), Fail> {
+    assert_eq!(rt; digests_met(rt.alloc())?, [true, true, false]);
     Ok(())
+}
+
+// Whether each of these blocks, which are `abc` or `abd`, has its digest.
+fn have_digests(hashed: &mut HashedBlock, blocks: &str) -> bool {
+    for block in blocks.split(' ') {
+        let digest = hashed.digest_of(block.as_bytes());
+        let wanted = if block == "abc" {
+            &TWO_DIGESTS[..32]
+        } else {
+            OTHER_DIGEST.as_slice()
+        };
+        if digest.as_slice() != wanted {
+            return false;
+        }
+    }
+    true
+}
+
+#[test]
+fn a_block_that_was_hashed_last(rt: HostRuntime) {
+    let mut hashed = HashedBlock::new(rt.alloc());
+    let have_digests = have_digests(&mut hashed, "abc abc abd abc abd abd");
+    drop(hashed);
+    assert!(rt; have_digests);
 }
 
 // The first bytes of a block are this letter, the others zero.
@@ -86,9 +102,8 @@ fn filled_block(count: usize, letter: u8) -> [u8; 256] {
     block
 }
 
-#[test]
-fn blocks_that_begin_as_the_last_one(rt: HostRuntime) {
-    let mut hashed = HashedBlock::new(rt.alloc());
+// The first of these blocks that hasn't its digest.
+fn first_other(hashed: &mut HashedBlock) -> Option<usize> {
     for (count, letter, digest) in [
         (0, b'a', NOTHING),
         (100, b'a', LITTLE),
@@ -101,8 +116,26 @@ fn blocks_that_begin_as_the_last_one(rt: HostRuntime) {
         (100, b'a', LITTLE),
     ] {
         let block = filled_block(count, letter);
-        assert!(rt; hashed.digest_of(&block) == digest);
+        if hashed.digest_of(&block) != digest {
+            return Some(count);
+        }
     }
+    None
+}
+
+#[test]
+fn blocks_that_begin_as_the_last_one(rt: HostRuntime) {
+    let mut hashed = HashedBlock::new(rt.alloc());
+    let other = first_other(&mut hashed);
+    drop(hashed);
+    assert_eq!(rt; other, None);
+}
+
+// What owns bytes has one way out, and calls `drop` there: a drop at the end of a scope is proved anew at each place.
+fn are(written: Bytes, wanted: &[u8]) -> bool {
+    let are_these = written.as_slice() == wanted;
+    drop(written);
+    are_these
 }
 
 #[test]
@@ -112,7 +145,7 @@ fn the_head_of_two_slots(rt: HostRuntime) -> Result<(), Fail> {
         0x47, 0x46, 0x53, 0x43, 1, 0, 0, 0, 64, 0, 0, 0, 16, 0, 0, 0, 2, 0, 0, 0, 0, 0, 0, 0, 0, 0,
         0, 0, 0, 0, 0,
     ];
-    assert!(rt; head.as_slice() == bytes.as_slice());
+    assert!(rt; are(head, &bytes));
     Ok(())
 }
 
@@ -122,10 +155,10 @@ fn the_number_of_an_order(rt: HostRuntime) -> Result<(), Fail> {
         epoch: 3,
         count: 258,
     };
-    let bytes = write_order(rt.alloc(), order)?;
-    let wanted = [3, 0, 0, 0, 0, 0, 0, 0, 2, 1, 0, 0, 0, 0, 0, 0];
-    assert!(rt; bytes.as_slice() == wanted.as_slice());
-    assert!(rt; bytes.len() == 16 && read_order(&bytes) == order);
+    let written = write_order(rt.alloc(), order)?;
+    let bytes = [3, 0, 0, 0, 0, 0, 0, 0, 2, 1, 0, 0, 0, 0, 0, 0];
+    assert!(rt; are(written, &bytes));
+    assert!(rt; read_order(&bytes) == order);
     Ok(())
 }
 
@@ -137,13 +170,13 @@ fn the_header_of_a_slot(rt: HostRuntime) -> Result<(), Fail> {
         serial: Serial(9),
         count: 64,
     };
-    let bytes = write_header(rt.alloc(), header)?;
-    let wanted = [
+    let written = write_header(rt.alloc(), header)?;
+    let bytes = [
         1, 0, 0, 0, 0, 0, 0, 0, 5, 0, 0, 0, 0, 0, 0, 0, 2, 0, 0, 0, 0, 0, 0, 0, 9, 0, 0, 0, 0, 0,
         0, 0, 64, 0, 0, 0, 0, 0, 0, 0,
     ];
-    assert!(rt; bytes.as_slice() == wanted.as_slice());
-    assert!(rt; read_header(&wanted) == Some(header));
-    assert!(rt; read_header(&[0; 40]) == None);
+    let is_written = are(written, &bytes);
+    let read = [read_header(&bytes), read_header(&[0; 40])];
+    assert!(rt; is_written && read == [Some(header), None]);
     Ok(())
 }

@@ -440,17 +440,26 @@ fn fault_takes(heap: &LocalHeap) -> Result<Option<u8>, AllocError> {
     Ok(if is_well { taken } else { None })
 }
 
+// The same of the three disks, each in a new heap of so many bytes.
+fn writes_taken_within(alloc: Global, size: usize) -> Result<[Option<u8>; 3], AllocError> {
+    let heap = LocalHeap::new(alloc, size)?;
+    let (plain, fuse, fault) = (plain_takes(&heap), fuse_takes(&heap), fault_takes(&heap));
+    drop(heap);
+    Ok([plain?, fuse?, fault?])
+}
+
 // Heaps that grow by the least block, so that each allocation in turn is the first to be refused: those of five writes.
 #[test]
 fn refused_memory_changes_no_byte(rt: HostRuntime) -> Result<(), Fail> {
     let mut met = [false; 6];
     for size in 1..100 {
-        let heap = LocalHeap::new(rt.alloc(), size * 16)?;
-        let taken = plain_takes(&heap)?;
-        assert!(rt; taken.is_some(), "heap {size}");
-        assert!(rt; fuse_takes(&heap)? == taken, "a fuse, heap {size}");
-        assert!(rt; fault_takes(&heap)? == taken, "a fault, heap {size}");
-        met[taken.unwrap_or(0).min(5) as usize] = true;
+        let [plain, fuse, fault] = writes_taken_within(rt.alloc(), size * 16)?;
+        assert!(rt; plain.is_some(), "heap {size}");
+        assert!(rt;
+            fuse == plain && fault == plain,
+            "a fuse or a fault, heap {size}"
+        );
+        met[plain.unwrap_or(0).min(5) as usize] = true;
     }
     assert!(rt; met == [true; 6]);
     Ok(())
@@ -481,16 +490,27 @@ fn fault_leaves(heap: &LocalHeap, wanted: [u8; 5]) -> Result<bool, AllocError> {
     Ok(has_failed && is_left)
 }
 
+// In a new heap of so many bytes: whether a disk takes a write, and whether of a write that fails just that is left.
+fn write_within(alloc: Global, size: usize) -> Result<(bool, bool), AllocError> {
+    let heap = LocalHeap::new(alloc, size)?;
+    let is_taken = takes_a_write(&heap);
+    let want = if is_taken == Ok(true) {
+        [7, 0, 0, 0, 0]
+    } else {
+        [0; 5]
+    };
+    let (fuse, fault) = (fuse_leaves(&heap, want), fault_leaves(&heap, want));
+    drop(heap);
+    Ok((is_taken?, fuse? && fault?))
+}
+
 // A write that fails has reached the disk only where there was memory for it.
 #[test]
 fn a_failed_write_without_memory_is_lost(rt: HostRuntime) -> Result<(), Fail> {
     let mut met = [false; 2];
     for size in 1..100 {
-        let heap = LocalHeap::new(rt.alloc(), size * 16)?;
-        let is_taken = takes_a_write(&heap)?;
-        let want = if is_taken { [7, 0, 0, 0, 0] } else { [0; 5] };
-        assert!(rt; fuse_leaves(&heap, want)?, "heap {size}");
-        assert!(rt; fault_leaves(&heap, want)?, "heap {size}");
+        let (is_taken, is_left) = write_within(rt.alloc(), size * 16)?;
+        assert!(rt; is_left, "heap {size}");
         met[usize::from(is_taken)] = true;
     }
     assert!(rt; met == [true; 2]);
@@ -515,15 +535,23 @@ fn writes_in_rounds<D: Disk>(disk: &mut D, rounds: u64) -> bool {
     true
 }
 
+// Whether many rounds on a new disk in the heap keep no more of it than some.
+fn keeps_no_more(heap: &LocalHeap) -> Result<bool, AllocError> {
+    let mut disk = MemDisk::new(heap, 4)?;
+    let are_some_made = writes_in_rounds(&mut disk, 1_000);
+    let used = heap.used();
+    let are_many_made = writes_in_rounds(&mut disk, 50_000);
+    let is_same = heap.used() == used;
+    drop(disk);
+    Ok(are_some_made && are_many_made && is_same)
+}
+
 #[test]
 fn memory_stays_where_the_past_is_forgotten(rt: HostRuntime) -> Result<(), Fail> {
     let heap = LocalHeap::new(rt.alloc(), 10_000)?;
-    let mut disk = MemDisk::new(&heap, 4)?;
-    assert!(rt; writes_in_rounds(&mut disk, 1_000));
-    let used = heap.used();
-    assert!(rt; writes_in_rounds(&mut disk, 50_000));
-    assert!(rt; heap.used() == used);
-    drop(disk);
+    let keeps_no_more = keeps_no_more(&heap);
+    drop(heap);
+    assert!(rt; keeps_no_more?);
     Ok(())
 }
 
@@ -544,20 +572,28 @@ fn shows_ten<D: Disk>(disk: &mut D, at: usize, wanted: [u8; 10]) -> bool {
     matches!(bytes_at(disk, at, &mut out), Some(Ok(()))) && out == wanted
 }
 
+// How much of the heap a new disk of a hundred pages takes, of which one is written; none where a byte is another one, or it takes some before.
+fn used_by_a_page(heap: &LocalHeap) -> Result<Option<usize>, AllocError> {
+    let mut disk = MemDisk::new(heap, 100 * PAGE)?;
+    let is_blank = disk.size() == 100 * PAGE && shows_ten(&mut disk, 99 * PAGE, [0; 10]);
+    let is_free = heap.used() == 0;
+    let is_written = does(&mut disk, DiskCall::Writes(99 * PAGE + 4_090, &[7, 8]));
+    let used = heap.used();
+    let want = [0, 0, 0, 0, 7, 8, 0, 0, 0, 0];
+    let is_shown = shows_ten(&mut disk, 99 * PAGE + 4_086, want);
+    let is_past_shown = shows_ten(&mut disk, 100 * PAGE - 9, [0; 10]);
+    drop(disk);
+    let is_well = is_blank && is_free && is_written && is_shown && !is_past_shown;
+    Ok(if is_well { Some(used) } else { None })
+}
+
 #[test]
 fn a_large_disk_takes_the_pages_that_are_written(rt: HostRuntime) -> Result<(), Fail> {
     let heap = LocalHeap::new(rt.alloc(), 40 * PAGE)?;
-    let mut disk = MemDisk::new(&heap, 100 * PAGE)?;
-    assert!(rt; disk.size() == 100 * PAGE);
-    assert!(rt; shows_ten(&mut disk, 99 * PAGE, [0; 10]));
-    assert!(rt; heap.used() == 0);
-    assert!(rt; does(&mut disk, DiskCall::Writes(99 * PAGE + 4_090, &[7, 8])));
-    let used = heap.used();
+    let used = used_by_a_page(&heap);
+    drop(heap);
+    let used = used?.unwrap_or(usize::MAX);
     assert!(rt; used < 3 * PAGE, "{used}");
-    let want = [0, 0, 0, 0, 7, 8, 0, 0, 0, 0];
-    assert!(rt; shows_ten(&mut disk, 99 * PAGE + 4_086, want));
-    assert!(rt; !shows_ten(&mut disk, 100 * PAGE - 9, [0; 10]));
-    drop(disk);
     Ok(())
 }
 

@@ -114,15 +114,24 @@ fn slots_that_are_used(rt: HostRuntime) -> Result<(), Fail> {
     Ok(())
 }
 
+// The lowest slot, whether the second one is taken, and the slots that are taken then, before that one is free again and behind it.
+fn slots_taken(free: &mut FreeSlots) -> Result<(bool, [Option<u32>; 5]), AllocError> {
+    let lowest = free.lowest();
+    let is_taken = free.take(1);
+    let first = free.take_lowest();
+    let second = free.take_lowest();
+    let none = free.take_lowest();
+    free.put(1)?;
+    Ok((is_taken, [lowest, first, second, none, free.take_lowest()]))
+}
+
 #[test]
 fn free_slots_in_order(rt: HostRuntime) -> Result<(), Fail> {
     let mut free = FreeSlots::all(rt.alloc(), 3)?;
-    assert_eq!(rt; free.lowest(), Some(0));
-    assert!(rt; free.take(1));
-    assert_eq!(rt; free.take_lowest(), Some(0));
-    assert_eq!(rt; free.take_lowest(), Some(2));
-    assert_eq!(rt; free.take_lowest(), None);
-    free.put(1)?;
-    assert_eq!(rt; free.take_lowest(), Some(1));
+    let taken = slots_taken(&mut free);
+    drop(free);
+    let (is_taken, slots) = taken?;
+    assert!(rt; is_taken);
+    assert_eq!(rt; slots, [Some(0), Some(0), Some(2), None, Some(1)]);
     Ok(())
 }

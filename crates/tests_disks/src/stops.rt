@@ -128,18 +128,25 @@ fn a_change_is_whole_or_not_made(rt: HostRuntime) -> Result<(), Fail> {
     Ok(())
 }
 
-// The gate is open and what stands behind it is no change: the opening closes it.
+// The gate behind an opening, before which it is open and what stands behind it is no change.
+fn gate_found<D: Disk>(alloc: Global, disk: &mut D) -> Result<[u8; 1], DiskFault> {
+    let mut gate = [9; 1];
+    if disk.size() != 68 {
+        return Ok(gate);
+    }
+    disk.write_at(4, &[1, 9, 9])?;
+    disk.sync()?;
+    open(alloc, disk, AREA)?;
+    disk.read(4, &mut gate)?;
+    Ok(gate)
+}
+
+// The opening closes it.
 #[test]
 fn no_change_behind_an_open_gate(rt: HostRuntime) -> Result<(), Fail> {
-    let alloc = rt.alloc();
-    let mut disk = MemDisk::new(alloc, 68)?;
-    let mut gate = [9; 1];
-    if disk.size() == 68 {
-        assert!(rt; disk.write_at(4, &[1, 9, 9]).is_ok());
-        assert!(rt; disk.sync().is_ok());
-        assert!(rt; open(alloc, &mut disk, AREA).is_ok());
-        assert!(rt; disk.read(4, &mut gate).is_ok());
-    }
-    assert_eq!(rt; gate, [0]);
+    let mut disk = MemDisk::new(rt.alloc(), 68)?;
+    let gate = gate_found(rt.alloc(), &mut disk);
+    drop(disk);
+    assert!(rt; gate == Ok([0]));
     Ok(())
 }

@@ -66,38 +66,32 @@ fn put(
     }
 }
 
+fn two_members(alloc: Global) -> Result<ServerList, NoMemory> {
+    Ok(ServerList::new(Vec::from_slice(alloc, &[1u16, 2u16])?))
+}
+
 // Two files of this goal, the first of which has a chunk whose lease ends at 100.
 fn fill_table(alloc: Global, table: &mut Table, goal: u8) -> Result<(FileId, FileId), CellFault> {
     let first = table.add_file(Shape { chunk: 64, goal })?;
     let second = table.add_file(Shape { chunk: 128, goal })?;
     let chunk = table.add_chunk(first)?;
     let version = table.issue(chunk)?;
-    let mut members = ServerList::empty(alloc);
-    members.push(1)?;
-    members.push(2)?;
+    let members = two_members(alloc)?;
     table.grant(chunk, version, ServerId(1), members)?;
     table.set_end(chunk, Moment(100));
     Ok((first, second))
 }
 
-// A directory with both files.
-fn fill_names(
+// The same, and a directory with both files.
+fn fill_cell(
     alloc: Global,
     names: &mut Namespace<Global>,
-    files: (FileId, FileId),
+    table: &mut Table,
 ) -> Result<(), CellFault> {
+    let (first, second) = fill_table(alloc, table, 3)?;
     put(alloc, names, "/d", NameNode::dir())?;
-    put(alloc, names, "/d/b", NameNode::file(files.0))?;
-    put(alloc, names, "/d/a", NameNode::file(files.1))
-}
-
-// What owns names and a table has few ways out: a drop at the end of a scope is proved anew at each place.
-fn small_cell(alloc: Global, goal: u8) -> Result<(Namespace<Global>, Table), CellFault> {
-    let mut table = Table::new(alloc);
-    let files = fill_table(alloc, &mut table, goal)?;
-    let mut names = Trie::new(alloc)?;
-    fill_names(alloc, &mut names, files)?;
-    Ok((names, table))
+    put(alloc, names, "/d/b", NameNode::file(first))?;
+    put(alloc, names, "/d/a", NameNode::file(second))
 }
 
 // What stands at a path.
@@ -148,6 +142,7 @@ fn take_in(
     names: &mut Namespace<Global>,
     table: &mut Table,
 ) -> Result<Taken, CellFault> {
+    fill_cell(alloc, names, table)?;
     let (before, after, chunks) = commit_twice(alloc, names, table)?;
     Ok(Taken {
         chunks,
@@ -162,9 +157,10 @@ fn take_in(
     })
 }
 
+// What owns names or a table has few ways out, and calls `drop` there: a drop at the end of a scope is proved anew at each place.
 fn take_snapshot(alloc: Global) -> Result<Taken, CellFault> {
-    let cell = small_cell(alloc, 3)?;
-    let (mut names, mut table) = cell;
+    let mut names = Trie::new(alloc)?;
+    let mut table = Table::new(alloc);
     let taken = take_in(alloc, &mut names, &mut table);
     drop(names);
     drop(table);
@@ -232,12 +228,22 @@ impl Holders for ThreeServers {
     }
 }
 
+fn next_in(
+    alloc: Global,
+    table: &mut Table,
+    goal: u8,
+    now: u64,
+) -> Result<Option<CloneOrder>, CellFault> {
+    fill_table(alloc, table, goal)?;
+    Ok(next(table, &ThreeServers, Moment(now)))
+}
+
 // The next clone at a moment, where each file has this goal.
 fn next_clone(alloc: Global, goal: u8, now: u64) -> Result<Option<CloneOrder>, CellFault> {
-    let cell = small_cell(alloc, goal)?;
-    let (names, table) = cell;
-    drop(names);
-    Ok(next(&table, &ThreeServers, Moment(now)))
+    let mut table = Table::new(alloc);
+    let order = next_in(alloc, &mut table, goal, now);
+    drop(table);
+    order
 }
 
 fn next_clones(alloc: Global) -> Result<[Option<CloneOrder>; 3], CellFault> {
@@ -282,13 +288,18 @@ fn is_dropped(drops: &[DropOrder], wanted: &[(u64, u64)]) -> bool {
     true
 }
 
-fn answers_report(alloc: Global) -> Result<bool, CellFault> {
-    let cell = small_cell(alloc, 3)?;
-    let (names, table) = cell;
-    drop(names);
+fn drops_two(alloc: Global, table: &mut Table) -> Result<bool, CellFault> {
+    fill_table(alloc, table, 3)?;
     let report = [line(1, 0), line(1, 1), line(7, 5)];
-    let drops = reply(alloc, &report, &table)?;
+    let drops = reply(alloc, &report, table)?;
     Ok(is_dropped(&drops, &[(1, 0), (7, 5)]))
+}
+
+fn answers_report(alloc: Global) -> Result<bool, CellFault> {
+    let mut table = Table::new(alloc);
+    let is_right = drops_two(alloc, &mut table);
+    drop(table);
+    is_right
 }
 
 /// An older replica and an unknown one are dropped, in the order of the report, and a current one isn't.
@@ -316,11 +327,20 @@ fn hide_two(alloc: Global, names: &mut Namespace<Global>) -> Result<(), CellFaul
     )
 }
 
+fn count_expired(
+    alloc: Global,
+    names: &mut Namespace<Global>,
+    now: u64,
+) -> Result<usize, CellFault> {
+    hide_two(alloc, names)?;
+    Ok(expired(alloc, names, Moment(now), 10)?.len())
+}
+
 fn expire(alloc: Global, now: u64) -> Result<usize, CellFault> {
     let mut names = Trie::new(alloc)?;
-    hide_two(alloc, &mut names)?;
-    let files = expired(alloc, &names, Moment(now), 10)?;
-    Ok(files.len())
+    let count = count_expired(alloc, &mut names, now);
+    drop(names);
+    count
 }
 
 /// A hidden file goes once it was kept long enough, and none behind one that stays.

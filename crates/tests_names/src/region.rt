@@ -249,32 +249,46 @@ fn count_copy(counts: &mut RegionCounts, copied: Option<Copied>) {
 fn first_unlike<A: Allocator + Clone>(
     alloc: Global,
     trie: &mut Trie<u64, A>,
+    plain: &mut BTreeMap<String, u64>,
     counts: &mut RegionCounts,
     calls: u64,
 ) -> Result<Option<u64>, Fail> {
     let mut seed = 7;
-    let mut plain = BTreeMap::new(alloc);
     for step in 0..calls {
-        let is_alike = call_drawn(alloc, &mut seed, trie, &mut plain, counts, step)?;
-        if !is_alike || (step % 50 == 0 && !are_alike(alloc, trie, &plain)?) {
+        let is_alike = call_drawn(alloc, &mut seed, trie, plain, counts, step)?;
+        if !is_alike || (step % 50 == 0 && !are_alike(alloc, trie, plain)?) {
             return Ok(Some(step));
         }
     }
     Ok(None)
 }
 
+// The same of 20,000 calls in the heap. What owns names has few ways out, and calls `drop` there: a drop at the end of a scope is proved anew at each place.
+fn first_unlike_in(
+    alloc: Global,
+    heap: &LocalHeap,
+    counts: &mut RegionCounts,
+) -> Result<Option<u64>, Fail> {
+    let mut trie = Trie::new(heap)?;
+    let mut plain = BTreeMap::new(alloc);
+    let step = first_unlike(alloc, &mut trie, &mut plain, counts, 20_000);
+    drop(trie);
+    drop(plain);
+    step
+}
+
 #[test]
 fn random_calls(rt: HostRuntime) -> Result<(), Fail> {
     let alloc = rt.alloc();
     let heap = LocalHeap::new(alloc, 16_384)?;
-    let mut trie = Trie::new(&heap)?;
     let mut counts = RegionCounts {
         refused: 0,
         copied: 0,
         refused_copies: 0,
     };
-    let step = first_unlike(alloc, &mut trie, &mut counts, 20_000)?.unwrap_or(20_000);
-    assert!(rt; step == 20_000, "{step}");
+    let step = first_unlike_in(alloc, &heap, &mut counts);
+    drop(heap);
+    assert_eq!(rt; step?, None);
     assert!(rt; counts.refused > 100, "{}", counts.refused);
     assert!(rt; counts.copied > 10, "{}", counts.copied);
     assert!(rt; counts.refused_copies > 10, "{}", counts.refused_copies);
@@ -352,15 +366,30 @@ fn met_copy(
     })
 }
 
+// The same once the names are put, if there is room for them.
+fn met_of(
+    alloc: Global,
+    heap: &LocalHeap,
+    trie: &mut Trie<u64, &LocalHeap>,
+    plain: &mut BTreeMap<String, u64>,
+    names: &[String],
+    to: &str,
+) -> Result<Met, Fail> {
+    match are_put(alloc, heap, trie, plain, names)? {
+        Some(true) => met_copy(alloc, heap, trie, plain, to),
+        Some(false) => Ok(Met::NoRoom),
+        None => Ok(Met::Wrong),
+    }
+}
+
 // A copy of `/d` at a path, in an empty region, which has at first room for the names alone.
 fn met_in(alloc: Global, heap: &LocalHeap, names: &[String], to: &str) -> Result<Met, Fail> {
     let mut trie = Trie::new(heap)?;
     let mut plain = BTreeMap::new(alloc);
-    match are_put(alloc, heap, &mut trie, &mut plain, names)? {
-        Some(true) => met_copy(alloc, heap, &mut trie, &mut plain, to),
-        Some(false) => Ok(Met::NoRoom),
-        None => Ok(Met::Wrong),
-    }
+    let met = met_of(alloc, heap, &mut trie, &mut plain, names, to);
+    drop(trie);
+    drop(plain);
+    met
 }
 
 // How often it is refused, in ever larger regions, before it is made; 0 where it never is, or something is wrong.
@@ -456,19 +485,32 @@ fn are_put_at_each_byte(
     Ok(true)
 }
 
-// A name at each byte of a path of 4,096 bytes, but where a part begins: as deep as names go.
-#[test]
-fn the_deepest_names_are_listed(rt: HostRuntime) -> Result<(), Fail> {
-    let alloc = rt.alloc();
-    let path = long(alloc, "", 16, "")?;
+// Whether a name at each byte of a path, but where a part begins, is put, and listed; how many there are.
+fn listed_at_each_byte(
+    alloc: Global,
+    trie: &mut Trie<u64, Global>,
+    plain: &mut BTreeMap<String, u64>,
+    path: &str,
+) -> Result<(bool, usize), Fail> {
+    let are_put = are_put_at_each_byte(alloc, trie, plain, path)?;
+    Ok((are_put && are_alike(alloc, trie, plain)?, plain.len()))
+}
+
+fn listed_in_new(alloc: Global, path: &str) -> Result<(bool, usize), Fail> {
     let mut trie = Trie::new(alloc)?;
     let mut plain = BTreeMap::new(alloc);
-    let are_put = are_put_at_each_byte(alloc, &mut trie, &mut plain, path.as_str())?;
-    let are_alike = are_alike(alloc, &trie, &plain)?;
-    assert!(rt; path.len() == 4_096);
-    assert!(rt; are_put);
-    assert!(rt; plain.len() == 4_080);
-    assert!(rt; are_alike);
+    let listed = listed_at_each_byte(alloc, &mut trie, &mut plain, path);
+    drop(trie);
+    drop(plain);
+    listed
+}
+
+// Of a path of 4,096 bytes: as deep as names go.
+#[test]
+fn the_deepest_names_are_listed(rt: HostRuntime) -> Result<(), Fail> {
+    let path = long(rt.alloc(), "", 16, "")?;
+    assert_eq!(rt; path.len(), 4_096);
+    assert_eq!(rt; listed_in_new(rt.alloc(), path.as_str())?, (true, 4_080));
     Ok(())
 }
 
@@ -525,22 +567,33 @@ fn filled(
 }
 
 // How many names a region takes, and takes again so many times with as many bytes; 0 where it doesn't.
-fn names_in_rounds(alloc: Global, heap: &LocalHeap, rounds: u64) -> Result<usize, Fail> {
-    let mut trie = Trie::new(heap)?;
-    let first = filled(alloc, &mut trie, heap)?;
+fn names_in_rounds(
+    alloc: Global,
+    trie: &mut Trie<u64, &LocalHeap>,
+    heap: &LocalHeap,
+    rounds: u64,
+) -> Result<usize, Fail> {
+    let first = filled(alloc, trie, heap)?;
     for _ in 0..rounds {
-        if filled(alloc, &mut trie, heap)? != first {
+        if filled(alloc, trie, heap)? != first {
             return Ok(0);
         }
     }
     Ok(first.map_or(0, |met| met.0))
 }
 
+fn names_in_heap(alloc: Global, heap: &LocalHeap) -> Result<usize, Fail> {
+    let mut trie = Trie::new(heap)?;
+    let count = names_in_rounds(alloc, &mut trie, heap, 1_000);
+    drop(trie);
+    count
+}
+
 #[test]
 fn a_thousand_rounds(rt: HostRuntime) -> Result<(), Fail> {
     let alloc = rt.alloc();
     let heap = LocalHeap::new(alloc, 2_048)?;
-    let count = names_in_rounds(alloc, &heap, 1_000)?;
+    let count = names_in_heap(alloc, &heap)?;
     assert!(rt; count > 12, "{count}");
     Ok(())
 }

@@ -52,22 +52,23 @@ fn at<A: Allocator + Clone>(
     Ok(trie.get(&path).copied())
 }
 
-fn one_file(alloc: Global, path: &Path) -> Result<Trie<u64, Global>, Fail> {
-    let mut trie = Trie::new(alloc)?;
-    if create(&mut trie, path, 7).is_err() {
-        return Err(Fail::new("it is not made"));
+// A new file's value, once it is another one.
+fn changed(trie: &mut Trie<u64, Global>, path: &Path) -> Option<u64> {
+    if create(trie, path, 7).is_err() || trie.insert(path, 50).is_err() {
+        return None;
     }
-    Ok(trie)
+    trie.get(path).copied()
 }
 
+// What owns a trie has few ways out, and calls `drop` there: a drop at the end of a scope is proved anew at each place.
 #[test]
 fn a_value_is_changed(rt: HostRuntime) -> Result<(), Fail> {
     let path = Path::parse(rt.alloc(), "/a")?;
-    let mut trie = one_file(rt.alloc(), &path)?;
-    if trie.insert(&path, 50).is_err() {
-        return Err(Fail::new("memory was refused"));
-    }
-    assert!(rt; trie.get(&path).copied() == Some(50));
+    let mut trie = Trie::new(rt.alloc())?;
+    let value = changed(&mut trie, &path);
+    drop(trie);
+    drop(path);
+    assert_eq!(rt; value, Some(50));
     Ok(())
 }
 
@@ -218,19 +219,49 @@ fn says_alike(
     )
 }
 
+// The first of the directories of which they say something else.
+fn first_said_otherwise(
+    alloc: Global,
+    trie: &Trie<u64, Global>,
+    map: &BTreeMap<String, u64>,
+) -> Result<Option<u64>, Fail> {
+    for number in 0..101 {
+        if !says_alike(alloc, trie, map, number)? {
+            return Ok(Some(number));
+        }
+    }
+    Ok(None)
+}
+
+/// What comes of ten thousand names in both maps: whether each call was answered alike, how many names are left, and the first file and the first directory of
+/// which they say something else.
+type Likeness = (bool, usize, Option<u64>, Option<u64>);
+
+fn likeness(
+    alloc: Global,
+    trie: &mut Trie<u64, Global>,
+    map: &mut BTreeMap<String, u64>,
+) -> Result<Likeness, Fail> {
+    let is_answered = ten_thousand(alloc, trie, map)?;
+    let file = first_other_value(alloc, trie, map)?;
+    let directory = first_said_otherwise(alloc, trie, map)?;
+    Ok((is_answered, trie.len(), file, directory))
+}
+
 #[test]
 fn like_a_map_of_ten_thousand(rt: HostRuntime) -> Result<(), Fail> {
     let alloc = rt.alloc();
     let mut trie = Trie::new(alloc)?;
     let mut map = BTreeMap::new(alloc);
-    assert!(rt; ten_thousand(alloc, &mut trie, &mut map)?);
+    let found = likeness(alloc, &mut trie, &mut map);
+    drop(trie);
+    drop(map);
+    let (is_answered, left, file, directory) = found?;
+    assert!(rt; is_answered);
     // 3,334 of them are multiples of three, and 66 more lie in `/d42`
-    assert!(rt; trie.len() == 6_600);
-    let file = first_other_value(alloc, &trie, &map)?.unwrap_or(10_000);
-    assert!(rt; file == 10_000, "file {file}");
-    for i in 0..101u64 {
-        assert!(rt; says_alike(alloc, &trie, &map, i)?, "/d{i}");
-    }
+    assert_eq!(rt; left, 6_600);
+    assert_eq!(rt; file, None);
+    assert_eq!(rt; directory, None);
     Ok(())
 }
 
@@ -294,18 +325,29 @@ struct Grown {
 }
 
 // None where a refused call changed the map, or a refused copy kept memory.
-fn grown_in(alloc: Global, heap: &LocalHeap) -> Result<Option<Grown>, Fail> {
-    let mut trie = Trie::new(heap)?;
-    let names = names_put(alloc, &mut trie)?;
-    let are_put = has_names(alloc, &trie, names, 0)?;
+fn grown_in(
+    alloc: Global,
+    trie: &mut Trie<u64, &LocalHeap>,
+    heap: &LocalHeap,
+) -> Result<Option<Grown>, Fail> {
+    let names = names_put(alloc, trie)?;
+    let are_put = has_names(alloc, trie, names, 0)?;
     let used = heap.used();
-    let is_copied = names == 8 && copied(alloc, &mut trie)?;
-    let is_well = has_names(alloc, &trie, names, if is_copied { 7 } else { 0 })?;
+    let is_copied = names == 8 && copied(alloc, trie)?;
+    let is_well = has_names(alloc, trie, names, if is_copied { 7 } else { 0 })?;
     Ok(if are_put && is_well && (is_copied || heap.used() == used) {
         Some(Grown { names, is_copied })
     } else {
         None
     })
+}
+
+// The same in a new map.
+fn grown_anew(alloc: Global, heap: &LocalHeap) -> Result<Option<Grown>, Fail> {
+    let mut trie = Trie::new(heap)?;
+    let grown = grown_in(alloc, &mut trie, heap);
+    drop(trie);
+    grown
 }
 
 // Heaps that grow by the least block, so that each allocation in turn is the first to be refused: those of eight names, and those of a copy of seven.
@@ -315,7 +357,7 @@ fn refused_memory_leaves_the_map(rt: HostRuntime) -> Result<(), Fail> {
     let (mut met, mut refused_copies, mut copies) = ([false; 9], 0u64, 0u64);
     for size in 1..200 {
         let heap = LocalHeap::new(alloc, size * 16)?;
-        let grown = grown_in(alloc, &heap)?;
+        let grown = grown_anew(alloc, &heap)?;
         assert!(rt; grown.is_some(), "heap {size}");
         if let Some(grown) = grown {
             met[grown.names.min(8)] = true;
@@ -332,16 +374,15 @@ fn refused_memory_leaves_the_map(rt: HostRuntime) -> Result<(), Fail> {
     Ok(())
 }
 
-// Three names, and the directory of two of them.
-fn three_names(alloc: Global) -> Result<(Trie<u64, Global>, Path), PathFault> {
-    let mut trie = Trie::new(alloc)?;
+// Puts three names.
+fn put_three(alloc: Global, trie: &mut Trie<u64, Global>) -> Result<(), PathFault> {
     for (text, value) in [("/b", 2), ("/a", 1), ("/a/c", 3)] {
         let path = Path::parse(alloc, text)?;
         if trie.insert(&path, value).is_err() {
             return Err(PathFault::NoMemory);
         }
     }
-    Ok((trie, Path::parse(alloc, "/")?))
+    Ok(())
 }
 
 // The values right below a directory that has two.
@@ -357,18 +398,36 @@ fn two_values(
     })
 }
 
+// The same of the root of three names, where a refused call is made again.
+fn root_values(alloc: Global, trie: &mut Trie<u64, Global>) -> Result<[u64; 2], PathFault> {
+    if put_three(alloc, trie).is_err() {
+        put_three(alloc, trie)?;
+    }
+    let root = match Path::parse(alloc, "/") {
+        Ok(root) => root,
+        Err(_) => Path::parse(alloc, "/")?,
+    };
+    let values = match two_values(alloc, trie, &root) {
+        Ok(values) => Ok(values),
+        Err(NoMemory) => two_values(alloc, trie, &root),
+    };
+    drop(root);
+    Ok(values?)
+}
+
+fn new_trie(alloc: Global) -> Result<Trie<u64, Global>, NoMemory> {
+    match Trie::new(alloc) {
+        Ok(trie) => Ok(trie),
+        Err(_) => Trie::new(alloc),
+    }
+}
+
 // It passes too where one allocation is refused, whichever that is (`tools/campaigns/refused`): a refused listing goes through when it is made again.
 #[test]
 fn a_refused_listing_is_made_again(rt: HostRuntime) -> Result<(), Fail> {
-    let alloc = rt.alloc();
-    let (trie, directory) = match three_names(alloc) {
-        Ok(names) => names,
-        Err(_) => three_names(alloc)?,
-    };
-    let values = match two_values(alloc, &trie, &directory) {
-        Ok(values) => values,
-        Err(NoMemory) => two_values(alloc, &trie, &directory)?,
-    };
-    assert!(rt; values == [1, 2]);
+    let mut trie = new_trie(rt.alloc())?;
+    let values = root_values(rt.alloc(), &mut trie);
+    drop(trie);
+    assert!(rt; values == Ok([1, 2]));
     Ok(())
 }

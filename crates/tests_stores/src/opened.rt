@@ -158,16 +158,8 @@ fn a_master_is_opened_over_the_disk_of_an_earlier_one(rt: HostRuntime) {
     assert!(rt; matches!(outlasts_a_stop(rt.alloc()), Ok(true)));
 }
 
-/// What a master over a disk that passes no more calls gives as the cause where it goes down in a step; none where it couldn't be opened.
-fn cause_of_failing(alloc: Global) -> Result<Option<DownCause>, NoMemory> {
-    let Some(disk) = new_disk(alloc) else {
-        return Ok(None);
-    };
-    let Some(first) = open_master(alloc, disk) else {
-        return Ok(None);
-    };
-    let mut master = first;
-    master.arm(0);
+/// What a master whose disk passes no more calls gives as the cause where it goes down in a step.
+fn cause_of_failing(master: &mut DiskMaster, alloc: Global) -> Result<Option<DownCause>, NoMemory> {
     let message = Message {
         number: 1,
         sender: Node::Client(ClientId(1)),
@@ -178,11 +170,27 @@ fn cause_of_failing(alloc: Global) -> Result<Option<DownCause>, NoMemory> {
             call: Call::Mkdir(Text::from_str("/d", alloc)?),
         },
     };
+    master.arm(0);
     let outcome = master.take_step(NOW, Some(&message));
+    drop(message);
     Ok(outcome.cause)
+}
+
+/// The same of a new one; none where it couldn't be opened.
+fn cause_of_new(alloc: Global) -> Result<Option<DownCause>, NoMemory> {
+    let Some(disk) = new_disk(alloc) else {
+        return Ok(None);
+    };
+    let Some(first) = open_master(alloc, disk) else {
+        return Ok(None);
+    };
+    let mut master = first;
+    let cause = cause_of_failing(&mut master, alloc);
+    drop(master);
+    cause
 }
 
 #[test]
 fn a_master_says_that_its_disk_failed(rt: HostRuntime) {
-    assert!(rt; matches!(cause_of_failing(rt.alloc()), Ok(Some(DownCause::Device))));
+    assert!(rt; matches!(cause_of_new(rt.alloc()), Ok(Some(DownCause::Device))));
 }

@@ -1,30 +1,30 @@
 //! Tests: what words of a command line set, refuse and show. Names and defaults are those of `docs/SCRIPT.md`.
 
-use command_line::command::{CommandFault, Request, Telling, parse};
+use command_line::command::{CommandFault, Request, parse};
 use gfs_types::config::Config;
 use script::options::Options;
 use std::alloc::{AllocError, Global};
+use std::fmt::Display;
+use std::io::{self, ErrorKind, Write};
 use std::test::Fail;
 
 /// Each setting's option and default.
-const SETTINGS: [(&str, u64); 16] = [
-    ("servers", 3),
-    ("clients", 1),
-    ("chunk", 1_048_576),
-    ("block", 65_536),
-    ("goal", 3),
-    ("lease-ms", 60_000),
-    ("skew-ms", 2_000),
-    ("attempt-ms", 5_000),
-    ("attempts", 5),
-    ("cache-entries", 256),
-    ("cache-ms", 60_000),
-    ("push-entries", 64),
-    ("keep-ms", 259_200_000),
-    ("slots", 32),
-    ("log-bytes", 16_777_216),
-    ("journal", 1_048_576),
-];
+const SETTINGS: &str = "servers 3\n\
+    clients 1\n\
+    chunk 1048576\n\
+    block 65536\n\
+    goal 3\n\
+    lease-ms 60000\n\
+    skew-ms 2000\n\
+    attempt-ms 5000\n\
+    attempts 5\n\
+    cache-entries 256\n\
+    cache-ms 60000\n\
+    push-entries 64\n\
+    keep-ms 259200000\n\
+    slots 32\n\
+    log-bytes 16777216\n\
+    journal 1048576\n";
 
 /// The settings in the order of the table.
 fn numbers(options: &Options) -> [u64; 16] {
@@ -64,18 +64,73 @@ fn numbers(options: &Options) -> [u64; 16] {
     ]
 }
 
-/// The defaults, with these settings changed.
-fn changed(changes: &[(&str, u64)]) -> [u64; 16] {
-    let mut numbers = [0; 16];
-    for (number, (name, default)) in numbers.iter_mut().zip(SETTINGS.as_slice()) {
-        *number = *default;
-        for (setting, value) in changes {
-            if setting == name {
-                *number = *value;
-            }
+/// A name and what is given by it, if anything is.
+fn write_given<W: Display>(text: &mut Vec<u8>, name: &str, given: &Option<W>) -> io::Result<()> {
+    match given {
+        Some(given) => write!(text, " {name} {given}"),
+        None => Ok(()),
+    }
+}
+
+/// The settings that aren't the defaults.
+fn write_settings(text: &mut Vec<u8>, options: &Options) -> io::Result<()> {
+    let numbers = numbers(options);
+    for (setting, number) in SETTINGS.lines().zip(numbers.as_slice()) {
+        let (name, default) = setting.split_once(' ').unwrap_or_default();
+        if default.parse::<u64>().ok() != Some(*number) {
+            write_given(text, name, &Some(*number))?;
         }
     }
-    numbers
+    Ok(())
+}
+
+/// What a command line asks for: the way, the file, all else that is given, and the settings that aren't the defaults; a text behind `shows`; or nothing.
+fn write_asked(text: &mut Vec<u8>, asked: &Result<Request, CommandFault>) -> io::Result<()> {
+    match asked {
+        Ok(
+            Request::Sim {
+                file,
+                names_heap,
+                options,
+            },
+        ) => {
+            write!(text, "sim {file}")?;
+            write_given(text, "names-heap", names_heap)?;
+            write_settings(text, options)
+        }
+        Ok(
+            Request::Live {
+                file,
+                keep,
+                told,
+                options,
+            },
+        ) => {
+            write!(text, "live {file}")?;
+            write_given(text, "keep", keep)?;
+            if told.progress {
+                write!(text, " progress")?;
+            }
+            write_given(text, "regions", &told.regions)?;
+            write_given(text, "history", &told.history)?;
+            write_settings(text, options)
+        }
+        Ok(
+            Request::Serve {
+                keep,
+                regions,
+                options,
+            },
+        ) => {
+            write!(text, "serve")?;
+            write_given(text, "keep", keep)?;
+            write_given(text, "regions", regions)?;
+            write_settings(text, options)
+        }
+        Ok(Request::Show(shown)) => write!(text, "shows {shown}"),
+        Err(CommandFault::Bad) => write!(text, "nothing"),
+        Err(CommandFault::NoMemory) => Err(io::Error::from(ErrorKind::OutOfMemory)),
+    }
 }
 
 /// The words of a command line, which one space separates.
@@ -87,316 +142,157 @@ fn words(alloc: Global, line: &str) -> Result<Vec<String>, AllocError> {
     Ok(words)
 }
 
-/// What a command line asks for: a script's file, the size of the names' region and the settings that aren't the defaults; the same of a cell with threads, that
-/// has no region, with how many entries of its journal stay, and whether progress is told; its file, the path whose regions are told and the file of its history;
-/// how many stay, the path whose regions are told, and the settings, of such a cell that is served; a text with these words in it; or nothing.
-#[derive(Clone, Copy)]
-enum Command<'a> {
-    Sim(&'a str, Option<u64>, &'a [(&'a str, u64)]),
-    Live(&'a str, Option<u64>, bool, &'a [(&'a str, u64)]),
-    Told(&'a str, Option<&'a str>, Option<&'a str>),
-    Serve(Option<u64>, Option<&'a str>, &'a [(&'a str, u64)]),
-    Shows(&'a str),
-    Nothing,
+/// Adds what a command line asks for.
+fn write_asked_by(text: &mut Vec<u8>, words: &[String], alloc: Global) -> io::Result<()> {
+    let asked = parse(alloc, words);
+    let written = write_asked(text, &asked);
+    drop(asked);
+    written
 }
 
-fn is_sim(file: &str, names_heap: Option<u64>, options: &Options, wanted: &Command) -> bool {
-    match wanted {
-        Command::Sim(name, heap, changes) => {
-            file == *name && names_heap == *heap && numbers(options) == changed(changes)
-        }
-        _ => false,
-    }
-}
-
-fn is_live(
-    file: &str,
-    keep: Option<u64>,
-    told: &Telling,
-    options: &Options,
-    wanted: &Command,
-) -> bool {
-    match wanted {
-        Command::Live(name, most, tells, changes) => {
-            file == *name
-                && keep == *most
-                && told.progress == *tells
-                && told.regions.is_none()
-                && told.history.is_none()
-                && numbers(options) == changed(changes)
-        }
-        Command::Told(name, regions, history) => {
-            file == *name
-                && keep.is_none()
-                && !told.progress
-                && is_word(told.regions, *regions)
-                && is_word(told.history, *history)
-                && numbers(options) == changed(&[])
-        }
-        _ => false,
-    }
-}
-
-/// Whether a word is given that is wanted, or neither is.
-fn is_word(given: Option<&str>, wanted: Option<&str>) -> bool {
-    match (given, wanted) {
-        (Some(word), Some(other)) => word == other,
-        (None, None) => true,
-        _ => false,
-    }
-}
-
-fn is_serve(keep: Option<u64>, regions: Option<&str>, options: &Options, wanted: &Command) -> bool {
-    match wanted {
-        Command::Serve(most, path, changes) => {
-            keep == *most && is_word(regions, *path) && numbers(options) == changed(changes)
-        }
-        _ => false,
-    }
-}
-
-fn shows(text: &str, wanted: &Command) -> bool {
-    match wanted {
-        Command::Shows(part) => text.contains(part),
-        _ => false,
-    }
-}
-
-/// Whether the request is the one that is wanted.
-fn is_request(request: &Request, wanted: &Command) -> bool {
-    match request {
-        Request::Sim {
-            file,
-            names_heap,
-            options,
-        } => is_sim(file, *names_heap, options, wanted),
-        Request::Live {
-            file,
-            keep,
-            told,
-            options,
-        } => is_live(file, *keep, told, options, wanted),
-        Request::Serve {
-            keep,
-            regions,
-            options,
-        } => is_serve(*keep, *regions, options, wanted),
-        Request::Show(text) => shows(text.as_str(), wanted),
-    }
-}
-
-/// Whether a command line asks for what is wanted.
-fn asks_for(alloc: Global, line: &str, wanted: &Command) -> Result<bool, AllocError> {
+/// Whether a command line asks for what is wanted, where some of a text that it shows is enough.
+fn asks_for(alloc: Global, line: &str, wanted: &str) -> Result<bool, Fail> {
     let words = words(alloc, line)?;
-    Ok(match parse(alloc, words.as_slice()) {
-        Ok(request) => {
-            let is_request = is_request(&request, wanted);
-            drop(request);
-            is_request
-        }
-        Err(CommandFault::Bad) => matches!(wanted, Command::Nothing),
-        Err(_) => false,
-    })
+    let mut text = Vec::new(alloc);
+    write_asked_by(&mut text, words.as_slice(), alloc)?;
+    let asked = str::from_utf8(text.as_slice())?;
+    Ok(
+        match (asked.strip_prefix("shows "), wanted.strip_prefix("shows ")) {
+            (Some(shown), Some(part)) => shown.contains(part),
+            _ => asked == wanted,
+        },
+    )
 }
 
-/// The first of these command lines that asks for something else.
-fn first_other<'a>(
-    alloc: Global,
-    lines: &[(&'a str, Command<'a>)],
-) -> Result<Option<&'a str>, AllocError> {
-    for (line, wanted) in lines {
+/// The first of these command lines that asks for something else than stands behind its arrow, or for anything where it has none.
+fn first_other(alloc: Global, lines: &'static str) -> Result<Option<&'static str>, Fail> {
+    for row in lines.lines() {
+        let (line, wanted) = row.split_once(" -> ").unwrap_or((row, "nothing"));
         if !asks_for(alloc, line, wanted)? {
-            return Ok(Some(*line));
+            return Ok(Some(row));
         }
     }
     Ok(None)
 }
 
+/// Whether the option of a setting sets it, and of the others the block alone, where it is the chunk's: the greatest power of two that divides 77 is 1.
+fn is_set(alloc: Global, name: &str) -> Result<bool, Fail> {
+    let line = format!(in alloc; "gfscell sim a.gfs --{name} 77")?;
+    let block = if name == "chunk" { " block 1" } else { "" };
+    let wanted = format!(in alloc; "sim a.gfs {name} 77{block}")?;
+    asks_for(alloc, line.as_str(), wanted.as_str())
+}
+
 #[test]
 fn sets_each_option(rt: HostRuntime) -> Result<(), Fail> {
-    let alloc = rt.alloc();
-    for (name, _) in SETTINGS {
-        let line = format!(in alloc; "gfscell sim a.gfs --{name} 77")?;
-        // the greatest power of two that divides 77 is 1
-        let both = [("chunk", 77), ("block", 1)];
-        let one = [(name, 77)];
-        let changes = if name == "chunk" {
-            both.as_slice()
-        } else {
-            one.as_slice()
-        };
-        let is_set = asks_for(alloc, line.as_str(), &Command::Sim("a.gfs", None, changes))?;
-        assert!(rt; is_set, "{line}");
+    for setting in SETTINGS.lines() {
+        let (name, _default) = setting.split_once(' ').unwrap_or_default();
+        assert!(rt; is_set(rt.alloc(), name)?, "{name}");
     }
     Ok(())
 }
 
 /// Command lines that ask for a region, for threads, or for settings together.
-const LINES: [(&str, Command); 21] = [
-    (
-        "gfscell sim a.gfs --names-heap 16384 --servers 5",
-        Command::Sim("a.gfs", Some(16_384), &[("servers", 5)]),
-    ),
-    (
-        "gfscell live a.live --servers 5",
-        Command::Live("a.live", None, false, &[("servers", 5)]),
-    ),
-    (
-        "gfscell live --progress a.live --servers 5",
-        Command::Live("a.live", None, true, &[("servers", 5)]),
-    ),
-    (
-        "gfscell live a.live --keep 100000",
-        Command::Live("a.live", Some(100_000), false, &[]),
-    ),
-    (
-        "gfscell live --keep=7 --progress a.live --servers 5",
-        Command::Live("a.live", Some(7), true, &[("servers", 5)]),
-    ),
-    (
-        "gfscell live a.live --regions /log --history h",
-        Command::Told("a.live", Some("/log"), Some("h")),
-    ),
-    (
-        "gfscell live --history=h a.live",
-        Command::Told("a.live", None, Some("h")),
-    ),
-    ("gfscell serve", Command::Serve(None, None, &[])),
-    (
-        "gfscell serve --clients 4 --slots 64",
-        Command::Serve(None, None, &[("clients", 4), ("slots", 64)]),
-    ),
-    (
-        "gfscell serve --keep 1000000 --clients 4",
-        Command::Serve(Some(1_000_000), None, &[("clients", 4)]),
-    ),
-    (
-        "gfscell serve --regions /log --clients 4",
-        Command::Serve(None, Some("/log"), &[("clients", 4)]),
-    ),
-    ("gfscell sim a.gfs", Command::Sim("a.gfs", None, &[])),
-    // the greatest power of two that divides the chunk and is at most 65,536
-    (
-        "gfscell sim a.gfs --chunk 64",
-        Command::Sim("a.gfs", None, &[("chunk", 64), ("block", 64)]),
-    ),
-    (
-        "gfscell sim a.gfs --chunk 48",
-        Command::Sim("a.gfs", None, &[("chunk", 48), ("block", 16)]),
-    ),
-    (
-        "gfscell sim a.gfs --chunk 131072",
-        Command::Sim("a.gfs", None, &[("chunk", 131_072)]),
-    ),
-    (
-        "gfscell sim a.gfs --chunk 64 --block 16",
-        Command::Sim("a.gfs", None, &[("chunk", 64), ("block", 16)]),
-    ),
-    // other forms
-    (
-        "gfscell sim --servers=007 a.gfs",
-        Command::Sim("a.gfs", None, &[("servers", 7)]),
-    ),
-    (
-        "gfscell sim a.gfs --servers 18446744073709551615",
-        Command::Sim("a.gfs", None, &[("servers", u64::MAX)]),
-    ),
-    (
-        "gfscell sim a.gfs --goal 4294967298",
-        Command::Sim("a.gfs", None, &[("goal", 4_294_967_295)]),
-    ),
-    ("gfscell sim -", Command::Sim("-", None, &[])),
-    ("gfscell sim -- -f", Command::Sim("-f", None, &[])),
-];
+const LINES: &str =
+    "gfscell sim a.gfs --names-heap 16384 --servers 5 -> sim a.gfs names-heap 16384 servers 5\n\
+    gfscell live a.live --servers 5 -> live a.live servers 5\n\
+    gfscell live --progress a.live --servers 5 -> live a.live progress servers 5\n\
+    gfscell live a.live --keep 100000 -> live a.live keep 100000\n\
+    gfscell live --keep=7 --progress a.live --servers 5 -> live a.live keep 7 progress servers 5\n\
+    gfscell live a.live --regions /log --history h -> live a.live regions /log history h\n\
+    gfscell live --history=h a.live -> live a.live history h\n\
+    gfscell serve -> serve\n\
+    gfscell serve --clients 4 --slots 64 -> serve clients 4 slots 64\n\
+    gfscell serve --keep 1000000 --clients 4 -> serve keep 1000000 clients 4\n\
+    gfscell serve --regions /log --clients 4 -> serve regions /log clients 4\n\
+    gfscell sim a.gfs -> sim a.gfs\n\
+    gfscell sim a.gfs --chunk 64 -> sim a.gfs chunk 64 block 64\n\
+    gfscell sim a.gfs --chunk 48 -> sim a.gfs chunk 48 block 16\n\
+    gfscell sim a.gfs --chunk 131072 -> sim a.gfs chunk 131072\n\
+    gfscell sim a.gfs --chunk 64 --block 16 -> sim a.gfs chunk 64 block 16\n\
+    gfscell sim --servers=007 a.gfs -> sim a.gfs servers 7\n\
+    gfscell sim a.gfs --servers 18446744073709551615 -> sim a.gfs servers 18446744073709551615\n\
+    gfscell sim a.gfs --goal 4294967298 -> sim a.gfs goal 4294967295\n\
+    gfscell sim - -> sim -\n\
+    gfscell sim -- -f -> sim -f\n";
 
+/// What is written of the defaults.
+fn defaults(alloc: Global) -> io::Result<Vec<u8>> {
+    let mut text = Vec::new(alloc);
+    write_settings(&mut text, &Options::default())?;
+    Ok(text)
+}
+
+// A block that isn't given is the greatest power of two that divides the chunk and is at most 65,536.
 #[test]
 fn sets_options_together(rt: HostRuntime) -> Result<(), Fail> {
-    let other = first_other(rt.alloc(), &LINES)?;
-    assert!(rt; other.is_none(), "{}", other.unwrap_or_default());
-    assert!(rt; numbers(&Options::default()) == changed(&[]));
+    assert_eq!(rt; first_other(rt.alloc(), LINES)?, None);
+    assert!(rt; defaults(rt.alloc())?.is_empty());
     Ok(())
 }
 
-const REFUSED: [(&str, Command); 44] = [
-    ("gfscell", Command::Nothing),
-    ("gfscell help", Command::Nothing),
-    ("gfscell live", Command::Nothing),
-    ("gfscell live a.live b.live", Command::Nothing),
-    ("gfscell serve a.live", Command::Nothing),
-    ("gfscell serve -", Command::Nothing),
-    ("gfscell serve --progress", Command::Nothing),
-    ("gfscell serve --names-heap 16384", Command::Nothing),
-    ("gfscell serve --clients x", Command::Nothing),
-    ("gfscell serve --keep", Command::Nothing),
-    ("gfscell serve --keep x", Command::Nothing),
-    ("gfscell serve --regions", Command::Nothing),
-    ("gfscell sim", Command::Nothing),
-    ("gfscell a.gfs", Command::Nothing),
-    ("gfscell sim a.gfs b.gfs", Command::Nothing),
-    ("gfscell sim a.gfs --fast", Command::Nothing),
-    ("gfscell live a.live --names-heap 16384", Command::Nothing),
-    ("gfscell sim a.gfs --progress", Command::Nothing),
-    ("gfscell sim a.gfs --keep 1000", Command::Nothing),
-    ("gfscell sim a.gfs --regions /log", Command::Nothing),
-    ("gfscell serve --history h", Command::Nothing),
-    ("gfscell live a.live --regions", Command::Nothing),
-    ("gfscell live a.live --keep", Command::Nothing),
-    ("gfscell live a.live --keep x", Command::Nothing),
-    (
-        "gfscell live a.live --keep 1000 --keep 1000",
-        Command::Nothing,
-    ),
-    ("gfscell live a.live --progress=1", Command::Nothing),
-    (
-        "gfscell live a.live --progress --progress",
-        Command::Nothing,
-    ),
-    ("gfscell sim a.gfs --names-heap 16k", Command::Nothing),
-    ("gfscell sim a.gfs --serv 3", Command::Nothing),
-    ("gfscell sim a.gfs -s 3", Command::Nothing),
-    ("gfscell sim a.gfs --servers", Command::Nothing),
-    ("gfscell sim a.gfs --servers ", Command::Nothing),
-    ("gfscell sim a.gfs --servers= ", Command::Nothing),
-    (
-        "gfscell sim a.gfs --servers 3 --servers 3",
-        Command::Nothing,
-    ),
-    ("gfscell sim a.gfs --servers -1", Command::Nothing),
-    ("gfscell sim a.gfs --servers +1", Command::Nothing),
-    ("gfscell sim a.gfs --servers 1.0", Command::Nothing),
-    ("gfscell sim a.gfs --servers 0x1", Command::Nothing),
-    ("gfscell sim a.gfs --servers 1k", Command::Nothing),
-    (
-        "gfscell sim a.gfs --servers 18446744073709551616",
-        Command::Nothing,
-    ),
-    ("gfscell sim a.gfs --chunk x", Command::Nothing),
-    ("gfscell sim a.gfs --block x", Command::Nothing),
-    ("gfscell sim a.gfs --journal x", Command::Nothing),
-    ("gfscell sim --version", Command::Nothing),
-];
+const REFUSED: &str = "gfscell\n\
+    gfscell help\n\
+    gfscell live\n\
+    gfscell live a.live b.live\n\
+    gfscell serve a.live\n\
+    gfscell serve -\n\
+    gfscell serve --progress\n\
+    gfscell serve --names-heap 16384\n\
+    gfscell serve --clients x\n\
+    gfscell serve --keep\n\
+    gfscell serve --keep x\n\
+    gfscell serve --regions\n\
+    gfscell sim\n\
+    gfscell a.gfs\n\
+    gfscell sim a.gfs b.gfs\n\
+    gfscell sim a.gfs --fast\n\
+    gfscell live a.live --names-heap 16384\n\
+    gfscell sim a.gfs --progress\n\
+    gfscell sim a.gfs --keep 1000\n\
+    gfscell sim a.gfs --regions /log\n\
+    gfscell serve --history h\n\
+    gfscell live a.live --regions\n\
+    gfscell live a.live --keep\n\
+    gfscell live a.live --keep x\n\
+    gfscell live a.live --keep 1000 --keep 1000\n\
+    gfscell live a.live --progress=1\n\
+    gfscell live a.live --progress --progress\n\
+    gfscell sim a.gfs --names-heap 16k\n\
+    gfscell sim a.gfs --serv 3\n\
+    gfscell sim a.gfs -s 3\n\
+    gfscell sim a.gfs --servers\n\
+    gfscell sim a.gfs --servers \n\
+    gfscell sim a.gfs --servers= \n\
+    gfscell sim a.gfs --servers 3 --servers 3\n\
+    gfscell sim a.gfs --servers -1\n\
+    gfscell sim a.gfs --servers +1\n\
+    gfscell sim a.gfs --servers 1.0\n\
+    gfscell sim a.gfs --servers 0x1\n\
+    gfscell sim a.gfs --servers 1k\n\
+    gfscell sim a.gfs --servers 18446744073709551616\n\
+    gfscell sim a.gfs --chunk x\n\
+    gfscell sim a.gfs --block x\n\
+    gfscell sim a.gfs --journal x\n\
+    gfscell sim --version\n";
 
 #[test]
 fn refuses_other_words(rt: HostRuntime) -> Result<(), Fail> {
-    let other = first_other(rt.alloc(), &REFUSED)?;
-    assert!(rt; other.is_none(), "{}", other.unwrap_or_default());
+    assert_eq!(rt; first_other(rt.alloc(), REFUSED)?, None);
     Ok(())
 }
 
-const SHOWN: [(&str, Command); 8] = [
-    ("gfscell --help", Command::Shows("sim")),
-    ("gfscell -h", Command::Shows("live")),
-    ("gfscell sim --help", Command::Shows("--lease-ms")),
-    ("gfscell sim a.gfs --help", Command::Shows("--journal")),
-    ("gfscell live --help", Command::Shows("--progress")),
-    ("gfscell serve --help", Command::Shows("--keep")),
-    ("gfscell --version", Command::Shows("gfscell 0.1.0")),
-    ("gfscell -V", Command::Shows("gfscell 0.1.0")),
-];
+const SHOWN: &str = "gfscell --help -> shows sim\n\
+    gfscell -h -> shows live\n\
+    gfscell sim --help -> shows --lease-ms\n\
+    gfscell sim a.gfs --help -> shows --journal\n\
+    gfscell live --help -> shows --progress\n\
+    gfscell serve --help -> shows --keep\n\
+    gfscell --version -> shows gfscell 0.1.0\n\
+    gfscell -V -> shows gfscell 0.1.0\n";
 
 #[test]
 fn shows_help(rt: HostRuntime) -> Result<(), Fail> {
-    let other = first_other(rt.alloc(), &SHOWN)?;
-    assert!(rt; other.is_none(), "{}", other.unwrap_or_default());
+    assert_eq!(rt; first_other(rt.alloc(), SHOWN)?, None);
     Ok(())
 }
