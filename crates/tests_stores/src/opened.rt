@@ -36,11 +36,13 @@ fn open_master(alloc: Global, disk: FuseDisk) -> Option<DiskMaster> {
         log_bytes: SIZE as u64,
         ..Config::default()
     };
-    if config.lease_ms > 3_600_000 || config.skew_ms > 60_000 {
-        return None;
-    }
     let size = disk.size();
-    if size < 4_096 || size > 1_073_741_824 {
+    if config.lease_ms > 3_600_000
+        || config.skew_ms > 60_000
+        || size < 4_096
+        || size > 1_073_741_824
+    {
+        drop(disk);
         return None;
     }
     Master::open(alloc, config, 3, disk, NOW, alloc).ok()
@@ -74,7 +76,9 @@ fn tell(master: &mut DiskMaster, body: Body) -> StepOut {
 /// What the master answers a client's message.
 fn ask(master: &mut DiskMaster, body: Body) -> Option<Answer> {
     let out = tell(master, body);
-    answer_in(&out)
+    let answer = answer_in(&out);
+    drop(out);
+    answer
 }
 
 /// What a changing call is answered.
