@@ -77,7 +77,7 @@ pub(crate) fn is_done(recorded: &Recorded) -> bool {
 
 /// A message comes once more.
 pub(crate) fn deliver(cell: &mut Recorded, number: u64) {
-    let _ = cell.step(Event::Deliver { number, now: NOW });
+    drop(cell.step(Event::Deliver { number, now: NOW }));
 }
 
 /// Whether a repeated Mutate is answered as before, and refused once its primary began again, though the Grant comes once more.
@@ -90,15 +90,17 @@ fn is_lost_for_good(alloc: Global) -> Result<bool, ScriptFault> {
     let mutate = next_number(&cell, 0, Wanted::Mutate);
     deliver(&mut cell, mutate);
     let was_done = is_done(&cell);
-    let _ = cell.step(Event::Restart {
+    drop(cell.step(Event::Restart {
         node: Node::Server(PRIMARY),
         now: NOW,
-    });
+    }));
     let sent = cell.message_count();
     deliver(&mut cell, grant);
     let is_passed_over = cell.message_count() == sent;
     deliver(&mut cell, mutate);
-    Ok(grant > 0 && mutate > 0 && was_done && is_passed_over && is_refused(&cell, Refusal::NoLease))
+    let is_lost = is_refused(&cell, Refusal::NoLease);
+    drop(cell);
+    Ok(grant > 0 && mutate > 0 && was_done && is_passed_over && is_lost)
 }
 
 #[test]

@@ -27,7 +27,9 @@ fn is_refused_as_old(alloc: Global) -> Result<bool, ScriptFault> {
     deliver(&mut cell, first);
     let is_old = is_refused(&cell, Refusal::OldRequest);
     deliver(&mut cell, second);
-    Ok(first > 0 && second > 0 && is_old && is_done(&cell))
+    let was_done = is_done(&cell);
+    drop(cell);
+    Ok(first > 0 && second > 0 && is_old && was_done)
 }
 
 #[test]

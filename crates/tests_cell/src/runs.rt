@@ -15,6 +15,7 @@ fn runs_alike(
 ) -> Result<bool, RunFault> {
     let answers = cell.world.run(alloc, recorded.events.as_slice())?;
     let is_same = answers.as_slice() == recorded.answers.as_slice();
+    drop(answers);
     Ok(is_same && cell.world.message_count() == recorded.message_count())
 }
 

@@ -52,12 +52,14 @@ fn two_ranges(alloc: Global) -> Result<Vec<RedoRange>, AllocError>
 
 // Opens the area, and makes the change.
 fn change<D: Disk>(alloc: Global, disk: &mut D) -> Result<(), DiskFault> {
-    let ranges = two_ranges(alloc)?;
     if disk.size() != 68 {
         return Err(DiskFault::Device);
     }
     open(alloc, disk, AREA)?;
-    commit(disk, AREA, &ranges)
+    let ranges = two_ranges(alloc)?;
+    let made = commit(disk, AREA, &ranges);
+    drop(ranges);
+    made
 }
 
 // Opens the area, and reads the first four bytes.
@@ -86,8 +88,12 @@ fn stopped_twice(
     second.arm(more);
     let _stopped = reopened(alloc, &mut second);
     let mut third = second.stop(torn_again);
-    let bytes = reopened(alloc, &mut third)?;
-    Ok(RunResult { done, bytes })
+    let bytes = reopened(alloc, &mut third);
+    drop(third);
+    Ok(RunResult {
+        done,
+        bytes: bytes?,
+    })
 }
 
 // What every way to stop comes to.

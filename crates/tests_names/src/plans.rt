@@ -134,7 +134,9 @@ fn commit_twice(
     let found = plan(alloc, names, table, &from, &to)?;
     let before = commit(&found, names, table, Moment(99));
     let after = commit(&found, names, table, Moment(100));
-    Ok((before, after, found.chunks().len()))
+    let chunks = found.chunks().len();
+    drop(found);
+    Ok((before, after, chunks))
 }
 
 fn take_in(

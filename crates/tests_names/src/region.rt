@@ -56,6 +56,7 @@ fn are_alike<A: Allocator + Clone>(
     for (entry, (name, value)) in entries.iter().zip(plain) {
         all = all && entry.name() == name.as_str() && entry.value() == value;
     }
+    drop(entries);
     Ok(all)
 }
 

@@ -36,11 +36,13 @@ fn open_master(alloc: Global, disk: FuseDisk) -> Option<DiskMaster> {
         log_bytes: SIZE as u64,
         ..Config::default()
     };
-    if config.lease_ms > 3_600_000 || config.skew_ms > 60_000 {
-        return None;
-    }
     let size = disk.size();
-    if size < 4_096 || size > 1_073_741_824 {
+    if config.lease_ms > 3_600_000
+        || config.skew_ms > 60_000
+        || size < 4_096
+        || size > 1_073_741_824
+    {
+        drop(disk);
         return None;
     }
     Master::open(alloc, config, 3, disk, NOW, alloc).ok()
@@ -74,7 +76,9 @@ fn tell(master: &mut DiskMaster, body: Body) -> StepOut {
 /// What the master answers a client's message.
 fn ask(master: &mut DiskMaster, body: Body) -> Option<Answer> {
     let out = tell(master, body);
-    answer_in(&out)
+    let answer = answer_in(&out);
+    drop(out);
+    answer
 }
 
 /// What a changing call is answered.
@@ -89,21 +93,22 @@ fn change(master: &mut DiskMaster, call_number: u64, call: Call) -> Option<Answe
     )
 }
 
-/// What a Mkdir is answered.
+/// Whether a Mkdir is done; none where it isn't answered.
 fn make(
     master: &mut DiskMaster,
     alloc: Global,
     call_number: u64,
     path: &str,
-) -> Result<Option<Answer>, NoMemory> {
+) -> Result<Option<bool>, NoMemory> {
     let call = Call::Mkdir(Text::from_str(path, alloc)?);
-    Ok(change(master, call_number, call))
-}
-
-/// What a first Create is answered.
-fn create(master: &mut DiskMaster, alloc: Global) -> Result<Option<Answer>, NoMemory> {
-    let call = Call::Create(Text::from_str("/f", alloc)?, None);
-    Ok(change(master, 1, call))
+    let answer = change(master, call_number, call);
+    let is_done = match &answer {
+        Some(Answer::Done) => Some(true),
+        Some(_) => Some(false),
+        None => None,
+    };
+    drop(answer);
+    Ok(is_done)
 }
 
 /// Whether the root lists just this name, beside the directory of deleted files.
@@ -116,13 +121,15 @@ fn lists_one(master: &mut DiskMaster, alloc: Global, name: &str) -> Result<bool,
             call,
         },
     );
-    Ok(match &listed {
+    let is_one = match &listed {
         Some(Answer::Names(names)) => match names.as_slice() {
             [deleted, one] => deleted.as_str() == ".gone/" && one.as_str() == name,
             _ => false,
         },
         _ => false,
-    })
+    };
+    drop(listed);
+    Ok(is_one)
 }
 
 /// Whether a Mkdir is answered, and none of which the disk takes no record, for which the master goes down.
@@ -130,7 +137,7 @@ fn makes_one_of_two(master: &mut DiskMaster, alloc: Global) -> Result<bool, NoMe
     let made = make(master, alloc, 1, "/d")?;
     master.arm(0);
     let lost = make(master, alloc, 2, "/e")?;
-    Ok(made == Some(Answer::Done) && lost.is_none() && !master.is_up())
+    Ok(made == Some(true) && lost.is_none() && !master.is_up())
 }
 
 /// Whether a directory that was answered is there once its master was opened again, and one that its disk took no record of isn't.

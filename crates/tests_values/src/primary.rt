@@ -29,5 +29,6 @@ fn a_mutation_is_settled_by_its_only_member(rt: HostRuntime) -> Result<(), Fail>
     let alloc = rt.alloc();
     let mut primary = alone(alloc)?;
     settles(&rt, alloc, &mut primary);
+    drop(primary);
     Ok(())
 }
