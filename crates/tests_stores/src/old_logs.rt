@@ -136,8 +136,11 @@ fn image(
 
 fn written(disk: MemDisk, image: &[u8]) -> Option<MemDisk> {
     let mut disk = disk;
-    let has_room = image.len() <= disk.size();
-    if has_room && disk.write_at(0, image).is_ok() && disk.sync().is_ok() {
+    if image.len() > disk.size() {
+        drop(disk);
+        return None;
+    }
+    if disk.write_at(0, image).is_ok() && disk.sync().is_ok() {
         return Some(disk);
     }
     drop(disk);

@@ -1,6 +1,6 @@
 //! Tests: what words of a command line set, refuse and show. Names and defaults are those of `docs/SCRIPT.md`.
 
-use command_line::command::{CommandFault, Request, parse};
+use command_line::command::{CommandFault, Request, Telling, parse};
 use gfs_types::config::Config;
 use script::options::Options;
 use std::alloc::{AllocError, Global};
@@ -84,52 +84,49 @@ fn write_settings(text: &mut Vec<u8>, options: &Options) -> io::Result<()> {
     Ok(())
 }
 
-/// What a command line asks for: the way, the file, all else that is given, and the settings that aren't the defaults; a text behind `shows`; or nothing.
-fn write_asked(text: &mut Vec<u8>, asked: &Result<Request, CommandFault>) -> io::Result<()> {
-    match asked {
-        Ok(
-            Request::Sim {
-                file,
-                names_heap,
-                options,
-            },
-        ) => {
+/// What is told of a run beside its answers.
+fn write_told(text: &mut Vec<u8>, told: &Telling) -> io::Result<()> {
+    if told.progress {
+        write!(text, " progress")?;
+    }
+    write_given(text, "regions", &told.regions)?;
+    write_given(text, "history", &told.history)
+}
+
+/// What is asked for: the way, the file, all else that is given, and the settings that aren't the defaults; or a text behind `shows`.
+fn write_request(text: &mut Vec<u8>, request: &Request) -> io::Result<()> {
+    match request {
+        Request::Sim {
+            file,
+            names_heap,
+            options,
+        } => {
             write!(text, "sim {file}")?;
             write_given(text, "names-heap", names_heap)?;
             write_settings(text, options)
         }
-        Ok(
-            Request::Live {
-                file,
-                keep,
-                told,
-                options,
-            },
-        ) => {
+        Request::Live {
+            file,
+            keep,
+            told,
+            options,
+        } => {
             write!(text, "live {file}")?;
             write_given(text, "keep", keep)?;
-            if told.progress {
-                write!(text, " progress")?;
-            }
-            write_given(text, "regions", &told.regions)?;
-            write_given(text, "history", &told.history)?;
+            write_told(text, told)?;
             write_settings(text, options)
         }
-        Ok(
-            Request::Serve {
-                keep,
-                regions,
-                options,
-            },
-        ) => {
+        Request::Serve {
+            keep,
+            regions,
+            options,
+        } => {
             write!(text, "serve")?;
             write_given(text, "keep", keep)?;
             write_given(text, "regions", regions)?;
             write_settings(text, options)
         }
-        Ok(Request::Show(shown)) => write!(text, "shows {shown}"),
-        Err(CommandFault::Bad) => write!(text, "nothing"),
-        Err(CommandFault::NoMemory) => Err(io::Error::from(ErrorKind::OutOfMemory)),
+        Request::Show(shown) => write!(text, "shows {shown}"),
     }
 }
 
@@ -142,10 +139,15 @@ fn words(alloc: Global, line: &str) -> Result<Vec<String>, AllocError> {
     Ok(words)
 }
 
-/// Adds what a command line asks for.
-fn write_asked_by(text: &mut Vec<u8>, words: &[String], alloc: Global) -> io::Result<()> {
+/// What a command line asks for, or `nothing`. What owns a request has one way out, and calls `drop` there: a drop at the end of a scope is proved anew at each
+/// place.
+fn write_asked(text: &mut Vec<u8>, alloc: Global, words: &[String]) -> io::Result<()> {
     let asked = parse(alloc, words);
-    let written = write_asked(text, &asked);
+    let written = match &asked {
+        Ok(request) => write_request(text, request),
+        Err(CommandFault::Bad) => write!(text, "nothing"),
+        Err(CommandFault::NoMemory) => Err(io::Error::from(ErrorKind::OutOfMemory)),
+    };
     drop(asked);
     written
 }
@@ -154,7 +156,7 @@ fn write_asked_by(text: &mut Vec<u8>, words: &[String], alloc: Global) -> io::Re
 fn asks_for(alloc: Global, line: &str, wanted: &str) -> Result<bool, Fail> {
     let words = words(alloc, line)?;
     let mut text = Vec::new(alloc);
-    write_asked_by(&mut text, words.as_slice(), alloc)?;
+    write_asked(&mut text, alloc, words.as_slice())?;
     let asked = str::from_utf8(text.as_slice())?;
     Ok(
         match (asked.strip_prefix("shows "), wanted.strip_prefix("shows ")) {
