@@ -78,10 +78,7 @@ fn reads_to(
     };
     let mut writer = Vec::new(alloc);
     let result = run_script(alloc, &small_cell(), &mut reader, &mut writer);
-    let is_printed = writer.as_slice() == expected.as_bytes();
-    drop(reader);
-    drop(writer);
-    result == end && is_printed
+    result == end && writer.as_slice() == expected.as_bytes()
 }
 
 #[test]
@@ -123,10 +120,9 @@ fn writes_to(
         seen: Vec::new(alloc),
     };
     let result = run_script(alloc, &small_cell(), &mut reader, &mut writer);
-    let is_printed = writer.seen.len() == count
-        && PRINTED.as_bytes().starts_with(writer.seen.as_slice());
-    drop(writer);
-    result == end && is_printed
+    result == end
+        && writer.seen.len() == count
+        && PRINTED.as_bytes().starts_with(writer.seen.as_slice())
 }
 
 /// The kinds of errors, and what the script's fault is then.

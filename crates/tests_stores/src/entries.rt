@@ -75,10 +75,7 @@ fn read<L: OperationLog>(log: &mut L) -> Result<[Option<u64>; 6], OperationLogFa
 
 fn entries_read(alloc: Global) -> Option<[Option<u64>; 6]> {
     let mut log = new_log(alloc)?;
-    if fill(&mut log).is_err() {
-        drop(log);
-        return None;
-    }
+    fill(&mut log).ok()?;
     let mut again = open_again(alloc, log)?;
     let found = read(&mut again);
     drop(again);

@@ -28,7 +28,6 @@ fn grow(alloc: Global, log: TestLog, record: &Record) -> Option<TestLog>
     }
     let mut again = open_again(alloc, log)?;
     if again.len() == before && again.append(record).is_err() {
-        drop(again);
         return None;
     }
     Some(again)
@@ -57,7 +56,6 @@ fn shrink(alloc: Global, log: TestLog, item: &Record) -> Option<TestLog>
     }
     let mut again = open_again(alloc, log)?;
     if checkpoint(&mut again, item).is_err() {
-        drop(again);
         return None;
     }
     Some(again)
@@ -76,9 +74,7 @@ fn go_on(alloc: Global, log: TestLog, record: &Record, item: &Record) -> Option<
     let after = log.len();
     let log = grow(alloc, log, record)?;
     let log = open_again(alloc, log)?;
-    let last = log.len();
-    drop(log);
-    Some([before, after, last])
+    Some([before, after, log.len()])
 }
 
 // A new log, made once more where memory was refused.
