@@ -186,7 +186,8 @@ def proved(shop, tests):
     tests.same('a changed definition', shop.run('sim', 'script.gfs'), (*UNPROVED, NOTE))
     put(shop.at('held'), '')
     other = shop.begun('prove')
-    while 'crates proved' not in other.stderr.readline():
+    # The proof has read the text once it tells of a crate.
+    while 'crates proved: 1' not in other.stderr.readline():
         pass
     shop.touch('crates/low/src/lib.rt')
     tests.same('a run beside a proof', shop.run('sim', 'script.gfs')[:2], UNPROVED)
