@@ -96,7 +96,7 @@ fn append_and_read<R: Threads + Wait + Clock + Print + Sync>(
     Ok(())
 }
 
-/// Makes the clients of a cell, producers and a reader, and runs them.
+/// Makes the clients of a cell, producers and a reader, runs them, and lets them go.
 fn run_clients<R: Threads + Wait + Clock + Print + Sync>(
     rt: &R,
     alloc: Global,
@@ -104,7 +104,10 @@ fn run_clients<R: Threads + Wait + Clock + Print + Sync>(
 ) -> Result<()> {
     let mut producers = new_producers(alloc, cell)?;
     let mut reader = cell.client()?;
-    append_and_read(rt, alloc, &mut producers, &mut reader)
+    let outcome = append_and_read(rt, alloc, &mut producers, &mut reader);
+    drop(reader);
+    drop(producers);
+    outcome
 }
 
 /// Runs them in a cell, closes it, and prints how many appends its journal answers.
@@ -118,6 +121,7 @@ pub fn append_side_by_side<R: Threads + Wait + Clock + Print + Copy + Send + Syn
     let answered = (0..journal.len())
         .filter(|place| answers_append(&journal, *place))
         .count();
+    drop(journal);
     println!(rt; "the journal answers {answered} appends")?;
     Ok(())
 }
