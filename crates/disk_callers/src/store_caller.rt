@@ -3,8 +3,8 @@
 ghost use Rattle.std.specs.Prelude.{◌≡◌, ◌≤◌, ◌%◌, List, ℕ, false, true, length, IfOk, Some};
 ghost use Rattle.chunk_store.specs.Opening.{HoldsReplicas};
 ghost use Rattle.chunk_store.specs.Stores.{IsOpen};
-ghost use Rattle.replica_store.specs.Replicas.{ServerDisk, read_at};
 ghost use Rattle.disk_callers.specs.Stored.{with_one};
+ghost use Rattle.replica_store.specs.Replicas.{ServerDisk, read_at};
 ghost use Rattle.store_disk.specs.Formats.{is_head_open};
 
 use anyhow::{Error, Result};
