@@ -190,32 +190,51 @@ impl PlainCell {
         Ok(Some(part.len() as u64))
     }
 
-    /// A read, chunk by chunk, up to the first that has fewer bytes.
-    fn read(&mut self, fd: Fd, offset: u64, count: u64) -> Result<Answer, NoMemory> {
-        let (alloc, size) = (self.alloc, self.size);
-        let (first, mut start) = self.split(offset);
-        let Some(file) = self.file_mut(fd) else {
-            return Ok(Answer::Refused(Refusal::BadFd));
-        };
-        if Self::is_too_long(offset, count) {
-            return Ok(Answer::Refused(Refusal::TooLong));
-        }
-        let mut left = count;
-        let mut read = Vec::new(alloc);
-        let mut rounds = RoundList::empty(alloc);
+    /// Adds the bytes of a range, chunk by chunk, up to the first that has fewer, and gives how many chunks have some.
+    fn read_parts(
+        file: &mut PlainFile,
+        size: u64,
+        (first, start): (u64, u64),
+        count: u64,
+        read: &mut Vec<u8>,
+    ) -> Result<usize, NoMemory> {
+        let (mut start, mut left, mut parts) = (start, count, 0usize);
         for index in first..first.saturating_add(MOST_PARTS) {
             let wanted = size.saturating_sub(start).min(left);
-            let Some(found) = Self::read_part(file, index, start, wanted, &mut read)? else {
+            let Some(found) = Self::read_part(file, index, start, wanted, read)? else {
                 break;
             };
-            rounds.push(1)?;
+            parts = parts.saturating_add(1);
             left = left.saturating_sub(wanted);
             if found < wanted {
                 break;
             }
             start = 0;
         }
-        let bytes = Bytes::copy_from_slice(alloc, read.as_slice())?;
-        Ok(Answer::Bytes { bytes, rounds })
+        Ok(parts)
+    }
+
+    /// A read. Of each chunk that has some of the bytes the round is 1.
+    fn read(&mut self, fd: Fd, offset: u64, count: u64) -> Result<Answer, NoMemory> {
+        let (alloc, size, from) = (self.alloc, self.size, self.split(offset));
+        let Some(file) = self.file_mut(fd) else {
+            return Ok(Answer::Refused(Refusal::BadFd));
+        };
+        if Self::is_too_long(offset, count) {
+            return Ok(Answer::Refused(Refusal::TooLong));
+        }
+        // what owns bytes has few ways out: a drop at the end of a scope is proved anew at each place
+        let mut read = Vec::new(alloc);
+        let parts = Self::read_parts(file, size, from, count, &mut read);
+        let bytes = Bytes::copy_from_slice(alloc, read.as_slice());
+        drop(read);
+        let rounds = RoundList::new(vec![in alloc; 1; parts?]?);
+        match bytes {
+            Ok(bytes) => Ok(Answer::Bytes { bytes, rounds }),
+            Err(_) => {
+                drop(rounds);
+                Err(NoMemory)
+            }
+        }
     }
 }

@@ -17,7 +17,7 @@ fn begins_again(alloc: Global) -> Result<bool, ScriptFault> {
         node: Node::Server(ServerId(1)),
         now: Moment(5_000),
     };
-    let _ = world.step(tick);
+    drop(world.step(tick));
     let sent = world.message_count();
     let Err((world, fault)) = world.rebase(Moment(2_999)) else {
         return Ok(false);
