@@ -28,21 +28,21 @@ fn has_sent_alone(out: StepOut, count: usize) -> bool {
 }
 
 /// Whether a call that comes while another is open is passed over: its moment counts for nothing, and the other one stays open.
-fn passes_over(client: &mut Client, path: Text) -> bool {
+fn passes_over(alloc: Global, client: &mut Client) -> Result<bool, NoMemory> {
+    let path = Text::from_str("/f", alloc)?;
     let opens = has_sent_alone(client.call(Moment(5), Call::Open(path)), 1);
     let closes = has_sent_alone(client.call(Moment(9), Call::Close(Fd(1))), 0);
     let stays = !client.may_call() && client.now().0 == 5;
     let ticks = has_sent_alone(client.step(Moment(9), NodeInput::Tick), 0);
     let goes_on = !client.may_call() && client.now().0 == 9;
-    opens && closes && stays && ticks && goes_on
+    Ok(opens && closes && stays && ticks && goes_on)
 }
 
 fn is_passed_over(alloc: Global) -> Result<bool, NoMemory> {
-    let path = Text::from_str("/f", alloc)?;
     let mut client = new_client(alloc)?;
-    let is_passed_over = passes_over(&mut client, path);
+    let is_passed_over = passes_over(alloc, &mut client);
     drop(client);
-    Ok(is_passed_over)
+    is_passed_over
 }
 
 /// Whether a call on a descriptor that isn't open is answered in its own step, and the next call may come.

@@ -144,10 +144,15 @@ pub(crate) fn record_row(alloc: Global, row: &Row) -> Result<Option<Recorded>, S
     let mut simulator = Simulator::new(alloc, recorded);
     let prints = prints(alloc, &mut simulator, row);
     let Simulator { cell, .. } = simulator;
-    if prints == Ok(true) {
-        return Ok(Some(cell));
+    match prints {
+        Ok(true) => Ok(Some(cell)),
+        Ok(false) => {
+            drop(cell);
+            Ok(None)
+        }
+        Err(fault) => {
+            drop(cell);
+            Err(fault)
+        }
     }
-    drop(cell);
-    prints?;
-    Ok(None)
 }
