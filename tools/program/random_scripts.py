@@ -103,7 +103,6 @@ class CallSource:
         return bytes(self.chance.choices(PRINTABLE, k=length))
 
 
-
 def word_of(given):
     """The word of a script for a path, a number or data: of these more than three equal bytes, or none, in the short form."""
     if not isinstance(given, bytes):
