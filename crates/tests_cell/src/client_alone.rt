@@ -19,34 +19,42 @@ fn new_client(alloc: Global) -> Result<Client, NoMemory> {
     Client::new(alloc, config, ClientId(1))
 }
 
-/// Whether a step sent so many messages, and neither answered a call nor put its client down.
-fn has_sent_alone(out: &StepOut, count: usize) -> bool {
-    out.sent.len() == count && out.answer.is_none() && !out.down
+/// Whether a step sent so many messages, and neither answered a call nor put its client down. What owns a step's outcome calls `drop`: a drop at the end of a
+/// scope is proved anew at each place.
+fn has_sent_alone(out: StepOut, count: usize) -> bool {
+    let has_sent = out.sent.len() == count && out.answer.is_none() && !out.down;
+    drop(out);
+    has_sent
 }
 
 /// Whether a call that comes while another is open is passed over: its moment counts for nothing, and the other one stays open.
+fn passes_over(alloc: Global, client: &mut Client) -> Result<bool, NoMemory> {
+    let path = Text::from_str("/f", alloc)?;
+    let opens = has_sent_alone(client.call(Moment(5), Call::Open(path)), 1);
+    let closes = has_sent_alone(client.call(Moment(9), Call::Close(Fd(1))), 0);
+    let stays = !client.may_call() && client.now().0 == 5;
+    let ticks = has_sent_alone(client.step(Moment(9), NodeInput::Tick), 0);
+    let goes_on = !client.may_call() && client.now().0 == 9;
+    Ok(opens && closes && stays && ticks && goes_on)
+}
+
 fn is_passed_over(alloc: Global) -> Result<bool, NoMemory> {
     let mut client = new_client(alloc)?;
-    let opens = client.call(Moment(5), Call::Open(Text::from_str("/f", alloc)?));
-    let closes = client.call(Moment(9), Call::Close(Fd(1)));
-    let stays = !client.may_call() && client.now().0 == 5;
-    let ticks = client.step(Moment(9), NodeInput::Tick);
-    let goes_on = !client.may_call() && client.now().0 == 9;
-    Ok(
-        has_sent_alone(&opens, 1)
-            && has_sent_alone(&closes, 0)
-            && stays
-            && has_sent_alone(&ticks, 0)
-            && goes_on,
-    )
+    let is_passed_over = passes_over(alloc, &mut client);
+    drop(client);
+    is_passed_over
 }
 
 /// Whether a call on a descriptor that isn't open is answered in its own step, and the next call may come.
 fn is_refused_at_once(alloc: Global) -> Result<bool, NoMemory> {
     let mut client = new_client(alloc)?;
     let out = client.call(Moment(1), Call::Length(Fd(7)));
-    let is_refused = matches!(out.answer, Some(Answer::Refused(Refusal::BadFd)));
-    Ok(is_refused && out.sent.len() == 0 && client.may_call())
+    let is_refused = matches!(&out.answer, Some(Answer::Refused(Refusal::BadFd)));
+    let has_sent = out.sent.len() > 0;
+    let may_call = client.may_call();
+    drop(out);
+    drop(client);
+    Ok(is_refused && !has_sent && may_call)
 }
 
 /// Whether a client that is down takes neither a call nor a tick.
@@ -55,14 +63,11 @@ fn is_idle_when_down(alloc: Global) -> Result<bool, NoMemory> {
     let config = client.config();
     let id = client.id();
     client.stops(config, id);
-    let out = client.call(Moment(1), Call::Close(Fd(1)));
-    let ticks = client.step(Moment(1), NodeInput::Tick);
-    Ok(
-        has_sent_alone(&out, 0)
-            && has_sent_alone(&ticks, 0)
-            && !client.is_up()
-            && client.now().0 == 0,
-    )
+    let calls = has_sent_alone(client.call(Moment(1), Call::Close(Fd(1))), 0);
+    let ticks = has_sent_alone(client.step(Moment(1), NodeInput::Tick), 0);
+    let is_idle = !client.is_up() && client.now().0 == 0;
+    drop(client);
+    Ok(calls && ticks && is_idle)
 }
 
 #[test]

@@ -78,7 +78,10 @@ fn reads_to(
     };
     let mut writer = Vec::new(alloc);
     let result = run_script(alloc, &small_cell(), &mut reader, &mut writer);
-    result == end && writer.as_slice() == expected.as_bytes()
+    let is_printed = writer.as_slice() == expected.as_bytes();
+    drop(reader);
+    drop(writer);
+    result == end && is_printed
 }
 
 #[test]
@@ -120,9 +123,10 @@ fn writes_to(
         seen: Vec::new(alloc),
     };
     let result = run_script(alloc, &small_cell(), &mut reader, &mut writer);
-    result == end
-        && writer.seen.len() == count
-        && PRINTED.as_bytes().starts_with(writer.seen.as_slice())
+    let is_printed = writer.seen.len() == count
+        && PRINTED.as_bytes().starts_with(writer.seen.as_slice());
+    drop(writer);
+    result == end && is_printed
 }
 
 /// The kinds of errors, and what the script's fault is then.

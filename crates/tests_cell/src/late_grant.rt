@@ -21,7 +21,7 @@ const RECORD: Row = Row {
 const PRIMARY: ServerId = ServerId(1);
 
 /// The moment of all these events.
-pub(crate) const NOW: Moment = Moment(0);
+const NOW: Moment = Moment(0);
 
 /// A kind of message to the primary.
 #[derive(Clone, Copy)]
@@ -75,6 +75,11 @@ pub(crate) fn is_done(recorded: &Recorded) -> bool {
     }
 }
 
+/// A message comes once more.
+pub(crate) fn deliver(cell: &mut Recorded, number: u64) {
+    drop(cell.step(Event::Deliver { number, now: NOW }));
+}
+
 /// Whether a repeated Mutate is answered as before, and refused once its primary began again, though the Grant comes once more.
 fn is_lost_for_good(alloc: Global) -> Result<bool, ScriptFault> {
     let Some(recorded) = record_row(alloc, &RECORD)? else {
@@ -83,25 +88,19 @@ fn is_lost_for_good(alloc: Global) -> Result<bool, ScriptFault> {
     let mut cell = recorded;
     let grant = next_number(&cell, 0, Wanted::Grant);
     let mutate = next_number(&cell, 0, Wanted::Mutate);
-    let repeat = Event::Deliver {
-        number: mutate,
-        now: NOW,
-    };
-    let again = repeat.copy(alloc)?;
-    let _ = cell.step(repeat);
+    deliver(&mut cell, mutate);
     let was_done = is_done(&cell);
-    let _ = cell.step(Event::Restart {
+    drop(cell.step(Event::Restart {
         node: Node::Server(PRIMARY),
         now: NOW,
-    });
+    }));
     let sent = cell.message_count();
-    let _ = cell.step(Event::Deliver {
-        number: grant,
-        now: NOW,
-    });
+    deliver(&mut cell, grant);
     let is_passed_over = cell.message_count() == sent;
-    let _ = cell.step(again);
-    Ok(grant > 0 && mutate > 0 && was_done && is_passed_over && is_refused(&cell, Refusal::NoLease))
+    deliver(&mut cell, mutate);
+    let is_lost = is_refused(&cell, Refusal::NoLease);
+    drop(cell);
+    Ok(grant > 0 && mutate > 0 && was_done && is_passed_over && is_lost)
 }
 
 #[test]

@@ -2,29 +2,17 @@
 #![tactic(auto)]
 
 #[cfg(test)]
-mod chunk;
-#[cfg(test)]
 mod client_alone;
-#[cfg(test)]
-mod counts;
 #[cfg(test)]
 mod failing;
 #[cfg(test)]
-mod file;
-#[cfg(test)]
 mod late_grant;
-#[cfg(test)]
-mod lines;
-#[cfg(test)]
-mod model;
 #[cfg(test)]
 mod nul;
 #[cfg(test)]
 mod old_request;
 #[cfg(test)]
 mod outcome;
-#[cfg(test)]
-mod random;
 #[cfg(test)]
 mod rebased;
 #[cfg(test)]
@@ -41,10 +29,6 @@ mod restarts;
 mod rows;
 #[cfg(test)]
 mod runs;
-#[cfg(test)]
-mod small;
-#[cfg(test)]
-mod source;
 #[cfg(test)]
 mod starts;
 #[cfg(test)]

@@ -1,11 +1,9 @@
 //! A Mutate that a primary gets again behind a later one of its client.
 
-use crate::late_grant::{NOW, Wanted, is_done, is_refused, next_number};
+use crate::late_grant::{Wanted, deliver, is_done, is_refused, next_number};
 use crate::recorded::record_row;
 use crate::rows::Row;
-use cell_simulator::cell::SimulatedCell;
 use gfs_types::refusal::Refusal;
-use messages::event::Event;
 use script::script_fault::ScriptFault;
 use std::alloc::Global;
 
@@ -26,16 +24,12 @@ fn is_refused_as_old(alloc: Global) -> Result<bool, ScriptFault> {
     let mut cell = recorded;
     let first = next_number(&cell, 0, Wanted::Mutate);
     let second = next_number(&cell, first, Wanted::Mutate);
-    let _ = cell.step(Event::Deliver {
-        number: first,
-        now: NOW,
-    });
+    deliver(&mut cell, first);
     let is_old = is_refused(&cell, Refusal::OldRequest);
-    let _ = cell.step(Event::Deliver {
-        number: second,
-        now: NOW,
-    });
-    Ok(first > 0 && second > 0 && is_old && is_done(&cell))
+    deliver(&mut cell, second);
+    let was_done = is_done(&cell);
+    drop(cell);
+    Ok(first > 0 && second > 0 && is_old && was_done)
 }
 
 #[test]

@@ -17,16 +17,20 @@ fn begins_again(alloc: Global) -> Result<bool, ScriptFault> {
         node: Node::Server(ServerId(1)),
         now: Moment(5_000),
     };
-    let _ = world.step(tick);
+    drop(world.step(tick));
     let sent = world.message_count();
-    let Err((world, fault)) = world.rebase(Moment(2_999)) else {
-        return Ok(false);
+    let (world, is_refused) = match world.rebase(Moment(2_999)) {
+        Err((world, fault)) => (world, fault == RebaseFault::Clock),
+        Ok(world) => (world, false),
     };
-    let is_kept = fault == RebaseFault::Clock && sent > 0 && world.message_count() == sent;
-    let Ok(world) = world.rebase(Moment(3_000)) else {
-        return Ok(false);
+    let is_kept = is_refused && sent > 0 && world.message_count() == sent;
+    let (world, is_done) = match world.rebase(Moment(3_000)) {
+        Ok(world) => (world, true),
+        Err((world, _)) => (world, false),
     };
-    Ok(is_kept && world.message_count() == 0)
+    let is_empty = is_done && world.message_count() == 0;
+    drop(world);
+    Ok(is_kept && is_empty)
 }
 
 #[test]

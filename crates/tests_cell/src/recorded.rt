@@ -113,6 +113,25 @@ impl Recorded {
     }
 }
 
+/// Whether a row's script prints what it has to, and there was memory for all that is kept.
+fn prints(
+    alloc: Global,
+    simulator: &mut Simulator<Recorded>,
+    row: &Row,
+) -> Result<bool, ScriptFault> {
+    let mut reader = row.script.as_bytes();
+    let mut printed = Vec::new(alloc);
+    let end = run_lines(alloc, simulator, &mut reader, &mut printed);
+    let is_printed = printed.as_slice() == row.printed.as_bytes();
+    drop(printed);
+    end?;
+    if simulator.cell.is_whole {
+        Ok(is_printed)
+    } else {
+        Err(ScriptFault::NoMemory)
+    }
+}
+
 /// The events of a row's script, and their answers. None where it doesn't print what it has to.
 pub(crate) fn record_row(alloc: Global, row: &Row) -> Result<Option<Recorded>, ScriptFault> {
     let cell = new_cell(alloc, alloc, &row.options())?;
@@ -123,16 +142,17 @@ pub(crate) fn record_row(alloc: Global, row: &Row) -> Result<Option<Recorded>, S
         is_whole: true,
     };
     let mut simulator = Simulator::new(alloc, recorded);
-    let mut reader = row.script.as_bytes();
-    let mut printed = Vec::new(alloc);
-    run_lines(alloc, &mut simulator, &mut reader, &mut printed)?;
+    let prints = prints(alloc, &mut simulator, row);
     let Simulator { cell, .. } = simulator;
-    if !cell.is_whole {
-        return Err(ScriptFault::NoMemory);
-    }
-    if printed.as_slice() == row.printed.as_bytes() {
-        Ok(Some(cell))
-    } else {
-        Ok(None)
+    match prints {
+        Ok(true) => Ok(Some(cell)),
+        Ok(false) => {
+            drop(cell);
+            Ok(None)
+        }
+        Err(fault) => {
+            drop(cell);
+            Err(fault)
+        }
     }
 }

@@ -1,22 +1,33 @@
 //! Lists of events, with one allocation refused.
 
-use crate::recorded::record_row;
+use crate::recorded::{Recorded, record_row};
 use crate::rows::{MISSING_MEMBER, PAD, Row, SNAPSHOT};
 use crate::watched::Watched;
 use script::script_fault::ScriptFault;
 use std::alloc::Global;
 
-/// Whether each record that was answered to stand somewhere is read there, once all nodes but the clients began again. None: the
-/// script printed something else.
+/// Whether each record that was answered to stand somewhere is read there, once the events came and all nodes but the clients began again.
+fn are_kept(watched: &mut Watched, recorded: &Recorded, row: &Row) -> Result<bool, ScriptFault> {
+    watched.take_all(recorded.events.as_slice())?;
+    Ok(watched.faults == 0 && is_found(watched, row)?)
+}
+
+/// The same on a cell of its own, which has few ways out: a drop at the end of a scope is proved anew at each place.
+fn are_kept_anew(alloc: Global, recorded: &Recorded, row: &Row) -> Result<bool, ScriptFault> {
+    let mut watched = Watched::new(alloc, row)?;
+    let are_kept = are_kept(&mut watched, recorded, row);
+    drop(watched);
+    are_kept
+}
+
+/// The same of the events of a row. None: the script printed something else.
 fn keeps_records(alloc: Global, row: &Row) -> Result<Option<bool>, ScriptFault> {
     let Some(recorded) = record_row(alloc, row)? else {
         return Ok(None);
     };
-    let mut watched = Watched::new(alloc, row)?;
-    for event in recorded.events.as_slice() {
-        watched.take(event.copy(alloc)?)?;
-    }
-    Ok(Some(watched.faults == 0 && is_found(&mut watched, row)?))
+    let are_kept = are_kept_anew(alloc, &recorded, row);
+    drop(recorded);
+    Ok(Some(are_kept?))
 }
 
 /// Whether each record is read, the second time where memory was refused the first time.

@@ -10,7 +10,6 @@ use std::alloc::Global;
 /// How many records were answered to stand somewhere where the master begins again after so many events. None: an append has no answer,
 /// or one that none may have, two records are to stand at one place, or one isn't read back.
 fn records_of(
-    alloc: Global,
     row: &Row,
     recorded: &Recorded,
     place: usize,
@@ -20,13 +19,9 @@ fn records_of(
         .events
         .as_slice()
         .split_at(place.min(recorded.events.len()));
-    for event in before {
-        watched.take(event.copy(alloc)?)?;
-    }
+    watched.take_all(before)?;
     watched.restart(Node::Master)?;
-    for event in after {
-        watched.take(event.copy(alloc)?)?;
-    }
+    watched.take_all(after)?;
     let is_over = watched.go_on()?;
     let count = watched.count();
     let are_found = watched.finds_all(row.path)?;
@@ -45,31 +40,45 @@ fn records_over(
     place: usize,
 ) -> Result<Option<usize>, ScriptFault> {
     let mut watched = Watched::new(alloc, row)?;
-    let count = records_of(alloc, row, recorded, place, &mut watched);
+    let count = records_of(row, recorded, place, &mut watched);
     drop(watched);
     count
 }
 
 /// The sum of these counts over restarts after every so many events, or the first place at which something is wrong.
-fn records_over_all(
+fn sum_of_records(
     alloc: Global,
     row: &Row,
+    recorded: &Recorded,
     every: usize,
 ) -> Result<Result<usize, usize>, ScriptFault> {
-    let Some(recorded) = record_row(alloc, row)? else {
-        return Ok(Err(0));
-    };
     let mut count: usize = 0;
     for place in 0..=recorded.events.len() {
         if !place.is_multiple_of(every) {
             continue;
         }
-        match records_over(alloc, row, &recorded, place)? {
+        match records_over(alloc, row, recorded, place)? {
             Some(found) => count = count.saturating_add(found),
             None => return Ok(Err(place)),
         }
     }
     Ok(Ok(count))
+}
+
+/// The same of the events of a row.
+fn records_over_all(
+    alloc: Global,
+    row: &Row,
+    every: usize,
+) -> Result<Result<usize, usize>, ScriptFault> {
+    match record_row(alloc, row)? {
+        Some(recorded) => {
+            let count = sum_of_records(alloc, row, &recorded, every);
+            drop(recorded);
+            count
+        }
+        None => Ok(Err(0)),
+    }
 }
 
 #[test]

@@ -12,7 +12,6 @@ use messages::event::Event;
 use script::script_fault::ScriptFault;
 use shell::making::{ScriptCell, new_cell};
 use std::alloc::Global;
-use std::mem;
 
 /// The client whose appends are watched, and the one that reads.
 const WRITER: ClientId = ClientId(1);
@@ -133,35 +132,59 @@ impl Watched {
         matches!(self.came.get(number as usize), Some(true))
     }
 
-    /// One event.
-    pub fn take(&mut self, event: Event) -> Result<(), NoMemory> {
-        match &event {
+    /// What an event tells, before it comes: the clock, a message, and what the writer's call appends, unless one is open.
+    fn note(&mut self, event: &Event, is_open: bool) -> Result<(), NoMemory> {
+        match event {
             Event::Call { now, .. } | Event::Tick { now, .. } | Event::Restart { now, .. } => {
                 self.clock = self.clock.max(*now);
             }
             Event::Deliver { number, now } => {
                 self.clock = self.clock.max(*now);
-                let number = *number;
-                self.mark_arrived(number)?;
+                self.mark_arrived(*number)?;
             }
             Event::Rot { .. } | Event::Fuse { .. } => {}
         }
-        let was_open = self.is_open(WRITER);
-        if !was_open {
-            self.appending = record_of(&event)?;
+        if !is_open {
+            self.appending = record_of(event)?;
         }
-        let answer = self.cell.world.step(event);
-        if !self.is_open(WRITER) {
-            // a client that is down takes no call
-            let is_taken = was_open || answer.is_some();
-            if let Some(record) = self.appending.take() {
-                if is_taken {
-                    self.take_answer(record, answer.as_ref())?;
-                }
+        Ok(())
+    }
+
+    /// The writer's append is over, if no call of the writer is open any more. A client that is down takes none.
+    fn close(&mut self, was_open: bool, answer: Option<&Answer>) -> Result<(), NoMemory> {
+        if self.is_open(WRITER) {
+            return Ok(());
+        }
+        let is_taken = was_open || answer.is_some();
+        if let Some(record) = self.appending.take() {
+            if is_taken {
+                return self.take_answer(record, answer);
             }
         }
+        Ok(())
+    }
+
+    /// One event.
+    pub fn take(&mut self, event: Event) -> Result<(), NoMemory> {
+        let was_open = self.is_open(WRITER);
+        let noted = self.note(&event, was_open);
+        if noted.is_err() {
+            drop(event);
+            return noted;
+        }
+        let answer = self.cell.world.step(event);
+        let closed = self.close(was_open, answer.as_ref());
         if answer.is_some() {
             self.last = answer;
+        }
+        closed
+    }
+
+    /// Events, one after another.
+    pub fn take_all(&mut self, events: &[Event]) -> Result<(), NoMemory> {
+        let alloc = self.alloc;
+        for event in events {
+            self.take(event.copy(alloc)?)?;
         }
         Ok(())
     }
@@ -242,25 +265,27 @@ impl Watched {
         let Some(Answer::Fd(fd)) = self.ask(client, open)? else {
             return Ok(false);
         };
-        let placed = mem::replace(&mut self.placed, Vec::new(self.alloc));
         let mut are_found = true;
-        for found in placed.iter() {
-            are_found &= self.finds(client, fd, found.offset, &found.record)?;
+        for place in 0..self.count() {
+            are_found &= self.finds(client, fd, place)?;
         }
-        self.placed = placed;
         Ok(are_found)
     }
 
-    fn finds(
-        &mut self,
-        client: ClientId,
-        fd: Fd,
-        offset: u64,
-        record: &Bytes,
-    ) -> Result<bool, NoMemory> {
-        let read = Call::Read(fd, offset, record.len() as u64);
+    fn is_placed(&self, place: usize, bytes: &[u8]) -> bool {
+        match self.placed.get(place) {
+            Some(placed) => placed.record.as_slice() == bytes,
+            None => false,
+        }
+    }
+
+    fn finds(&mut self, client: ClientId, fd: Fd, place: usize) -> Result<bool, NoMemory> {
+        let read = match self.placed.get(place) {
+            Some(placed) => Call::Read(fd, placed.offset, placed.record.len() as u64),
+            None => return Ok(false),
+        };
         match self.ask(client, read)? {
-            Some(Answer::Bytes { bytes, .. }) => Ok(bytes.as_slice() == record.as_slice()),
+            Some(Answer::Bytes { bytes, .. }) => Ok(self.is_placed(place, bytes.as_slice())),
             _ => Ok(false),
         }
     }

@@ -200,3 +200,10 @@ pub(crate) fn listed<D: Disk + Drop>(disk: D, alloc: Global) -> (D, Result<Listi
         Err((disk, fault)) => (disk, Err(fault)),
     }
 }
+
+/// The same without the disk; none where it fails. What owns a disk calls `drop`: a drop at the end of a scope is proved anew at each place.
+pub(crate) fn found_on<D: Disk + Drop>(disk: D, alloc: Global) -> Option<Listing> {
+    let (disk, found) = listed(disk, alloc);
+    drop(disk);
+    found.ok()
+}

@@ -3,7 +3,7 @@
 ghost use Rattle.std.specs.Prelude.{◌≡◌, false, IfOk};
 ghost use Rattle.store_disk.specs.Formats.{is_head_open};
 
-use crate::chunk_calls::{Listing, SIZE, STEPS, fused, listed, open_new, run};
+use crate::chunk_calls::{Listing, SIZE, STEPS, found_on, fused, listed, open_new, run};
 use crate::chunk_stops::{CALLS, OPENING_CALLS, all_states, are_after};
 use chunk_store::OpenFault;
 use disk::{Disk, FaultDisk, MemDisk};
@@ -27,8 +27,8 @@ fn a_failed_call_answers_device(rt: HostRuntime) -> Result<(), Fail> {
     for calls in 0..CALLS {
         let (disk, ran) = run(faulty(alloc, calls)?, alloc, STEPS + 1);
         assert!(rt; ran.is_device == (disk.failures() == 1), "call {calls}");
-        let (_disk, found) = listed(disk.into_disk(), alloc);
-        assert!(rt; are_after(&states, ran.done, found.ok()), "call {calls}");
+        let found = found_on(disk.into_disk(), alloc);
+        assert!(rt; are_after(&states, ran.done, found), "call {calls}");
         all = ran.done;
     }
     assert_eq!(rt; all, STEPS + 1);
@@ -39,11 +39,12 @@ fn a_failed_call_answers_device(rt: HostRuntime) -> Result<(), Fail> {
 fn listed_after_fault(disk: MemDisk, alloc: Global, more: u64) -> Option<Listing> {
     let (disk, first) = listed(FaultDisk::new(disk, more), alloc);
     let has_failed = disk.failures() == 1;
-    if has_failed != (first == Err(OpenFault::Device)) {
-        return None;
+    let found = found_on(disk.into_disk(), alloc);
+    if has_failed == (first == Err(OpenFault::Device)) {
+        found
+    } else {
+        None
     }
-    let (_disk, found) = listed(disk.into_disk(), alloc);
-    found.ok()
 }
 
 // The steps stop, and so the opening has a change to end.
@@ -67,9 +68,14 @@ fn is_open_if_changed(alloc: Global, calls: u64) -> Result<bool, AllocError> {
         Ok(store) => {
             let mut store = store;
             let created = store.create(alloc, Handle(5), Version(1));
-            store.is_open() == created.is_ok()
+            let is_open = store.is_open();
+            drop(store.into_disk());
+            is_open == created.is_ok()
         }
-        Err((_disk, fault)) => fault == OpenFault::Device,
+        Err((disk, fault)) => {
+            drop(disk);
+            fault == OpenFault::Device
+        }
     })
 }
 

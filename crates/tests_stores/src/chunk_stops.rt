@@ -8,7 +8,7 @@ ghost use Rattle.replica_store.specs.declared.change.StoreChange.TheVariants.{Se
 ghost use Rattle.replica_store.specs.Replicas.{ServerDisk, disk_changed};
 ghost use Rattle.store_disk.specs.Formats.{is_head_open};
 
-use crate::chunk_calls::{Listing, SIZE, STEPS, fused, listed, open_new, run};
+use crate::chunk_calls::{Listing, SIZE, STEPS, found_on, fused, listed, open_new, run};
 use chunk_store::{OpenFault, Store};
 use disk::{Disk, FuseDisk, MemDisk, StopPlan};
 use gfs_types::ids::OrderNo;
@@ -41,8 +41,8 @@ fn state_after(alloc: Global, steps: usize) -> Option<Listing> {
         return None;
     };
     let (disk, ran) = run(disk, alloc, steps);
-    let (_disk, found) = listed(disk, alloc);
-    if ran.done == steps { found.ok() } else { None }
+    let found = found_on(disk, alloc);
+    if ran.done == steps { found } else { None }
 }
 
 /// What is listed after each number of steps. Where memory is refused it is tried once more.
@@ -81,11 +81,11 @@ fn stopped_twice(disk: FuseDisk, alloc: Global, more: u64, torn: Torn) -> Stoppe
     let mut second = FuseDisk::new(disk.stop(torn));
     second.arm(more);
     let (stopped, first) = listed(second, alloc);
-    let (_disk, found) = listed(stopped.stop(torn), alloc);
+    let found = found_on(stopped.stop(torn), alloc);
     StoppedTwice {
         done: ran.done,
         is_open: first.is_ok(),
-        found: found.ok(),
+        found,
     }
 }
 
@@ -137,10 +137,10 @@ fn fused_again(alloc: Global) -> Result<FuseDisk, AllocError>
 fn listed_again(disk: FuseDisk, alloc: Global) -> Option<Listing> {
     let (disk, first) = listed(disk, alloc);
     if first.is_ok() {
+        drop(disk);
         return first.ok();
     }
-    let (_disk, second) = listed(disk, alloc);
-    second.ok()
+    found_on(disk, alloc)
 }
 
 // `tools/campaigns/refused` refuses each allocation in turn.

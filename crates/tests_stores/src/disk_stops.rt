@@ -96,7 +96,10 @@ fn open_twice(
     let (disk, layout, is_open) = open_and_let_go(alloc, disk, layout, &mut stops);
     match open_after(alloc, disk, layout, &mut stops) {
         Ok(store) => Ok((store, is_open)),
-        Err((_disk, fault)) => Err(fault),
+        Err((disk, fault)) => {
+            drop(disk);
+            Err(fault)
+        }
     }
 }
 

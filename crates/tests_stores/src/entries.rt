@@ -75,7 +75,10 @@ fn read<L: OperationLog>(log: &mut L) -> Result<[Option<u64>; 6], OperationLogFa
 
 fn entries_read(alloc: Global) -> Option<[Option<u64>; 6]> {
     let mut log = new_log(alloc)?;
-    fill(&mut log).ok()?;
+    if fill(&mut log).is_err() {
+        drop(log);
+        return None;
+    }
     let mut again = open_again(alloc, log)?;
     let found = read(&mut again);
     drop(again);

@@ -100,7 +100,20 @@ fn put_records(out: &mut Vec<u8>, records: &[&[u8]]) -> Result<(), NoMemory> {
     Ok(())
 }
 
-// The head with this byte in its second gate, and the first area with these items and records.
+// The head with this byte in its second gate, and the first area with this checkpoint and these records.
+fn put_disk(
+    out: &mut Vec<u8>,
+    second: u8,
+    checkpoint: &[u8],
+    records: &[&[u8]],
+) -> Result<(), NoMemory> {
+    out.extend_from_slice(&[71, 70, 83, 76, 1, second, 0, 0, 0, 0, 0, 0, 0, 0, 0, 1])?;
+    out.extend_from_slice(&[1, 1, 0, 0, 0, 0, 0, 0, 0])?;
+    put_entry(out, checkpoint)?;
+    put_records(out, records)
+}
+
+// The same with these items. What owns bytes has few ways out: a drop at the end of a scope is proved anew at each place.
 fn image(
     alloc: Global,
     second: u8,
@@ -110,26 +123,38 @@ fn image(
     let mut checkpoint = Vec::new(alloc);
     put_entries(&mut checkpoint, items)?;
     let mut out = Vec::new(alloc);
-    out.extend_from_slice(&[71, 70, 83, 76, 1, second, 0, 0, 0, 0, 0, 0, 0, 0, 0, 1])?;
-    out.extend_from_slice(&[1, 1, 0, 0, 0, 0, 0, 0, 0])?;
-    put_entry(&mut out, &checkpoint)?;
-    put_records(&mut out, records)?;
-    Ok(out)
+    let put = put_disk(&mut out, second, &checkpoint, records);
+    drop(checkpoint);
+    match put {
+        Ok(()) => Ok(out),
+        Err(fault) => {
+            drop(out);
+            Err(fault)
+        }
+    }
 }
 
 fn written(disk: MemDisk, image: &[u8]) -> Option<MemDisk> {
     let mut disk = disk;
     if image.len() > disk.size() {
+        drop(disk);
         return None;
     }
-    disk.write_at(0, image).ok()?;
-    disk.sync().ok()?;
-    Some(disk)
+    if disk.write_at(0, image).is_ok() && disk.sync().is_ok() {
+        return Some(disk);
+    }
+    drop(disk);
+    None
 }
 
 fn disk_with(alloc: Global, second: u8, items: &[&[u8]], records: &[&[u8]]) -> Option<MemDisk> {
     let image = image(alloc, second, items, records).ok()?;
     written(MemDisk::new(alloc, SIZE).ok()?, &image)
+}
+
+// The disk of the items and records above, in format 1.
+fn old_disk(alloc: Global, second: u8) -> Option<MemDisk> {
+    disk_with(alloc, second, &ITEMS, &RECORDS)
 }
 
 fn has_payload(alloc: Global, entry: &Record, wanted: &[u8]) -> bool {
@@ -174,6 +199,11 @@ fn find<D: Disk + Drop>(
     }
 }
 
+// The same of the items and records above.
+fn find_old<D: Disk + Drop>(disk: D, alloc: Global) -> (D, Result<bool, LogFault>) {
+    find(disk, alloc, 6, &ENTRIES)
+}
+
 // Opens the log, and writes a checkpoint of one item.
 fn shrink(disk: MemDisk, alloc: Global) -> (MemDisk, bool) {
     if disk.size() != SIZE {
@@ -213,7 +243,7 @@ fn goes_on(disk: MemDisk, alloc: Global) -> (MemDisk, bool) {
 
 // Whether the log is found, has format 2 then, and goes on.
 fn is_upgraded(disk: MemDisk, alloc: Global) -> bool {
-    let (mut disk, found) = find(disk, alloc, 6, &ENTRIES);
+    let (mut disk, found) = find_old(disk, alloc);
     let is_open = holds(&mut disk, alloc, 0, &[71, 70, 83, 76, 1, 1, 0]);
     let (disk, goes_on) = goes_on(disk, alloc);
     drop(disk);
@@ -228,9 +258,9 @@ struct Upgraded {
 }
 
 fn upgraded_after(alloc: Global, second: u8, calls: u64, torn: Torn) -> Option<Upgraded> {
-    let mut disk = FuseDisk::new(disk_with(alloc, second, &ITEMS, &RECORDS)?);
+    let mut disk = FuseDisk::new(old_disk(alloc, second)?);
     disk.arm(calls);
-    let (disk, found) = find(disk, alloc, 6, &ENTRIES);
+    let (disk, found) = find_old(disk, alloc);
     let is_open = found == Ok(true);
     let is_right = is_open || found == Err(LogFault::Device);
     let is_found = is_upgraded(disk.stop(torn), alloc) && is_right;
@@ -238,8 +268,7 @@ fn upgraded_after(alloc: Global, second: u8, calls: u64, torn: Torn) -> Option<U
 }
 
 fn is_opened(alloc: Global, second: u8) -> Option<bool> {
-    let disk = disk_with(alloc, second, &ITEMS, &RECORDS)?;
-    Some(is_upgraded(disk, alloc))
+    Some(is_upgraded(old_disk(alloc, second)?, alloc))
 }
 
 #[test]
@@ -282,13 +311,21 @@ fn is_damaged(alloc: Global, second: u8, items: &[&[u8]], records: &[&[u8]]) -> 
     Some(found == Err(LogFault::Damaged) && is_closed)
 }
 
+// A record that tells a shape.
+fn is_record_damaged(alloc: Global, second: u8) -> bool {
+    is_damaged(alloc, second, &ITEMS, &[&CREATE, &SHAPED_CREATE]) == Some(true)
+}
+
+// And an item.
+fn is_item_damaged(alloc: Global, second: u8) -> bool {
+    is_damaged(alloc, second, &[&COUNTERS, &SHAPED_FILE], &RECORDS) == Some(true)
+}
+
 #[test]
 fn format_1_has_no_shapes(rt: HostRuntime) {
     for second in CLOSED {
-        let of_record = is_damaged(rt.alloc(), second, &ITEMS, &[&CREATE, &SHAPED_CREATE]);
-        assert!(rt; of_record == Some(true), "{second}");
-        let of_item = is_damaged(rt.alloc(), second, &[&COUNTERS, &SHAPED_FILE], &RECORDS);
-        assert!(rt; of_item == Some(true), "{second}");
+        assert!(rt; is_record_damaged(rt.alloc(), second), "{second}");
+        assert!(rt; is_item_damaged(rt.alloc(), second), "{second}");
     }
 }
 

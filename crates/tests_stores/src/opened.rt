@@ -36,11 +36,13 @@ fn open_master(alloc: Global, disk: FuseDisk) -> Option<DiskMaster> {
         log_bytes: SIZE as u64,
         ..Config::default()
     };
-    if config.lease_ms > 3_600_000 || config.skew_ms > 60_000 {
-        return None;
-    }
     let size = disk.size();
-    if size < 4_096 || size > 1_073_741_824 {
+    if config.lease_ms > 3_600_000
+        || config.skew_ms > 60_000
+        || size < 4_096
+        || size > 1_073_741_824
+    {
+        drop(disk);
         return None;
     }
     Master::open(alloc, config, 3, disk, NOW, alloc).ok()
@@ -74,7 +76,9 @@ fn tell(master: &mut DiskMaster, body: Body) -> StepOut {
 /// What the master answers a client's message.
 fn ask(master: &mut DiskMaster, body: Body) -> Option<Answer> {
     let out = tell(master, body);
-    answer_in(&out)
+    let answer = answer_in(&out);
+    drop(out);
+    answer
 }
 
 /// What a changing call is answered.
@@ -89,21 +93,22 @@ fn change(master: &mut DiskMaster, call_number: u64, call: Call) -> Option<Answe
     )
 }
 
-/// What a Mkdir is answered.
+/// Whether a Mkdir is done; none where it isn't answered.
 fn make(
     master: &mut DiskMaster,
     alloc: Global,
     call_number: u64,
     path: &str,
-) -> Result<Option<Answer>, NoMemory> {
+) -> Result<Option<bool>, NoMemory> {
     let call = Call::Mkdir(Text::from_str(path, alloc)?);
-    Ok(change(master, call_number, call))
-}
-
-/// What a first Create is answered.
-fn create(master: &mut DiskMaster, alloc: Global) -> Result<Option<Answer>, NoMemory> {
-    let call = Call::Create(Text::from_str("/f", alloc)?, None);
-    Ok(change(master, 1, call))
+    let answer = change(master, call_number, call);
+    let is_done = match &answer {
+        Some(Answer::Done) => Some(true),
+        Some(_) => Some(false),
+        None => None,
+    };
+    drop(answer);
+    Ok(is_done)
 }
 
 /// Whether the root lists just this name, beside the directory of deleted files.
@@ -116,13 +121,15 @@ fn lists_one(master: &mut DiskMaster, alloc: Global, name: &str) -> Result<bool,
             call,
         },
     );
-    Ok(match &listed {
+    let is_one = match &listed {
         Some(Answer::Names(names)) => match names.as_slice() {
             [deleted, one] => deleted.as_str() == ".gone/" && one.as_str() == name,
             _ => false,
         },
         _ => false,
-    })
+    };
+    drop(listed);
+    Ok(is_one)
 }
 
 /// Whether a Mkdir is answered, and none of which the disk takes no record, for which the master goes down.
@@ -130,7 +137,7 @@ fn makes_one_of_two(master: &mut DiskMaster, alloc: Global) -> Result<bool, NoMe
     let made = make(master, alloc, 1, "/d")?;
     master.arm(0);
     let lost = make(master, alloc, 2, "/e")?;
-    Ok(made == Some(Answer::Done) && lost.is_none() && !master.is_up())
+    Ok(made == Some(true) && lost.is_none() && !master.is_up())
 }
 
 /// Whether a directory that was answered is there once its master was opened again, and one that its disk took no record of isn't.
@@ -158,16 +165,8 @@ fn a_master_is_opened_over_the_disk_of_an_earlier_one(rt: HostRuntime) {
     assert!(rt; matches!(outlasts_a_stop(rt.alloc()), Ok(true)));
 }
 
-/// What a master over a disk that passes no more calls gives as the cause where it goes down in a step; none where it couldn't be opened.
-fn cause_of_failing(alloc: Global) -> Result<Option<DownCause>, NoMemory> {
-    let Some(disk) = new_disk(alloc) else {
-        return Ok(None);
-    };
-    let Some(first) = open_master(alloc, disk) else {
-        return Ok(None);
-    };
-    let mut master = first;
-    master.arm(0);
+/// What a master whose disk passes no more calls gives as the cause where it goes down in a step.
+fn cause_of_failing(master: &mut DiskMaster, alloc: Global) -> Result<Option<DownCause>, NoMemory> {
     let message = Message {
         number: 1,
         sender: Node::Client(ClientId(1)),
@@ -178,11 +177,27 @@ fn cause_of_failing(alloc: Global) -> Result<Option<DownCause>, NoMemory> {
             call: Call::Mkdir(Text::from_str("/d", alloc)?),
         },
     };
+    master.arm(0);
     let outcome = master.take_step(NOW, Some(&message));
+    drop(message);
     Ok(outcome.cause)
+}
+
+/// The same of a new one; none where it couldn't be opened.
+fn cause_of_new(alloc: Global) -> Result<Option<DownCause>, NoMemory> {
+    let Some(disk) = new_disk(alloc) else {
+        return Ok(None);
+    };
+    let Some(first) = open_master(alloc, disk) else {
+        return Ok(None);
+    };
+    let mut master = first;
+    let cause = cause_of_failing(&mut master, alloc);
+    drop(master);
+    cause
 }
 
 #[test]
 fn a_master_says_that_its_disk_failed(rt: HostRuntime) {
-    assert!(rt; matches!(cause_of_failing(rt.alloc()), Ok(Some(DownCause::Device))));
+    assert!(rt; matches!(cause_of_new(rt.alloc()), Ok(Some(DownCause::Device))));
 }

@@ -102,7 +102,9 @@ fn outlasts(alloc: Global, torn: Torn) -> Option<bool> {
     let mut server = open_new(alloc)?;
     let has_created = creates(&mut server);
     let again = open_again(alloc, server, torn)?;
-    Some(has_created && again.is_up() && again.row(CHUNK).is_some())
+    let is_there = again.is_up() && again.row(CHUNK).is_some();
+    drop(again);
+    Some(has_created && is_there)
 }
 
 // One whose disk fails within the step is down, and has the replica or not once it is opened again.
@@ -113,7 +115,9 @@ fn stops_within(alloc: Global, calls: u64, torn: Torn) -> Option<bool> {
     let was_up = server.is_up();
     let again = open_again(alloc, server, torn)?;
     let has_replica = again.row(CHUNK).is_some();
-    Some(again.is_up() && (has_replica || !has_created) && was_up == has_created)
+    let is_up = again.is_up();
+    drop(again);
+    Some(is_up && (has_replica || !has_created) && was_up == has_created)
 }
 
 #[test]
@@ -136,6 +140,8 @@ fn cause_of_failing(alloc: Global) -> Option<DownCause> {
     server.arm(0);
     let message = create();
     let outcome = server.take_step(NOW, Some(&message));
+    drop(message);
+    drop(server);
     outcome.cause
 }
 
@@ -190,6 +196,7 @@ fn outlasts_refusals(alloc: Global) -> Option<bool> {
     let refuses = stays_up(&mut server, &read)
         && stays_up(&mut server, &len)
         && stays_up(&mut server, &mutate);
+    drop(server);
     Some(takes_orders && refuses)
 }
 

@@ -45,8 +45,10 @@ fn are_in_place<D: Disk>(disk: &mut D, alloc: Global) -> bool {
 fn each_part_has_its_place(rt: HostRuntime) -> Result<(), Fail> {
     let alloc = rt.alloc();
     let (disk, ran) = run(fused(alloc, 1_000)?, alloc, STEPS);
-    assert_eq!(rt; ran.done, STEPS);
     let mut disk = disk.stop(Torn::Old);
-    assert!(rt; are_in_place(&mut disk, alloc));
+    let are_in_place = are_in_place(&mut disk, alloc);
+    drop(disk);
+    assert_eq!(rt; ran.done, STEPS);
+    assert!(rt; are_in_place);
     Ok(())
 }

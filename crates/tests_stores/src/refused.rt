@@ -28,6 +28,7 @@ fn grow(alloc: Global, log: TestLog, record: &Record) -> Option<TestLog>
     }
     let mut again = open_again(alloc, log)?;
     if again.len() == before && again.append(record).is_err() {
+        drop(again);
         return None;
     }
     Some(again)
@@ -56,6 +57,7 @@ fn shrink(alloc: Global, log: TestLog, item: &Record) -> Option<TestLog>
     }
     let mut again = open_again(alloc, log)?;
     if checkpoint(&mut again, item).is_err() {
+        drop(again);
         return None;
     }
     Some(again)
@@ -74,7 +76,9 @@ fn go_on(alloc: Global, log: TestLog, record: &Record, item: &Record) -> Option<
     let after = log.len();
     let log = grow(alloc, log, record)?;
     let log = open_again(alloc, log)?;
-    Some([before, after, log.len()])
+    let last = log.len();
+    drop(log);
+    Some([before, after, last])
 }
 
 // A new log, made once more where memory was refused.

@@ -30,13 +30,17 @@ fn stopped_within(
     log.arm(calls);
     let done = log.append(record).is_ok();
     if calls == 0 && done {
+        drop(log);
         return None;
     }
     let mut stops = StopPlan::new();
     stops.tear(torn);
     match open_after(alloc, log.into_disk(), &mut stops) {
         Ok(log) => Some((log, done)),
-        Err(_) => None,
+        Err(disk) => {
+            drop(disk);
+            None
+        }
     }
 }
 
@@ -47,6 +51,7 @@ fn found_later(alloc: Global, log: TestLog, calls: u64, torn: Torn) -> Option<u6
     let disk = match open_after(alloc, log.into_disk(), &mut stops) {
         Ok(log) => {
             if calls == 0 {
+                drop(log);
                 return None;
             }
             log.into_disk()
@@ -54,8 +59,15 @@ fn found_later(alloc: Global, log: TestLog, calls: u64, torn: Torn) -> Option<u6
         Err(disk) => disk,
     };
     match open_after(alloc, disk, &mut stops) {
-        Ok(log) => Some(log.len()),
-        Err(_) => None,
+        Ok(log) => {
+            let count = log.len();
+            drop(log);
+            Some(count)
+        }
+        Err(disk) => {
+            drop(disk);
+            None
+        }
     }
 }
 
@@ -69,6 +81,7 @@ fn is_kept(alloc: Global, log: TestLog, record: &Record, calls: u64, torn: Torn)
     let mut log = log;
     let found = log.len();
     if found > 1 || (found == 0 && done) || log.append(record).is_err() {
+        drop(log);
         return false;
     }
     found_later(alloc, log, calls, torn) == Some(found.saturating_add(1))

@@ -71,6 +71,7 @@ fn rotten_blocks_are_never_answered(rt: HostRuntime) -> Result<(), Fail> {
     };
     let mut store = store;
     let found = tried(&mut store, alloc);
+    drop(store.into_disk());
     assert_eq!(rt; found, Ok([true, false, true, true]));
     Ok(())
 }

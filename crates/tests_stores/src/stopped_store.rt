@@ -42,6 +42,9 @@ pub(crate) fn open_again(alloc: Global, store: TestStore) -> Result<TestStore, R
     let (disk, layout) = taken(store);
     match open_after(alloc, disk, layout, &mut StopPlan::new()) {
         Ok(store) => Ok(store),
-        Err((_disk, fault)) => Err(fault),
+        Err((disk, fault)) => {
+            drop(disk);
+            Err(fault)
+        }
     }
 }
