@@ -33,16 +33,21 @@ def record_of(producer, number):
     return f'{producer}{number:06}'
 
 
-def placed(made):
-    """Where records were answered to stand, of each with its answer; one that nobody could place is left out. And the faults."""
-    stored, faults = {}, []
+def first_of(what, faults):
+    """One fault in place of many."""
+    return [f'{what}: {faults[0]}, and {len(faults) - 1} more'] if faults else []
+
+
+def placed(made, before=()):
+    """Where records were answered to stand, of each with its answer, no two at one place; one that nobody could place is left out. And the faults."""
+    stored, strange = {}, []
     for record, answer in made:
         found = re.fullmatch(r'at (\d+)', answer)
-        if found and int(found[1]) not in stored:
+        if found and int(found[1]) not in stored and int(found[1]) not in before:
             stored[int(found[1])] = record
         elif answer not in UNPLACED:
-            faults.append(f'{record}: {answer}')
-    return stored, faults
+            strange.append(f'{record} {answer}')
+    return stored, first_of('answers to appends', strange)
 
 
 # ---- a cell that is served
@@ -70,23 +75,24 @@ class Log:
         self.next += count
         asked = [(client, record_of(client, number)) for number in numbers for client in descriptors]
         answers = self.cell.ask([(client, f'append {descriptors[client]} {record}') for client, record in asked])
-        stored, faults = placed((record, answer) for (_, record), answer in zip(asked, answers))
-        self.faults += [*faults, *(f'two records at {offset}' for offset in stored if offset in self.stored)]
+        stored, faults = placed(((record, answer) for (_, record), answer in zip(asked, answers)), self.stored)
         self.stored.update(stored)
+        self.faults += faults
 
     def look(self, reader):
         """Reads each record back. A master that began again knows of no replica until servers report, so that a read may be refused at first."""
         left = sorted(self.stored.items())
         descriptor = self.opened([reader]).get(reader)
-        for _ in range(MOST_LOOKS):
+        for _ in range(MOST_LOOKS if descriptor else 0):
             answers = self.cell.ask([(reader, f'read {descriptor} {offset} 8') for offset, _ in left])
-            self.faults += [f'{reader} reads {record} at {offset}: {answer}' for (offset, record), answer in zip(left, answers)
-                            if answer not in UNREAD and not answer.startswith(f'bytes 8 {record.encode().hex()} rounds ')]
+            self.faults += first_of(f'{reader} reads', [
+                f'{record} at {offset}: {answer}' for (offset, record), answer in zip(left, answers)
+                if answer not in UNREAD and not answer.startswith(f'bytes 8 {record.encode().hex()} rounds ')])
             left = [pair for pair, answer in zip(left, answers) if answer in UNREAD]
             if not left:
                 return
             time.sleep(PAUSE)
-        self.faults.append(f'{reader} reads nothing of {left}')
+        self.faults += first_of(f'{reader} reads nothing of', left)
 
 
 def served(program, run, producers, readers, words=(), **settings):
@@ -194,9 +200,9 @@ def play_log(program, records, looks, behind=(), words=(), **settings):
 def unread(looks, stored):
     """The faults of what was read of the file's first bytes: each look that a server gave has all records, and there is one."""
     read = [bytes.fromhex(look.split(' ')[2]) for look in looks if look.startswith('bytes ')]
-    yield from (f'a look: {look}' for look in looks if not look.startswith('bytes ') and look not in UNREAD)
+    yield from first_of('looks', [look for look in looks if not look.startswith('bytes ') and look not in UNREAD])
     for data in read:
-        yield from (f'{record} is not read at {offset}' for offset, record in stored.items() if data[offset:offset + 8] != record.encode())
+        yield from first_of('not read', [f'{record} at {offset}' for offset, record in stored.items() if data[offset:offset + 8] != record.encode()])
     if not read:
         yield 'nothing is read'
 
@@ -241,6 +247,9 @@ def a_cell_keeps_the_last_entries(program):
 
 def tests():
     """Each test's name, and what it is."""
-    return [(test.__name__, test) for test in (
-        four_producers, losses_and_repeats, losses_and_repeats_in_five_attempts, files_are_filled_in_turn_while_nodes_begin_again, clients_outlast_lost_messages,
-        a_cell_keeps_the_last_entries)]
+    return [(test.__name__, test) for test in (four_producers, clients_outlast_lost_messages, a_cell_keeps_the_last_entries)]
+
+
+def waiting_tests():
+    """Those that for the most part wait for attempts to be over."""
+    return [(test.__name__, test) for test in (losses_and_repeats, losses_and_repeats_in_five_attempts, files_are_filled_in_turn_while_nodes_begin_again)]
