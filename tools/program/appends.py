@@ -83,7 +83,10 @@ class Log:
         """Reads each record back. A master that began again knows of no replica until servers report, so that a read may be refused at first."""
         left = sorted(self.stored.items())
         descriptor = self.opened([reader]).get(reader)
-        for _ in range(MOST_LOOKS if descriptor else 0):
+        if not descriptor:
+            self.faults.append(f'{reader} opens nothing')
+            return
+        for _ in range(MOST_LOOKS):
             answers = self.cell.ask([(reader, f'read {descriptor} {offset} 8') for offset, _ in left])
             self.faults += first_of(f'{reader} reads', [
                 f'{record} at {offset}: {answer}' for (offset, record), answer in zip(left, answers)
@@ -132,8 +135,8 @@ def losses_and_repeats(program):
 
 
 def losses_and_repeats_in_five_attempts(program):
-    """With as many attempts as a call has by default."""
-    return losses_and_repeats_in(program, 5, 4, 1)
+    """With as many attempts as a call has by default, by which some third of the records is placed."""
+    return losses_and_repeats_in(program, 5, 10, 1)
 
 
 def restart_at_random(cell, randoms, done, restarted):
@@ -216,7 +219,7 @@ def clients_outlast_lost_messages(program):
     """Three entries of the journal stay, so that messages come too late, and the clients go on all the same."""
     lost = 0
     for _ in range(MOST_CELLS):
-        _, faults, told, _ = play_log(program, 40, 50, words=['--keep', '3'], servers=1, goal=1, slots=64, chunk=65536, block=16, attempt_ms=100, attempts=10)
+        _, faults, told, _ = play_log(program, 10, 5, words=['--keep', '3'], servers=1, goal=1, slots=64, chunk=65536, block=16, attempt_ms=100, attempts=10)
         if faults:
             return faults
         lost = lost_in(told)
@@ -230,7 +233,7 @@ def a_cell_keeps_the_last_entries(program):
     that all that was before it is told."""
     stored, faults, told, last = play_log(
         program, 3_000, 1, ('create /full', 'open /full', 'append 2 x'), ['--keep', '100000'],
-        servers=3, slots=1, chunk=1_048_576, block=1_024, journal=64, attempts=3, attempt_ms=2_000, skew_ms=500)
+        servers=3, slots=1, chunk=1_048_576, block=1_024, journal=64, attempts=3, attempt_ms=2_000, skew_ms=1_000)
     yield from faults
     yield from differs('records answered', len(stored), 12_000)
     yield from differs('the last calls', last, ['done', 'fd 2', 'refused 16 Failed'])
