@@ -1,6 +1,7 @@
 """Tests: scripts on a cell whose nodes run on threads, by `live`."""
 import collections
 import os
+import re
 import tempfile
 import threading
 
@@ -10,6 +11,9 @@ from running import Ended, differs, words_of
 CELL = {'servers': 3, 'goal': 3, 'slots': 64, 'block': 16, 'attempt_ms': 60_000}
 # The script of docs/SCRIPT.md.
 TWO_CLIENTS = 'c1 create /f\nbarrier\nc1 open /f\nc2 open /f\nbarrier\n2 c1 append 1 a*8\n2 c2 append 1 b*8\nbarrier\nc1 length 1\n'
+# Two files, of which the second one's chunk has no slot where each server has one. A call of two attempts doesn't wait long for that.
+TWO_FILES = 'c1 create /f\nc1 open /f\nc1 append 1 a*8\nc1 create /g\nc1 open /g\nc1 append 2 a*8\n'
+FULL = {'slots': 1, 'attempts': 2, 'skew_ms': 500}
 # For how long a bad line is waited for that has to be told at once, in seconds.
 AT_ONCE = 20
 
@@ -91,13 +95,57 @@ def a_thousand_parks_with_four_producers(program):
             yield f'c{client}: {len(offsets)} of 20 records are answered'
 
 
-def regions_and_calls_are_told(program):
+def a_full_journal_is_gone_past(program):
+    """A call takes three steps, so a journal has no room for those of 30 calls, and none for what follows; three times ten go past it where it is parked behind each.
+    Where ticks fill it all the same the next stretch makes that call."""
+    names = 'abcdefghij'
+    full = play(program, '30 c1 mkdir /d\n', clients=1, chunk=64, journal=64)
+    yield from differs('what is past its end', full.printed.splitlines()[21:], [b'c1 refused 20 JournalFull'] * 9)
+    ran = play(program, ''.join(f'c1 mkdir /{name}\nreopen\n' for name in names) * 3 + 'c1 list /\nreopen\n' * 3, clients=1, chunk=64, journal=64)
+    lines = ran.printed.decode().splitlines()
+    made, listed = [[line for line in part if line != 'c1 refused 20 JournalFull'] for part in (lines[:30], lines[30:])]
+    yield from differs('status, fault and calls', (ran.status, ran.told, len(lines)), (0, b'', 33))
+    yield from differs('answers', set(made) - {'c1 done', 'c1 refused 3 Exists'}, set())
+    yield from differs('what is listed', set(listed), {'c1 names 11 .gone/ ' + ' '.join(f'{name}/' for name in names)})
+    if len(made) < 22:
+        yield f'{len(made)} of 30 calls are answered'
+
+
+def there_are_64_clients(program):
+    """Each of which is answered. That there are no 65 is told with bad scripts."""
+    clients = range(1, 65)
+    ran = play(program, ''.join(f'c{client} mkdir /{client:02}\n' for client in clients) + 'barrier\nc64 list /\n', servers=1, clients=64, chunk=64)
+    names = ' '.join(f'{client:02}/' for client in clients)
+    return differs('it', ran, (0, ''.join(f'c{client} done\n' for client in clients).encode() + f'c64 names 65 .gone/ {names}\n'.encode(), b''))
+
+
+def a_chunk_without_a_slot_is_refused(program):
+    """With one slot at each server the second file's chunk has no replica, and the first file takes records all the same."""
+    ran = play(program, TWO_FILES, clients=1, chunk=64, **{**FULL, 'attempt_ms': 300})
+    return differs('it', ran, (0, b'c1 done\nc1 fd 1\nc1 at 0\nc1 done\nc1 fd 2\nc1 refused 16 Failed\n', b''))
+
+
+def it_is_told_how_far_a_cell_is(program):
+    """Once a second, also while a call waits that no server has a slot for, behind five that were answered."""
+    ran = play(program, TWO_FILES, ['--progress'], clients=1, chunk=64, journal=1_000, **{**FULL, 'servers': 1, 'goal': 1, 'attempt_ms': 1_500})
+    told = [tuple(map(int, found)) for found in re.findall(rb'gfscell: (\d+) calls answered, (\d+) events, room for (\d+)\n', ran.told)]
+    yield from differs('status and answers', (ran.status, len(ran.printed.splitlines())), (0, 6))
+    yield from differs('other lines', len(ran.told.splitlines()), len(told))
+    yield from differs('calls answered in the end', [answered for answered, _, _ in told[-1:]], [5])
+    yield from differs('what does not fit together', [it for it in told if it[1] < it[0] or it[1] + it[2] != 1_000], [])
+
+
+def history_of(program, script, words=(), **settings):
+    """What is printed, and the calls and answers of the file that is written."""
     with tempfile.TemporaryDirectory() as folder:
         to = os.path.join(folder, 'history')
-        ran = play(program, 'c1 create /f\nc1 open /f\n10 c1 append 1 a*8\n', ['--regions', '/f', '--history', to], clients=1, chunk=64)
+        ran = play(program, script, [*words, '--history', to], **settings)
         with open(to, 'rb') as file:
-            history = file.read()
-    calls = [line.split(b' ', 1)[1] for line in history.splitlines()]
+            return ran, [line.split(b' ', 1)[1] for line in file.read().splitlines()]
+
+
+def regions_and_calls_are_told(program):
+    ran, calls = history_of(program, 'c1 create /f\nc1 open /f\n10 c1 append 1 a*8\n', ['--regions', '/f'], clients=1, chunk=64)
     offsets = range(0, 80, 8)
     yield from differs('what is printed', ran, (0, b'c1 done\nc1 fd 1\n' + b''.join(b'c1 at %d\n' % offset for offset in offsets)
                                                 + b'regions 0-64 determined\nregions 0-16 determined\n', b''))
@@ -105,8 +153,22 @@ def regions_and_calls_are_told(program):
     yield from differs('calls and answers', calls, [line for call, answer in made for line in (b'c1 ' + call, b'c1 -> ' + answer)])
 
 
+def calls_of_both_journals_are_told(program):
+    """Of a cell that is parked between two clients' records; behind a parking a record may be padded over and tried again."""
+    ran, calls = history_of(program, 'c1 create /f\nc1 open /f\n10 c1 append 1 a*8\nreopen\nc2 open /f\n10 c2 append 1 b*8\n', clients=2, chunk=64)
+    def lines(client, letter, created):
+        made = [*created, (b'open /f', b'fd 1'), *[(b'append 1 0x' + letter * 8, b'at N')] * 10]
+        return [line for call, answer in made for line in (client + b' ' + call, client + b' -> ' + answer)]
+    yield from differs('status and fault', (ran.status, ran.told), (0, b''))
+    yield from differs('calls and answers', [re.sub(rb' at \d+$', b' at N', call) for call in calls],
+                       lines(b'c1', b'61', [(b'create /f', b'done')]) + lines(b'c2', b'62', []))
+    yield from differs('offsets', [call.split(b' -> ')[1] for call in calls if b' -> at ' in call],
+                       [line.split(b' ', 1)[1] for line in ran.printed.splitlines() if b' at ' in line])
+
+
 def tests():
     """Each test's name, and what it is."""
     return [(test.__name__, test) for test in (
         two_clients_append, no_bad_script_is_run, a_bad_line_of_an_endless_script_is_told, a_client_goes_on, a_line_reopen_empties_the_journal,
-        a_thousand_parks_with_four_producers, regions_and_calls_are_told)]
+        a_thousand_parks_with_four_producers, a_full_journal_is_gone_past, there_are_64_clients, a_chunk_without_a_slot_is_refused, it_is_told_how_far_a_cell_is,
+        regions_and_calls_are_told, calls_of_both_journals_are_told)]

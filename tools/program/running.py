@@ -73,7 +73,7 @@ def faults_of(program, tests, lanes=1):
         name, run = test
         try:
             return [f'{name}: {fault}' for fault in run(program)]
-        except (OSError, subprocess.SubprocessError) as error:
+        except (OSError, EOFError, subprocess.SubprocessError) as error:
             return [f'{name}: {error}']
     with concurrent.futures.ThreadPoolExecutor(lanes) as pool:
         return [fault for faults in pool.map(tried, tests) for fault in faults]

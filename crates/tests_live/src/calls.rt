@@ -10,7 +10,7 @@ use std::sync::Wait;
 use std::test::*;
 use std::time::Clock;
 
-// A file in a directory is written, measured and closed.
+// A file in a directory is written, measured and closed. Gives its length.
 fn write_file<R: Wait + Clock>(rt: &R, alloc: Global, seat: &mut Seat) -> Result<u64, Refusal> {
     seat.mkdir(rt, text(alloc, "/d")?)?;
     seat.create(rt, text(alloc, "/d/f")?, None)?;
@@ -28,19 +28,31 @@ fn move_file<R: Wait + Clock>(rt: &R, alloc: Global, seat: &mut Seat) -> Result<
     seat.rmdir(rt, text(alloc, "/d")?)?;
     seat.delete(rt, text(alloc, "/f")?)?;
     let names = seat.list(rt, text(alloc, "/")?)?;
-    Ok(names.len())
+    let count = names.len();
+    drop(names);
+    Ok(count)
+}
+
+// All this by a new client.
+fn write_and_move<R: Wait + Clock>(
+    rt: &R,
+    alloc: Global,
+    cell: &mut Cell,
+) -> Option<(Result<u64, Refusal>, Result<usize, Refusal>)> {
+    let mut seat = cell.client().ok()?;
+    let written = write_file(rt, alloc, &mut seat);
+    let names = move_file(rt, alloc, &mut seat);
+    drop(seat);
+    Some((written, names))
 }
 
 #[test]
 fn each_call_has_its_method(rt: HostRuntime) -> Result<(), Fail> {
     let alloc = rt.alloc();
     let mut cell = Cell::start(rt, alloc, small(), 3, OpenGate)?;
-    let mut seat = cell.client()?;
-    let written = write_file(&rt, alloc, &mut seat);
-    let names = move_file(&rt, alloc, &mut seat);
+    let called = write_and_move(&rt, alloc, &mut cell);
     drop(cell.close(&rt));
-    assert!(rt; written == Ok(8));
-    // The copy, and `/.gone`.
-    assert!(rt; names == Ok(2));
+    // In the end there are the copy, and `/.gone`.
+    assert!(rt; called == Some((Ok(8), Ok(2))));
     Ok(())
 }

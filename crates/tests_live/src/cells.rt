@@ -26,15 +26,6 @@ pub fn small() -> Config {
     }
 }
 
-/// The same where attempts are soon over, and clocks taken to be close.
-pub fn hasty() -> Config {
-    Config {
-        attempt_ms: 300,
-        skew_ms: 500,
-        ..small()
-    }
-}
-
 /// A clock that is ahead by an hour, or can't be read.
 #[derive(Clone, Copy)]
 pub struct OddClock<R> {

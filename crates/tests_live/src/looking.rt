@@ -1,8 +1,8 @@
 //! What a parked cell tells of bytes.
 
-use crate::cells::{hasty, small, text};
+use crate::cells::{small, text};
 use bytes::Bytes;
-use cell_looks::{LookFault, Looks, print_history, regions_of_chunk};
+use cell_looks::{LookFault, Looks, regions_of_chunk};
 use cell_run::cell::{Cell, Seat};
 use cell_run::{Parked, Retention};
 use cell_seats::gate::OpenGate;
@@ -13,7 +13,6 @@ use gfs_types::path::Path;
 use gfs_types::refusal::Refusal;
 use relaxed_file::region::Region;
 use std::alloc::Global;
-use std::str;
 use std::sync::Wait;
 use std::test::*;
 use std::thread::Threads;
@@ -32,15 +31,6 @@ struct Shown {
     second: u64,
     by_handle: u64,
     replicas: usize,
-}
-
-/// What is shown of a cell when it is parked first, and when it is parked again, and how many lines its history has then, and how many of these tell
-/// where a record stands.
-#[derive(Clone, Copy)]
-struct Told {
-    first: Option<Shown>,
-    second: Option<Shown>,
-    lines: Option<(usize, usize)>,
 }
 
 // Makes the file where there is none, opens it and appends a record so often.
@@ -110,7 +100,9 @@ fn file_of(alloc: Global, looks: &Looks<'_>) -> Option<FileId> {
 fn first_chunk(alloc: Global, looks: &Looks<'_>, file: FileId) -> Option<(Handle, usize)> {
     let replicas = looks.replicas(alloc, file, 0).ok()?;
     let (handle, replicas) = replicas?;
-    Some((handle, replicas.len()))
+    let count = replicas.len();
+    drop(replicas);
+    Some((handle, count))
 }
 
 fn determined_by_handle(alloc: Global, journal: &Journal, handle: Handle) -> Option<u64> {
@@ -136,42 +128,42 @@ fn look_at(alloc: Global, parked: &Parked) -> Option<Shown> {
     shown
 }
 
-// How many lines the calls and answers of a history take, and how many of these tell where a record stands.
-fn line_counts(alloc: Global, journal: &Journal) -> Option<(usize, usize)> {
-    let mut out = Vec::new(alloc);
-    print_history(alloc, journal, &mut out).ok()?;
-    let text = str::from_utf8(out.as_slice()).ok()?;
-    let appended = text.lines().filter(|line| line.contains(" -> at "));
-    Some((text.lines().count(), appended.count()))
+// A parked cell goes on, without seats.
+fn resumed<R: Threads + Wait + Clock + Copy + Send + 'static>(
+    rt: R,
+    parked: Parked,
+) -> Option<Cell> {
+    match parked.resume(rt, OpenGate) {
+        Ok((cell, none)) => {
+            drop(none);
+            Some(cell)
+        }
+        Err((parked, _)) => {
+            drop(parked);
+            None
+        }
+    }
 }
 
-// What is told of a cell that is parked twice, each time behind a client's records.
+// What is told of a cell that is parked, goes on and is parked again, each time behind a client's records.
 fn told_twice<R: Threads + Wait + Clock + Copy + Send + 'static>(
     rt: R,
     alloc: Global,
-) -> Option<Told> {
+) -> Option<(Option<Shown>, Option<Shown>)> {
     let cell = Cell::start(rt, alloc, small(), 3, OpenGate).ok()?;
     let parked = parked_behind(&rt, alloc, cell, true, (RECORD, RECORDS))?;
     let first = look_at(alloc, &parked);
-    let Ok((cell, none)) = parked.resume(rt, OpenGate) else {
-        return None;
-    };
-    drop(none);
+    let cell = resumed(rt, parked)?;
     let parked = parked_behind(&rt, alloc, cell, false, (RECORD, RECORDS))?;
-    Some(Told {
-        first,
-        second: look_at(alloc, &parked),
-        lines: line_counts(alloc, parked.journal()),
-    })
+    let second = look_at(alloc, &parked);
+    drop(parked);
+    Some((first, second))
 }
 
 #[test]
 fn records_are_determined(rt: HostRuntime) -> Result<(), Fail> {
-    let Some(told) = told_twice(rt, rt.alloc()) else {
-        return Err(Fail::new("not parked"));
-    };
-    let (Some(first), Some(second)) = (told.first, told.second) else {
-        return Err(Fail::new("nothing is shown"));
+    let Some((Some(first), Some(second))) = told_twice(rt, rt.alloc()) else {
+        return Err(Fail::new("not parked, or nothing is shown"));
     };
     assert!(rt; first.first == 64);
     assert!(rt; first.second == 16);
@@ -181,20 +173,6 @@ fn records_are_determined(rt: HostRuntime) -> Result<(), Fail> {
     assert!(rt; second.first == 64);
     assert!(rt; second.by_handle == 64);
     assert!(rt; second.second > 16);
-    Ok(())
-}
-
-#[test]
-fn calls_of_both_journals_are_written(rt: HostRuntime) -> Result<(), Fail> {
-    let Some(told) = told_twice(rt, rt.alloc()) else {
-        return Err(Fail::new("not parked"));
-    };
-    let Some((lines, appended)) = told.lines else {
-        return Err(Fail::new("nothing is written"));
-    };
-    // A create, and an open and the records of two clients, each with its answer.
-    assert_eq!(rt; lines, 2 * (1 + 2 * (1 + RECORDS)));
-    assert_eq!(rt; appended, 2 * RECORDS);
     Ok(())
 }
 
@@ -223,12 +201,19 @@ fn faults_behind<R: Threads + Wait + Clock + Copy + Send + 'static>(
     let retention = Retention::Last(kept);
     let cell = Cell::start_retaining(rt, alloc, config, servers, retention, OpenGate).ok()?;
     let parked = parked_behind(&rt, alloc, cell, true, records)?;
-    faults_of(alloc, &parked)
+    let faults = faults_of(alloc, &parked);
+    drop(parked);
+    faults
 }
 
 #[test]
 fn a_part_of_a_history_tells_no_regions(rt: HostRuntime) {
-    let faults = faults_behind(rt, rt.alloc(), hasty(), (3, 40), (RECORD, RECORDS));
+    let config = Config {
+        attempt_ms: 300,
+        skew_ms: 500,
+        ..small()
+    };
+    let faults = faults_behind(rt, rt.alloc(), config, (3, 40), (RECORD, RECORDS));
     assert!(rt; faults == Some((LookFault::Partial, LookFault::Partial)));
 }
 

@@ -47,20 +47,35 @@ fn park_with<R: Threads + Wait + Clock>(rt: &R, alloc: Global, cell: Cell, seat:
 {
     let mut seats = Vec::new(alloc);
     if seats.push(seat).is_err() {
+        drop(seats);
         drop(cell.close(rt));
         return Outcome::RunsOn(false);
     }
     match cell.park(rt, seats) {
-        Ok(parked) => Outcome::Parked(parked.journal().len()),
+        Ok(parked) => {
+            let count = parked.journal().len();
+            drop(parked);
+            Outcome::Parked(count)
+        }
         Err(ParkFault::NoMemory(cell, mut seats)) => {
             let called = match seats.pop() {
-                Some(mut seat) => mkdir(rt, alloc, &mut seat, "/again").is_ok(),
+                Some(mut seat) => {
+                    let called = mkdir(rt, alloc, &mut seat, "/again").is_ok();
+                    drop(seat);
+                    called
+                }
                 None => false,
             };
+            drop(seats);
             drop(cell.close(rt));
             Outcome::RunsOn(called)
         }
-        Err(ParkFault::Clock(journal, seats)) => Outcome::Closed(journal.len(), seats.len()),
+        Err(ParkFault::Clock(journal, seats)) => {
+            let (count, came_back) = (journal.len(), seats.len());
+            drop(journal);
+            drop(seats);
+            Outcome::Closed(count, came_back)
+        }
     }
 }
 
@@ -69,7 +84,10 @@ fn park_with<R: Threads + Wait + Clock>(rt: &R, alloc: Global, cell: Cell, seat:
 fn a_parked_cell_has_its_journal(rt: HostRuntime) -> Result<(), Fail> {
     let alloc = rt.alloc();
     let mut cell = Cell::start(rt, alloc, small(), 3, OpenGate)?;
-    let mut seat = cell.client()?;
+    let Ok(mut seat) = cell.client() else {
+        drop(cell);
+        return Err(Fail::new("no client"));
+    };
     mkdir_all(&rt, alloc, &mut seat);
     let seen = seat.seen();
     let is_well = match park_with(&rt, alloc, cell, seat) {
@@ -86,7 +104,13 @@ fn a_parked_cell_has_its_journal(rt: HostRuntime) -> Result<(), Fail> {
 fn a_cell_of_odd_clocks_is_closed(rt: HostRuntime) -> Result<(), Fail> {
     let alloc = rt.alloc();
     let mut cell = Cell::start(rt, alloc, small(), 1, OpenGate)?;
-    let (Ok(mut seat), Ok(mut odd)) = (cell.client(), cell.client()) else {
+    let Ok(mut odd) = cell.client() else {
+        drop(cell);
+        return Err(Fail::new("no client"));
+    };
+    let Ok(mut seat) = cell.client() else {
+        drop(odd);
+        drop(cell);
         return Err(Fail::new("no client"));
     };
     let clock = OddClock {
@@ -99,6 +123,7 @@ fn a_cell_of_odd_clocks_is_closed(rt: HostRuntime) -> Result<(), Fail> {
         Outcome::Closed(count, seats) => count > 0 && seats == 1,
         _ => false,
     };
+    drop(odd);
     assert!(rt; is_closed);
     Ok(())
 }
@@ -114,7 +139,11 @@ fn a_seat_that_is_kept_back_is_refused(rt: HostRuntime) -> Result<(), Fail> {
     });
     let waiting = waiting_call(rt, alloc, &mut cell);
     thread::sleep(&rt, Duration::from_millis(300));
-    let seat = cell.client()?;
+    let Ok(seat) = cell.client() else {
+        drop(waiting);
+        drop(cell);
+        return Err(Fail::new("no client"));
+    };
     let outcome = park_with(&rt, alloc, cell, seat);
     let is_refused = match waiting {
         Some(thread) => thread.join(&rt),

@@ -1,8 +1,7 @@
 //! What a running cell itself refuses.
 
-use crate::cells::{OddClock, hasty, mkdir, small, text, waiting_call};
-use bytes::Bytes;
-use cell_run::cell::{Cell, Seat};
+use crate::cells::{OddClock, mkdir, small, waiting_call};
+use cell_run::cell::Cell;
 use cell_run::laws::meet;
 use cell_seats::gate::OpenGate;
 use cell_seats::mailboxes::Policy;
@@ -25,6 +24,7 @@ fn full_calls<R: Wait + Clock>(rt: &R, alloc: Global, cell: &mut Cell) -> Option
             _ => are_in_turn &= full == 0,
         }
     }
+    drop(seat);
     if are_in_turn { Some(full) } else { None }
 }
 
@@ -57,6 +57,7 @@ fn are_refused<R: Wait + Clock + Copy>(
         return false;
     };
     let Ok(mut other) = cell.client() else {
+        drop(odd);
         return false;
     };
     meet(&odd, &other);
@@ -68,6 +69,8 @@ fn are_refused<R: Wait + Clock + Copy>(
     } else {
         mkdir(rt, alloc, &mut other, "/f")
     };
+    drop(odd);
+    drop(other);
     before == Ok(()) && first == Err(Refusal::ClockBroken) && later == first
 }
 
@@ -119,36 +122,5 @@ fn closing_ends_calls(rt: HostRuntime) -> Result<(), Fail> {
         None => false,
     };
     assert!(rt; is_refused);
-    Ok(())
-}
-
-// Creates a file, opens it and appends a record.
-fn append_to_new<R: Wait + Clock>(
-    rt: &R,
-    alloc: Global,
-    seat: &mut Seat,
-    name: &str,
-) -> Result<u64, Refusal> {
-    seat.create(rt, text(alloc, name)?, None)?;
-    let fd = seat.open(rt, text(alloc, name)?)?;
-    seat.append(rt, fd, Bytes::from_static(b"a record"))
-}
-
-/// With one slot at each server the second file's chunk has no replica, and the first file takes records all the same.
-#[test]
-fn a_chunk_without_a_slot_is_refused(rt: HostRuntime) -> Result<(), Fail> {
-    let alloc = rt.alloc();
-    let config = Config {
-        slots: 1,
-        attempts: 2,
-        ..hasty()
-    };
-    let mut cell = Cell::start(rt, alloc, config, 3, OpenGate)?;
-    let mut seat = cell.client()?;
-    let first = append_to_new(&rt, alloc, &mut seat, "/f");
-    let second = append_to_new(&rt, alloc, &mut seat, "/g");
-    drop(cell.close(&rt));
-    assert!(rt; matches!(first, Ok(0)));
-    assert!(rt; matches!(second, Err(Refusal::Failed)));
     Ok(())
 }

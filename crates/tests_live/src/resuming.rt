@@ -3,23 +3,19 @@
 ghost use Rattle.std.specs.Prelude.{◌≡◌, ◌∷◌, [], All, IfSome};
 ghost use Rattle.tests_live.specs.ParkFaults.{KeepsName};
 
-use crate::cells::{OddClock, mkdir, small, text};
+use crate::cells::{OddClock, mkdir, small};
 use cell_journal::closed_history::ClosedHistory;
 use cell_journal::journal_entry::StepCause;
 use cell_run::ParkFault;
 use cell_run::cell::{Cell, Seat, StartFault};
 use cell_run::parked::Parked;
 use cell_seats::gate::OpenGate;
-use gfs_types::config::Config;
 use gfs_types::ids::{Node, ServerId};
-use gfs_types::refusal::Refusal;
 use std::alloc::Global;
 use std::sync::Wait;
 use std::test::*;
 use std::thread::Threads;
 use std::time::Clock;
-
-const NAMES: [&str; 10] = ["/a", "/b", "/c", "/d", "/e", "/f", "/g", "/h", "/i", "/j"];
 
 /// The nodes of a cell of two servers that begin again.
 const NODES: [Node; 3] = [
@@ -27,9 +23,6 @@ const NODES: [Node; 3] = [
     Node::Server(ServerId(1)),
     Node::Server(ServerId(2)),
 ];
-
-/// How many steps may be taken before a cell is parked, whose journal has room for 64.
-const LEAST_ROOM: u64 = 40;
 
 /// A cell and a seat of it.
 #[derive(Drop)]
@@ -43,10 +36,9 @@ struct Seated {
 fn new_seated<R: Threads + Wait + Clock + Copy + Send + 'static>(
     rt: R,
     alloc: Global,
-    config: Config,
     servers: u16,
 ) -> Option<Seated> {
-    let mut cell = Cell::start(rt, alloc, config, servers, OpenGate).ok()?;
+    let mut cell = Cell::start(rt, alloc, small(), servers, OpenGate).ok()?;
     let Ok(seat) = cell.client() else {
         drop(cell.close(&rt));
         return None;
@@ -85,11 +77,12 @@ fn park_again<R: Threads + Wait + Clock>(rt: &R, fault: ParkFault) -> Option<Par
     requires { KeepsName fault }
 {
     match fault {
-        ParkFault::NoMemory(cell, seats) => match cell.park(rt, seats) {
-            Ok(parked) => Some(parked),
-            Err(_) => None,
-        },
-        ParkFault::Clock(_, _) => None,
+        ParkFault::NoMemory(cell, seats) => cell.park(rt, seats).ok(),
+        ParkFault::Clock(journal, seats) => {
+            drop(journal);
+            drop(seats);
+            None
+        }
     }
 }
 
@@ -98,7 +91,7 @@ fn new_parked<R: Threads + Wait + Clock + Copy + Send + 'static>(
     rt: R,
     alloc: Global,
 ) -> Option<Parked> {
-    park(&rt, alloc, new_seated(rt, alloc, small(), 1)?)
+    park(&rt, alloc, new_seated(rt, alloc, 1)?)
 }
 
 // A parked cell goes on with its seat.
@@ -108,7 +101,10 @@ fn resume<R: Threads + Wait + Clock + Copy + Send + 'static>(
 ) -> Option<Seated> {
     match parked.resume(rt, OpenGate) {
         Ok((cell, seats)) => first_seated(cell, seats),
-        Err(_) => None,
+        Err((parked, _)) => {
+            drop(parked);
+            None
+        }
     }
 }
 
@@ -118,68 +114,13 @@ fn first_seated(cell: Cell, seats: Vec<Seat>) -> Option<Seated>
 {
     let mut seats = seats;
     let Some(seat) = seats.pop() else {
+        drop(seats);
+        drop(cell);
         return None;
     };
     let seated = Seated { cell, seat };
+    drop(seats);
     Some(seated)
-}
-
-// The cell is parked with its seat, and goes on.
-fn go_on<R: Threads + Wait + Clock + Copy + Send + 'static>(
-    rt: R,
-    alloc: Global,
-    seated: Seated,
-) -> Option<Seated> {
-    resume(rt, park(&rt, alloc, seated)?)
-}
-
-// Makes the directory, by a client of a new number where the journal was full, and tells whether it is there.
-fn made<R: Threads + Wait + Clock + Copy + Send + 'static>(
-    rt: R,
-    alloc: Global,
-    seated: Seated,
-    name: &str,
-) -> Option<Seated> {
-    let mut seated = seated;
-    if seated.cell.room() < LEAST_ROOM {
-        seated = go_on(rt, alloc, seated)?;
-    }
-    let mut outcome = mkdir(&rt, alloc, &mut seated.seat, name);
-    if outcome == Err(Refusal::JournalFull) {
-        seated = go_on(rt, alloc, seated)?;
-        outcome = match mkdir(&rt, alloc, &mut seated.seat, name) {
-            Err(Refusal::Exists) => Ok(()),
-            again => again,
-        };
-    }
-    if outcome.is_ok() { Some(seated) } else { None }
-}
-
-// How many names `/` has after all directories were made, if that is told, and whether the journal stands behind another.
-fn make_all<R: Threads + Wait + Clock + Copy + Send + 'static>(
-    rt: R,
-    alloc: Global,
-    config: Config,
-) -> Option<(Option<usize>, bool)> {
-    let root = text(alloc, "/").ok()?;
-    let mut seated = new_seated(rt, alloc, config, 3)?;
-    for name in NAMES {
-        seated = made(rt, alloc, seated, name)?;
-    }
-    let Seated { cell, mut seat } = seated;
-    let listed = seat.list(&rt, root).ok().map(|names| names.len());
-    let journal = cell.close(&rt);
-    Some((listed, journal.base().is_some()))
-}
-
-#[test]
-fn a_full_journal_is_gone_past(rt: HostRuntime) {
-    let config = Config {
-        journal: 64,
-        ..small()
-    };
-    // Beside the ten stands `/.gone`.
-    assert!(rt; make_all(rt, rt.alloc(), config) == Some((Some(11), true)));
 }
 
 // Whether a parked cell goes on, and answers.
@@ -193,6 +134,7 @@ fn answers<R: Threads + Wait + Clock + Copy + Send + 'static>(
     };
     let Seated { cell, mut seat } = seated;
     let is_made = mkdir(&rt, alloc, &mut seat, "/last").is_ok();
+    drop(seat);
     drop(cell.close(&rt));
     is_made
 }
@@ -205,11 +147,17 @@ fn stays_parked<
     let Some(parked) = parked else {
         return false;
     };
-    let Err((parked, fault)) = parked.resume(one, OpenGate) else {
-        return false;
-    };
-    let is_answered = answers(other, alloc, parked);
-    is_answered && fault == StartFault::Clock
+    match parked.resume(one, OpenGate) {
+        Ok((cell, seats)) => {
+            drop(seats);
+            drop(cell);
+            false
+        }
+        Err((parked, fault)) => {
+            let is_answered = answers(other, alloc, parked);
+            is_answered && fault == StartFault::Clock
+        }
+    }
 }
 
 #[test]
@@ -228,7 +176,10 @@ fn parked_by<
     S: Threads + Wait + Clock + Copy + Send + 'static,
 >(rt: R, other: S, alloc: Global) -> Option<Parked> {
     let mut seated = resume(other, new_parked(rt, alloc)?)?;
-    mkdir(&other, alloc, &mut seated.seat, "/a").ok()?;
+    if mkdir(&other, alloc, &mut seated.seat, "/a").is_err() {
+        drop(seated);
+        return None;
+    }
     park(&other, alloc, seated)
 }
 
@@ -279,17 +230,21 @@ fn count_restarts(history: &ClosedHistory) -> usize {
 
 #[test]
 fn nodes_begin_again_first_behind_a_parking(rt: HostRuntime) -> Result<(), Fail> {
-    let Some(seated) = new_seated(rt, rt.alloc(), small(), 2) else {
+    let Some(seated) = new_seated(rt, rt.alloc(), 2) else {
         return Err(Fail::new("no cell, or no client"));
     };
-    let Some(seated) = go_on(rt, rt.alloc(), seated) else {
-        return Err(Fail::new("not parked, or not resumed"));
+    let Some(parked) = park(&rt, rt.alloc(), seated) else {
+        return Err(Fail::new("not parked"));
+    };
+    let Some(seated) = resume(rt, parked) else {
+        return Err(Fail::new("not resumed"));
     };
     let Seated { mut cell, mut seat } = seated;
     // No node has these numbers, so that none begins again.
     cell.restart(&rt, Node::Server(ServerId(0)));
     cell.restart(&rt, Node::Server(ServerId(65)));
     let is_made = mkdir(&rt, rt.alloc(), &mut seat, "/a").is_ok();
+    drop(seat);
     let journal = cell.close(&rt);
     let history = journal.history();
     let begins = begins_with_restarts(history);
@@ -323,12 +278,15 @@ fn leave_behind<R: Threads + Wait + Clock + Copy + Send + 'static>(
 ) -> Option<Seated> {
     let Seated { cell, seat } = seated;
     let Ok(parked) = cell.park(&rt, Vec::new(alloc)) else {
+        drop(seat);
         return None;
     };
-    let Ok((cell, _none)) = parked.resume(rt, OpenGate) else {
+    let Ok((cell, none)) = parked.resume(rt, OpenGate) else {
+        drop(seat);
         return None;
     };
     let seated = Seated { cell, seat };
+    drop(none);
     Some(seated)
 }
 
@@ -337,14 +295,22 @@ fn run_out<R: Threads + Wait + Clock + Copy + Send + 'static>(
     rt: R,
     alloc: Global,
 ) -> Option<bool> {
-    let mut seated = new_seated(rt, alloc, small(), 1)?;
+    let mut seated = new_seated(rt, alloc, 1)?;
     make_clients(&mut seated.cell);
     let seated = leave_behind(rt, alloc, seated)?;
     let parked = park(&rt, alloc, seated)?;
-    let Err((parked, fault)) = parked.resume(rt, OpenGate) else {
-        return None;
-    };
-    Some(fault == StartFault::Count && !parked.has_all_clients())
+    match parked.resume(rt, OpenGate) {
+        Ok((cell, seats)) => {
+            drop(seats);
+            drop(cell);
+            None
+        }
+        Err((parked, fault)) => {
+            let has_all = parked.has_all_clients();
+            drop(parked);
+            Some(fault == StartFault::Count && !has_all)
+        }
+    }
 }
 
 #[test]
@@ -362,7 +328,8 @@ fn goes_on<R: Threads + Wait + Clock + Copy + Send + 'static>(
         return false;
     };
     match parked.resume(rt, OpenGate) {
-        Ok((cell, _seats)) => {
+        Ok((cell, seats)) => {
+            drop(seats);
             drop(cell.close(&rt));
             true
         }
@@ -373,7 +340,7 @@ fn goes_on<R: Threads + Wait + Clock + Copy + Send + 'static>(
 #[test]
 fn a_refused_parking_loses_nothing(rt: HostRuntime) {
     // Where there is no cell, or no client of it, nothing is to be parked.
-    let goes_on = match new_seated(rt, rt.alloc(), small(), 1) {
+    let goes_on = match new_seated(rt, rt.alloc(), 1) {
         Some(seated) => goes_on(rt, rt.alloc(), seated),
         None => true,
     };

@@ -21,17 +21,6 @@ pub fn small(goal: u32) -> Config {
     }
 }
 
-/// The same where attempts are soon over, and clocks taken to be close. A master that begins again reads half of its log in one step, which has to take no
-/// longer than the clock bound, in a slow build too: the log is small.
-pub fn hasty(goal: u32) -> Config {
-    Config {
-        attempt_ms: 300,
-        skew_ms: 500,
-        log_bytes: 262_144,
-        ..small(goal)
-    }
-}
-
 /// Waits until so much was counted, but not for ever.
 pub fn wait_for<R: Clock>(rt: &R, counter: &AtomicU64, count: u64) {
     for _ in 0..MOST_TURNS {

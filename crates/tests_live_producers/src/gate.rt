@@ -99,7 +99,11 @@ fn both_read<R: Threads + Wait + Clock + Sync>(
     signals: &Signals,
 ) -> bool {
     let are_full = match cell.client() {
-        Ok(mut seat) => fill(rt, alloc, &mut seat, "/a") && fill(rt, alloc, &mut seat, "/b"),
+        Ok(mut seat) => {
+            let are_full = fill(rt, alloc, &mut seat, "/a") && fill(rt, alloc, &mut seat, "/b");
+            drop(seat);
+            are_full
+        }
         Err(_) => false,
     };
     if !are_full {
@@ -118,7 +122,9 @@ fn both_read<R: Threads + Wait + Clock + Sync>(
         2,
         &|place, reader| reader.read(rt, alloc, place, signals),
     );
-    readers.len() == 2 && readers.iter().all(|reader| reader.has_read)
+    let have_read = readers.len() == 2 && readers.iter().all(|reader| reader.has_read);
+    drop(readers);
+    have_read
 }
 
 #[test]

@@ -1,11 +1,10 @@
-//! Cells that keep the last entries of their journals.
+//! A cell that keeps the last entries of its journal.
 
-use crate::appends::produced;
 use crate::cells::small;
 use cell_run::Retention;
 use cell_run::cell::Cell;
-use cell_seats::gate::{Gate, Kind, OpenGate};
-use cell_seats::mailboxes::Policy;
+use cell_seats::gate::{Gate, Kind};
+use cell_seats::journal::Journal;
 use gfs_types::config::Config;
 use gfs_types::ids::Node;
 use gfs_types::lists::Text;
@@ -15,15 +14,9 @@ use std::sync::atomic::{AtomicU64, Ordering};
 use std::sync::{Arc, Wait};
 use std::test::*;
 use std::thread;
-use std::thread::Threads;
 use std::time::{Clock, Duration};
 
-/// How many entries stay of a journal of which no message is lost, and how many records each of four producers appends: some 11 entries each.
-const KEPT: u32 = 100_000;
-
-const RECORDS: u64 = 3_000;
-
-/// How many entries stay where a message is to be lost, and for how many milliseconds the master is held up then: the ticks of that time are more.
+/// How many entries stay, and for how many milliseconds the master is held up then: the ticks of that time are more.
 const FEW: u32 = 8;
 
 const HELD_MS: u64 = 500;
@@ -55,34 +48,30 @@ impl<R: Clock + Copy + Drop> Gate for LookGate<R> {
     }
 }
 
-#[test]
-fn a_cell_runs_past_its_journal(rt: HostRuntime) -> Result<(), Fail> {
-    let alloc = rt.alloc();
-    let config = Config {
-        block: 1_024,
-        attempt_ms: 60_000,
-        journal: 64,
-        ..Config::default()
+// Whether a new client is told what the root has.
+fn lists_root<R: Wait + Clock>(rt: &R, alloc: Global, cell: &mut Cell) -> bool {
+    let Ok(path) = Text::from_str("/", alloc) else {
+        return false;
     };
-    let retention = Retention::Last(KEPT);
-    let mut cell = Cell::start_retaining(rt, alloc, config, 3, retention, OpenGate)?;
-    let count = produced(&rt, alloc, &mut cell, Policy::NONE, (4, RECORDS));
-    let lost = cell.lost();
-    let journal = cell.close(&rt);
-    let first = journal.len().saturating_sub(KEPT as usize);
+    match cell.client() {
+        Ok(mut seat) => {
+            let is_answered = seat.list(rt, path).is_ok();
+            drop(seat);
+            is_answered
+        }
+        Err(_) => false,
+    }
+}
+
+// Whether the last entries of a journal stay, so many, and no others.
+fn keeps_last(journal: &Journal, kept: usize) -> bool {
+    let first = journal.len().saturating_sub(kept);
     let last = journal.len().saturating_sub(1);
-    let is_first = journal.first() == first;
-    let before_is_there = journal.event(first.saturating_sub(1)).is_some();
-    let are_there = journal.event(first).is_some() && journal.event(last).is_some();
-    drop(journal);
-    assert!(rt; count == Some(12_000));
-    // No message came so late that its entry was let go.
-    assert!(rt; lost == 0);
-    assert!(rt; first > 0);
-    assert!(rt; is_first);
-    assert!(rt; !before_is_there);
-    assert!(rt; are_there);
-    Ok(())
+    first > 0
+        && journal.first() == first
+        && journal.event(first.saturating_sub(1)).is_none()
+        && journal.event(first).is_some()
+        && journal.event(last).is_some()
 }
 
 #[test]
@@ -93,9 +82,6 @@ fn a_message_that_comes_too_late_is_lost(rt: HostRuntime) -> Result<(), Fail> {
         attempts: 16,
         ..small(1)
     };
-    let Ok(path) = Text::from_str("/", alloc) else {
-        return Err(Fail::new("no path"));
-    };
     let gate = LookGate {
         clock: rt,
         held: Arc::new(alloc, AtomicU64::new(0))?,
@@ -103,54 +89,13 @@ fn a_message_that_comes_too_late_is_lost(rt: HostRuntime) -> Result<(), Fail> {
     let retention = Retention::Last(FEW);
     let mut cell = Cell::start_retaining(rt, alloc, config, 1, retention, gate)?;
     // While the master is held up there are ticks of the client and the server; a later attempt is answered.
-    let is_answered = match cell.client() {
-        Ok(mut seat) => seat.list(&rt, path).is_ok(),
-        Err(_) => false,
-    };
+    let is_answered = lists_root(&rt, alloc, &mut cell);
     let lost = cell.lost();
     let journal = cell.close(&rt);
-    let (first, count) = (journal.first(), journal.len());
+    let are_kept = keeps_last(&journal, FEW as usize);
     drop(journal);
     assert!(rt; is_answered);
     assert!(rt; lost > 0);
-    assert!(rt; first == count.saturating_sub(FEW as usize));
-    Ok(())
-}
-
-/// In how many cells a message is waited for that comes too late: how threads take turns is not the test's to say.
-const MOST_CELLS: u32 = 20;
-
-/// How often a message came too late in a cell of whose journal three entries stay, while four producers append; none where a call was refused since its client
-/// was gone.
-fn lost_messages<R: Threads + Wait + Clock + Copy + Send + Sync + 'static>(
-    rt: R,
-    alloc: Global,
-) -> Option<u64> {
-    let config = Config {
-        attempt_ms: 100,
-        attempts: 10,
-        ..small(1)
-    };
-    let retention = Retention::Last(3);
-    let mut cell = Cell::start_retaining(rt, alloc, config, 1, retention, OpenGate).ok()?;
-    let count = produced(&rt, alloc, &mut cell, Policy::NONE, (4, 5));
-    let lost = cell.lost();
-    drop(cell.close(&rt));
-    if count.is_some() { Some(lost) } else { None }
-}
-
-#[test]
-fn clients_outlast_lost_messages(rt: HostRuntime) -> Result<(), Fail> {
-    let mut lost: u64 = 0;
-    for _ in 0..MOST_CELLS {
-        let Some(count) = lost_messages(rt, rt.alloc()) else {
-            return Err(Fail::new("no cell, or a client was gone"));
-        };
-        lost = count;
-        if lost > 0 {
-            break;
-        }
-    }
-    assert!(rt; lost > 0);
+    assert!(rt; are_kept);
     Ok(())
 }

@@ -13,7 +13,3 @@ mod keeping;
 mod producers;
 #[cfg(test)]
 mod restarts;
-#[cfg(test)]
-mod running_on;
-#[cfg(test)]
-mod watching;

@@ -109,17 +109,15 @@ pub fn look<R: Wait + Clock>(rt: &R, seat: &mut Seat, fd: Fd, offset: u64, recor
     }
 }
 
-/// So many producers, with a hundred thousand numbers of records for each, and with a file that all of them append to, which the reader makes.
+/// A reader, and so many producers, with a hundred thousand numbers of records for each, and with a file that all of them append to, which the reader makes.
 pub fn producers_of<R: Wait + Clock>(
     rt: &R,
     alloc: Global,
     cell: &mut Cell,
-    reader: &mut Seat,
     count: u64,
-) -> Option<Vec<Producer>> {
-    if !create(rt, alloc, reader, "/log") {
-        return None;
-    }
+) -> Option<(Seat, Vec<Producer>)> {
+    let mut reader = cell.client().ok()?;
+    let is_made = create(rt, alloc, &mut reader, "/log");
     let mut all = Vec::new(alloc);
     for number in 0..count {
         if let Ok(seat) = cell.client() {
@@ -132,9 +130,11 @@ pub fn producers_of<R: Wait + Clock>(
             let _pushed = all.push(producer).is_ok();
         }
     }
-    if all.len() as u64 == count {
-        Some(all)
+    if is_made && all.len() as u64 == count {
+        Some((reader, all))
     } else {
+        drop(all);
+        drop(reader);
         None
     }
 }

@@ -1,6 +1,6 @@
 //! Nodes that begin again.
 
-use crate::cells::{hasty, small, wait_for};
+use crate::cells::{small, wait_for};
 use crate::producers::{Producer, count_kept, produce_all, producers_of};
 use cell_journal::journal_entry::StepCause;
 use cell_run::cell::Cell;
@@ -91,8 +91,7 @@ fn kept<R: Threads + Wait + Clock + Sync>(
     restarts: &AtomicU64,
     rounds: u64,
 ) -> Option<usize> {
-    let mut reader = cell.client().ok()?;
-    let mut all = producers_of(rt, alloc, cell, &mut reader, PRODUCERS)?;
+    let (mut reader, mut all) = producers_of(rt, alloc, cell, PRODUCERS)?;
     if rounds == 1 {
         produce_all(rt, alloc, all.as_mut_slice(), 10);
         restart_in_turn(rt, cell, 0);
@@ -102,7 +101,10 @@ fn kept<R: Threads + Wait + Clock + Sync>(
         }
     }
     wait_for(rt, restarts, rounds.wrapping_mul(3));
-    count_kept(rt, alloc, &mut reader, all.as_slice())
+    let count = count_kept(rt, alloc, &mut reader, all.as_slice());
+    drop(all);
+    drop(reader);
+    count
 }
 
 // How often a node began again.
@@ -154,9 +156,14 @@ fn each_node_begins_again(rt: HostRuntime) {
 
 #[test]
 fn nodes_begin_again_at_any_time(rt: HostRuntime) {
+    // Attempts are soon over, and clocks taken to be close. A master that begins again reads half of its log in one step, which has to take no longer than the
+    // clock bound, in a slow build too: the log is small.
     let config = Config {
+        attempt_ms: 300,
+        skew_ms: 500,
+        log_bytes: 262_144,
         lease_ms: 2_000,
-        ..hasty(2)
+        ..small(2)
     };
     // Most of the 120 are answered: in each round each node begins again once, and then no more.
     assert!(rt; kept_by(rt, rt.alloc(), config, ROUNDS) > Some(60));
