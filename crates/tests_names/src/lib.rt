@@ -2,6 +2,8 @@
 #![tactic(auto)]
 
 #[cfg(test)]
+mod both;
+#[cfg(test)]
 mod chunks;
 #[cfg(test)]
 mod deep;
@@ -12,8 +14,6 @@ mod names;
 #[cfg(test)]
 mod plans;
 pub mod put;
-#[cfg(test)]
-mod random;
 #[cfg(test)]
 mod refused;
 #[cfg(test)]

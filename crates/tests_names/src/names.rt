@@ -12,8 +12,10 @@ use std::alloc::Global;
 use std::io::{self, Write};
 use std::test::Fail;
 
-/// A call on one path, by its word in a script.
-fn call_on(alloc: Global, word: &str, path: &str) -> Result<Call, NoMemory> {
+/// A name call by its line in a script.
+fn call_of(alloc: Global, line: &str) -> Result<Call, NoMemory> {
+    let (word, paths) = line.split_once(' ').unwrap_or_default();
+    let (path, to) = paths.split_once(' ').unwrap_or((paths, ""));
     let path = Text::from_str(path, alloc)?;
     Ok(match word {
         "mkdir" => Call::Mkdir(path),
@@ -21,28 +23,10 @@ fn call_on(alloc: Global, word: &str, path: &str) -> Result<Call, NoMemory> {
         "create" => Call::Create(path, None),
         "open" => Call::Open(path),
         "delete" => Call::Delete(path),
+        "rename" => Call::Rename(path, Text::from_str(to, alloc)?),
+        "snapshot" => Call::Snapshot(path, Text::from_str(to, alloc)?),
         _ => Call::List(path),
     })
-}
-
-/// A call on two paths.
-fn call_between(alloc: Global, word: &str, path: &str, to: &str) -> Result<Call, NoMemory> {
-    let path = Text::from_str(path, alloc)?;
-    let to = Text::from_str(to, alloc)?;
-    Ok(if word == "rename" {
-        Call::Rename(path, to)
-    } else {
-        Call::Snapshot(path, to)
-    })
-}
-
-/// A name call by its line in a script.
-fn call_of(alloc: Global, line: &str) -> Result<Call, NoMemory> {
-    let (word, paths) = line.split_once(' ').unwrap_or_default();
-    match paths.split_once(' ') {
-        Some((path, to)) => call_between(alloc, word, path, to),
-        None => call_on(alloc, word, paths),
-    }
 }
 
 /// What a call came to, and of a file that was opened its id.
@@ -66,22 +50,16 @@ fn write_outcome(text: &mut Vec<u8>, outcome: &NameOutcome) -> io::Result<()> {
     }
 }
 
-// What owns an outcome has one way out, and calls `drop` there: a drop at the end of a scope is proved anew at each place.
-fn write_met(text: &mut Vec<u8>, met: Result<NameOutcome, NoMemory>) -> io::Result<()> {
-    let written = match &met {
-        Ok(outcome) => write_outcome(text, outcome),
-        Err(fault) => write!(text, "{fault}"),
-    };
-    drop(met);
-    written
-}
-
+// What owns a call or an outcome has one way out, and calls `drop` there: a drop at the end of a scope is proved anew at each place.
 fn comes_to(table: &mut NameTable, alloc: Global, line: &str, wanted: &str) -> Result<bool, Fail> {
     let call = call_of(alloc, line)?;
     let met = table.name_step(&call, 5000);
     drop(call);
+    let outcome = met?;
     let mut text = Vec::new(alloc);
-    write_met(&mut text, met)?;
+    let written = write_outcome(&mut text, &outcome);
+    drop(outcome);
+    written?;
     Ok(text.as_slice() == wanted.as_bytes())
 }
 
@@ -122,12 +100,6 @@ const DIRECTORIES_AND_FILES: &str = "mkdir /d -> done\n\
     mkdir /g -> refused Exists\n\
     open /g -> opens 1\n";
 
-#[test]
-fn directories_and_files(rt: HostRuntime) -> Result<(), Fail> {
-    assert_eq!(rt; wrong(rt.alloc(), DIRECTORIES_AND_FILES)?, None);
-    Ok(())
-}
-
 /// A deleted file goes to a hidden name with the moment 5000 and its id, and comes back by a new name.
 const DELETION: &str = "create /f -> done\n\
     delete /f -> done\n\
@@ -137,12 +109,6 @@ const DELETION: &str = "create /f -> done\n\
     delete /.gone/00000000000000005000-0000000000000001 -> refused Reserved\n\
     rename /.gone/00000000000000005000-0000000000000001 /g -> done\n\
     open /g -> opens 1\n";
-
-#[test]
-fn deletion(rt: HostRuntime) -> Result<(), Fail> {
-    assert_eq!(rt; wrong(rt.alloc(), DELETION)?, None);
-    Ok(())
-}
 
 /// The copies get new ids in the order of their paths: `/e/a` has 3 and `/e/b` has 4.
 const SNAPSHOTS: &str = "mkdir /d -> done\n\
@@ -162,12 +128,6 @@ const SNAPSHOTS: &str = "mkdir /d -> done\n\
     snapshot /d/b /c -> done\n\
     open /c -> opens 5\n";
 
-#[test]
-fn snapshots(rt: HostRuntime) -> Result<(), Fail> {
-    assert_eq!(rt; wrong(rt.alloc(), SNAPSHOTS)?, None);
-    Ok(())
-}
-
 const BAD_PATHS_COME_FIRST: &str = "mkdir /x//y -> refused BadPath\n\
     mkdir /.. -> refused BadPath\n\
     mkdir /a/ -> refused BadPath\n\
@@ -180,7 +140,15 @@ const BAD_PATHS_COME_FIRST: &str = "mkdir /x//y -> refused BadPath\n\
     delete /no -> refused NotFound\n";
 
 #[test]
-fn bad_paths_come_first(rt: HostRuntime) -> Result<(), Fail> {
-    assert_eq!(rt; wrong(rt.alloc(), BAD_PATHS_COME_FIRST)?, None);
+fn name_calls_of_scripts(rt: HostRuntime) -> Result<(), Fail> {
+    for rows in [
+        DIRECTORIES_AND_FILES,
+        DELETION,
+        SNAPSHOTS,
+        BAD_PATHS_COME_FIRST,
+    ] {
+        let row = wrong(rt.alloc(), rows)?;
+        assert!(rt; row.is_none(), "{}", row.unwrap_or_default());
+    }
     Ok(())
 }
