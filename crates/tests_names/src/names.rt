@@ -23,8 +23,14 @@ fn call_of(alloc: Global, line: &str) -> Result<Call, NoMemory> {
         "create" => Call::Create(path, None),
         "open" => Call::Open(path),
         "delete" => Call::Delete(path),
-        "rename" => Call::Rename(path, Text::from_str(to, alloc)?),
-        "snapshot" => Call::Snapshot(path, Text::from_str(to, alloc)?),
+        "rename" => {
+            let to = Text::from_str(to, alloc)?;
+            Call::Rename(path, to)
+        }
+        "snapshot" => {
+            let to = Text::from_str(to, alloc)?;
+            Call::Snapshot(path, to)
+        }
         _ => Call::List(path),
     })
 }
