@@ -4,26 +4,17 @@ ghost use Rattle.std.specs.Prelude.{◌≡◌, ◌%◌, [], IfOk};
 ghost use Rattle.tests_stores.specs.StoppedStores.{HasStore};
 
 use crate::changes::{CHANGES, Shown, change_of, commit_first, seen};
+use crate::log_calls::WAYS;
 use crate::same::new_store;
 use crate::stopped_store::{TestStore, open_after, taken};
 use disk::{FuseDisk, StopPlan};
-use gfs_types::ids::Handle;
 use gfs_types::torn::Torn;
 use replica_store::armed_store::ArmedStore;
-use replica_store::change::StoreChange;
 use replica_store::fault::ReplicaStoreFault;
 use replica_store::store::ReplicaStore;
 use std::alloc::Global;
 use std::test::Fail;
 use store_disk::Layout;
-
-const WAYS: [Torn; 5] = [
-    Torn::Old,
-    Torn::New,
-    Torn::Byte(0),
-    Torn::Byte(1),
-    Torn::Byte(7),
-];
 
 // One change takes fewer calls of the disk.
 const CALLS: u64 = 30;
@@ -48,16 +39,10 @@ struct Stopped {
 }
 
 // What a store whose disk doesn't stop shows after so many changes.
-fn seen_after(alloc: Global, store: TestStore, count: u64) -> Result<Shown, ReplicaStoreFault>
-    requires { store.under_way ≡ [] }
-{
-    let mut store = store;
+fn after(alloc: Global, count: u64) -> Result<Shown, ReplicaStoreFault> {
+    let mut store = new_store(alloc)?;
     commit_first(alloc, &mut store, count)?;
     seen(alloc, &mut store)
-}
-
-fn after(alloc: Global, count: u64) -> Result<Shown, ReplicaStoreFault> {
-    seen_after(alloc, new_store(alloc)?, count)
 }
 
 // The disk after an opening of its store, the store's sizes, and whether it was opened.
@@ -104,15 +89,8 @@ fn open_twice(
 }
 
 // A change, after those before it, while the disk stops.
-fn stop_within(
-    alloc: Global,
-    store: TestStore,
-    number: u64,
-    stop: Stop,
-) -> Result<Stopped, ReplicaStoreFault>
-    requires { store.under_way ≡ [] }
-{
-    let mut store = store;
+fn stop_within(alloc: Global, number: u64, stop: Stop) -> Result<Stopped, ReplicaStoreFault> {
+    let mut store = new_store(alloc)?;
     commit_first(alloc, &mut store, number)?;
     let change = change_of(alloc, number)?;
     store.arm(stop.calls);
@@ -125,10 +103,6 @@ fn stop_within(
         is_open,
         found,
     })
-}
-
-fn stop_new_store(alloc: Global, number: u64, stop: Stop) -> Result<Stopped, ReplicaStoreFault> {
-    stop_within(alloc, new_store(alloc)?, number, stop)
 }
 
 // What is seen before a change and after it; and whether one that failed was found made, and one not made.
@@ -159,7 +133,7 @@ fn are_decided_at(
     for more in 0..OPENING_CALLS {
         for torn in WAYS {
             let stop = Stop { calls, more, torn };
-            if !is_decided(tally, stop_new_store(alloc, number, stop)?) {
+            if !is_decided(tally, stop_within(alloc, number, stop)?) {
                 return Ok(false);
             }
         }
@@ -184,8 +158,8 @@ fn are_decided(alloc: Global, tally: &mut Tally, number: u64) -> Result<bool, Re
         more: 0,
         torn: Torn::New,
     };
-    let ran = stop_new_store(alloc, number, last)?;
-    let stopped = stop_new_store(alloc, number, none)?;
+    let ran = stop_within(alloc, number, last)?;
+    let stopped = stop_within(alloc, number, none)?;
     Ok(ran.is_ok && ran.is_open && !stopped.is_open)
 }
 
@@ -195,58 +169,12 @@ fn each_change_is_made_or_not(rt: HostRuntime) -> Result<(), Fail> {
     for number in 0..CHANGES {
         let mut tally = Tally {
             before: after(alloc, number)?,
-            done: after(alloc, number + 1)?,
+            done: after(alloc, number.saturating_add(1))?,
             made: false,
             lacking: false,
         };
         assert!(rt; are_decided(alloc, &mut tally, number)?);
         assert!(rt; tally.made && tally.lacking);
-    }
-    Ok(())
-}
-
-// A byte that is to rot while the disk stops: it is rotten once the store is opened again, where it was answered so; where it wasn't, it is
-// rotten or nothing has changed.
-fn stop_within_rot(alloc: Global, store: TestStore, stop: Stop) -> Result<bool, ReplicaStoreFault>
-    requires { store.under_way ≡ [] }
-{
-    let mut store = store;
-    commit_first(alloc, &mut store, 4)?;
-    let before = seen(alloc, &mut store)?;
-    store.arm(stop.calls);
-    let change = StoreChange::Rot {
-        handle: Handle(7),
-        place: 3,
-        byte: 99,
-    };
-    let is_ok = store.commit(change).is_ok();
-    let (again, _is_open) = open_twice(alloc, store, stop)?;
-    let mut again = again;
-    let found = seen(alloc, &mut again)?;
-    let is_rotten = again.read(alloc, Handle(7), 0, 64)?.is_none();
-    Ok(is_rotten || (!is_ok && found == before))
-}
-
-fn is_rotten_or_not(alloc: Global, stop: Stop) -> Result<bool, ReplicaStoreFault> {
-    stop_within_rot(alloc, new_store(alloc)?, stop)
-}
-
-fn are_rotten_or_not(alloc: Global, calls: u64) -> Result<bool, ReplicaStoreFault> {
-    for more in 0..OPENING_CALLS {
-        for torn in WAYS {
-            if !is_rotten_or_not(alloc, Stop { calls, more, torn })? {
-                return Ok(false);
-            }
-        }
-    }
-    Ok(true)
-}
-
-#[test]
-fn a_byte_that_was_to_rot_is_rotten(rt: HostRuntime) -> Result<(), Fail> {
-    let alloc = rt.alloc();
-    for calls in 0..CALLS {
-        assert!(rt; are_rotten_or_not(alloc, calls)?);
     }
     Ok(())
 }

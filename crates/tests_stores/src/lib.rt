@@ -12,10 +12,6 @@ mod chunk_stops;
 #[cfg(test)]
 mod disk_stops;
 #[cfg(test)]
-mod entries;
-#[cfg(test)]
-mod lengths;
-#[cfg(test)]
 mod log_bytes;
 #[cfg(test)]
 mod log_calls;
@@ -39,8 +35,6 @@ mod plan;
 mod refused;
 #[cfg(test)]
 mod restarts;
-#[cfg(test)]
-mod rotten;
 #[cfg(test)]
 mod same;
 #[cfg(test)]
