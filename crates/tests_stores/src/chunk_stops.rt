@@ -8,21 +8,14 @@ ghost use Rattle.replica_store.specs.declared.change.StoreChange.TheVariants.{Se
 ghost use Rattle.replica_store.specs.Replicas.{ServerDisk, disk_changed};
 ghost use Rattle.store_disk.specs.Formats.{is_head_open};
 
-use crate::chunk_calls::{Listing, SIZE, STEPS, found_on, fused, listed, open_new, run};
+use crate::chunk_calls::{ALL, Listing, SIZE, found_on, fused, listed, open_new, run};
+use crate::log_calls::WAYS;
 use chunk_store::{OpenFault, Store};
 use disk::{Disk, FuseDisk, MemDisk, StopPlan};
 use gfs_types::ids::OrderNo;
 use gfs_types::torn::Torn;
 use std::alloc::{AllocError, Global};
 use std::test::Fail;
-
-const WAYS: [Torn; 5] = [
-    Torn::Old,
-    Torn::New,
-    Torn::Byte(0),
-    Torn::Byte(1),
-    Torn::Byte(7),
-];
 
 /// All steps take fewer calls of the disk.
 pub(crate) const CALLS: u64 = 160;
@@ -77,7 +70,7 @@ struct StoppedTwice {
 fn stopped_twice(disk: FuseDisk, alloc: Global, more: u64, torn: Torn) -> StoppedTwice
     requires { is_head_open disk.disk.bytes ≡ false }
 {
-    let (disk, ran) = run(disk, alloc, STEPS + 1);
+    let (disk, ran) = run(disk, alloc, ALL);
     let mut second = FuseDisk::new(disk.stop(torn));
     second.arm(more);
     let (stopped, first) = listed(second, alloc);
@@ -89,6 +82,7 @@ fn stopped_twice(disk: FuseDisk, alloc: Global, more: u64, torn: Torn) -> Stoppe
     }
 }
 
+// Each step is stopped at each of its calls, and the opening after it at each of its own.
 #[test]
 fn each_step_is_done_or_not(rt: HostRuntime) -> Result<(), Fail> {
     let alloc = rt.alloc();
@@ -96,30 +90,17 @@ fn each_step_is_done_or_not(rt: HostRuntime) -> Result<(), Fail> {
     let mut all = 0;
     for calls in 0..CALLS {
         for torn in WAYS {
-            let ran = stopped_twice(fused(alloc, calls)?, alloc, 1_000, torn);
-            assert!(rt; are_after(&states, ran.done, ran.found));
-            all = ran.done;
-        }
-    }
-    assert_eq!(rt; all, STEPS + 1);
-    Ok(())
-}
-
-#[test]
-fn an_opening_that_stopped_is_done_again(rt: HostRuntime) -> Result<(), Fail> {
-    let alloc = rt.alloc();
-    let states = all_states(alloc);
-    for calls in 0..CALLS {
-        for torn in WAYS {
             let mut is_open = false;
             for more in 0..OPENING_CALLS {
                 let ran = stopped_twice(fused(alloc, calls)?, alloc, more, torn);
                 assert!(rt; are_after(&states, ran.done, ran.found));
                 is_open = ran.is_open;
+                all = ran.done;
             }
             assert!(rt; is_open);
         }
     }
+    assert!(rt; all == ALL);
     Ok(())
 }
 
@@ -148,7 +129,7 @@ fn listed_again(disk: FuseDisk, alloc: Global) -> Option<Listing> {
 fn a_refused_allocation_leaves_a_state(rt: HostRuntime) -> Result<(), Fail> {
     let alloc = rt.alloc();
     let states = all_states(alloc);
-    let (disk, ran) = run(fused_again(alloc)?, alloc, STEPS + 1);
+    let (disk, ran) = run(fused_again(alloc)?, alloc, ALL);
     let found = listed_again(disk, alloc);
     assert!(rt; are_after(&states, ran.done, found));
     Ok(())

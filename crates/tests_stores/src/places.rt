@@ -1,11 +1,11 @@
 //! The bytes of a store's disk.
 
 use crate::chunk_calls::{STEPS, fused, run};
+use crate::log_bytes::holds;
 use disk::Disk;
 use gfs_types::torn::Torn;
 use std::alloc::Global;
 use std::test::Fail;
-use store_changes::read_part;
 
 // A slot's header: it is used, handle 7, version 8, no serial, 3 bytes.
 const HEADER: [u8; 40] = [
@@ -18,18 +18,6 @@ const HEAD: [u8; 48] = [
     0x47, 0x46, 0x53, 0x43, 1, 0, 0, 0, 64, 0, 0, 0, 16, 0, 0, 0, 2, 0, 0, 0, 0, 0, 0, 0, 0, 0, 0,
     0, 0, 0, 0, 1, 2, 0, 0, 0, 0, 0, 0, 0, 3, 0, 0, 0, 0, 0, 0, 0,
 ];
-
-// Whether these bytes stand on the disk at this place.
-fn holds<D: Disk>(disk: &mut D, alloc: Global, place: usize, wanted: &[u8]) -> bool {
-    let size = disk.size();
-    if place > size || wanted.len() > size - place {
-        return false;
-    }
-    match read_part(alloc, disk, place, wanted.len()) {
-        Ok(bytes) => bytes.as_slice() == wanted,
-        Err(_) => false,
-    }
-}
 
 // Whether each part is in its place: the head and the order, the closed gate, the first replica's bytes, the header of its copy, and the copy's bytes, of which
 // one is another.
@@ -48,7 +36,7 @@ fn each_part_has_its_place(rt: HostRuntime) -> Result<(), Fail> {
     let mut disk = disk.stop(Torn::Old);
     let are_in_place = are_in_place(&mut disk, alloc);
     drop(disk);
-    assert_eq!(rt; ran.done, STEPS);
+    assert!(rt; ran.done == STEPS);
     assert!(rt; are_in_place);
     Ok(())
 }
