@@ -191,8 +191,8 @@ fn shrink(disk: MemDisk, alloc: Global) -> (MemDisk, bool) {
         Ok((mut log, entries)) => {
             drop(entries);
             let mut items = Vec::new(alloc);
-            let is_written =
-                items.push(counters(3)).is_ok() && write_items(&mut log, alloc, &items).is_ok();
+            let is_written = items.push(counters(3)).is_ok()
+                && write_items(&mut log, alloc, &items).is_ok();
             drop(items);
             (log.into_disk(), is_written)
         }
