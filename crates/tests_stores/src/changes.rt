@@ -162,18 +162,14 @@ fn bytes_of<S: ReplicaStore>(
     requires { S.under_way store.old ≡ [] }
     ensures { S.under_way store.new ≡ [] }
 {
-    match store.read(alloc, Handle(handle), 0, 64)? {
-        None => Ok(None),
-        Some(found) => Ok(Some(hash(&found))),
-    }
-}
-
-fn hash(bytes: &[u8]) -> u64 {
+    let Some(found) = store.read(alloc, Handle(handle), 0, 64)? else {
+        return Ok(None);
+    };
     let mut sum: u64 = 17;
-    for byte in bytes {
+    for byte in found.as_slice() {
         sum = more(sum, u64::from(*byte));
     }
-    sum
+    Ok(Some(sum))
 }
 
 pub(crate) fn more(sum: u64, next: u64) -> u64 {

@@ -58,16 +58,13 @@ pub(crate) fn are_after(states: &States, done: usize, found: Option<Listing>) ->
     found == states[done] || found == states[done + 1]
 }
 
-// What came of the steps on a disk that stops, of an opening that stops, and of the opening after it.
-#[derive(Clone, Copy)]
-struct StoppedTwice {
-    done: usize,
-    // The opening that was to stop came to its end.
-    is_open: bool,
-    found: Option<Listing>,
-}
-
-fn stopped_twice(disk: FuseDisk, alloc: Global, more: u64, torn: Torn) -> StoppedTwice
+// How many steps were done on a disk that stops, whether an opening that was to stop came to its end, and what the opening after it lists.
+fn stopped_twice(
+    disk: FuseDisk,
+    alloc: Global,
+    more: u64,
+    torn: Torn,
+) -> (usize, bool, Option<Listing>)
     requires { is_head_open disk.disk.bytes ≡ false }
 {
     let (disk, ran) = run(disk, alloc, ALL);
@@ -75,11 +72,7 @@ fn stopped_twice(disk: FuseDisk, alloc: Global, more: u64, torn: Torn) -> Stoppe
     second.arm(more);
     let (stopped, first) = listed(second, alloc);
     let found = found_on(stopped.stop(torn), alloc);
-    StoppedTwice {
-        done: ran.done,
-        is_open: first.is_ok(),
-        found,
-    }
+    (ran.done, first.is_ok(), found)
 }
 
 // Each step is stopped at each of its calls, and the opening after it at each of its own.
@@ -92,10 +85,15 @@ fn each_step_is_done_or_not(rt: HostRuntime) -> Result<(), Fail> {
         for torn in WAYS {
             let mut is_open = false;
             for more in 0..OPENING_CALLS {
-                let ran = stopped_twice(fused(alloc, calls)?, alloc, more, torn);
-                assert!(rt; are_after(&states, ran.done, ran.found));
-                is_open = ran.is_open;
-                all = ran.done;
+                let (done, has_opened, found) = stopped_twice(
+                    fused(alloc, calls)?,
+                    alloc,
+                    more,
+                    torn,
+                );
+                assert!(rt; are_after(&states, done, found));
+                is_open = has_opened;
+                all = done;
             }
             assert!(rt; is_open);
         }

@@ -30,14 +30,6 @@ struct Stop {
     torn: Torn,
 }
 
-// What came of a call: whether it succeeded, whether the first opening after it did, and what is seen after the second.
-#[derive(Clone, Copy)]
-struct Stopped {
-    is_ok: bool,
-    is_open: bool,
-    found: Shown,
-}
-
 // What a store whose disk doesn't stop shows after so many changes.
 fn after(alloc: Global, count: u64) -> Result<Shown, ReplicaStoreFault> {
     let mut store = new_store(alloc)?;
@@ -88,8 +80,12 @@ fn open_twice(
     }
 }
 
-// A change, after those before it, while the disk stops.
-fn stop_within(alloc: Global, number: u64, stop: Stop) -> Result<Stopped, ReplicaStoreFault> {
+// A change, after those before it, while the disk stops: whether it succeeded, whether the first opening after it did, and what is seen after the second.
+fn stop_within(
+    alloc: Global,
+    number: u64,
+    stop: Stop,
+) -> Result<(bool, bool, Shown), ReplicaStoreFault> {
     let mut store = new_store(alloc)?;
     commit_first(alloc, &mut store, number)?;
     let change = change_of(alloc, number)?;
@@ -98,11 +94,7 @@ fn stop_within(alloc: Global, number: u64, stop: Stop) -> Result<Stopped, Replic
     let (again, is_open) = open_twice(alloc, store, stop)?;
     let mut again = again;
     let found = seen(alloc, &mut again)?;
-    Ok(Stopped {
-        is_ok,
-        is_open,
-        found,
-    })
+    Ok((is_ok, is_open, found))
 }
 
 // What is seen before a change and after it; and whether one that failed was found made, and one not made.
@@ -115,52 +107,37 @@ struct Tally {
 }
 
 // Whether the change is found made or not, and made where it was answered so.
-fn is_decided(tally: &mut Tally, ran: Stopped) -> bool {
-    let is_done = ran.found == tally.done;
-    let is_before = ran.found == tally.before;
-    tally.made = tally.made || !ran.is_ok && is_done;
+fn is_decided(tally: &mut Tally, is_ok: bool, found: Shown) -> bool {
+    let is_done = found == tally.done;
+    let is_before = found == tally.before;
+    tally.made = tally.made || !is_ok && is_done;
     tally.lacking = tally.lacking || is_before;
-    is_done || !ran.is_ok && is_before
+    is_done || !is_ok && is_before
 }
 
-// The same for each stop within the opening, and each tear.
-fn are_decided_at(
-    alloc: Global,
-    tally: &mut Tally,
-    number: u64,
-    calls: u64,
-) -> Result<bool, ReplicaStoreFault> {
-    for more in 0..OPENING_CALLS {
-        for torn in WAYS {
-            let stop = Stop { calls, more, torn };
-            if !is_decided(tally, stop_within(alloc, number, stop)?) {
-                return Ok(false);
+// The same for each call of the change, each stop within the opening, and each tear; and whether neither the change nor the opening has more calls than were
+// tried, and an opening that may make none fails.
+fn are_decided(alloc: Global, tally: &mut Tally, number: u64) -> Result<bool, ReplicaStoreFault> {
+    for calls in 0..CALLS {
+        for more in 0..OPENING_CALLS {
+            for torn in WAYS {
+                let stop = Stop { calls, more, torn };
+                let (is_ok, _is_open, found) = stop_within(alloc, number, stop)?;
+                if !is_decided(tally, is_ok, found) {
+                    return Ok(false);
+                }
             }
         }
     }
-    Ok(true)
-}
-
-// The same for each call of the change; and whether neither it nor the opening has more calls than were tried, and an opening that may make none fails.
-fn are_decided(alloc: Global, tally: &mut Tally, number: u64) -> Result<bool, ReplicaStoreFault> {
-    for calls in 0..CALLS {
-        if !are_decided_at(alloc, tally, number, calls)? {
-            return Ok(false);
-        }
-    }
-    let last = Stop {
+    let mut last = Stop {
         calls: CALLS,
         more: OPENING_CALLS,
         torn: Torn::New,
     };
-    let none = Stop {
-        calls: CALLS,
-        more: 0,
-        torn: Torn::New,
-    };
-    let ran = stop_within(alloc, number, last)?;
-    let stopped = stop_within(alloc, number, none)?;
-    Ok(ran.is_ok && ran.is_open && !stopped.is_open)
+    let (is_ok, is_open, _found) = stop_within(alloc, number, last)?;
+    last.more = 0;
+    let (_is_ok, is_open_without, _found) = stop_within(alloc, number, last)?;
+    Ok(is_ok && is_open && !is_open_without)
 }
 
 #[test]

@@ -161,20 +161,18 @@ fn change<D: Disk>(
     }
 }
 
-fn failed_at(count: usize, fault: LogFault) -> Made {
-    Made {
-        count,
-        fault: Some(fault),
-    }
-}
-
 fn change_all<D: Disk>(log: &mut Log<D>, alloc: Global, plan: &StopPlan) -> Made
     requires { log.old.is_open ≡ true }
 {
     for number in 0..STEPS {
         match change(log, alloc, plan, number) {
             Ok(()) => {}
-            Err(fault) => return failed_at(number, fault),
+            Err(fault) => {
+                return Made {
+                    count: number,
+                    fault: Some(fault),
+                };
+            }
         }
     }
     Made {
@@ -186,7 +184,8 @@ fn change_all<D: Disk>(log: &mut Log<D>, alloc: Global, plan: &StopPlan) -> Made
 /// Opens the log, and makes all changes.
 pub(crate) fn run<D: Disk + Drop>(disk: D, alloc: Global, plan: &StopPlan) -> (D, Made) {
     if disk.size() != SIZE {
-        return (disk, failed_at(0, LogFault::Damaged));
+        let fault = Some(LogFault::Damaged);
+        return (disk, Made { count: 0, fault });
     }
     match Log::open(alloc, disk) {
         Ok((mut log, entries)) => {
@@ -194,7 +193,10 @@ pub(crate) fn run<D: Disk + Drop>(disk: D, alloc: Global, plan: &StopPlan) -> (D
             let made = change_all(&mut log, alloc, plan);
             (log.into_disk(), made)
         }
-        Err((disk, fault)) => (disk, failed_at(0, fault)),
+        Err((disk, fault)) => {
+            let fault = Some(fault);
+            (disk, Made { count: 0, fault })
+        }
     }
 }
 
