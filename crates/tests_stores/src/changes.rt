@@ -24,7 +24,7 @@ fn filled(alloc: Global, count: usize, byte: u8) -> Result<Bytes, AllocError> {
     Ok(Bytes::from_vec(all)?)
 }
 
-/// A byte of a replica rots.
+/// A byte of replica 8 rots.
 pub(crate) fn rot(place: u64, byte: u8) -> StoreChange {
     StoreChange::Rot {
         handle: Handle(8),

@@ -22,6 +22,16 @@ const CREATE: [u8; 39] = [
     0, 0, 0, 2, 2, 0, 47, 97,
 ];
 
+// Epoch 1 and the Create stand there, with the closed gate after them, and nothing in the second area.
+const PARTS: [(usize, &[u8]); 6] = [
+    (0, &HEAD),
+    (16, &AREA),
+    (29, &EPOCH),
+    (43, &CREATE),
+    (82, &[0]),
+    (2_048, &[0]),
+];
+
 /// Whether these bytes stand on the disk at this place.
 pub(crate) fn holds<D: Disk>(disk: &mut D, alloc: Global, place: usize, wanted: &[u8]) -> bool {
     let size = disk.size();
@@ -34,21 +44,21 @@ pub(crate) fn holds<D: Disk>(disk: &mut D, alloc: Global, place: usize, wanted: 
     }
 }
 
-// Whether Epoch 1 and the Create stand there, with the closed gate after them, and nothing in the second area.
-fn are_in_place<D: Disk>(disk: &mut D, alloc: Global) -> bool {
-    holds(disk, alloc, 0, &HEAD)
-        && holds(disk, alloc, 16, &AREA)
-        && holds(disk, alloc, 29, &EPOCH)
-        && holds(disk, alloc, 43, &CREATE)
-        && holds(disk, alloc, 82, &[0])
-        && holds(disk, alloc, 2_048, &[0])
+/// Whether all of these stand at their places.
+pub(crate) fn are_in_place<D: Disk>(disk: &mut D, alloc: Global, parts: &[(usize, &[u8])]) -> bool {
+    for (place, wanted) in parts {
+        if !holds(disk, alloc, *place, wanted) {
+            return false;
+        }
+    }
+    true
 }
 
 // Whether a new disk has both records in their places, once each was appended.
 fn are_appended(alloc: Global, record: &Record) -> Result<bool, AllocError> {
     let (disk, first) = append_epoch(MemDisk::new(alloc, SIZE)?, alloc, 1);
     let (mut disk, second) = append(disk, alloc, record);
-    let are_in_place = are_in_place(&mut disk, alloc);
+    let are_in_place = are_in_place(&mut disk, alloc, &PARTS);
     drop(disk);
     Ok(first.found == 0 && second.found == 1 && are_in_place)
 }

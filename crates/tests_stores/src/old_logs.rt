@@ -119,19 +119,14 @@ fn put_disk(
     Ok(())
 }
 
-fn is_written(disk: &mut MemDisk, image: &[u8]) -> bool {
-    if image.len() > disk.size() {
-        return false;
-    }
-    disk.write_at(0, image).is_ok() && disk.sync().is_ok()
-}
-
 // A disk with these. What owns bytes has few ways out: a drop at the end of a scope is proved anew at each place.
 fn disk_with(alloc: Global, second: u8, items: &[&[u8]], records: &[&[u8]]) -> Option<MemDisk> {
     let mut disk = MemDisk::new(alloc, SIZE).ok()?;
     let mut image = Vec::new(alloc);
-    let is_put = put_disk(&mut image, second, items, records).is_ok();
-    let is_written = is_put && is_written(&mut disk, &image);
+    let is_written = put_disk(&mut image, second, items, records).is_ok()
+        && image.len() <= disk.size()
+        && disk.write_at(0, &image).is_ok()
+        && disk.sync().is_ok();
     drop(image);
     if is_written {
         return Some(disk);

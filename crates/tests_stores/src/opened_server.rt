@@ -115,17 +115,6 @@ fn stops_within(alloc: Global, calls: u64, torn: Torn) -> Option<bool> {
     }
 }
 
-#[test]
-fn a_server_is_opened_over_the_disk_of_an_earlier_one(rt: HostRuntime) {
-    let alloc = rt.alloc();
-    for torn in [Torn::Old, Torn::New, Torn::Byte(1)] {
-        assert!(rt; stops_within(alloc, 1_000, torn) == Some(true));
-        for calls in 0..12 {
-            assert!(rt; stops_within(alloc, calls, torn).is_some(), "call {calls}");
-        }
-    }
-}
-
 // Why it goes down where its disk passes no more calls.
 fn cause_of_failing(alloc: Global) -> Option<DownCause> {
     let mut server = open_new(alloc)?;
@@ -137,7 +126,15 @@ fn cause_of_failing(alloc: Global) -> Option<DownCause> {
     outcome.cause
 }
 
+// And a server says that its disk failed.
 #[test]
-fn a_server_says_that_its_disk_failed(rt: HostRuntime) {
-    assert!(rt; matches!(cause_of_failing(rt.alloc()), Some(DownCause::Device)));
+fn a_server_is_opened_over_the_disk_of_an_earlier_one(rt: HostRuntime) {
+    let alloc = rt.alloc();
+    for torn in [Torn::Old, Torn::New, Torn::Byte(1)] {
+        assert!(rt; stops_within(alloc, 1_000, torn) == Some(true));
+        for calls in 0..12 {
+            assert!(rt; stops_within(alloc, calls, torn).is_some(), "call {calls}");
+        }
+    }
+    assert!(rt; matches!(cause_of_failing(alloc), Some(DownCause::Device)));
 }

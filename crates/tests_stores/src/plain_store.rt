@@ -19,18 +19,6 @@ struct PlainReplica {
 }
 
 impl PlainReplica {
-    fn empty(version: Version, serial: Serial) -> PlainReplica {
-        PlainReplica {
-            row: Row {
-                version,
-                serial,
-                count: 0,
-            },
-            bytes: [0; CHUNK],
-            is_rotten: false,
-        }
-    }
-
     /// The mutation of this serial puts a byte there, and what lies before it is zero where there was nothing.
     fn put(&mut self, serial: Serial, place: u64, byte: u8) {
         if let Some(at) = self.bytes.get_mut(place as usize) {
@@ -105,7 +93,15 @@ impl PlainStore {
                 serial,
                 bytes,
             } => {
-                let mut replica = PlainReplica::empty(*version, *serial);
+                let mut replica = PlainReplica {
+                    row: Row {
+                        version: *version,
+                        serial: *serial,
+                        count: 0,
+                    },
+                    bytes: [0; CHUNK],
+                    is_rotten: false,
+                };
                 replica.write(*serial, 0, bytes.as_slice());
                 self.set(*handle, Some(replica));
             }
