@@ -3,10 +3,11 @@
 ghost use Rattle.std.specs.Prelude.{◌≡◌, false, IfOk};
 ghost use Rattle.store_disk.specs.Formats.{is_head_open};
 
-use crate::chunk_calls::{ALL, Listing, SIZE, found_on, fused, listed, run};
+use crate::chunk_calls::{ALL, Listing, SIZE, found_on, fused, listed, open_new, run};
 use crate::chunk_stops::{CALLS, OPENING_CALLS, all_states, are_after};
 use chunk_store::OpenFault;
 use disk::{Disk, FaultDisk, MemDisk};
+use gfs_types::ids::{Handle, Version};
 use gfs_types::torn::Torn;
 use std::alloc::{AllocError, Global};
 use std::test::Fail;
@@ -57,6 +58,32 @@ fn a_failed_opening_is_done_again(rt: HostRuntime) -> Result<(), Fail> {
             let found = listed_after_fault(disk.stop(Torn::New), alloc, more);
             assert!(rt; are_after(&states, ran.done, found));
         }
+    }
+    Ok(())
+}
+
+// Whether a store on a new disk that stops after so many calls is open behind a change just where that succeeded.
+fn is_open_if_changed(alloc: Global, calls: u64) -> Result<bool, AllocError> {
+    Ok(match open_new(fused(alloc, calls)?, alloc) {
+        Ok(store) => {
+            let mut store = store;
+            let created = store.create(alloc, Handle(5), Version(1));
+            let is_open = store.is_open();
+            drop(store.into_disk());
+            is_open == created.is_ok()
+        }
+        Err((disk, fault)) => {
+            drop(disk);
+            fault == OpenFault::Device
+        }
+    })
+}
+
+#[test]
+fn a_failed_change_closes_the_store(rt: HostRuntime) -> Result<(), Fail> {
+    let alloc = rt.alloc();
+    for calls in 0..CALLS {
+        assert!(rt; is_open_if_changed(alloc, calls)?, "call {calls}");
     }
     Ok(())
 }

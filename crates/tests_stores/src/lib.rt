@@ -12,6 +12,8 @@ mod chunk_stops;
 #[cfg(test)]
 mod disk_stops;
 #[cfg(test)]
+mod lengths;
+#[cfg(test)]
 mod log_bytes;
 #[cfg(test)]
 mod log_calls;
