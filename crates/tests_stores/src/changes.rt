@@ -11,7 +11,7 @@ use replica_store::store::ReplicaStore;
 use std::alloc::{AllocError, Global};
 use store_disk::Layout;
 
-pub(crate) const CHANGES: u64 = 12;
+pub(crate) const CHANGES: u64 = 15;
 
 pub(crate) fn layout() -> Layout
     ensures { result.chunk % result.block ≡ 0 }
@@ -22,6 +22,15 @@ pub(crate) fn layout() -> Layout
 fn filled(alloc: Global, count: usize, byte: u8) -> Result<Bytes, AllocError> {
     let all = vec![in alloc; byte; count]?;
     Ok(Bytes::from_vec(all)?)
+}
+
+/// A byte of replica 8 rots.
+pub(crate) fn rot(place: u64, byte: u8) -> StoreChange {
+    StoreChange::Rot {
+        handle: Handle(8),
+        place,
+        byte,
+    }
 }
 
 // The change of a number.
@@ -75,7 +84,11 @@ pub(crate) fn change_of(alloc: Global, number: u64) -> Result<StoreChange, Repli
             count: 5,
         },
         10 => StoreChange::Remove(Handle(7)),
-        _ => StoreChange::SetOrder(OrderNo { epoch: 2, count: 1 }),
+        11 => StoreChange::SetOrder(OrderNo { epoch: 2, count: 1 }),
+        12 => rot(3, 99),
+        13 => rot(3, 67),
+        // A byte that stands there already.
+        _ => rot(20, 67),
     };
     Ok(change)
 }
@@ -149,18 +162,14 @@ fn bytes_of<S: ReplicaStore>(
     requires { S.under_way store.old ≡ [] }
     ensures { S.under_way store.new ≡ [] }
 {
-    match store.read(alloc, Handle(handle), 0, 64)? {
-        None => Ok(None),
-        Some(found) => Ok(Some(hash(&found))),
-    }
-}
-
-fn hash(bytes: &[u8]) -> u64 {
+    let Some(found) = store.read(alloc, Handle(handle), 0, 64)? else {
+        return Ok(None);
+    };
     let mut sum: u64 = 17;
-    for byte in bytes {
+    for byte in found.as_slice() {
         sum = more(sum, u64::from(*byte));
     }
-    sum
+    Ok(Some(sum))
 }
 
 pub(crate) fn more(sum: u64, next: u64) -> u64 {

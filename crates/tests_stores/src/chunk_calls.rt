@@ -18,6 +18,9 @@ pub(crate) const SIZE: usize = 960;
 /// How many steps there are before the mutation.
 pub(crate) const STEPS: usize = 8;
 
+/// And with it.
+pub(crate) const ALL: usize = 9;
+
 /// How many steps were done, and whether the one after them, or the opening before all, answered Device.
 #[derive(Clone, Copy)]
 pub(crate) struct Ran {
@@ -124,7 +127,7 @@ fn go<D: Disk>(store: &mut Store<D>, alloc: Global, steps: usize) -> Ran
     if steps > STEPS {
         match mutate(store, alloc) {
             Ok(()) => Ran {
-                done: STEPS + 1,
+                done: ALL,
                 is_device: false,
             },
             Err(fault) => failed_at(STEPS, fault),
@@ -169,22 +172,17 @@ fn list_replicas<D: Disk>(store: &Store<D>, alloc: Global) -> Result<Listing, Op
     }
 }
 
-// The head and the order's number, and the slots behind the redo area.
-fn read_around<D: Disk>(disk: &mut D, found: &mut Listing) -> Result<(), OpenFault> {
-    if disk.size() < SIZE {
-        return Err(OpenFault::Damaged);
-    }
-    disk.read(0, &mut found.front)?;
-    disk.read(496, &mut found.slots)?;
-    Ok(())
-}
-
+// The same with the disk's bytes: the head and the order's number, and the slots behind the redo area.
 fn with_bytes<D: Disk>(
     disk: &mut D,
     listing: Result<Listing, OpenFault>,
 ) -> Result<Listing, OpenFault> {
     let mut found = listing?;
-    read_around(disk, &mut found)?;
+    if disk.size() < SIZE {
+        return Err(OpenFault::Damaged);
+    }
+    disk.read(0, &mut found.front)?;
+    disk.read(496, &mut found.slots)?;
     Ok(found)
 }
 

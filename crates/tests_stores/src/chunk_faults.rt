@@ -3,7 +3,7 @@
 ghost use Rattle.std.specs.Prelude.{◌≡◌, false, IfOk};
 ghost use Rattle.store_disk.specs.Formats.{is_head_open};
 
-use crate::chunk_calls::{Listing, SIZE, STEPS, found_on, fused, listed, open_new, run};
+use crate::chunk_calls::{ALL, Listing, SIZE, found_on, fused, listed, open_new, run};
 use crate::chunk_stops::{CALLS, OPENING_CALLS, all_states, are_after};
 use chunk_store::OpenFault;
 use disk::{Disk, FaultDisk, MemDisk};
@@ -25,13 +25,13 @@ fn a_failed_call_answers_device(rt: HostRuntime) -> Result<(), Fail> {
     let states = all_states(alloc);
     let mut all = 0;
     for calls in 0..CALLS {
-        let (disk, ran) = run(faulty(alloc, calls)?, alloc, STEPS + 1);
+        let (disk, ran) = run(faulty(alloc, calls)?, alloc, ALL);
         assert!(rt; ran.is_device == (disk.failures() == 1), "call {calls}");
         let found = found_on(disk.into_disk(), alloc);
         assert!(rt; are_after(&states, ran.done, found), "call {calls}");
         all = ran.done;
     }
-    assert_eq!(rt; all, STEPS + 1);
+    assert!(rt; all == ALL);
     Ok(())
 }
 
@@ -54,7 +54,7 @@ fn a_failed_opening_is_done_again(rt: HostRuntime) -> Result<(), Fail> {
     let states = all_states(alloc);
     for calls in 0..CALLS {
         for more in 0..OPENING_CALLS {
-            let (disk, ran) = run(fused(alloc, calls)?, alloc, STEPS + 1);
+            let (disk, ran) = run(fused(alloc, calls)?, alloc, ALL);
             let found = listed_after_fault(disk.stop(Torn::New), alloc, more);
             assert!(rt; are_after(&states, ran.done, found));
         }

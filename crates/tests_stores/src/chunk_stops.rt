@@ -8,21 +8,14 @@ ghost use Rattle.replica_store.specs.declared.change.StoreChange.TheVariants.{Se
 ghost use Rattle.replica_store.specs.Replicas.{ServerDisk, disk_changed};
 ghost use Rattle.store_disk.specs.Formats.{is_head_open};
 
-use crate::chunk_calls::{Listing, SIZE, STEPS, found_on, fused, listed, open_new, run};
+use crate::chunk_calls::{ALL, Listing, SIZE, found_on, fused, listed, open_new, run};
+use crate::log_calls::WAYS;
 use chunk_store::{OpenFault, Store};
 use disk::{Disk, FuseDisk, MemDisk, StopPlan};
 use gfs_types::ids::OrderNo;
 use gfs_types::torn::Torn;
 use std::alloc::{AllocError, Global};
 use std::test::Fail;
-
-const WAYS: [Torn; 5] = [
-    Torn::Old,
-    Torn::New,
-    Torn::Byte(0),
-    Torn::Byte(1),
-    Torn::Byte(7),
-];
 
 /// All steps take fewer calls of the disk.
 pub(crate) const CALLS: u64 = 160;
@@ -65,30 +58,24 @@ pub(crate) fn are_after(states: &States, done: usize, found: Option<Listing>) ->
     found == states[done] || found == states[done + 1]
 }
 
-// What came of the steps on a disk that stops, of an opening that stops, and of the opening after it.
-#[derive(Clone, Copy)]
-struct StoppedTwice {
-    done: usize,
-    // The opening that was to stop came to its end.
-    is_open: bool,
-    found: Option<Listing>,
-}
-
-fn stopped_twice(disk: FuseDisk, alloc: Global, more: u64, torn: Torn) -> StoppedTwice
+// How many steps were done on a disk that stops, whether an opening that was to stop came to its end, and what the opening after it lists.
+fn stopped_twice(
+    disk: FuseDisk,
+    alloc: Global,
+    more: u64,
+    torn: Torn,
+) -> (usize, bool, Option<Listing>)
     requires { is_head_open disk.disk.bytes ≡ false }
 {
-    let (disk, ran) = run(disk, alloc, STEPS + 1);
+    let (disk, ran) = run(disk, alloc, ALL);
     let mut second = FuseDisk::new(disk.stop(torn));
     second.arm(more);
     let (stopped, first) = listed(second, alloc);
     let found = found_on(stopped.stop(torn), alloc);
-    StoppedTwice {
-        done: ran.done,
-        is_open: first.is_ok(),
-        found,
-    }
+    (ran.done, first.is_ok(), found)
 }
 
+// Each step is stopped at each of its calls, and the opening after it at each of its own.
 #[test]
 fn each_step_is_done_or_not(rt: HostRuntime) -> Result<(), Fail> {
     let alloc = rt.alloc();
@@ -96,30 +83,22 @@ fn each_step_is_done_or_not(rt: HostRuntime) -> Result<(), Fail> {
     let mut all = 0;
     for calls in 0..CALLS {
         for torn in WAYS {
-            let ran = stopped_twice(fused(alloc, calls)?, alloc, 1_000, torn);
-            assert!(rt; are_after(&states, ran.done, ran.found));
-            all = ran.done;
-        }
-    }
-    assert_eq!(rt; all, STEPS + 1);
-    Ok(())
-}
-
-#[test]
-fn an_opening_that_stopped_is_done_again(rt: HostRuntime) -> Result<(), Fail> {
-    let alloc = rt.alloc();
-    let states = all_states(alloc);
-    for calls in 0..CALLS {
-        for torn in WAYS {
             let mut is_open = false;
             for more in 0..OPENING_CALLS {
-                let ran = stopped_twice(fused(alloc, calls)?, alloc, more, torn);
-                assert!(rt; are_after(&states, ran.done, ran.found));
-                is_open = ran.is_open;
+                let (done, has_opened, found) = stopped_twice(
+                    fused(alloc, calls)?,
+                    alloc,
+                    more,
+                    torn,
+                );
+                assert!(rt; are_after(&states, done, found));
+                is_open = has_opened;
+                all = done;
             }
             assert!(rt; is_open);
         }
     }
+    assert!(rt; all == ALL);
     Ok(())
 }
 
@@ -148,7 +127,7 @@ fn listed_again(disk: FuseDisk, alloc: Global) -> Option<Listing> {
 fn a_refused_allocation_leaves_a_state(rt: HostRuntime) -> Result<(), Fail> {
     let alloc = rt.alloc();
     let states = all_states(alloc);
-    let (disk, ran) = run(fused_again(alloc)?, alloc, STEPS + 1);
+    let (disk, ran) = run(fused_again(alloc)?, alloc, ALL);
     let found = listed_again(disk, alloc);
     assert!(rt; are_after(&states, ran.done, found));
     Ok(())

@@ -4,26 +4,17 @@ ghost use Rattle.std.specs.Prelude.{◌≡◌, ◌%◌, [], IfOk};
 ghost use Rattle.tests_stores.specs.StoppedStores.{HasStore};
 
 use crate::changes::{CHANGES, Shown, change_of, commit_first, seen};
+use crate::log_calls::WAYS;
 use crate::same::new_store;
 use crate::stopped_store::{TestStore, open_after, taken};
 use disk::{FuseDisk, StopPlan};
-use gfs_types::ids::Handle;
 use gfs_types::torn::Torn;
 use replica_store::armed_store::ArmedStore;
-use replica_store::change::StoreChange;
 use replica_store::fault::ReplicaStoreFault;
 use replica_store::store::ReplicaStore;
 use std::alloc::Global;
 use std::test::Fail;
 use store_disk::Layout;
-
-const WAYS: [Torn; 5] = [
-    Torn::Old,
-    Torn::New,
-    Torn::Byte(0),
-    Torn::Byte(1),
-    Torn::Byte(7),
-];
 
 // One change takes fewer calls of the disk.
 const CALLS: u64 = 30;
@@ -39,25 +30,11 @@ struct Stop {
     torn: Torn,
 }
 
-// What came of a call: whether it succeeded, whether the first opening after it did, and what is seen after the second.
-#[derive(Clone, Copy)]
-struct Stopped {
-    is_ok: bool,
-    is_open: bool,
-    found: Shown,
-}
-
 // What a store whose disk doesn't stop shows after so many changes.
-fn seen_after(alloc: Global, store: TestStore, count: u64) -> Result<Shown, ReplicaStoreFault>
-    requires { store.under_way ≡ [] }
-{
-    let mut store = store;
+fn after(alloc: Global, count: u64) -> Result<Shown, ReplicaStoreFault> {
+    let mut store = new_store(alloc)?;
     commit_first(alloc, &mut store, count)?;
     seen(alloc, &mut store)
-}
-
-fn after(alloc: Global, count: u64) -> Result<Shown, ReplicaStoreFault> {
-    seen_after(alloc, new_store(alloc)?, count)
 }
 
 // The disk after an opening of its store, the store's sizes, and whether it was opened.
@@ -103,16 +80,13 @@ fn open_twice(
     }
 }
 
-// A change, after those before it, while the disk stops.
+// A change, after those before it, while the disk stops: whether it succeeded, whether the first opening after it did, and what is seen after the second.
 fn stop_within(
     alloc: Global,
-    store: TestStore,
     number: u64,
     stop: Stop,
-) -> Result<Stopped, ReplicaStoreFault>
-    requires { store.under_way ≡ [] }
-{
-    let mut store = store;
+) -> Result<(bool, bool, Shown), ReplicaStoreFault> {
+    let mut store = new_store(alloc)?;
     commit_first(alloc, &mut store, number)?;
     let change = change_of(alloc, number)?;
     store.arm(stop.calls);
@@ -120,15 +94,7 @@ fn stop_within(
     let (again, is_open) = open_twice(alloc, store, stop)?;
     let mut again = again;
     let found = seen(alloc, &mut again)?;
-    Ok(Stopped {
-        is_ok,
-        is_open,
-        found,
-    })
-}
-
-fn stop_new_store(alloc: Global, number: u64, stop: Stop) -> Result<Stopped, ReplicaStoreFault> {
-    stop_within(alloc, new_store(alloc)?, number, stop)
+    Ok((is_ok, is_open, found))
 }
 
 // What is seen before a change and after it; and whether one that failed was found made, and one not made.
@@ -141,52 +107,37 @@ struct Tally {
 }
 
 // Whether the change is found made or not, and made where it was answered so.
-fn is_decided(tally: &mut Tally, ran: Stopped) -> bool {
-    let is_done = ran.found == tally.done;
-    let is_before = ran.found == tally.before;
-    tally.made = tally.made || !ran.is_ok && is_done;
+fn is_decided(tally: &mut Tally, is_ok: bool, found: Shown) -> bool {
+    let is_done = found == tally.done;
+    let is_before = found == tally.before;
+    tally.made = tally.made || !is_ok && is_done;
     tally.lacking = tally.lacking || is_before;
-    is_done || !ran.is_ok && is_before
+    is_done || !is_ok && is_before
 }
 
-// The same for each stop within the opening, and each tear.
-fn are_decided_at(
-    alloc: Global,
-    tally: &mut Tally,
-    number: u64,
-    calls: u64,
-) -> Result<bool, ReplicaStoreFault> {
-    for more in 0..OPENING_CALLS {
-        for torn in WAYS {
-            let stop = Stop { calls, more, torn };
-            if !is_decided(tally, stop_new_store(alloc, number, stop)?) {
-                return Ok(false);
+// The same for each call of the change, each stop within the opening, and each tear; and whether neither the change nor the opening has more calls than were
+// tried, and an opening that may make none fails.
+fn are_decided(alloc: Global, tally: &mut Tally, number: u64) -> Result<bool, ReplicaStoreFault> {
+    for calls in 0..CALLS {
+        for more in 0..OPENING_CALLS {
+            for torn in WAYS {
+                let stop = Stop { calls, more, torn };
+                let (is_ok, _is_open, found) = stop_within(alloc, number, stop)?;
+                if !is_decided(tally, is_ok, found) {
+                    return Ok(false);
+                }
             }
         }
     }
-    Ok(true)
-}
-
-// The same for each call of the change; and whether neither it nor the opening has more calls than were tried, and an opening that may make none fails.
-fn are_decided(alloc: Global, tally: &mut Tally, number: u64) -> Result<bool, ReplicaStoreFault> {
-    for calls in 0..CALLS {
-        if !are_decided_at(alloc, tally, number, calls)? {
-            return Ok(false);
-        }
-    }
-    let last = Stop {
+    let mut last = Stop {
         calls: CALLS,
         more: OPENING_CALLS,
         torn: Torn::New,
     };
-    let none = Stop {
-        calls: CALLS,
-        more: 0,
-        torn: Torn::New,
-    };
-    let ran = stop_new_store(alloc, number, last)?;
-    let stopped = stop_new_store(alloc, number, none)?;
-    Ok(ran.is_ok && ran.is_open && !stopped.is_open)
+    let (is_ok, is_open, _found) = stop_within(alloc, number, last)?;
+    last.more = 0;
+    let (_is_ok, is_open_without, _found) = stop_within(alloc, number, last)?;
+    Ok(is_ok && is_open && !is_open_without)
 }
 
 #[test]
@@ -195,58 +146,12 @@ fn each_change_is_made_or_not(rt: HostRuntime) -> Result<(), Fail> {
     for number in 0..CHANGES {
         let mut tally = Tally {
             before: after(alloc, number)?,
-            done: after(alloc, number + 1)?,
+            done: after(alloc, number.saturating_add(1))?,
             made: false,
             lacking: false,
         };
         assert!(rt; are_decided(alloc, &mut tally, number)?);
         assert!(rt; tally.made && tally.lacking);
-    }
-    Ok(())
-}
-
-// A byte that is to rot while the disk stops: it is rotten once the store is opened again, where it was answered so; where it wasn't, it is
-// rotten or nothing has changed.
-fn stop_within_rot(alloc: Global, store: TestStore, stop: Stop) -> Result<bool, ReplicaStoreFault>
-    requires { store.under_way ≡ [] }
-{
-    let mut store = store;
-    commit_first(alloc, &mut store, 4)?;
-    let before = seen(alloc, &mut store)?;
-    store.arm(stop.calls);
-    let change = StoreChange::Rot {
-        handle: Handle(7),
-        place: 3,
-        byte: 99,
-    };
-    let is_ok = store.commit(change).is_ok();
-    let (again, _is_open) = open_twice(alloc, store, stop)?;
-    let mut again = again;
-    let found = seen(alloc, &mut again)?;
-    let is_rotten = again.read(alloc, Handle(7), 0, 64)?.is_none();
-    Ok(is_rotten || (!is_ok && found == before))
-}
-
-fn is_rotten_or_not(alloc: Global, stop: Stop) -> Result<bool, ReplicaStoreFault> {
-    stop_within_rot(alloc, new_store(alloc)?, stop)
-}
-
-fn are_rotten_or_not(alloc: Global, calls: u64) -> Result<bool, ReplicaStoreFault> {
-    for more in 0..OPENING_CALLS {
-        for torn in WAYS {
-            if !is_rotten_or_not(alloc, Stop { calls, more, torn })? {
-                return Ok(false);
-            }
-        }
-    }
-    Ok(true)
-}
-
-#[test]
-fn a_byte_that_was_to_rot_is_rotten(rt: HostRuntime) -> Result<(), Fail> {
-    let alloc = rt.alloc();
-    for calls in 0..CALLS {
-        assert!(rt; are_rotten_or_not(alloc, calls)?);
     }
     Ok(())
 }

@@ -12,8 +12,6 @@ mod chunk_stops;
 #[cfg(test)]
 mod disk_stops;
 #[cfg(test)]
-mod entries;
-#[cfg(test)]
 mod lengths;
 #[cfg(test)]
 mod log_bytes;
@@ -39,8 +37,6 @@ mod plan;
 mod refused;
 #[cfg(test)]
 mod restarts;
-#[cfg(test)]
-mod rotten;
 #[cfg(test)]
 mod same;
 #[cfg(test)]

@@ -1,6 +1,6 @@
 //! The bytes of a log's disk.
 
-use crate::log_calls::{Ran, SIZE, append, create};
+use crate::log_calls::{SIZE, append, append_epoch, create};
 use disk::{Disk, MemDisk};
 use log_records::record::Record;
 use oplog::{LogFault, read_range};
@@ -22,6 +22,16 @@ const CREATE: [u8; 39] = [
     0, 0, 0, 2, 2, 0, 47, 97,
 ];
 
+// Epoch 1 and the Create stand there, with the closed gate after them, and nothing in the second area.
+const PARTS: [(usize, &[u8]); 6] = [
+    (0, &HEAD),
+    (16, &AREA),
+    (29, &EPOCH),
+    (43, &CREATE),
+    (82, &[0]),
+    (2_048, &[0]),
+];
+
 /// Whether these bytes stand on the disk at this place.
 pub(crate) fn holds<D: Disk>(disk: &mut D, alloc: Global, place: usize, wanted: &[u8]) -> bool {
     let size = disk.size();
@@ -34,70 +44,49 @@ pub(crate) fn holds<D: Disk>(disk: &mut D, alloc: Global, place: usize, wanted: 
     }
 }
 
-// Whether Epoch 1 and the Create stand there, with the closed gate after them, and nothing in the second area.
-fn are_in_place<D: Disk>(disk: &mut D, alloc: Global) -> bool {
-    holds(disk, alloc, 0, &HEAD)
-        && holds(disk, alloc, 16, &AREA)
-        && holds(disk, alloc, 29, &EPOCH)
-        && holds(disk, alloc, 43, &CREATE)
-        && holds(disk, alloc, 82, &[0])
-        && holds(disk, alloc, 2_048, &[0])
-}
-
-// What owns a record, a disk or a log calls `drop` once: a drop at the end of a scope is proved anew at each place.
-fn append_epoch(disk: MemDisk, alloc: Global) -> (MemDisk, Ran) {
-    let epoch = Record::Epoch { epoch: 1 };
-    let appended = append(disk, alloc, &epoch);
-    drop(epoch);
-    appended
+/// Whether all of these stand at their places.
+pub(crate) fn are_in_place<D: Disk>(disk: &mut D, alloc: Global, parts: &[(usize, &[u8])]) -> bool {
+    for (place, wanted) in parts {
+        if !holds(disk, alloc, *place, wanted) {
+            return false;
+        }
+    }
+    true
 }
 
 // Whether a new disk has both records in their places, once each was appended.
-fn are_appended(disk: MemDisk, alloc: Global, record: &Record) -> bool {
-    let (disk, first) = append_epoch(disk, alloc);
+fn are_appended(alloc: Global, record: &Record) -> Result<bool, AllocError> {
+    let (disk, first) = append_epoch(MemDisk::new(alloc, SIZE)?, alloc, 1);
     let (mut disk, second) = append(disk, alloc, record);
-    let are_in_place = are_in_place(&mut disk, alloc);
+    let are_in_place = are_in_place(&mut disk, alloc, &PARTS);
     drop(disk);
-    first.found == 0 && second.found == 1 && are_in_place
-}
-
-fn full_at(ran: Ran) -> Option<usize> {
-    match ran.fault {
-        Some(LogFault::Full) => Some(ran.found),
-        _ => None,
-    }
+    Ok(first.found == 0 && second.found == 1 && are_in_place)
 }
 
 // How many records there are once an append is Full; None where another fault comes, or none in a hundred appends.
-fn filled(new: MemDisk, alloc: Global, record: &Record) -> Option<usize> {
-    let mut disk = new;
+fn filled(alloc: Global, record: &Record) -> Result<Option<usize>, AllocError> {
+    let mut disk = MemDisk::new(alloc, SIZE)?;
     let mut found = None;
     for _ in 0..100 {
         let (next, ran) = append(disk, alloc, record);
         disk = next;
         if ran.fault.is_some() {
-            found = full_at(ran);
+            if ran.fault == Some(LogFault::Full) {
+                found = Some(ran.found);
+            }
             break;
         }
     }
     drop(disk);
-    found
-}
-
-fn are_appended_in_place(alloc: Global, record: &Record) -> Result<bool, AllocError> {
-    Ok(are_appended(MemDisk::new(alloc, SIZE)?, alloc, record))
-}
-
-fn filled_with(alloc: Global, record: &Record) -> Result<Option<usize>, AllocError> {
-    Ok(filled(MemDisk::new(alloc, SIZE)?, alloc, record))
+    Ok(found)
 }
 
 #[test]
 fn records_lie_in_their_places(rt: HostRuntime) -> Result<(), Fail> {
     let alloc = rt.alloc();
     let record = create(alloc)?;
-    let are_appended = are_appended_in_place(alloc, &record);
-    let filled = filled_with(alloc, &record);
+    let are_appended = are_appended(alloc, &record);
+    let filled = filled(alloc, &record);
     drop(record);
     assert!(rt; are_appended?);
     assert!(rt; filled? == Some(51), "so many Creates fit");

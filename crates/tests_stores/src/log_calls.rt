@@ -1,6 +1,6 @@
 //! Calls of a log on a disk of 4,096 bytes, each of which opens it.
 
-use disk::Disk;
+use disk::{Disk, MemDisk};
 use gfs_types::ids::{ClientId, FileId};
 use gfs_types::lists::Text;
 use gfs_types::no_memory::NoMemory;
@@ -40,17 +40,11 @@ pub(crate) fn create(alloc: Global) -> Result<Record, NoMemory> {
     })
 }
 
-fn failed(fault: LogFault) -> Ran {
-    Ran {
-        found: 0,
-        fault: Some(fault),
-    }
-}
-
 /// Opens the log, and appends a record.
 pub(crate) fn append<D: Disk + Drop>(disk: D, alloc: Global, record: &Record) -> (D, Ran) {
     if disk.size() != SIZE || !is_writable(record) || is_item(record) {
-        return (disk, failed(LogFault::Damaged));
+        let fault = Some(LogFault::Damaged);
+        return (disk, Ran { found: 0, fault });
     }
     match Log::open(alloc, disk) {
         Ok((mut log, entries)) => {
@@ -59,27 +53,17 @@ pub(crate) fn append<D: Disk + Drop>(disk: D, alloc: Global, record: &Record) ->
             let fault = log.append(alloc, record).err();
             (log.into_disk(), Ran { found, fault })
         }
-        Err((disk, fault)) => (disk, failed(fault)),
+        Err((disk, fault)) => {
+            let fault = Some(fault);
+            (disk, Ran { found: 0, fault })
+        }
     }
 }
 
-/// Opens the log, arms its disk to fail, and appends a record: whether that is answered Device and closes the log.
-pub(crate) fn is_closed_by_device<D: Disk + Drop>(
-    disk: D,
-    alloc: Global,
-    record: &Record,
-) -> (D, bool) {
-    if disk.size() != SIZE || !is_writable(record) || is_item(record) {
-        return (disk, false);
-    }
-    match Log::open(alloc, disk) {
-        Ok((mut log, entries)) => {
-            drop(entries);
-            log.arm(0);
-            let fault = log.append(alloc, record).err();
-            let is_closed = fault == Some(LogFault::Device) && !log.is_open();
-            (log.into_disk(), is_closed)
-        }
-        Err((disk, _)) => (disk, false),
-    }
+/// The same of an epoch. What owns a record, a disk or a log calls `drop` once: a drop at the end of a scope is proved anew at each place.
+pub(crate) fn append_epoch(disk: MemDisk, alloc: Global, epoch: u64) -> (MemDisk, Ran) {
+    let record = Record::Epoch { epoch };
+    let appended = append(disk, alloc, &record);
+    drop(record);
+    appended
 }

@@ -1,11 +1,10 @@
 //! A log whose disk fails in one call and goes on.
 
-use crate::log_calls::{SIZE, create, is_closed_by_device};
+use crate::log_calls::SIZE;
 use crate::log_stops::{CALLS, OPENING_CALLS, found_on, is_after, stopped};
 use crate::plan::{STEPS, StopPlan, find, run};
-use disk::{Disk, FaultDisk, FuseDisk, MemDisk};
+use disk::{Disk, FaultDisk, MemDisk};
 use gfs_types::torn::Torn;
-use log_records::record::Record;
 use oplog::LogFault;
 use std::alloc::{AllocError, Global};
 use std::test::Fail;
@@ -42,18 +41,7 @@ fn a_failed_call_answers_device(rt: HostRuntime) -> Result<(), Fail> {
     Ok(())
 }
 
-// What is found on a disk whose opening fails at one call and is done again; None where a failure isn't answered Device, or Device without one.
-fn found_after_fault(disk: MemDisk, alloc: Global, plan: &StopPlan, more: u64) -> Option<usize> {
-    let (disk, first) = find(FaultDisk::new(disk, more), alloc, plan);
-    let has_failed = disk.failures() == 1;
-    let found = found_on(disk.into_disk(), alloc, plan);
-    if has_failed == (first == Err(LogFault::Device)) {
-        found
-    } else {
-        None
-    }
-}
-
+// Whether the changes are found again on a disk whose opening fails at one call and is done again, and that failure, and no other call, is answered Device.
 fn is_found_again(
     alloc: Global,
     plan: &StopPlan,
@@ -61,8 +49,12 @@ fn is_found_again(
     more: u64,
 ) -> Result<bool, AllocError> {
     let (disk, made) = stopped(alloc, plan, calls)?;
-    let found = found_after_fault(disk.stop(Torn::Byte(1)), alloc, plan, more);
-    Ok(is_after(made, found))
+    let disk = FaultDisk::new(disk.stop(Torn::Byte(1)), more);
+    let (disk, first) = find(disk, alloc, plan);
+    let has_failed = disk.failures() == 1;
+    let found = found_on(disk.into_disk(), alloc, plan);
+    let is_device = first == Err(LogFault::Device);
+    Ok(is_device == has_failed && is_after(made, found))
 }
 
 #[test]
@@ -76,22 +68,5 @@ fn a_failed_opening_is_done_again(rt: HostRuntime) -> Result<(), Fail> {
         }
     }
     drop(plan);
-    Ok(())
-}
-
-fn is_closed(alloc: Global, record: &Record) -> Result<bool, AllocError> {
-    let disk = FuseDisk::new(MemDisk::new(alloc, SIZE)?);
-    let (disk, is_closed) = is_closed_by_device(disk, alloc, record);
-    drop(disk);
-    Ok(is_closed)
-}
-
-#[test]
-fn a_failed_disk_closes_the_log(rt: HostRuntime) -> Result<(), Fail> {
-    let alloc = rt.alloc();
-    let record = create(alloc)?;
-    let is_closed = is_closed(alloc, &record);
-    drop(record);
-    assert!(rt; is_closed?);
     Ok(())
 }

@@ -3,7 +3,6 @@
 use crate::log_calls::{SIZE, WAYS};
 use crate::plan::{Made, STEPS, StopPlan, find, run};
 use disk::{Disk, FuseDisk, MemDisk};
-use gfs_types::torn::Torn;
 use std::alloc::{AllocError, Global};
 use std::test::Fail;
 
@@ -40,36 +39,22 @@ pub(crate) fn found_on(disk: MemDisk, alloc: Global, plan: &StopPlan) -> Option<
     found.ok()
 }
 
-// What is found once the changes and then an opening stopped, and whether that opening came to its end.
-#[derive(Clone, Copy)]
-struct FoundTwice {
-    is_open: bool,
-    found: Option<usize>,
-}
-
-fn found_after(disk: MemDisk, alloc: Global, plan: &StopPlan, more: u64, torn: Torn) -> FoundTwice {
-    let mut second = FuseDisk::new(disk);
-    second.arm(more);
-    let (second, first) = find(second, alloc, plan);
-    let found = found_on(second.stop(torn), alloc, plan);
-    FoundTwice {
-        is_open: first.is_ok(),
-        found,
-    }
-}
-
-// The same for each opening, the last of which comes to its end, and each tear; how many changes were made.
+// Whether the changes are found once they and then an opening stopped, at each of its calls, the last of which comes to its end, and with each tear. How many
+// were made; None where they aren't found.
 fn stopped_at(alloc: Global, plan: &StopPlan, calls: u64) -> Result<Option<usize>, AllocError> {
     let mut last = None;
     for torn in WAYS {
         let mut is_open = false;
         for more in 0..OPENING_CALLS {
             let (disk, made) = stopped(alloc, plan, calls)?;
-            let ran = found_after(disk.stop(torn), alloc, plan, more, torn);
-            if !is_after(made, ran.found) {
+            let mut second = FuseDisk::new(disk.stop(torn));
+            second.arm(more);
+            let (second, first) = find(second, alloc, plan);
+            let found = found_on(second.stop(torn), alloc, plan);
+            if !is_after(made, found) {
                 return Ok(None);
             }
-            is_open = ran.is_open;
+            is_open = first.is_ok();
             last = Some(made.count);
         }
         if !is_open {

@@ -1,8 +1,8 @@
 //! Logs of format 1, which were written before files had shapes.
 
 use crate::log_bytes::holds;
-use crate::log_calls::{Ran, SIZE, WAYS, append};
-use crate::plan::{counters, only, write_items};
+use crate::log_calls::{SIZE, WAYS, append_epoch};
+use crate::plan::{counters, write_items};
 use disk::{Disk, FuseDisk, MemDisk};
 use gfs_types::no_memory::NoMemory;
 use gfs_types::torn::Torn;
@@ -10,7 +10,6 @@ use log_codec::{encode, is_writable};
 use log_records::record::Record;
 use oplog::{Log, LogFault};
 use std::alloc::Global;
-use std::test::Fail;
 
 // Next file 3, next handle 5, epoch 1.
 const COUNTERS: [u8; 25] = [
@@ -70,28 +69,48 @@ const ENTRIES: [&[u8]; 10] = [
     &COUNTERS, &ROOT, &GONE, &FILE, &CHUNK, &CLIENT, &CREATE, &ADD_CHUNK, &ISSUE, &GRANT,
 ];
 
+// Both kinds that tell a shape, behind such that tell none.
+const SHAPED_ITEMS: [&[u8]; 2] = [&COUNTERS, &SHAPED_FILE];
+
+const SHAPED_RECORDS: [&[u8]; 2] = [&CREATE, &SHAPED_CREATE];
+
+const SHAPED_ENTRIES: [&[u8]; 4] = [&COUNTERS, &SHAPED_FILE, &CREATE, &SHAPED_CREATE];
+
 // What the second gate of a disk of format 1 may hold: a stop while it was opened may have left any byte.
 const CLOSED: [u8; 2] = [0, 7];
 
 // An opening of such a disk takes 7 calls of it.
 const OPENING_CALLS: u64 = 8;
 
-// A length, which is below 256, and so many bytes.
+// A length, which is below 256.
+fn length(payload: &[u8]) -> u8 {
+    u8::try_from(payload.len()).unwrap_or(0)
+}
+
+// A length, and so many bytes.
 fn put_entry(out: &mut Vec<u8>, payload: &[u8]) -> Result<(), NoMemory> {
-    let length = u8::try_from(payload.len()).unwrap_or(0);
-    out.extend_from_slice(&[length, 0, 0, 0])?;
+    out.extend_from_slice(&[length(payload), 0, 0, 0])?;
     out.extend_from_slice(payload)?;
     Ok(())
 }
 
-fn put_entries(out: &mut Vec<u8>, items: &[&[u8]]) -> Result<(), NoMemory> {
+// The head with this byte in its second gate, and the first area with a checkpoint of these items, whose length is below 256, and these records.
+fn put_disk(
+    out: &mut Vec<u8>,
+    second: u8,
+    items: &[&[u8]],
+    records: &[&[u8]],
+) -> Result<(), NoMemory> {
+    out.extend_from_slice(&[71, 70, 83, 76, 1, second, 0, 0, 0, 0, 0, 0, 0, 0, 0, 1])?;
+    out.extend_from_slice(&[1, 1, 0, 0, 0, 0, 0, 0, 0])?;
+    let mut all: u8 = 0;
+    for item in items {
+        all = all.wrapping_add(4).wrapping_add(length(item));
+    }
+    out.extend_from_slice(&[all, 0, 0, 0])?;
     for item in items {
         put_entry(out, item)?;
     }
-    Ok(())
-}
-
-fn put_records(out: &mut Vec<u8>, records: &[&[u8]]) -> Result<(), NoMemory> {
     for record in records {
         out.push(1)?;
         put_entry(out, record)?;
@@ -100,61 +119,20 @@ fn put_records(out: &mut Vec<u8>, records: &[&[u8]]) -> Result<(), NoMemory> {
     Ok(())
 }
 
-// The head with this byte in its second gate, and the first area with this checkpoint and these records.
-fn put_disk(
-    out: &mut Vec<u8>,
-    second: u8,
-    checkpoint: &[u8],
-    records: &[&[u8]],
-) -> Result<(), NoMemory> {
-    out.extend_from_slice(&[71, 70, 83, 76, 1, second, 0, 0, 0, 0, 0, 0, 0, 0, 0, 1])?;
-    out.extend_from_slice(&[1, 1, 0, 0, 0, 0, 0, 0, 0])?;
-    put_entry(out, checkpoint)?;
-    put_records(out, records)
-}
-
-// The same with these items. What owns bytes has few ways out: a drop at the end of a scope is proved anew at each place.
-fn image(
-    alloc: Global,
-    second: u8,
-    items: &[&[u8]],
-    records: &[&[u8]],
-) -> Result<Vec<u8>, NoMemory> {
-    let mut checkpoint = Vec::new(alloc);
-    put_entries(&mut checkpoint, items)?;
-    let mut out = Vec::new(alloc);
-    let put = put_disk(&mut out, second, &checkpoint, records);
-    drop(checkpoint);
-    match put {
-        Ok(()) => Ok(out),
-        Err(fault) => {
-            drop(out);
-            Err(fault)
-        }
-    }
-}
-
-fn written(disk: MemDisk, image: &[u8]) -> Option<MemDisk> {
-    let mut disk = disk;
-    if image.len() > disk.size() {
-        drop(disk);
-        return None;
-    }
-    if disk.write_at(0, image).is_ok() && disk.sync().is_ok() {
+// A disk with these. What owns bytes has few ways out: a drop at the end of a scope is proved anew at each place.
+fn disk_with(alloc: Global, second: u8, items: &[&[u8]], records: &[&[u8]]) -> Option<MemDisk> {
+    let mut disk = MemDisk::new(alloc, SIZE).ok()?;
+    let mut image = Vec::new(alloc);
+    let is_written = put_disk(&mut image, second, items, records).is_ok()
+        && image.len() <= disk.size()
+        && disk.write_at(0, &image).is_ok()
+        && disk.sync().is_ok();
+    drop(image);
+    if is_written {
         return Some(disk);
     }
     drop(disk);
     None
-}
-
-fn disk_with(alloc: Global, second: u8, items: &[&[u8]], records: &[&[u8]]) -> Option<MemDisk> {
-    let image = image(alloc, second, items, records).ok()?;
-    written(MemDisk::new(alloc, SIZE).ok()?, &image)
-}
-
-// The disk of the items and records above, in format 1.
-fn old_disk(alloc: Global, second: u8) -> Option<MemDisk> {
-    disk_with(alloc, second, &ITEMS, &RECORDS)
 }
 
 fn has_payload(alloc: Global, entry: &Record, wanted: &[u8]) -> bool {
@@ -199,11 +177,6 @@ fn find<D: Disk + Drop>(
     }
 }
 
-// The same of the items and records above.
-fn find_old<D: Disk + Drop>(disk: D, alloc: Global) -> (D, Result<bool, LogFault>) {
-    find(disk, alloc, 6, &ENTRIES)
-}
-
 // Opens the log, and writes a checkpoint of one item.
 fn shrink(disk: MemDisk, alloc: Global) -> (MemDisk, bool) {
     if disk.size() != SIZE {
@@ -212,136 +185,84 @@ fn shrink(disk: MemDisk, alloc: Global) -> (MemDisk, bool) {
     match Log::open(alloc, disk) {
         Ok((mut log, entries)) => {
             drop(entries);
-            let is_written = match only(alloc, counters(3)) {
-                Ok(items) => write_items(&mut log, alloc, &items).is_ok(),
-                Err(_) => false,
-            };
+            let mut items = Vec::new(alloc);
+            let is_written = items.push(counters(3)).is_ok()
+                && write_items(&mut log, alloc, &items).is_ok();
+            drop(items);
             (log.into_disk(), is_written)
         }
         Err((disk, _)) => (disk, false),
     }
 }
 
-// What owns a record, a disk or a log calls `drop` once: a drop at the end of a scope is proved anew at each place.
-fn append_epoch(disk: MemDisk, alloc: Global) -> (MemDisk, Ran) {
-    let epoch = Record::Epoch { epoch: 2 };
-    let appended = append(disk, alloc, &epoch);
-    drop(epoch);
-    appended
-}
-
-// Whether a log goes on: an epoch is appended and stands there, and so does a checkpoint.
-fn goes_on(disk: MemDisk, alloc: Global) -> (MemDisk, bool) {
-    let (disk, first) = append_epoch(disk, alloc);
-    let (disk, second) = append_epoch(disk, alloc);
+// Whether the log of the items and records above is found, has format 2 then, and goes on: an epoch is appended and stands there, and so does a checkpoint.
+fn is_upgraded(disk: MemDisk, alloc: Global) -> bool {
+    let (mut disk, found) = find(disk, alloc, 6, &ENTRIES);
+    let is_open = holds(&mut disk, alloc, 0, &[71, 70, 83, 76, 1, 1, 0]);
+    let (disk, first) = append_epoch(disk, alloc, 2);
+    let (disk, second) = append_epoch(disk, alloc, 2);
     let (disk, is_written) = shrink(disk, alloc);
-    let (disk, third) = append_epoch(disk, alloc);
+    let (disk, third) = append_epoch(disk, alloc, 2);
+    drop(disk);
     let are_appended = first.fault.is_none() && second.fault.is_none() && third.fault.is_none();
     let are_found = first.found == 10 && second.found == 11 && third.found == 1;
-    (disk, are_appended && is_written && are_found)
+    found == Ok(true) && is_open && are_appended && is_written && are_found
 }
 
-// Whether the log is found, has format 2 then, and goes on.
-fn is_upgraded(disk: MemDisk, alloc: Global) -> bool {
-    let (mut disk, found) = find_old(disk, alloc);
-    let is_open = holds(&mut disk, alloc, 0, &[71, 70, 83, 76, 1, 1, 0]);
-    let (disk, goes_on) = goes_on(disk, alloc);
-    drop(disk);
-    found == Ok(true) && is_open && goes_on
-}
-
-// What came of an opening whose disk stops after so many calls: whether it came to its end, and whether the log is found, there and after the stop.
-#[derive(Clone, Copy)]
-struct Upgraded {
-    is_open: bool,
-    is_found: bool,
-}
-
-fn upgraded_after(alloc: Global, second: u8, calls: u64, torn: Torn) -> Option<Upgraded> {
-    let mut disk = FuseDisk::new(old_disk(alloc, second)?);
+// Whether an opening whose disk stops after so many calls came to its end; none where it fails without a stop, or where the log isn't found after it.
+fn is_opened_after(alloc: Global, second: u8, calls: u64, torn: Torn) -> Option<bool> {
+    let mut disk = FuseDisk::new(disk_with(alloc, second, &ITEMS, &RECORDS)?);
     disk.arm(calls);
-    let (disk, found) = find_old(disk, alloc);
+    let (disk, found) = find(disk, alloc, 6, &ENTRIES);
+    let is_upgraded = is_upgraded(disk.stop(torn), alloc);
     let is_open = found == Ok(true);
-    let is_right = is_open || found == Err(LogFault::Device);
-    let is_found = is_upgraded(disk.stop(torn), alloc) && is_right;
-    Some(Upgraded { is_open, is_found })
-}
-
-fn is_opened(alloc: Global, second: u8) -> Option<bool> {
-    Some(is_upgraded(old_disk(alloc, second)?, alloc))
-}
-
-#[test]
-fn a_log_of_format_1_gets_format_2(rt: HostRuntime) {
-    for second in CLOSED {
-        assert!(rt; is_opened(rt.alloc(), second) == Some(true), "{second}");
+    if is_upgraded && (is_open || found == Err(LogFault::Device)) {
+        Some(is_open)
+    } else {
+        None
     }
 }
 
 // At each call of the opening, and behind the last one.
-fn are_found_after(alloc: Global, second: u8, torn: Torn) -> bool {
-    let mut is_open = false;
-    for calls in 0..OPENING_CALLS {
-        let Some(ran) = upgraded_after(alloc, second, calls, torn) else {
-            return false;
-        };
-        if !ran.is_found {
-            return false;
-        }
-        is_open = ran.is_open;
-    }
-    is_open
-}
-
 #[test]
 fn a_stop_leaves_the_log_in_either_format(rt: HostRuntime) {
     for second in CLOSED {
         for torn in WAYS {
-            assert!(rt; are_found_after(rt.alloc(), second, torn), "{second}");
+            let mut last = None;
+            for calls in 0..OPENING_CALLS {
+                last = is_opened_after(rt.alloc(), second, calls, torn);
+                assert!(rt; last.is_some(), "{second}, call {calls}");
+            }
+            assert!(rt; last == Some(true), "{second}");
         }
     }
 }
 
-// Whether a log with these items and records is refused as damaged, and its head stays as it is.
-fn is_damaged(alloc: Global, second: u8, items: &[&[u8]], records: &[&[u8]]) -> Option<bool> {
+// What an opening of a disk with these finds; none where its head isn't as before.
+fn found_with(
+    alloc: Global,
+    second: u8,
+    items: &[&[u8]],
+    records: &[&[u8]],
+    wanted: &[&[u8]],
+) -> Option<Result<bool, LogFault>> {
     let disk = disk_with(alloc, second, items, records)?;
-    let (mut disk, found) = find(disk, alloc, 0, &[]);
-    let is_closed = holds(&mut disk, alloc, 0, &[71, 70, 83, 76, 1, second, 0]);
+    let (mut disk, found) = find(disk, alloc, items.len(), wanted);
+    let is_as_before = holds(&mut disk, alloc, 0, &[71, 70, 83, 76, 1, second, 0]);
     drop(disk);
-    Some(found == Err(LogFault::Damaged) && is_closed)
+    if is_as_before { Some(found) } else { None }
 }
 
-// A record that tells a shape.
-fn is_record_damaged(alloc: Global, second: u8) -> bool {
-    is_damaged(alloc, second, &ITEMS, &[&CREATE, &SHAPED_CREATE]) == Some(true)
-}
-
-// And an item.
-fn is_item_damaged(alloc: Global, second: u8) -> bool {
-    is_damaged(alloc, second, &[&COUNTERS, &SHAPED_FILE], &RECORDS) == Some(true)
-}
-
+// A log of format 1 with a record or an item that tells a shape is damaged, and its head stays as it is; format 2 has both kinds.
 #[test]
-fn format_1_has_no_shapes(rt: HostRuntime) {
+fn format_2_alone_has_shapes(rt: HostRuntime) {
+    let alloc = rt.alloc();
     for second in CLOSED {
-        assert!(rt; is_record_damaged(rt.alloc(), second), "{second}");
-        assert!(rt; is_item_damaged(rt.alloc(), second), "{second}");
+        let record = found_with(alloc, second, &ITEMS, &SHAPED_RECORDS, &[]);
+        let item = found_with(alloc, second, &SHAPED_ITEMS, &RECORDS, &[]);
+        assert!(rt; matches!(record, Some(Err(LogFault::Damaged))), "{second}");
+        assert!(rt; matches!(item, Some(Err(LogFault::Damaged))), "{second}");
     }
-}
-
-// Format 2 has both kinds.
-#[test]
-fn format_2_has_shapes_and_records_without(rt: HostRuntime) {
-    let items: [&[u8]; 2] = [&COUNTERS, &SHAPED_FILE];
-    let records: [&[u8]; 2] = [&CREATE, &SHAPED_CREATE];
-    let wanted: [&[u8]; 4] = [&COUNTERS, &SHAPED_FILE, &CREATE, &SHAPED_CREATE];
-    let found = found_with(rt.alloc(), &items, &records, &wanted);
-    assert!(rt; found == Some(true));
-}
-
-fn found_with(alloc: Global, items: &[&[u8]], records: &[&[u8]], wanted: &[&[u8]]) -> Option<bool> {
-    let disk = disk_with(alloc, 1, items, records)?;
-    let (disk, found) = find(disk, alloc, 2, wanted);
-    drop(disk);
-    Some(found == Ok(true))
+    let both = found_with(alloc, 1, &SHAPED_ITEMS, &SHAPED_RECORDS, &SHAPED_ENTRIES);
+    assert!(rt; matches!(both, Some(Ok(true))));
 }

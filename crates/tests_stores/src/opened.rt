@@ -22,14 +22,6 @@ const DEADLINE: Moment = Moment(1_000);
 
 type DiskMaster = Master<Global, FuseDisk>;
 
-/// A new disk; none where memory is refused.
-fn new_disk(alloc: Global) -> Option<FuseDisk> {
-    match MemDisk::new(alloc, SIZE) {
-        Ok(disk) => Some(FuseDisk::new(disk)),
-        Err(_) => None,
-    }
-}
-
 /// The master of three chunkservers over a disk; none where it can't be up.
 fn open_master(alloc: Global, disk: FuseDisk) -> Option<DiskMaster> {
     let config = Config {
@@ -62,53 +54,30 @@ fn answer_in(out: &StepOut) -> Option<Answer> {
     None
 }
 
-/// What the master gives on a client's message.
-fn tell(master: &mut DiskMaster, body: Body) -> StepOut {
-    let message = Message {
+/// A client's message.
+fn told(body: Body) -> Message {
+    Message {
         number: 1,
         sender: Node::Client(ClientId(1)),
         receiver: Node::Master,
         body,
-    };
-    master.step(NOW, NodeInput::Deliver(message))
+    }
 }
 
 /// What the master answers a client's message.
 fn ask(master: &mut DiskMaster, body: Body) -> Option<Answer> {
-    let out = tell(master, body);
+    let out = master.step(NOW, NodeInput::Deliver(told(body)));
     let answer = answer_in(&out);
     drop(out);
     answer
 }
 
-/// What a changing call is answered.
-fn change(master: &mut DiskMaster, call_number: u64, call: Call) -> Option<Answer> {
-    ask(
-        master,
-        Body::Name {
-            call_number,
-            deadline: DEADLINE,
-            call,
-        },
-    )
-}
-
-/// Whether a Mkdir is done; none where it isn't answered.
-fn make(
-    master: &mut DiskMaster,
-    alloc: Global,
-    call_number: u64,
-    path: &str,
-) -> Result<Option<bool>, NoMemory> {
-    let call = Call::Mkdir(Text::from_str(path, alloc)?);
-    let answer = change(master, call_number, call);
-    let is_done = match &answer {
-        Some(Answer::Done) => Some(true),
-        Some(_) => Some(false),
-        None => None,
-    };
-    drop(answer);
-    Ok(is_done)
+fn mkdir(alloc: Global, call_number: u64, path: &str) -> Result<Body, NoMemory> {
+    Ok(Body::Name {
+        call_number,
+        deadline: DEADLINE,
+        call: Call::Mkdir(Text::from_str(path, alloc)?),
+    })
 }
 
 /// Whether the root lists just this name, beside the directory of deleted files.
@@ -132,20 +101,27 @@ fn lists_one(master: &mut DiskMaster, alloc: Global, name: &str) -> Result<bool,
     Ok(is_one)
 }
 
-/// Whether a Mkdir is answered, and none of which the disk takes no record, for which the master goes down.
+/// Whether a Mkdir is done, and one of which the disk takes no record isn't answered: the master says that it goes down for its disk.
 fn makes_one_of_two(master: &mut DiskMaster, alloc: Global) -> Result<bool, NoMemory> {
-    let made = make(master, alloc, 1, "/d")?;
+    let made = ask(master, mkdir(alloc, 1, "/d")?);
+    let is_made = matches!(&made, Some(Answer::Done));
+    drop(made);
+    let second = told(mkdir(alloc, 2, "/e")?);
     master.arm(0);
-    let lost = make(master, alloc, 2, "/e")?;
-    Ok(made == Some(true) && lost.is_none() && !master.is_up())
+    let outcome = master.take_step(NOW, Some(&second));
+    drop(second);
+    let is_lost = answer_in(&outcome.out).is_none();
+    let has_failed = matches!(outcome.cause, Some(DownCause::Device));
+    drop(outcome);
+    Ok(is_made && is_lost && has_failed && !master.is_up())
 }
 
 /// Whether a directory that was answered is there once its master was opened again, and one that its disk took no record of isn't.
 fn outlasts_a_stop(alloc: Global) -> Result<bool, NoMemory> {
-    let Some(disk) = new_disk(alloc) else {
+    let Ok(disk) = MemDisk::new(alloc, SIZE) else {
         return Ok(false);
     };
-    let Some(first) = open_master(alloc, disk) else {
+    let Some(first) = open_master(alloc, FuseDisk::new(disk)) else {
         return Ok(false);
     };
     let mut master = first;
@@ -163,41 +139,4 @@ fn outlasts_a_stop(alloc: Global) -> Result<bool, NoMemory> {
 #[test]
 fn a_master_is_opened_over_the_disk_of_an_earlier_one(rt: HostRuntime) {
     assert!(rt; matches!(outlasts_a_stop(rt.alloc()), Ok(true)));
-}
-
-/// What a master whose disk passes no more calls gives as the cause where it goes down in a step.
-fn cause_of_failing(master: &mut DiskMaster, alloc: Global) -> Result<Option<DownCause>, NoMemory> {
-    let message = Message {
-        number: 1,
-        sender: Node::Client(ClientId(1)),
-        receiver: Node::Master,
-        body: Body::Name {
-            call_number: 1,
-            deadline: DEADLINE,
-            call: Call::Mkdir(Text::from_str("/d", alloc)?),
-        },
-    };
-    master.arm(0);
-    let outcome = master.take_step(NOW, Some(&message));
-    drop(message);
-    Ok(outcome.cause)
-}
-
-/// The same of a new one; none where it couldn't be opened.
-fn cause_of_new(alloc: Global) -> Result<Option<DownCause>, NoMemory> {
-    let Some(disk) = new_disk(alloc) else {
-        return Ok(None);
-    };
-    let Some(first) = open_master(alloc, disk) else {
-        return Ok(None);
-    };
-    let mut master = first;
-    let cause = cause_of_failing(&mut master, alloc);
-    drop(master);
-    cause
-}
-
-#[test]
-fn a_master_says_that_its_disk_failed(rt: HostRuntime) {
-    assert!(rt; matches!(cause_of_new(rt.alloc()), Ok(Some(DownCause::Device))));
 }

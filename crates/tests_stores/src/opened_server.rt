@@ -4,10 +4,10 @@ ghost use Rattle.std.specs.Prelude.{◌≡◌, IfSome};
 
 use disk::{FuseDisk, MemDisk, StopPlan};
 use gfs_types::config::Config;
-use gfs_types::ids::{ClientId, DataId, Handle, Moment, Node, OrderNo, ServerId, Version};
+use gfs_types::ids::{Handle, Moment, Node, OrderNo, ServerId, Version};
 use gfs_types::torn::Torn;
 use messages::event::{NodeInput, StepOut};
-use messages::message::{Body, Message, Target};
+use messages::message::{Body, Message};
 use protocol::down_cause::DownCause;
 use server_cell::disk_server::Server;
 use std::alloc::Global;
@@ -97,17 +97,8 @@ fn creates(server: &mut DiskServer) -> bool
     !had && told && !down && server.is_up() && server.row(CHUNK).is_some()
 }
 
-// The replica is there once the server is opened again over its disk.
-fn outlasts(alloc: Global, torn: Torn) -> Option<bool> {
-    let mut server = open_new(alloc)?;
-    let has_created = creates(&mut server);
-    let again = open_again(alloc, server, torn)?;
-    let is_there = again.is_up() && again.row(CHUNK).is_some();
-    drop(again);
-    Some(has_created && is_there)
-}
-
-// One whose disk fails within the step is down, and has the replica or not once it is opened again.
+// Whether the order was taken. The replica is there then once the server is opened again over its disk; one whose disk failed within the step is down, and has
+// it or not. None where that isn't so.
 fn stops_within(alloc: Global, calls: u64, torn: Torn) -> Option<bool> {
     let mut server = open_new(alloc)?;
     server.arm(calls);
@@ -117,20 +108,10 @@ fn stops_within(alloc: Global, calls: u64, torn: Torn) -> Option<bool> {
     let has_replica = again.row(CHUNK).is_some();
     let is_up = again.is_up();
     drop(again);
-    Some(is_up && (has_replica || !has_created) && was_up == has_created)
-}
-
-#[test]
-fn a_server_is_opened_over_the_disk_of_an_earlier_one(rt: HostRuntime) {
-    let alloc = rt.alloc();
-    for torn in [Torn::Old, Torn::New, Torn::Byte(1)] {
-        assert!(rt; outlasts(alloc, torn) == Some(true));
-        for calls in 0..12 {
-            assert!(rt;
-                stops_within(alloc, calls, torn) == Some(true),
-                "call {calls}"
-            );
-        }
+    if is_up && (has_replica || !has_created) && was_up == has_created {
+        Some(has_created)
+    } else {
+        None
     }
 }
 
@@ -145,62 +126,15 @@ fn cause_of_failing(alloc: Global) -> Option<DownCause> {
     outcome.cause
 }
 
+// And a server says that its disk failed.
 #[test]
-fn a_server_says_that_its_disk_failed(rt: HostRuntime) {
-    assert!(rt; matches!(cause_of_failing(rt.alloc()), Some(DownCause::Device)));
-}
-
-// What a client asks.
-fn ask(body: Body) -> Message {
-    Message {
-        number: 2,
-        sender: Node::Client(ClientId(1)),
-        receiver: Node::Server(ID),
-        body,
+fn a_server_is_opened_over_the_disk_of_an_earlier_one(rt: HostRuntime) {
+    let alloc = rt.alloc();
+    for torn in [Torn::Old, Torn::New, Torn::Byte(1)] {
+        assert!(rt; stops_within(alloc, 1_000, torn) == Some(true));
+        for calls in 0..12 {
+            assert!(rt; stops_within(alloc, calls, torn).is_some(), "call {calls}");
+        }
     }
-}
-
-// Whether it stays up in a step, and has no cause to go down.
-fn stays_up(server: &mut DiskServer, message: &Message) -> bool {
-    let outcome = server.take_step(NOW, Some(message));
-    outcome.cause.is_none() && server.is_up()
-}
-
-// An order that comes again, reads of no replica and of another version, and a mutation without a lease.
-fn outlasts_refusals(alloc: Global) -> Option<bool> {
-    let mut server = open_new(alloc)?;
-    let order = create();
-    let takes_orders = stays_up(&mut server, &order) && stays_up(&mut server, &order);
-    let read = ask(Body::Read {
-        number: 1,
-        handle: Handle(8),
-        version: Version(1),
-        offset: 0,
-        count: 1,
-    });
-    let len = ask(Body::Len {
-        number: 2,
-        handle: CHUNK,
-        version: Version(2),
-    });
-    let mutate = ask(Body::Mutate {
-        data: DataId {
-            client: ClientId(1),
-            seq: 3,
-        },
-        handle: CHUNK,
-        version: Version(1),
-        target: Target::Append,
-        deadline: Moment(1_000),
-    });
-    let refuses = stays_up(&mut server, &read)
-        && stays_up(&mut server, &len)
-        && stays_up(&mut server, &mutate);
-    drop(server);
-    Some(takes_orders && refuses)
-}
-
-#[test]
-fn a_server_that_refuses_has_no_cause_to_go_down(rt: HostRuntime) {
-    assert!(rt; matches!(outlasts_refusals(rt.alloc()), Some(true)));
+    assert!(rt; matches!(cause_of_failing(alloc), Some(DownCause::Device)));
 }

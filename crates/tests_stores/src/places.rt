@@ -1,11 +1,9 @@
 //! The bytes of a store's disk.
 
 use crate::chunk_calls::{STEPS, fused, run};
-use disk::Disk;
+use crate::log_bytes::are_in_place;
 use gfs_types::torn::Torn;
-use std::alloc::Global;
 use std::test::Fail;
-use store_changes::read_part;
 
 // A slot's header: it is used, handle 7, version 8, no serial, 3 bytes.
 const HEADER: [u8; 40] = [
@@ -19,36 +17,23 @@ const HEAD: [u8; 48] = [
     0, 0, 0, 0, 1, 2, 0, 0, 0, 0, 0, 0, 0, 3, 0, 0, 0, 0, 0, 0, 0,
 ];
 
-// Whether these bytes stand on the disk at this place.
-fn holds<D: Disk>(disk: &mut D, alloc: Global, place: usize, wanted: &[u8]) -> bool {
-    let size = disk.size();
-    if place > size || wanted.len() > size - place {
-        return false;
-    }
-    match read_part(alloc, disk, place, wanted.len()) {
-        Ok(bytes) => bytes.as_slice() == wanted,
-        Err(_) => false,
-    }
-}
-
-// Whether each part is in its place: the head and the order, the closed gate, the first replica's bytes, the header of its copy, and the copy's bytes, of which
-// one is another.
-fn are_in_place<D: Disk>(disk: &mut D, alloc: Global) -> bool {
-    holds(disk, alloc, 0, &HEAD)
-        && holds(disk, alloc, 48, &[0])
-        && holds(disk, alloc, 664, &[0x61, 0x62, 0x63, 0])
-        && holds(disk, alloc, 728, &HEADER)
-        && holds(disk, alloc, 896, &[0x61, 0x78, 0x63, 0])
-}
+// The head and the order, the closed gate, the first replica's bytes, the header of its copy, and the copy's bytes, of which one is another.
+const PARTS: [(usize, &[u8]); 5] = [
+    (0, &HEAD),
+    (48, &[0]),
+    (664, &[0x61, 0x62, 0x63, 0]),
+    (728, &HEADER),
+    (896, &[0x61, 0x78, 0x63, 0]),
+];
 
 #[test]
 fn each_part_has_its_place(rt: HostRuntime) -> Result<(), Fail> {
     let alloc = rt.alloc();
     let (disk, ran) = run(fused(alloc, 1_000)?, alloc, STEPS);
     let mut disk = disk.stop(Torn::Old);
-    let are_in_place = are_in_place(&mut disk, alloc);
+    let are_in_place = are_in_place(&mut disk, alloc, &PARTS);
     drop(disk);
-    assert_eq!(rt; ran.done, STEPS);
+    assert!(rt; ran.done == STEPS);
     assert!(rt; are_in_place);
     Ok(())
 }

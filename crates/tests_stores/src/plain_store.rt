@@ -14,20 +14,11 @@ const FIRST: u64 = 7;
 struct PlainReplica {
     row: Row,
     bytes: [u8; CHUNK],
+    // Another byte stands on the disk than was stored.
+    is_rotten: bool,
 }
 
 impl PlainReplica {
-    fn empty(version: Version, serial: Serial) -> PlainReplica {
-        PlainReplica {
-            row: Row {
-                version,
-                serial,
-                count: 0,
-            },
-            bytes: [0; CHUNK],
-        }
-    }
-
     /// The mutation of this serial puts a byte there, and what lies before it is zero where there was nothing.
     fn put(&mut self, serial: Serial, place: u64, byte: u8) {
         if let Some(at) = self.bytes.get_mut(place as usize) {
@@ -51,20 +42,18 @@ impl PlainReplica {
         }
     }
 
+    /// This byte stands there on the disk. One rots at a time.
+    fn rot(&mut self, place: u64, byte: u8) {
+        let stored = self.bytes.get(place as usize).copied();
+        self.is_rotten = stored != Some(byte);
+    }
+
     /// A replica with the same bytes under a version, of which no mutation was applied.
     fn copied(&self, version: Version) -> PlainReplica {
         let mut copy = *self;
         copy.row.version = version;
         copy.row.serial = Serial(0);
         copy
-    }
-
-    fn hash(&self) -> u64 {
-        let mut sum: u64 = 17;
-        for byte in self.bytes.iter().take(self.row.count as usize) {
-            sum = more(sum, u64::from(*byte));
-        }
-        sum
     }
 }
 
@@ -104,7 +93,15 @@ impl PlainStore {
                 serial,
                 bytes,
             } => {
-                let mut replica = PlainReplica::empty(*version, *serial);
+                let mut replica = PlainReplica {
+                    row: Row {
+                        version: *version,
+                        serial: *serial,
+                        count: 0,
+                    },
+                    bytes: [0; CHUNK],
+                    is_rotten: false,
+                };
                 replica.write(*serial, 0, bytes.as_slice());
                 self.set(*handle, Some(replica));
             }
@@ -149,6 +146,15 @@ impl PlainStore {
                     *replica = replica.copied(*version);
                 }
             }
+            StoreChange::Rot {
+                handle,
+                place,
+                byte,
+            } => {
+                if let Some(replica) = self.replica(*handle) {
+                    replica.rot(*place, *byte);
+                }
+            }
             _ => {}
         }
     }
@@ -182,6 +188,15 @@ fn row_of(replica: Option<PlainReplica>) -> Option<Row> {
     Some(replica?.row)
 }
 
+// Rotten bytes aren't shown.
 fn hash_of(replica: Option<PlainReplica>) -> Option<u64> {
-    Some(replica?.hash())
+    let known = replica?;
+    if known.is_rotten {
+        return None;
+    }
+    let mut sum: u64 = 17;
+    for byte in known.bytes.iter().take(known.row.count as usize) {
+        sum = more(sum, u64::from(*byte));
+    }
+    Some(sum)
 }

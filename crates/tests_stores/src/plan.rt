@@ -41,28 +41,33 @@ pub(crate) fn counters(next: u64) -> Record {
     }
 }
 
-fn root(alloc: Global) -> Result<Record, NoMemory> {
-    Ok(Record::DirItem {
-        path: Text::from_str("/", alloc)?,
-    })
-}
-
-pub(crate) fn only(alloc: Global, record: Record) -> Result<Vec<Record>, NoMemory> {
-    let mut all = Vec::new(alloc);
-    all.push(record)?;
-    Ok(all)
-}
-
 impl StopPlan {
     pub(crate) fn new(alloc: Global) -> Result<StopPlan, NoMemory> {
-        let mut two = only(alloc, counters(2))?;
-        two.push(root(alloc)?)?;
-        Ok(StopPlan {
-            create: only(alloc, create(alloc)?)?,
-            epoch: only(alloc, Record::Epoch { epoch: 1 })?,
-            one: only(alloc, counters(1))?,
-            two,
-        })
+        let mut plan = StopPlan {
+            create: Vec::new(alloc),
+            epoch: Vec::new(alloc),
+            one: Vec::new(alloc),
+            two: Vec::new(alloc),
+        };
+        match plan.fill(alloc) {
+            Ok(()) => Ok(plan),
+            Err(fault) => {
+                drop(plan);
+                Err(fault)
+            }
+        }
+    }
+
+    // Borrows the plan, so that it is let go at one place alone.
+    fn fill(&mut self, alloc: Global) -> Result<(), NoMemory> {
+        self.create.push(create(alloc)?)?;
+        self.epoch.push(Record::Epoch { epoch: 1 })?;
+        self.one.push(counters(1))?;
+        self.two.push(counters(2))?;
+        self.two.push(Record::DirItem {
+            path: Text::from_str("/", alloc)?,
+        })?;
+        Ok(())
     }
 
     // Whether a log has these items and records after so many changes.
@@ -78,25 +83,19 @@ impl StopPlan {
         items == wanted && records == others
     }
 
-    // After how many changes a log has these items and records.
-    fn place_of(&self, items: &[Record], records: &[Record]) -> Option<usize> {
-        for count in 0..STEPS + 1 {
+    // After how many changes a log has these entries, of which so many are items.
+    fn place_of(&self, entries: &[Record], items: usize) -> Result<usize, LogFault> {
+        if items > entries.len() {
+            return Err(LogFault::Damaged);
+        }
+        let (items, records) = entries.split_at(items);
+        for count in 0..=STEPS {
             if self.is_after(count, items, records) {
-                return Some(count);
+                return Ok(count);
             }
         }
-        None
+        Err(LogFault::Damaged)
     }
-}
-
-fn append_one<D: Disk>(log: &mut Log<D>, alloc: Global, logged: &Record) -> Result<(), LogFault>
-    requires { log.old.is_open ≡ true }
-    ensures { OnOk result (log.new.is_open ≡ true) }
-{
-    if !is_writable(logged) || is_item(logged) {
-        return Err(LogFault::Damaged);
-    }
-    log.append(alloc, logged)
 }
 
 // Appends the one record of a list.
@@ -109,7 +108,12 @@ fn append_first<D: Disk>(
     ensures { OnOk result (log.new.is_open ≡ true) }
 {
     match records {
-        [logged, ..] => append_one(log, alloc, logged),
+        [logged, ..] => {
+            if !is_writable(logged) || is_item(logged) {
+                return Err(LogFault::Damaged);
+            }
+            log.append(alloc, logged)
+        }
         [] => Err(LogFault::Damaged),
     }
 }
@@ -157,20 +161,18 @@ fn change<D: Disk>(
     }
 }
 
-fn failed_at(count: usize, fault: LogFault) -> Made {
-    Made {
-        count,
-        fault: Some(fault),
-    }
-}
-
 fn change_all<D: Disk>(log: &mut Log<D>, alloc: Global, plan: &StopPlan) -> Made
     requires { log.old.is_open ≡ true }
 {
     for number in 0..STEPS {
         match change(log, alloc, plan, number) {
             Ok(()) => {}
-            Err(fault) => return failed_at(number, fault),
+            Err(fault) => {
+                return Made {
+                    count: number,
+                    fault: Some(fault),
+                };
+            }
         }
     }
     Made {
@@ -182,7 +184,8 @@ fn change_all<D: Disk>(log: &mut Log<D>, alloc: Global, plan: &StopPlan) -> Made
 /// Opens the log, and makes all changes.
 pub(crate) fn run<D: Disk + Drop>(disk: D, alloc: Global, plan: &StopPlan) -> (D, Made) {
     if disk.size() != SIZE {
-        return (disk, failed_at(0, LogFault::Damaged));
+        let fault = Some(LogFault::Damaged);
+        return (disk, Made { count: 0, fault });
     }
     match Log::open(alloc, disk) {
         Ok((mut log, entries)) => {
@@ -190,17 +193,11 @@ pub(crate) fn run<D: Disk + Drop>(disk: D, alloc: Global, plan: &StopPlan) -> (D
             let made = change_all(&mut log, alloc, plan);
             (log.into_disk(), made)
         }
-        Err((disk, fault)) => (disk, failed_at(0, fault)),
+        Err((disk, fault)) => {
+            let fault = Some(fault);
+            (disk, Made { count: 0, fault })
+        }
     }
-}
-
-// After how many changes a log has these entries, of which so many are items.
-fn place_of_entries(plan: &StopPlan, entries: &[Record], items: usize) -> Result<usize, LogFault> {
-    if items > entries.len() {
-        return Err(LogFault::Damaged);
-    }
-    let (items, records) = entries.split_at(items);
-    plan.place_of(items, records).ok_or(LogFault::Damaged)
 }
 
 /// Opens the log: after how many changes it has what it has, and Damaged where there are none such.
@@ -214,7 +211,7 @@ pub(crate) fn find<D: Disk + Drop>(
     }
     match Log::open(alloc, disk) {
         Ok((log, entries)) => {
-            let found = place_of_entries(plan, &entries, log.item_count());
+            let found = plan.place_of(&entries, log.item_count());
             drop(entries);
             (log.into_disk(), found)
         }

@@ -3,9 +3,9 @@
 ghost use Rattle.std.specs.Prelude.{◌≡◌, [], IfSome, OnOk};
 
 use crate::log_calls::create;
+use crate::plan::counters;
 use crate::restarts::new_log;
 use crate::stopped_log::{TestLog, open_again};
-use gfs_types::ids::{FileId, Handle};
 use gfs_types::no_memory::NoMemory;
 use log_records::record::Record;
 use operation_log::fault::OperationLogFault;
@@ -34,10 +34,7 @@ fn grow(alloc: Global, log: TestLog, record: &Record) -> Option<TestLog>
     Some(again)
 }
 
-pub(crate) fn checkpoint<L: OperationLog>(
-    log: &mut L,
-    item: &Record,
-) -> Result<(), OperationLogFault>
+fn checkpoint<L: OperationLog>(log: &mut L, item: &Record) -> Result<(), OperationLogFault>
     requires { L.under_way log.old ≡ [] }
     ensures { OnOk result (L.under_way log.new ≡ []) }
 {
@@ -81,18 +78,12 @@ fn go_on(alloc: Global, log: TestLog, record: &Record, item: &Record) -> Option<
     Some([before, after, last])
 }
 
-// A new log, made once more where memory was refused.
-fn new_log_again(alloc: Global) -> Option<TestLog>
-    ensures { IfSome result (λ l. l.under_way ≡ []) }
-{
-    match new_log(alloc) {
-        Some(log) => Some(log),
-        None => new_log(alloc),
-    }
-}
-
+// The same of a new log, made once more where memory was refused.
 fn counts(alloc: Global, record: &Record, item: &Record) -> Option<[u64; 3]> {
-    match new_log_again(alloc) {
+    if let Some(log) = new_log(alloc) {
+        return go_on(alloc, log, record, item);
+    }
+    match new_log(alloc) {
         Some(log) => go_on(alloc, log, record, item),
         None => None,
     }
@@ -111,11 +102,7 @@ fn create_again(alloc: Global) -> Result<Record, NoMemory> {
 fn a_refused_allocation_leaves_the_log(rt: HostRuntime) -> Result<(), Fail> {
     let alloc = rt.alloc();
     let record = create_again(alloc)?;
-    let item = Record::Counters {
-        next_file: FileId(1),
-        next_handle: Handle(1),
-        epoch: 1,
-    };
+    let item = counters(1);
     let counts = counts(alloc, &record, &item);
     drop(record);
     drop(item);
