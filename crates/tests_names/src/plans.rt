@@ -1,4 +1,4 @@
-//! A snapshot that meets a lease. The master takes none before all leases have ended, so nothing else is refused so.
+//! A snapshot that meets a lease: the master takes none before all leases have ended, so no script meets this refusal.
 
 use chunk_table::table::Table;
 use gfs_types::ids::{Moment, ServerId};
