@@ -20,8 +20,10 @@ UNPLACED, UNREAD = UNSERVED[:2], UNSERVED[::2]
 MOST_LOOKS, PAUSE = 50, 0.1
 # How many steps a cell that keeps its last entries may take.
 MOST_STEPS = 2 ** 62
-# In how many cells a message is waited for that comes too late: how threads take turns is not the test's to say.
+# In how many cells a message is waited for that comes too late, and in how many a record that is answered though messages are lost: how threads take turns is
+# not the test's to say.
 MOST_CELLS = 20
+FEW_CELLS = 5
 
 
 def names_of(clients):
@@ -116,8 +118,8 @@ def four_producers(program):
     return served(program, run, 4, 1, **CELL)
 
 
-def losses_and_repeats_in(program, attempts, records, least):
-    """Two producers, while the network loses each seventh message and repeats each fifth; so many records are answered at least, and where."""
+def losses_and_repeats_in(program, attempts, records, answered):
+    """Two producers, while the network loses each seventh message and repeats each fifth. How many records are answered is added to the list."""
     def run(cell, log, reader):
         log.create(reader)
         cell.tell('net 7 5 0')
@@ -126,17 +128,24 @@ def losses_and_repeats_in(program, attempts, records, least):
         cell.tell('net 0 0 0')
         cell.room()
         log.look(reader)
-        return [] if len(log.stored) >= least else [f'{len(log.stored)} records answered']
+        answered.append(len(log.stored))
+        return []
     return served(program, run, 2, 1, attempts=attempts, **HASTY)
 
 
 def losses_and_repeats(program):
-    return losses_and_repeats_in(program, 2, 20, 0)
+    return losses_and_repeats_in(program, 2, 20, [])
 
 
 def losses_and_repeats_in_five_attempts(program):
-    """With as many attempts as a call has by default, by which some third of the records is placed."""
-    return losses_and_repeats_in(program, 5, 10, 1)
+    """With as many attempts as a call has by default, by which some third of the records is placed. Where the machine does much else there may be none: then
+    another cell is tried."""
+    answered = []
+    for _ in range(FEW_CELLS):
+        faults = losses_and_repeats_in(program, 5, 10, answered)
+        if faults or answered[-1]:
+            return faults
+    return ['no record is answered']
 
 
 def restart_at_random(cell, randoms, done, restarted):
