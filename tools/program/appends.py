@@ -9,8 +9,10 @@ from running import differs, words_of
 
 # Three servers with small chunks, where no attempt is over soon.
 CELL = {'servers': 3, 'goal': 3, 'slots': 64, 'chunk': 64, 'block': 16, 'attempt_ms': 60_000}
-# The same where attempts are soon over, and clocks taken to be close. The log is small: a master that begins again reads half of it in one step.
-HASTY = {**CELL, 'attempt_ms': 300, 'skew_ms': 500, 'log_bytes': 262_144}
+# The same where attempts are soon over, and clocks taken to be close.
+QUICK = {**CELL, 'attempt_ms': 300, 'skew_ms': 500}
+# The same with a small log: a master that begins again reads half of it in one step.
+HASTY = {**QUICK, 'log_bytes': 262_144}
 LOG = '/log'
 NODES = ('master', 's1', 's2', 's3')
 # A server that can't be found or asked, and a call without an answer: 15 NoReplica, 16 Failed, 17 Unknown.
@@ -70,9 +72,9 @@ class Log:
         self.faults += [f'open: {answer}' for answer in answers if not re.fullmatch(r'fd \d+', answer) and answer not in UNSERVED]
         return {client: answer.split(' ')[1] for client, answer in zip(clients, answers) if answer.startswith('fd ')}
 
-    def produce(self, count):
-        """All producers append so many records at the same time."""
-        descriptors = self.opened(self.producers)
+    def produce(self, count, descriptors=None):
+        """All producers that have it open, or can open it now, append so many records each at the same time."""
+        descriptors = descriptors or self.opened(self.producers)
         numbers = range(self.next, self.next + count)
         self.next += count
         asked = [(client, record_of(client, number)) for number in numbers for client in descriptors]
@@ -122,15 +124,16 @@ def losses_and_repeats_in(program, attempts, records, answered):
     """Two producers, while the network loses each seventh message and repeats each fifth. How many records are answered is added to the list."""
     def run(cell, log, reader):
         log.create(reader)
+        opened = log.opened(log.producers)
         cell.tell('net 7 5 0')
         cell.room()
-        log.produce(records)
+        log.produce(records, opened)
         cell.tell('net 0 0 0')
         cell.room()
         log.look(reader)
         answered.append(len(log.stored))
-        return []
-    return served(program, run, 2, 1, attempts=attempts, **HASTY)
+        return differs('who appends', list(opened), log.producers)
+    return served(program, run, 2, 1, attempts=attempts, **QUICK)
 
 
 def losses_and_repeats(program):

@@ -6,6 +6,7 @@ import tempfile
 import threading
 
 from running import Ended, differs, words_of
+from worked_rows import ROOT, options_of
 
 # Small slots, where no attempt is over soon.
 CELL = {'servers': 3, 'goal': 3, 'slots': 64, 'block': 16, 'attempt_ms': 60_000}
@@ -68,6 +69,11 @@ def a_bad_line_of_an_endless_script_is_told(program):
 def a_client_goes_on(program):
     ran = play(program, 'c1 create /f\nc1 open /f\nreopen\n2 c1 append 1 a*8\nreopen\nreopen\nc1 length 1\n', clients=1, chunk=4096, journal=100_000)
     return differs('it', ran, (0, b'c1 done\nc1 fd 1\nc1 at 0\nc1 at 8\nc1 length 16\n', b''))
+
+
+def both_records_beside_a_parking_are_read(program):
+    ran = play(program, 'c1 create /f\nc1 open /f\nc1 append 1 a*8\nreopen\nc1 append 1 b*8\nc1 read 1 0 16\n', clients=2, chunk=64)
+    return differs('it', ran, (0, b'c1 done\nc1 fd 1\nc1 at 0\nc1 at 8\nc1 bytes 16 61616161616161616262626262626262 rounds 2\n', b''))
 
 
 def a_line_reopen_empties_the_journal(program):
@@ -135,6 +141,48 @@ def it_is_told_how_far_a_cell_is(program):
     yield from differs('what does not fit together', [it for it in told if it[1] < it[0] or it[1] + it[2] != 1_000], [])
 
 
+def example_of(program, name):
+    """What the script of an example prints on a cell of its settings: what each client is answered."""
+    path = os.path.join(ROOT, 'examples', name)
+    with open(path, 'rb') as file:
+        settings = options_of(file.read())
+    ran = program.run(['live', path, *words_of(settings)])
+    answers = collections.defaultdict(list)
+    for line in ran.printed.decode().splitlines():
+        client, _, answer = line.partition(' ')
+        answers[client].append(answer)
+    return differs('status and fault', (ran.status, ran.told), (0, b'')), answers
+
+
+def four_producers_of_an_example(program):
+    """Each record stands where it was answered. One that is tried again may leave more of the file behind than the answers tell."""
+    faults, answers = example_of(program, 'four_producers.live')
+    yield from faults
+    reader = answers.pop('c5', [])
+    yield from differs('the reader', [answer.split(' ')[0] for answer in reader], ['done', 'fd', 'length', 'bytes'])
+    data = bytes.fromhex(reader[-1].split(' ')[2]) if reader and reader[-1].startswith('bytes 160 ') else b''
+    yield from differs('clients', sorted(answers), ['c1', 'c2', 'c3', 'c4'])
+    offsets = [(int(answer.removeprefix('at ')), letter) for client, letter in zip(sorted(answers), 'abcd') for answer in answers[client][1:]]
+    yield from differs('how many offsets', (len(offsets), len({offset for offset, _ in offsets})), (20, 20))
+    yield from differs('not read', [pair for pair in offsets if pair[0] <= 152 and data[pair[0]:pair[0] + 8] != pair[1].encode() * 8], [])
+
+
+def one_name_of_an_example(program):
+    faults, answers = example_of(program, 'one_name.live')
+    made = sorted(answer for given in answers.values() for answer in given[:1])
+    return [*faults, *differs('who makes it', made, ['done', 'refused 3 Exists', 'refused 3 Exists']),
+            *differs('what is listed', [given[1:] for given in answers.values()], [['names 2 .gone/ d/']] * 3)]
+
+
+def small_journal_of_an_example(program):
+    """A few calls are answered, and from then on none."""
+    faults, answers = example_of(program, 'small_journal.live')
+    given = answers['c1']
+    answered = [answer for answer in given if not answer.startswith('refused 20 ')]
+    return [*faults, *differs('answers', given, answered + ['refused 20 JournalFull'] * (20 - len(answered))),
+            *differs('those in the journal', answered, (['done'] + ['refused 3 Exists'] * 5)[:len(answered)]), *([] if answered else ['none is answered'])]
+
+
 def history_of(program, script, words=(), **settings):
     """What is printed, and the calls and answers of the file that is written."""
     with tempfile.TemporaryDirectory() as folder:
@@ -169,6 +217,7 @@ def calls_of_both_journals_are_told(program):
 def tests():
     """Each test's name, and what it is."""
     return [(test.__name__, test) for test in (
-        two_clients_append, no_bad_script_is_run, a_bad_line_of_an_endless_script_is_told, a_client_goes_on, a_line_reopen_empties_the_journal,
+        two_clients_append, no_bad_script_is_run, a_bad_line_of_an_endless_script_is_told, a_client_goes_on,
+        both_records_beside_a_parking_are_read, a_line_reopen_empties_the_journal,
         a_thousand_parks_with_four_producers, a_full_journal_is_gone_past, there_are_64_clients, a_chunk_without_a_slot_is_refused, it_is_told_how_far_a_cell_is,
-        regions_and_calls_are_told, calls_of_both_journals_are_told)]
+        four_producers_of_an_example, one_name_of_an_example, small_journal_of_an_example, regions_and_calls_are_told, calls_of_both_journals_are_told)]

@@ -136,11 +136,11 @@ def prints(seed, program):
     words = ['sim', '-', *words_of({**CELL, 'chunk': size})]
     ran = program.run(words, script)
     told = f'seed {seed}, {" ".join(words)}\n{script.decode()}'
-    pairs = itertools.zip_longest(ran.with_fault().split(b'\n'), wanted.split(b'\n'))
+    pairs = itertools.zip_longest(ran.printed.split(b'\n'), wanted.split(b'\n'))
     for number, (found, right) in enumerate(pairs, 1):
         if found != right:
             return differs(f'{told}line {number} that is printed', found, right)
-    return differs(f'{told}its status', ran.status, 0)
+    return differs(f'{told}its status and fault', (ran.status, ran.told), (0, b''))
 
 
 def all_print(seeds, program):

@@ -1,14 +1,15 @@
 """Runs of a built program: what it is given, and what it prints and ends with."""
 import concurrent.futures
 import os
+import re
 import subprocess
 import threading
 from typing import NamedTuple
 
 # In seconds: each test is over long before.
 MOST = 600
-# What the program prints before a fault.
-NAMED = b'gfscell: '
+# A script's fault, where it stands behind what is printed.
+FAULT = re.compile(rb'^(?:line \d+: (?:bad line|no end)|cannot (?:start|read|write)|no memory)\n\Z', re.M)
 
 
 class Ran(NamedTuple):
@@ -16,9 +17,11 @@ class Ran(NamedTuple):
     printed: bytes
     told: bytes
 
-    def with_fault(self):
-        """All that was printed, and behind it the fault, as scripts have it."""
-        return self.printed + self.told.removeprefix(NAMED)
+
+def ran_of(text):
+    """The run of a script of which this is what it prints, with its fault behind where it has one."""
+    fault = FAULT.search(text)
+    return Ran(1, text[:fault.start()], b'gfscell: ' + fault[0]) if fault else Ran(0, text, b'')
 
 
 class Program:
