@@ -192,6 +192,11 @@ def history_of(program, script, words=(), **settings):
             return ran, [line.split(b' ', 1)[1] for line in file.read().splitlines()]
 
 
+def a_history_that_cannot_be_written_is_told(program):
+    ran = play(program, 'c1 mkdir /d\n', ['--history', '/dev/full'], clients=1, chunk=64)
+    return differs('it', ran, (1, b'c1 done\n', b'gfscell: cannot write\n'))
+
+
 def regions_and_calls_are_told(program):
     ran, calls = history_of(program, 'c1 create /f\nc1 open /f\n10 c1 append 1 a*8\n', ['--regions', '/f'], clients=1, chunk=64)
     offsets = range(0, 80, 8)
@@ -220,4 +225,5 @@ def tests():
         two_clients_append, no_bad_script_is_run, a_bad_line_of_an_endless_script_is_told, a_client_goes_on,
         both_records_beside_a_parking_are_read, a_line_reopen_empties_the_journal,
         a_thousand_parks_with_four_producers, a_full_journal_is_gone_past, there_are_64_clients, a_chunk_without_a_slot_is_refused, it_is_told_how_far_a_cell_is,
-        four_producers_of_an_example, one_name_of_an_example, small_journal_of_an_example, regions_and_calls_are_told, calls_of_both_journals_are_told)]
+        four_producers_of_an_example, one_name_of_an_example, small_journal_of_an_example,
+        a_history_that_cannot_be_written_is_told, regions_and_calls_are_told, calls_of_both_journals_are_told)]

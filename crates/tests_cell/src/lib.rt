@@ -22,8 +22,6 @@ mod refused;
 #[cfg(test)]
 mod refused_events;
 #[cfg(test)]
-mod region;
-#[cfg(test)]
 mod restarts;
 #[cfg(test)]
 mod rows;

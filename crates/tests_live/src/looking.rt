@@ -2,7 +2,7 @@
 
 use crate::cells::{small, text};
 use bytes::Bytes;
-use cell_looks::{LookFault, Looks, regions_of_chunk};
+use cell_looks::{HistoryFault, LookFault, Looks, print_history, regions_of_chunk};
 use cell_run::cell::{Cell, Seat};
 use cell_run::{Parked, Retention};
 use cell_seats::gate::OpenGate;
@@ -176,8 +176,18 @@ fn records_are_determined(rt: HostRuntime) -> Result<(), Fail> {
     Ok(())
 }
 
-// Why neither the regions of a file's first chunk are told nor those of all its chunks.
-fn faults_of(alloc: Global, parked: &Parked) -> Option<(LookFault, LookFault)> {
+/// What is told where entries were let go.
+const PARTIAL: (LookFault, LookFault, HistoryFault) = (
+    LookFault::Partial,
+    LookFault::Partial,
+    HistoryFault::Partial,
+);
+
+// Why neither the regions of a file's first chunk are told, nor those of all its chunks, nor the calls and answers of the journal.
+fn faults_of(alloc: Global, parked: &Parked) -> Option<(LookFault, LookFault, HistoryFault)> {
+    let mut lines = Vec::new(alloc);
+    let history = print_history(alloc, parked.journal(), &mut lines).err();
+    drop(lines);
     let looks = Looks::at(alloc, parked).ok()?;
     let (one, all) = match file_of(alloc, &looks) {
         Some(file) => (
@@ -187,7 +197,7 @@ fn faults_of(alloc: Global, parked: &Parked) -> Option<(LookFault, LookFault)> {
         None => (None, None),
     };
     drop(looks);
-    Some((one?, all?))
+    Some((one?, all?, history?))
 }
 
 // Why none are told of a cell of so many servers whose last entries stay, behind such records.
@@ -197,7 +207,7 @@ fn faults_behind<R: Threads + Wait + Clock + Copy + Send + 'static>(
     config: Config,
     (servers, kept): (u16, u32),
     records: (&'static [u8], usize),
-) -> Option<(LookFault, LookFault)> {
+) -> Option<(LookFault, LookFault, HistoryFault)> {
     let retention = Retention::Last(kept);
     let cell = Cell::start_retaining(rt, alloc, config, servers, retention, OpenGate).ok()?;
     let parked = parked_behind(&rt, alloc, cell, true, records)?;
@@ -214,7 +224,7 @@ fn a_part_of_a_history_tells_no_regions(rt: HostRuntime) {
         ..small()
     };
     let faults = faults_behind(rt, rt.alloc(), config, (3, 40), (RECORD, RECORDS));
-    assert!(rt; faults == Some((LookFault::Partial, LookFault::Partial)));
+    assert!(rt; faults == Some(PARTIAL));
 }
 
 #[test]
@@ -225,5 +235,5 @@ fn where_entries_were_let_go_no_regions_are_told(rt: HostRuntime) {
         ..small()
     };
     let faults = faults_behind(rt, rt.alloc(), config, (1, 48), (b"a".as_slice(), 12));
-    assert!(rt; faults == Some((LookFault::Partial, LookFault::Partial)));
+    assert!(rt; faults == Some(PARTIAL));
 }

@@ -1,6 +1,7 @@
 //! What a running cell itself refuses.
 
 use crate::cells::{OddClock, mkdir, small, waiting_call};
+use cell_run::SeatFault;
 use cell_run::cell::Cell;
 use cell_run::laws::meet;
 use cell_seats::gate::OpenGate;
@@ -94,13 +95,20 @@ fn there_are_64_clients(rt: HostRuntime) -> Result<(), Fail> {
     let alloc = rt.alloc();
     let mut cell = Cell::start(rt, alloc, small(), 1, OpenGate)?;
     let mut made: u64 = 0;
+    let mut refused: u64 = 0;
     for _ in 0..66 {
-        if cell.client().is_ok() {
-            made = made.wrapping_add(1);
+        match cell.client() {
+            Ok(seat) => {
+                drop(seat);
+                made = made.wrapping_add(1);
+            }
+            Err(SeatFault::Many) => refused = refused.wrapping_add(1),
+            Err(_) => {}
         }
     }
     drop(cell.close(&rt));
     assert!(rt; made == 64);
+    assert!(rt; refused == 2);
     Ok(())
 }
 

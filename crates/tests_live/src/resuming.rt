@@ -3,19 +3,26 @@
 ghost use Rattle.std.specs.Prelude.{◌≡◌, ◌∷◌, [], All, IfSome};
 ghost use Rattle.tests_live.specs.ParkFaults.{KeepsName};
 
-use crate::cells::{OddClock, mkdir, small};
+use crate::cells::{OddClock, mkdir, small, text};
 use cell_journal::closed_history::ClosedHistory;
 use cell_journal::journal_entry::StepCause;
 use cell_run::ParkFault;
 use cell_run::cell::{Cell, Seat, StartFault};
 use cell_run::parked::Parked;
 use cell_seats::gate::OpenGate;
+use gfs_types::config::Config;
 use gfs_types::ids::{Node, ServerId};
+use gfs_types::refusal::Refusal;
 use std::alloc::Global;
 use std::sync::Wait;
 use std::test::*;
 use std::thread::Threads;
 use std::time::Clock;
+
+const NAMES: [&str; 10] = ["/a", "/b", "/c", "/d", "/e", "/f", "/g", "/h", "/i", "/j"];
+
+/// How many steps may be taken before a cell is parked, whose journal has room for 64.
+const LEAST_ROOM: u64 = 40;
 
 /// The nodes of a cell of two servers that begin again.
 const NODES: [Node; 3] = [
@@ -36,9 +43,10 @@ struct Seated {
 fn new_seated<R: Threads + Wait + Clock + Copy + Send + 'static>(
     rt: R,
     alloc: Global,
+    config: Config,
     servers: u16,
 ) -> Option<Seated> {
-    let mut cell = Cell::start(rt, alloc, small(), servers, OpenGate).ok()?;
+    let mut cell = Cell::start(rt, alloc, config, servers, OpenGate).ok()?;
     let Ok(seat) = cell.client() else {
         drop(cell.close(&rt));
         return None;
@@ -91,7 +99,7 @@ fn new_parked<R: Threads + Wait + Clock + Copy + Send + 'static>(
     rt: R,
     alloc: Global,
 ) -> Option<Parked> {
-    park(&rt, alloc, new_seated(rt, alloc, 1)?)
+    park(&rt, alloc, new_seated(rt, alloc, small(), 1)?)
 }
 
 // A parked cell goes on with its seat.
@@ -121,6 +129,64 @@ fn first_seated(cell: Cell, seats: Vec<Seat>) -> Option<Seated>
     let seated = Seated { cell, seat };
     drop(seats);
     Some(seated)
+}
+
+// The cell is parked with its seat, and goes on.
+fn go_on<R: Threads + Wait + Clock + Copy + Send + 'static>(
+    rt: R,
+    alloc: Global,
+    seated: Seated,
+) -> Option<Seated> {
+    resume(rt, park(&rt, alloc, seated)?)
+}
+
+// Makes the directory, by a client of a new number where the journal was full, and tells whether it is there.
+fn made<R: Threads + Wait + Clock + Copy + Send + 'static>(
+    rt: R,
+    alloc: Global,
+    seated: Seated,
+    name: &str,
+) -> Option<Seated> {
+    let mut seated = seated;
+    if seated.cell.room() < LEAST_ROOM {
+        seated = go_on(rt, alloc, seated)?;
+    }
+    let mut outcome = mkdir(&rt, alloc, &mut seated.seat, name);
+    if outcome == Err(Refusal::JournalFull) {
+        seated = go_on(rt, alloc, seated)?;
+        outcome = match mkdir(&rt, alloc, &mut seated.seat, name) {
+            Err(Refusal::Exists) => Ok(()),
+            again => again,
+        };
+    }
+    if outcome.is_ok() { Some(seated) } else { None }
+}
+
+// How many names `/` has after all directories were made, if that is told, and whether the journal stands behind another.
+fn make_all<R: Threads + Wait + Clock + Copy + Send + 'static>(
+    rt: R,
+    alloc: Global,
+    config: Config,
+) -> Option<(Option<usize>, bool)> {
+    let root = text(alloc, "/").ok()?;
+    let mut seated = new_seated(rt, alloc, config, 3)?;
+    for name in NAMES {
+        seated = made(rt, alloc, seated, name)?;
+    }
+    let Seated { cell, mut seat } = seated;
+    let listed = seat.list(&rt, root).ok().map(|names| names.len());
+    let journal = cell.close(&rt);
+    Some((listed, journal.base().is_some()))
+}
+
+#[test]
+fn a_full_journal_is_gone_past(rt: HostRuntime) {
+    let config = Config {
+        journal: 64,
+        ..small()
+    };
+    // Beside the ten stands `/.gone`.
+    assert!(rt; make_all(rt, rt.alloc(), config) == Some((Some(11), true)));
 }
 
 // Whether a parked cell goes on, and answers.
@@ -230,7 +296,7 @@ fn count_restarts(history: &ClosedHistory) -> usize {
 
 #[test]
 fn nodes_begin_again_first_behind_a_parking(rt: HostRuntime) -> Result<(), Fail> {
-    let Some(seated) = new_seated(rt, rt.alloc(), 2) else {
+    let Some(seated) = new_seated(rt, rt.alloc(), small(), 2) else {
         return Err(Fail::new("no cell, or no client"));
     };
     let Some(parked) = park(&rt, rt.alloc(), seated) else {
@@ -295,7 +361,7 @@ fn run_out<R: Threads + Wait + Clock + Copy + Send + 'static>(
     rt: R,
     alloc: Global,
 ) -> Option<bool> {
-    let mut seated = new_seated(rt, alloc, 1)?;
+    let mut seated = new_seated(rt, alloc, small(), 1)?;
     make_clients(&mut seated.cell);
     let seated = leave_behind(rt, alloc, seated)?;
     let parked = park(&rt, alloc, seated)?;
@@ -340,7 +406,7 @@ fn goes_on<R: Threads + Wait + Clock + Copy + Send + 'static>(
 #[test]
 fn a_refused_parking_loses_nothing(rt: HostRuntime) {
     // Where there is no cell, or no client of it, nothing is to be parked.
-    let goes_on = match new_seated(rt, rt.alloc(), 1) {
+    let goes_on = match new_seated(rt, rt.alloc(), small(), 1) {
         Some(seated) => goes_on(rt, rt.alloc(), seated),
         None => true,
     };
