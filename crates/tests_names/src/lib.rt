@@ -8,6 +8,8 @@ mod chunks;
 #[cfg(test)]
 mod deep;
 #[cfg(test)]
+mod files;
+#[cfg(test)]
 mod locks;
 #[cfg(test)]
 mod names;
