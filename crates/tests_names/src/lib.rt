@@ -8,8 +8,6 @@ mod chunks;
 #[cfg(test)]
 mod deep;
 #[cfg(test)]
-mod files;
-#[cfg(test)]
 mod locks;
 #[cfg(test)]
 mod names;

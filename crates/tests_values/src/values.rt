@@ -149,7 +149,7 @@ fn fault_with(numbers: &mut [u64; 14], place: usize, number: u64) -> Option<Conf
     settings(*numbers).check().err()
 }
 
-/// Of each field numbers that are refused and some that are taken, of which the last stands where the next field is looked at.
+/// Of each field numbers that are refused, and some that are taken, of which the last one stays while later fields are tried.
 const SETTINGS: [(ConfigFault, &[u64], &[u64]); 14] = [
     (
         ConfigFault::Chunk,
@@ -183,29 +183,24 @@ const IN_RANGE: [u64; 14] = [64, 16, 1, 3_600_000, 0, 1, 1, 1, 1, 1, 1, 1, 4_096
 
 const OUT_OF_RANGE: [u64; 14] = [0, 0, 0, 0, 60_001, 0, 0, 0, 0, 0, 0, 0, 0, 0];
 
-/// Each number in settings of which nothing else is out of its range, and in some of which all later fields are.
+/// Each number where nothing else is out of its range, and where all later fields are.
 #[test]
 fn the_first_setting_out_of_its_range_is_named(rt: HostRuntime) {
     let mut alone = IN_RANGE;
     let mut first = OUT_OF_RANGE;
     for (place, (fault, refused, taken)) in SETTINGS.iter().enumerate() {
         for number in *refused {
-            assert!(rt;
-                fault_with(&mut alone, place, *number) == Some(*fault),
-                "{fault}: {number}"
-            );
-            assert!(rt;
-                fault_with(&mut first, place, *number) == Some(*fault),
-                "{fault}: {number}"
-            );
+            let named = [
+                fault_with(&mut alone, place, *number),
+                fault_with(&mut first, place, *number),
+            ];
+            assert!(rt; named == [Some(*fault); 2], "{fault}: {number}");
         }
         for number in *taken {
+            let none = fault_with(&mut alone, place, *number);
+            let later = fault_with(&mut first, place, *number);
             assert!(rt;
-                fault_with(&mut alone, place, *number).is_none(),
-                "{fault}: {number}"
-            );
-            assert!(rt;
-                fault_with(&mut first, place, *number) != Some(*fault),
+                none.is_none() && later != Some(*fault),
                 "{fault}: {number}"
             );
         }
