@@ -1,4 +1,4 @@
-//! Paths, shapes, refusals, and what is printed.
+//! Paths, shapes, settings, refusals, and what is printed.
 
 use gfs_types::config::{Config, ConfigFault};
 use gfs_types::no_memory::NoMemory;
@@ -98,6 +98,120 @@ fn a_shape_fits_within_its_bounds(rt: HostRuntime) {
     config.chunk = 72;
     assert!(rt; !fits(&config, 72, 1));
     assert!(rt; fits(&config, 64, 1));
+}
+
+// settings
+
+/// The settings with these numbers, in the order of their fields.
+fn settings(numbers: [u64; 14]) -> Config {
+    let [
+        chunk,
+        block,
+        goal,
+        lease_ms,
+        skew_ms,
+        attempt_ms,
+        attempts,
+        others @ ..,
+    ] = numbers;
+    let [
+        cache_entries,
+        cache_ms,
+        push_entries,
+        keep_ms,
+        slots,
+        log_bytes,
+        journal,
+    ] = others;
+    Config {
+        chunk: chunk as u32,
+        block: block as u32,
+        goal: goal as u32,
+        lease_ms,
+        skew_ms,
+        attempt_ms,
+        attempts: attempts as u32,
+        cache_entries: cache_entries as u32,
+        cache_ms,
+        push_entries: push_entries as u32,
+        keep_ms,
+        slots: slots as u32,
+        log_bytes,
+        journal: journal as u32,
+    }
+}
+
+/// Why the settings are refused, once this number stands in that place.
+fn fault_with(numbers: &mut [u64; 14], place: usize, number: u64) -> Option<ConfigFault> {
+    if let Some(at) = numbers.as_mut_slice().get_mut(place) {
+        *at = number;
+    }
+    settings(*numbers).check().err()
+}
+
+/// Of each field numbers that are refused, and some that are taken, of which the last one stays while later fields are tried.
+const SETTINGS: [(ConfigFault, &[u64], &[u64]); 14] = [
+    (
+        ConfigFault::Chunk,
+        &[0, 48, 72, 67_108_880, 4_294_967_280],
+        &[64, 80, 67_108_864, 1_048_576],
+    ),
+    (ConfigFault::Block, &[0, 8, 48, 131_072], &[65_536, 16]),
+    (ConfigFault::Goal, &[0, 9], &[1, 8]),
+    (ConfigFault::LeaseMs, &[0, 3_600_001], &[1, 3_600_000]),
+    (ConfigFault::SkewMs, &[60_001], &[0, 60_000]),
+    (ConfigFault::AttemptMs, &[0, 600_001], &[1, 600_000]),
+    (ConfigFault::Attempts, &[0, 17], &[1, 16]),
+    (ConfigFault::CacheEntries, &[0, 65_537], &[1, 65_536]),
+    (ConfigFault::CacheMs, &[0, 86_400_001], &[1, 86_400_000]),
+    (ConfigFault::PushEntries, &[0, 4_097], &[1, 4_096]),
+    (
+        ConfigFault::KeepMs,
+        &[0, 31_536_000_001],
+        &[1, 31_536_000_000],
+    ),
+    (ConfigFault::Slots, &[0, 65_537], &[1, 65_536]),
+    (
+        ConfigFault::LogBytes,
+        &[4_095, 1_073_741_825],
+        &[4_096, 1_073_741_824],
+    ),
+    (ConfigFault::Journal, &[15, 16_777_217], &[16, 16_777_216]),
+];
+
+const IN_RANGE: [u64; 14] = [64, 16, 1, 3_600_000, 0, 1, 1, 1, 1, 1, 1, 1, 4_096, 16];
+
+const OUT_OF_RANGE: [u64; 14] = [0, 0, 0, 0, 60_001, 0, 0, 0, 0, 0, 0, 0, 0, 0];
+
+/// Each number where nothing else is out of its range, and where all later fields are.
+#[test]
+fn the_first_setting_out_of_its_range_is_named(rt: HostRuntime) {
+    let mut alone = IN_RANGE;
+    let mut first = OUT_OF_RANGE;
+    for (place, (fault, refused, taken)) in SETTINGS.iter().enumerate() {
+        for number in *refused {
+            let named = [
+                fault_with(&mut alone, place, *number),
+                fault_with(&mut first, place, *number),
+            ];
+            assert!(rt; named == [Some(*fault); 2], "{fault}: {number}");
+        }
+        for number in *taken {
+            let none = fault_with(&mut alone, place, *number);
+            let later = fault_with(&mut first, place, *number);
+            assert!(rt;
+                none.is_none() && later != Some(*fault),
+                "{fault}: {number}"
+            );
+        }
+    }
+    let mut config = Config::default();
+    assert!(rt; config.check() == Ok(()));
+    // a clock bound is below the lease
+    config.lease_ms = 2_000;
+    assert!(rt; config.check() == Err(ConfigFault::SkewMs));
+    config.lease_ms = 2_001;
+    assert!(rt; config.check() == Ok(()));
 }
 
 // refusals
