@@ -39,14 +39,14 @@ const CREATE: [u8; 29] = [
     4, 1, 0, 0, 0, 0, 0, 0, 0, 2, 0, 0, 0, 0, 0, 0, 0, 2, 0, 0, 0, 0, 0, 0, 0, 2, 0, 47, 98,
 ];
 
-// File 2, handle 4.
-const ADD_CHUNK: [u8; 17] = [10, 2, 0, 0, 0, 0, 0, 0, 0, 4, 0, 0, 0, 0, 0, 0, 0];
+/// File 2, handle 4.
+pub(crate) const ADD_CHUNK: [u8; 17] = [10, 2, 0, 0, 0, 0, 0, 0, 0, 4, 0, 0, 0, 0, 0, 0, 0];
 
 // Handle 4, version 1.
 const ISSUE: [u8; 17] = [11, 4, 0, 0, 0, 0, 0, 0, 0, 1, 0, 0, 0, 0, 0, 0, 0];
 
-/// Handle 4, version 1, primary 1, member 1.
-pub(crate) const GRANT: [u8; 22] = [
+// Handle 4, version 1, primary 1, member 1.
+const GRANT: [u8; 22] = [
     12, 4, 0, 0, 0, 0, 0, 0, 0, 1, 0, 0, 0, 0, 0, 0, 0, 1, 0, 1, 1, 0,
 ];
 

@@ -1,6 +1,6 @@
 //! A master that is opened over a disk, which it hands back.
 
-use crate::old_logs::{GRANT, disk_with};
+use crate::old_logs::{ADD_CHUNK, disk_with};
 use disk::{Disk, FuseDisk, MemDisk};
 use gfs_types::answer::Answer;
 use gfs_types::call::Call;
@@ -159,19 +159,15 @@ fn fault_over(alloc: Global, record: &[u8], calls: u64) -> Option<OpeningFault> 
     open_master(alloc, disk).err()
 }
 
-// The disk fails, no record has this tag, or no master writes it there: the chunk that is granted isn't one of a file.
+// The disk fails, no record has this tag, or no master writes the record there: it gives a file that there isn't a chunk.
 #[test]
 fn a_master_is_not_opened_over_each_disk(rt: HostRuntime) {
     let alloc = rt.alloc();
     let failed = OpeningFault::Log(OperationLogFault::Device);
     let damaged = OpeningFault::Log(OperationLogFault::Damaged);
+    let down = OpeningFault::Down(DownCause::Memory);
     assert!(rt; fault_over(alloc, &EPOCH, 1_000).is_none());
     assert!(rt; fault_over(alloc, &EPOCH, 0) == Some(failed));
     assert!(rt; fault_over(alloc, &[99], 1_000) == Some(damaged));
-    assert!(rt;
-        matches!(
-            fault_over(alloc, &GRANT, 1_000),
-            Some(OpeningFault::Down(_))
-        )
-    );
+    assert!(rt; fault_over(alloc, &ADD_CHUNK, 1_000) == Some(down));
 }

@@ -170,7 +170,7 @@ fn opened_as<D: Disk + Drop>(disk: D, alloc: Global, number: usize) -> (D, Optio
     }
 }
 
-// And it opens again under its own.
+// And it opens again under its own layout.
 #[test]
 fn a_disk_of_another_layout_is_damaged(rt: HostRuntime) -> Result<(), Fail> {
     let alloc = rt.alloc();
