@@ -12,8 +12,6 @@ mod chunk_stops;
 #[cfg(test)]
 mod disk_stops;
 #[cfg(test)]
-mod lengths;
-#[cfg(test)]
 mod log_bytes;
 #[cfg(test)]
 mod log_calls;
@@ -33,6 +31,8 @@ mod places;
 mod plain_store;
 #[cfg(test)]
 mod plan;
+#[cfg(test)]
+mod refusals;
 #[cfg(test)]
 mod refused;
 #[cfg(test)]

@@ -63,7 +63,7 @@ fn are_appended(alloc: Global, record: &Record) -> Result<bool, AllocError> {
     Ok(first.found == 0 && second.found == 1 && are_in_place)
 }
 
-// How many records there are once an append is Full; None where another fault comes, or none in a hundred appends.
+// How many records there are once an append is Full, and is Full again over the same disk; None where another fault comes, or none in a hundred appends.
 fn filled(alloc: Global, record: &Record) -> Result<Option<usize>, AllocError> {
     let mut disk = MemDisk::new(alloc, SIZE)?;
     let mut found = None;
@@ -77,8 +77,11 @@ fn filled(alloc: Global, record: &Record) -> Result<Option<usize>, AllocError> {
             break;
         }
     }
+    let (disk, again) = append(disk, alloc, record);
     drop(disk);
-    Ok(found)
+    let is_full = again.fault == Some(LogFault::Full);
+    let is_same = found == Some(again.found);
+    Ok(if is_full && is_same { found } else { None })
 }
 
 #[test]

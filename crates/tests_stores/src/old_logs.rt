@@ -39,8 +39,8 @@ const CREATE: [u8; 29] = [
     4, 1, 0, 0, 0, 0, 0, 0, 0, 2, 0, 0, 0, 0, 0, 0, 0, 2, 0, 0, 0, 0, 0, 0, 0, 2, 0, 47, 98,
 ];
 
-// File 2, handle 4.
-const ADD_CHUNK: [u8; 17] = [10, 2, 0, 0, 0, 0, 0, 0, 0, 4, 0, 0, 0, 0, 0, 0, 0];
+/// File 2, handle 4.
+pub(crate) const ADD_CHUNK: [u8; 17] = [10, 2, 0, 0, 0, 0, 0, 0, 0, 4, 0, 0, 0, 0, 0, 0, 0];
 
 // Handle 4, version 1.
 const ISSUE: [u8; 17] = [11, 4, 0, 0, 0, 0, 0, 0, 0, 1, 0, 0, 0, 0, 0, 0, 0];
@@ -119,8 +119,13 @@ fn put_disk(
     Ok(())
 }
 
-// A disk with these. What owns bytes has few ways out: a drop at the end of a scope is proved anew at each place.
-fn disk_with(alloc: Global, second: u8, items: &[&[u8]], records: &[&[u8]]) -> Option<MemDisk> {
+/// A disk with these. What owns bytes has few ways out: a drop at the end of a scope is proved anew at each place.
+pub(crate) fn disk_with(
+    alloc: Global,
+    second: u8,
+    items: &[&[u8]],
+    records: &[&[u8]],
+) -> Option<MemDisk> {
     let mut disk = MemDisk::new(alloc, SIZE).ok()?;
     let mut image = Vec::new(alloc);
     let is_written = put_disk(&mut image, second, items, records).is_ok()

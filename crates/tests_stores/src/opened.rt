@@ -1,5 +1,6 @@
 //! A master that is opened over a disk, which it hands back.
 
+use crate::old_logs::{ADD_CHUNK, disk_with};
 use disk::{Disk, FuseDisk, MemDisk};
 use gfs_types::answer::Answer;
 use gfs_types::call::Call;
@@ -9,8 +10,10 @@ use gfs_types::lists::Text;
 use gfs_types::no_memory::NoMemory;
 use gfs_types::torn::Torn;
 use master_cell::master::Master;
+use master_cell::opening_fault::OpeningFault;
 use messages::event::{NodeInput, StepOut};
 use messages::message::{Body, Message, NameReply};
+use operation_log::fault::OperationLogFault;
 use protocol::down_cause::DownCause;
 use std::alloc::Global;
 
@@ -22,8 +25,8 @@ const DEADLINE: Moment = Moment(1_000);
 
 type DiskMaster = Master<Global, FuseDisk>;
 
-/// The master of three chunkservers over a disk; none where it can't be up.
-fn open_master(alloc: Global, disk: FuseDisk) -> Option<DiskMaster> {
+/// The master of three chunkservers over a disk, or why it can't be up; NoRoom where the disk has another size than a log may have.
+fn open_master(alloc: Global, disk: FuseDisk) -> Result<DiskMaster, OpeningFault> {
     let config = Config {
         log_bytes: SIZE as u64,
         ..Config::default()
@@ -35,9 +38,15 @@ fn open_master(alloc: Global, disk: FuseDisk) -> Option<DiskMaster> {
         || size > 1_073_741_824
     {
         drop(disk);
-        return None;
+        return Err(OpeningFault::Down(DownCause::NoRoom));
     }
-    Master::open(alloc, config, 3, disk, NOW, alloc).ok()
+    match Master::open(alloc, config, 3, disk, NOW, alloc) {
+        Ok(master) => Ok(master),
+        Err((disk, fault)) => {
+            drop(disk);
+            Err(fault)
+        }
+    }
 }
 
 /// What a step answers a request on names.
@@ -121,13 +130,13 @@ fn outlasts_a_stop(alloc: Global) -> Result<bool, NoMemory> {
     let Ok(disk) = MemDisk::new(alloc, SIZE) else {
         return Ok(false);
     };
-    let Some(first) = open_master(alloc, FuseDisk::new(disk)) else {
+    let Ok(first) = open_master(alloc, FuseDisk::new(disk)) else {
         return Ok(false);
     };
     let mut master = first;
     let is_one_made = makes_one_of_two(&mut master, alloc);
     let disk = master.into_disk().stop(Torn::Old);
-    let Some(second) = open_master(alloc, FuseDisk::new(disk)) else {
+    let Ok(second) = open_master(alloc, FuseDisk::new(disk)) else {
         return Ok(false);
     };
     let mut again = second;
@@ -139,4 +148,26 @@ fn outlasts_a_stop(alloc: Global) -> Result<bool, NoMemory> {
 #[test]
 fn a_master_is_opened_over_the_disk_of_an_earlier_one(rt: HostRuntime) {
     assert!(rt; matches!(outlasts_a_stop(rt.alloc()), Ok(true)));
+}
+
+const EPOCH: [u8; 9] = [1, 1, 0, 0, 0, 0, 0, 0, 0];
+
+// Why no master can be up over a log of one record, on a disk that lets so many calls pass.
+fn fault_over(alloc: Global, record: &[u8], calls: u64) -> Option<OpeningFault> {
+    let mut disk = FuseDisk::new(disk_with(alloc, 1, &[], &[record])?);
+    disk.arm(calls);
+    open_master(alloc, disk).err()
+}
+
+// The disk fails, no record has this tag, or no master writes the record there: it gives a file that there isn't a chunk.
+#[test]
+fn a_master_is_not_opened_over_each_disk(rt: HostRuntime) {
+    let alloc = rt.alloc();
+    let failed = OpeningFault::Log(OperationLogFault::Device);
+    let damaged = OpeningFault::Log(OperationLogFault::Damaged);
+    let down = OpeningFault::Down(DownCause::Memory);
+    assert!(rt; fault_over(alloc, &EPOCH, 1_000).is_none());
+    assert!(rt; fault_over(alloc, &EPOCH, 0) == Some(failed));
+    assert!(rt; fault_over(alloc, &[99], 1_000) == Some(damaged));
+    assert!(rt; fault_over(alloc, &ADD_CHUNK, 1_000) == Some(down));
 }

@@ -2,15 +2,18 @@
 
 ghost use Rattle.std.specs.Prelude.{◌≡◌, IfSome};
 
+use bytes::Bytes;
 use disk::{FuseDisk, MemDisk, StopPlan};
 use gfs_types::config::Config;
-use gfs_types::ids::{Handle, Moment, Node, OrderNo, ServerId, Version};
+use gfs_types::ids::{ClientId, DataId, Handle, Moment, Node, OrderNo, ServerId, Version};
+use gfs_types::lists::ServerList;
+use gfs_types::refusal::Refusal;
 use gfs_types::torn::Torn;
 use messages::event::{NodeInput, StepOut};
-use messages::message::{Body, Message};
+use messages::message::{Body, Message, Target};
 use protocol::down_cause::DownCause;
 use server_cell::disk_server::Server;
-use std::alloc::Global;
+use std::alloc::{AllocError, Global};
 use store_disk::Layout;
 
 const NOW: Moment = Moment(0);
@@ -18,6 +21,11 @@ const NOW: Moment = Moment(0);
 const ID: ServerId = ServerId(1);
 
 const CHUNK: Handle = Handle(7);
+
+const DATA: DataId = DataId {
+    client: ClientId(1),
+    seq: 1,
+};
 
 type DiskServer = Server<FuseDisk>;
 
@@ -137,4 +145,73 @@ fn a_server_is_opened_over_the_disk_of_an_earlier_one(rt: HostRuntime) {
         }
     }
     assert!(rt; matches!(cause_of_failing(alloc), Some(DownCause::Device)));
+}
+
+// What the server is told in turn once it has the replica: its lease, 17 bytes of a client, and that they are a record to be appended.
+fn told(alloc: Global, number: u64) -> Result<Message, AllocError> {
+    let body = match number {
+        0 => Body::Grant {
+            order: OrderNo { epoch: 1, count: 2 },
+            handle: CHUNK,
+            version: Version(1),
+            end: Moment(60_000),
+            chunk: 64,
+            members: ServerList::new(vec![in alloc; 1; 1]?),
+        },
+        1 => Body::Push {
+            data: DATA,
+            bytes: Bytes::from_static(b"0123456789abcdefg"),
+            rest: ServerList::empty(alloc),
+        },
+        _ => Body::Mutate {
+            data: DATA,
+            handle: CHUNK,
+            version: Version(1),
+            target: Target::Append,
+            deadline: Moment(1_000),
+        },
+    };
+    let sender = if number == 0 {
+        Node::Master
+    } else {
+        Node::Client(ClientId(1))
+    };
+    Ok(Message {
+        number: 1,
+        sender,
+        receiver: Node::Server(ID),
+        body,
+    })
+}
+
+// What a step refuses a client.
+fn refusal_in(out: &StepOut) -> Option<Refusal> {
+    for message in out.sent.as_slice() {
+        if let Body::Refused { refusal, .. } = &message.body {
+            return Some(*refusal);
+        }
+    }
+    None
+}
+
+// What the record is refused with.
+fn refusal_of_record(alloc: Global) -> Option<Refusal> {
+    let mut server = open_new(alloc)?;
+    let has_created = creates(&mut server);
+    let mut refusal = None;
+    for number in 0..3 {
+        if let Ok(message) = told(alloc, number) {
+            let out = server.step(NOW, NodeInput::Deliver(message));
+            refusal = refusal_in(&out);
+            drop(out);
+        }
+    }
+    drop(server);
+    if has_created { refusal } else { None }
+}
+
+// It has a byte more than a quarter of the chunk.
+#[test]
+fn a_long_record_is_refused(rt: HostRuntime) {
+    assert!(rt; refusal_of_record(rt.alloc()) == Some(Refusal::ServerTooLong));
 }
