@@ -104,40 +104,21 @@ fn a_shape_fits_within_its_bounds(rt: HostRuntime) {
 
 /// The settings with these numbers, in the order of their fields.
 fn settings(numbers: [u64; 14]) -> Config {
-    let [
-        chunk,
-        block,
-        goal,
-        lease_ms,
-        skew_ms,
-        attempt_ms,
-        attempts,
-        others @ ..,
-    ] = numbers;
-    let [
-        cache_entries,
-        cache_ms,
-        push_entries,
-        keep_ms,
-        slots,
-        log_bytes,
-        journal,
-    ] = others;
     Config {
-        chunk: chunk as u32,
-        block: block as u32,
-        goal: goal as u32,
-        lease_ms,
-        skew_ms,
-        attempt_ms,
-        attempts: attempts as u32,
-        cache_entries: cache_entries as u32,
-        cache_ms,
-        push_entries: push_entries as u32,
-        keep_ms,
-        slots: slots as u32,
-        log_bytes,
-        journal: journal as u32,
+        chunk: numbers[0] as u32,
+        block: numbers[1] as u32,
+        goal: numbers[2] as u32,
+        lease_ms: numbers[3],
+        skew_ms: numbers[4],
+        attempt_ms: numbers[5],
+        attempts: numbers[6] as u32,
+        cache_entries: numbers[7] as u32,
+        cache_ms: numbers[8],
+        push_entries: numbers[9] as u32,
+        keep_ms: numbers[10],
+        slots: numbers[11] as u32,
+        log_bytes: numbers[12],
+        journal: numbers[13] as u32,
     }
 }
 
