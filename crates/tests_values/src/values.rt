@@ -131,7 +131,7 @@ fn fault_with(numbers: &mut [u64; 14], place: usize, number: u64) -> Option<Conf
 }
 
 /// Of each field numbers that are refused, and some that are taken, of which the last one stays while later fields are tried.
-const SETTINGS: [(ConfigFault, &[u64], &[u64]); 14] = [
+const RANGES: [(ConfigFault, &[u64], &[u64]); 14] = [
     (
         ConfigFault::Chunk,
         &[0, 48, 72, 67_108_880, 4_294_967_280],
@@ -169,7 +169,7 @@ const OUT_OF_RANGE: [u64; 14] = [0, 0, 0, 0, 60_001, 0, 0, 0, 0, 0, 0, 0, 0, 0];
 fn the_first_setting_out_of_its_range_is_named(rt: HostRuntime) {
     let mut alone = IN_RANGE;
     let mut first = OUT_OF_RANGE;
-    for (place, (fault, refused, taken)) in SETTINGS.iter().enumerate() {
+    for (place, (fault, refused, taken)) in RANGES.iter().enumerate() {
         for number in *refused {
             let named = [
                 fault_with(&mut alone, place, *number),
