@@ -113,7 +113,7 @@ fn faults(alloc: Global, table: &mut Table) -> [Option<TableFault>; 21] {
     ]
 }
 
-const FAULTS: [Option<TableFault>; 21] = [
+const WANTED: [Option<TableFault>; 21] = [
     Some(TableFault::NoFile),
     Some(TableFault::NoFile),
     Some(TableFault::NoFile),
@@ -170,7 +170,7 @@ fn a_table_refuses_and_goes_on(rt: HostRuntime) -> Result<(), Fail> {
     let faults = faults(rt.alloc(), &mut table);
     drop(table);
     filled?;
-    for (place, (fault, wanted)) in faults.iter().zip(&FAULTS).enumerate() {
+    for (place, (fault, wanted)) in faults.iter().zip(&WANTED).enumerate() {
         assert!(rt; fault == wanted, "call {place}");
     }
     for (file, handle, wanted) in FILES {

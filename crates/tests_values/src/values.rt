@@ -104,40 +104,21 @@ fn a_shape_fits_within_its_bounds(rt: HostRuntime) {
 
 /// The settings with these numbers, in the order of their fields.
 fn settings(numbers: [u64; 14]) -> Config {
-    let [
-        chunk,
-        block,
-        goal,
-        lease_ms,
-        skew_ms,
-        attempt_ms,
-        attempts,
-        others @ ..,
-    ] = numbers;
-    let [
-        cache_entries,
-        cache_ms,
-        push_entries,
-        keep_ms,
-        slots,
-        log_bytes,
-        journal,
-    ] = others;
     Config {
-        chunk: chunk as u32,
-        block: block as u32,
-        goal: goal as u32,
-        lease_ms,
-        skew_ms,
-        attempt_ms,
-        attempts: attempts as u32,
-        cache_entries: cache_entries as u32,
-        cache_ms,
-        push_entries: push_entries as u32,
-        keep_ms,
-        slots: slots as u32,
-        log_bytes,
-        journal: journal as u32,
+        chunk: numbers[0] as u32,
+        block: numbers[1] as u32,
+        goal: numbers[2] as u32,
+        lease_ms: numbers[3],
+        skew_ms: numbers[4],
+        attempt_ms: numbers[5],
+        attempts: numbers[6] as u32,
+        cache_entries: numbers[7] as u32,
+        cache_ms: numbers[8],
+        push_entries: numbers[9] as u32,
+        keep_ms: numbers[10],
+        slots: numbers[11] as u32,
+        log_bytes: numbers[12],
+        journal: numbers[13] as u32,
     }
 }
 
@@ -150,7 +131,7 @@ fn fault_with(numbers: &mut [u64; 14], place: usize, number: u64) -> Option<Conf
 }
 
 /// Of each field numbers that are refused, and some that are taken, of which the last one stays while later fields are tried.
-const SETTINGS: [(ConfigFault, &[u64], &[u64]); 14] = [
+const RANGES: [(ConfigFault, &[u64], &[u64]); 14] = [
     (
         ConfigFault::Chunk,
         &[0, 48, 72, 67_108_880, 4_294_967_280],
@@ -188,7 +169,7 @@ const OUT_OF_RANGE: [u64; 14] = [0, 0, 0, 0, 60_001, 0, 0, 0, 0, 0, 0, 0, 0, 0];
 fn the_first_setting_out_of_its_range_is_named(rt: HostRuntime) {
     let mut alone = IN_RANGE;
     let mut first = OUT_OF_RANGE;
-    for (place, (fault, refused, taken)) in SETTINGS.iter().enumerate() {
+    for (place, (fault, refused, taken)) in RANGES.iter().enumerate() {
         for number in *refused {
             let named = [
                 fault_with(&mut alone, place, *number),
