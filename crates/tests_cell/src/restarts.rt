@@ -45,18 +45,14 @@ fn records_over(
     count
 }
 
-/// The sum of these counts over restarts after every so many events, or the first place at which something is wrong.
+/// The sum of these counts over restarts after each event in turn, or the first place at which something is wrong.
 fn sum_of_records(
     alloc: Global,
     row: &Row,
     recorded: &Recorded,
-    every: usize,
 ) -> Result<Result<usize, usize>, ScriptFault> {
     let mut count: usize = 0;
     for place in 0..=recorded.events.len() {
-        if !place.is_multiple_of(every) {
-            continue;
-        }
         match records_over(alloc, row, recorded, place)? {
             Some(found) => count = count.saturating_add(found),
             None => return Ok(Err(place)),
@@ -66,14 +62,10 @@ fn sum_of_records(
 }
 
 /// The same of the events of a row.
-fn records_over_all(
-    alloc: Global,
-    row: &Row,
-    every: usize,
-) -> Result<Result<usize, usize>, ScriptFault> {
+fn records_over_all(alloc: Global, row: &Row) -> Result<Result<usize, usize>, ScriptFault> {
     match record_row(alloc, row)? {
         Some(recorded) => {
-            let count = sum_of_records(alloc, row, &recorded, every);
+            let count = sum_of_records(alloc, row, &recorded);
             drop(recorded);
             count
         }
@@ -83,20 +75,20 @@ fn records_over_all(
 
 #[test]
 fn records_that_fill_a_chunk_outlast_a_restart(rt: HostRuntime) {
-    assert!(rt; matches!(records_over_all(rt.alloc(), &PAD, 1), Ok(Ok(1..))));
+    assert!(rt; matches!(records_over_all(rt.alloc(), &PAD), Ok(Ok(1..))));
 }
 
 #[test]
 fn a_record_over_a_lost_forward_outlasts_a_restart(rt: HostRuntime) {
-    assert!(rt; matches!(records_over_all(rt.alloc(), &LOST_FORWARD, 4), Ok(Ok(1..))));
+    assert!(rt; matches!(records_over_all(rt.alloc(), &LOST_FORWARD), Ok(Ok(1..))));
 }
 
 #[test]
 fn records_over_a_cut_primary_outlast_a_restart(rt: HostRuntime) {
-    assert!(rt; matches!(records_over_all(rt.alloc(), &CUT_PRIMARY, 16), Ok(Ok(1..))));
+    assert!(rt; matches!(records_over_all(rt.alloc(), &CUT_PRIMARY), Ok(Ok(1..))));
 }
 
 #[test]
 fn records_beside_a_snapshot_outlast_a_restart(rt: HostRuntime) {
-    assert!(rt; matches!(records_over_all(rt.alloc(), &SNAPSHOT, 1), Ok(Ok(1..))));
+    assert!(rt; matches!(records_over_all(rt.alloc(), &SNAPSHOT), Ok(Ok(1..))));
 }
