@@ -1,5 +1,6 @@
 //! Paths, shapes, settings, refusals, and what is printed.
 
+use command_line::narrowed::narrowed;
 use gfs_types::config::{Config, ConfigFault};
 use gfs_types::no_memory::NoMemory;
 use gfs_types::path::{Path, PathFault};
@@ -105,20 +106,20 @@ fn a_shape_fits_within_its_bounds(rt: HostRuntime) {
 /// The settings with these numbers, in the order of their fields.
 fn settings(numbers: [u64; 14]) -> Config {
     Config {
-        chunk: numbers[0] as u32,
-        block: numbers[1] as u32,
-        goal: numbers[2] as u32,
+        chunk: narrowed(numbers[0]),
+        block: narrowed(numbers[1]),
+        goal: narrowed(numbers[2]),
         lease_ms: numbers[3],
         skew_ms: numbers[4],
         attempt_ms: numbers[5],
-        attempts: numbers[6] as u32,
-        cache_entries: numbers[7] as u32,
+        attempts: narrowed(numbers[6]),
+        cache_entries: narrowed(numbers[7]),
         cache_ms: numbers[8],
-        push_entries: numbers[9] as u32,
+        push_entries: narrowed(numbers[9]),
         keep_ms: numbers[10],
-        slots: numbers[11] as u32,
+        slots: narrowed(numbers[11]),
         log_bytes: numbers[12],
-        journal: numbers[13] as u32,
+        journal: narrowed(numbers[13]),
     }
 }
 
